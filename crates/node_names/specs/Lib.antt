@@ -1,0 +1,3 @@
+pub mod NodeName
+pub mod Ids
+pub mod Limits

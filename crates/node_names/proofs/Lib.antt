@@ -1,0 +1,2 @@
+mod Alphabet
+mod Padding

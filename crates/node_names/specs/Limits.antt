@@ -1,0 +1,22 @@
+-- The sizes that bound what a node keeps and how far its messages walk.
+use Rattle.std.specs.Prelude.{ℕ, ◌≤◌, ◌+◌}
+
+-- The limits of a node, by the names that the HyParView paper gives them.
+pub record Limits : Type 0 where
+  pub active : ℕ
+  pub passive : ℕ
+  pub arwl : ℕ
+  pub prwl : ℕ
+  pub ka : ℕ
+  pub kp : ℕ
+
+-- An active view has room for 1 to 16 names and a passive one for 1 to 64, a walk has at most 32 steps
+-- and ends in a passive view no later than that, and a shuffle takes at most 7 names from the views.
+pub record IsAllowed (limits : Limits) : Type 0 where
+  pub active_from : 1 ≤ limits.active
+  pub active_to : limits.active ≤ 16
+  pub passive_from : 1 ≤ limits.passive
+  pub passive_to : limits.passive ≤ 64
+  pub prwl_to : limits.prwl ≤ limits.arwl
+  pub arwl_to : limits.arwl ≤ 32
+  pub shuffle_to : limits.ka + limits.kp ≤ 7

@@ -1,0 +1,30 @@
+-- Which bytes name a node.
+use Rattle.std.specs.Prelude.{ℕ, ◌<◌, ◌≤◌, ◌-◌, Bool, ◌&&◌, ◌||◌, not, List, ◌++◌, length, take, ◌≡◌, ◌==◌, nat_le, IsTrue, All, position, replicate, Option}
+
+-- A node's name is seen as the list of its bytes.
+abbrev pub Name : Type 0
+Name = List ℕ
+
+-- a small letter, a digit or a dash
+abbrev pub is_name_byte : ℕ → Bool
+is_name_byte b = ((nat_le 97 b && nat_le b 122) || (nat_le 48 b && nat_le b 57)) || b == 45
+
+-- A name has 1 to 32 bytes, each of them a small letter, a digit or a dash.
+pub record IsNodeName (bytes : Name) : Type 0 where
+  pub not_empty : 0 < length bytes
+  pub short : length bytes ≤ 32
+  pub alphabet : All (λ b. IsTrue (is_name_byte b)) bytes
+
+-- the place of the first byte that no name has
+abbrev pub first_bad_byte : List ℕ → Option ℕ
+first_bad_byte bytes = position (λ b. not (is_name_byte b)) bytes
+
+-- the name with zeros after it, 32 bytes in all
+abbrev pub padded : Name → List ℕ
+padded name = name ++ replicate (32 - length name) 0
+
+-- The first len bytes are a name, and zeros fill the rest.
+pub record HoldsName (bytes : List ℕ) (len : ℕ) : Type 0 where
+  pub name : IsNodeName (take len bytes)
+  pub whole : length (take len bytes) ≡ len
+  pub zeros : padded (take len bytes) ≡ bytes

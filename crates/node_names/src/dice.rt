@@ -1,0 +1,13 @@
+//! The random words of one step.
+
+/// Sixteen random words, for the choices of one step.
+///
+/// Each choice of a step has a word of its own, and a choice among `n` candidates takes the candidate whose
+/// place is that word modulo `n`.
+#[derive(Clone, Copy, Debug, PartialEq, Eq, Hash)]
+pub struct Dice(pub [u64; 16]);
+
+impl Dice {
+    /// The dice of which each choice takes the first candidate.
+    pub const ZEROS: Dice = Dice([0; 16]);
+}

@@ -1,0 +1,138 @@
+//! The limits of a node.
+ghost use Rattle.std.specs.Prelude.{◌≡◌, ◌↔◌, IsOk, IfOk};
+ghost use Rattle.node_names.specs.Limits.{IsAllowed};
+
+use std::error::Error;
+use std::fmt;
+use std::marker::Model;
+
+/// The sizes of a node's views and the lengths of its walks, under the names of the HyParView paper.
+#[derive(Clone, Copy, Debug, PartialEq, Eq, Hash)]
+pub struct Limits {
+    active: u8,
+    passive: u8,
+    arwl: u8,
+    prwl: u8,
+    ka: u8,
+    kp: u8,
+}
+
+impl Model for Limits {
+    ghost use Rattle.node_names.specs.Limits.{Limits as Sizes, IsAllowed};
+
+    ghost Value = { Sizes };
+
+    ghost view = { λ a. record { active = a.active; passive = a.passive; arwl = a.arwl; prwl = a.prwl; ka = a.ka; kp = a.kp } };
+
+    ghost invariant = { λ a. IsAllowed (record { active = a.active; passive = a.passive; arwl = a.arwl; prwl = a.prwl; ka = a.ka; kp = a.kp }) };
+
+    ghost inverse = { λ l. record { active = l.active; passive = l.passive; arwl = l.arwl; prwl = l.prwl; ka = l.ka; kp = l.kp } };
+}
+
+/// Why numbers are no limits.
+#[derive(Clone, Copy, Debug, PartialEq, Eq)]
+pub enum LimitsFault {
+    /// A number is out of its range, or two of them do not fit together.
+    BadLimits,
+}
+
+impl Limits {
+    /// The limits of a node that is given none.
+    pub const STANDARD: Limits = Limits {
+        active: 5,
+        passive: 30,
+        arwl: 6,
+        prwl: 3,
+        ka: 3,
+        kp: 4,
+    };
+
+    /// The limits of these sizes.
+    ///
+    /// An active view has 1 to 16 places and a passive one 1 to 64. `prwl` is at most `arwl`, which is at
+    /// most 32. `ka` and `kp` are at most 7 together.
+    pub fn new(
+        active: u8,
+        passive: u8,
+        arwl: u8,
+        prwl: u8,
+        ka: u8,
+        kp: u8,
+    ) -> Result<Limits, LimitsFault>
+        ensures ok { IfOk result (λ limits. limits ≡ record { active = active; passive = passive; arwl = arwl; prwl = prwl; ka = ka; kp = kp }) }
+        ensures accepted { IsOk result ↔ IsAllowed (record { active = active; passive = passive; arwl = arwl; prwl = prwl; ka = ka; kp = kp }) }
+    {
+        let views = 1 <= active && active <= 16 && 1 <= passive && passive <= 64;
+        let walks = prwl <= arwl && arwl <= 32;
+        let shuffles = u16::from(ka) + u16::from(kp) <= 7;
+        if !(views && walks && shuffles) {
+            return Err(LimitsFault::BadLimits);
+        }
+        Ok(Limits {
+            active,
+            passive,
+            arwl,
+            prwl,
+            ka,
+            kp,
+        })
+    }
+
+    /// The number of places in the active view.
+    pub fn active(&self) -> u8
+        ensures value { result ≡ self.now.active }
+        ensures allowed { IsAllowed self.now }
+    {
+        self.active
+    }
+
+    /// The number of places in the passive view.
+    pub fn passive(&self) -> u8
+        ensures value { result ≡ self.now.passive }
+        ensures allowed { IsAllowed self.now }
+    {
+        self.passive
+    }
+
+    /// The active random walk length: how many steps a walk through the active views takes at most.
+    pub fn arwl(&self) -> u8
+        ensures value { result ≡ self.now.arwl }
+        ensures allowed { IsAllowed self.now }
+    {
+        self.arwl
+    }
+
+    /// The passive random walk length: at how many steps left a walk puts its name into a passive view.
+    pub fn prwl(&self) -> u8
+        ensures value { result ≡ self.now.prwl }
+        ensures allowed { IsAllowed self.now }
+    {
+        self.prwl
+    }
+
+    /// The number of names from the active view in a shuffle.
+    pub fn ka(&self) -> u8
+        ensures value { result ≡ self.now.ka }
+        ensures allowed { IsAllowed self.now }
+    {
+        self.ka
+    }
+
+    /// The number of names from the passive view in a shuffle.
+    pub fn kp(&self) -> u8
+        ensures value { result ≡ self.now.kp }
+        ensures allowed { IsAllowed self.now }
+    {
+        self.kp
+    }
+}
+
+impl fmt::Display for LimitsFault {
+    fn fmt<W: fmt::Write>(&self, f: &mut fmt::Formatter<W>) -> fmt::Result {
+        match self {
+            LimitsFault::BadLimits => write!(f, "the limits are out of range"),
+        }
+    }
+}
+
+impl Error for LimitsFault {}

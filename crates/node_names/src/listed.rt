@@ -1,0 +1,92 @@
+//! A list that knows where it allocates.
+ghost use Rattle.std.specs.Prelude.{◌≡◌, ◌↔◌, [], ◌∷◌, ◌++◌, length, take, IsTrue, IfOk, OnOk, OnErr};
+ghost use Rattle.std.specs.Option.{option_to_list};
+
+use std::alloc::{AllocError, Allocator, Global};
+use std::fmt;
+use std::marker::Model;
+
+/// A growable list in the memory of its allocator.
+///
+/// A contract sees it as the list of its items, whatever room it has.
+#[derive(Drop)]
+pub struct Listed<T: Drop, A: Allocator = Global> {
+    items: Vec<T, A>,
+}
+
+impl<T: Drop, A: Allocator> Model for Listed<T, A> {
+    ghost use Rattle.std.specs.Prelude.{List};
+
+    ghost Value = { List T };
+
+    ghost view = { λ l. l.items.items };
+}
+
+impl<T: Drop, A: Allocator> Listed<T, A> {
+    /// An empty list, which takes no memory.
+    pub fn new(alloc: A) -> Listed<T, A>
+        ensures { result ≡ [] }
+    {
+        Listed {
+            items: Vec::new(alloc),
+        }
+    }
+
+    /// The items of a vector, which is not copied.
+    pub fn from_vec(items: Vec<T, A>) -> Listed<T, A>
+        ensures { result ≡ items.items }
+    {
+        Listed { items }
+    }
+
+    /// The vector of the items, which is not copied.
+    pub fn into_vec(self) -> Vec<T, A>
+        ensures { result.items ≡ self }
+    {
+        self.items
+    }
+
+    /// The items in order.
+    pub fn as_slice(&self) -> &[T]
+        ensures { result.now ≡ self.now }
+    {
+        self.items.as_slice()
+    }
+
+    /// The number of items.
+    pub fn len(&self) -> usize
+        ensures { result ≡ length self.now }
+    {
+        self.items.len()
+    }
+
+    /// Whether there is no item.
+    pub fn is_empty(&self) -> bool
+        ensures { IsTrue result ↔ (self.now ≡ []) }
+    {
+        self.items.is_empty()
+    }
+
+    /// Puts an item at the end. Without memory the item is dropped.
+    pub fn push(&mut self, item: T) -> Result<(), AllocError>
+        ensures ok { OnOk result (self.new ≡ self.old ++ item ∷ []) }
+        ensures err { OnErr result (self.new ≡ self.old) }
+    {
+        self.items.push(item)?;
+        Ok(())
+    }
+
+    /// Takes the last item away.
+    pub fn pop(&mut self) -> Option<T>
+        ensures { self.old ≡ self.new ++ option_to_list result }
+    {
+        self.items.pop()
+    }
+
+    /// Drops all but the first `n` items.
+    pub fn truncate(&mut self, n: usize)
+        ensures { self.new ≡ take n self.old }
+    {
+        self.items.truncate(n);
+    }
+}
