@@ -1,3 +1,4 @@
 pub mod NodeName
 pub mod Ids
+pub mod Same
 pub mod Limits

@@ -10,8 +10,9 @@ pub record Limits : Type 0 where
   pub ka : ℕ
   pub kp : ℕ
 
--- An active view has room for 1 to 16 names and a passive one for 1 to 64, a walk has at most 32 steps
--- and ends in a passive view no later than that, and a shuffle takes at most 7 names from the views.
+-- The limits that a node may have: 1 to 16 places in the active view and 1 to 64 in the passive one,
+-- walks of at most 32 steps, the passive length no greater than the active one, and at most 7 names
+-- out of the views in a shuffle.
 pub record IsAllowed (limits : Limits) : Type 0 where
   pub active_from : 1 ≤ limits.active
   pub active_to : limits.active ≤ 16

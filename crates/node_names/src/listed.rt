@@ -1,6 +1,7 @@
 //! A list that knows where it allocates.
 ghost use Rattle.std.specs.Prelude.{◌≡◌, ◌↔◌, [], ◌∷◌, ◌++◌, length, take, IsTrue, IfOk, OnOk, OnErr};
 ghost use Rattle.std.specs.Option.{option_to_list};
+ghost use Rattle.std.specs.Cmp.Lexicographic.{pointwise, lists_per, lists_equiv};
 
 use std::alloc::{AllocError, Allocator, Global};
 use std::fmt;
@@ -88,5 +89,40 @@ impl<T: Drop, A: Allocator> Listed<T, A> {
         ensures { self.new ≡ take n self.old }
     {
         self.items.truncate(n);
+    }
+
+    /// The allocator of the list.
+    pub fn allocator(&self) -> &A {
+        self.items.allocator()
+    }
+}
+
+impl<T: Copy, A: Allocator + Copy> Listed<T, A> {
+    /// A list of the same items on the same allocator.
+    pub fn copy(&self) -> Result<Listed<T, A>, AllocError>
+        ensures { IfOk result (λ list. list ≡ self.now) }
+    {
+        let items = Vec::from_slice(*self.items.allocator(), self.as_slice())?;
+        Ok(Listed { items })
+    }
+}
+
+impl<T: PartialEq + Drop, A: Allocator> PartialEq for Listed<T, A> {
+    ghost eq = { pointwise T.eq };
+
+    ghost laws = { lists_per T.laws };
+
+    fn eq(&self, other: &Listed<T, A>) -> bool {
+        self.as_slice() == other.as_slice()
+    }
+}
+
+impl<T: Eq + Drop, A: Allocator> Eq for Listed<T, A> {
+    ghost laws = { lists_equiv T.Eq.laws };
+}
+
+impl<T: fmt::Debug + Drop, A: Allocator> fmt::Debug for Listed<T, A> {
+    fn fmt<W: fmt::Write>(&self, f: &mut fmt::Formatter<W>) -> fmt::Result {
+        f.debug_list().entries(self.as_slice()).finish()
     }
 }

@@ -20,7 +20,7 @@ use std::{fmt, str};
 /// Names are ordered by their bytes, a proper prefix first. A contract sees a name as its bytes.
 #[derive(Clone, Copy)]
 pub struct NodeName {
-    bytes: [u8; 32],
+    bytes: [u8; NodeName::MAX_LEN],
     len: u8,
 }
 
@@ -91,7 +91,7 @@ impl NodeName {
         requires { IsNodeName name.now }
         ensures { result ≡ name.now }
     {
-        let mut bytes = [0; 32];
+        let mut bytes = [0; NodeName::MAX_LEN];
         bytes[..name.len()].copy_from_slice(name);
         NodeName {
             bytes,
