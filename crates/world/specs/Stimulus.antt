@@ -1,0 +1,21 @@
+-- What makes a core step, and what else such a step speaks of.
+use Rattle.std.specs.Prelude.{◌≡◌, ◌≢◌, ℕ, List, [], Option, None}
+use Rattle.node_names.specs.NodeName.{Name}
+use Rattle.node_names.specs.declared.ids.MsgId.{MsgId}
+use Rattle.world.specs.Content.{Content}
+use Rattle.world.specs.CoreState.{CoreState}
+use Rattle.world.specs.declared.stimulus.StimulusOf.{StimulusOf}
+use Rattle.world.specs.declared.stimulus.StimulusOf.TheVariants.{Broadcast, Arrive, Fire, Flush, Down, Shuffle}
+
+-- A stimulus whose packet is of the type N.
+abbrev pub Stimulus : Type 0 → Type 0
+Stimulus N = StimulusOf (List ℕ) N
+
+-- The stimulus is no packet from a sender of this name.
+abbrev pub IsNotFrom : {N : Type 0} → Name → Stimulus N → Type 0
+IsNotFrom name (Arrive sender note dice) = sender.name ≢ name
+IsNotFrom name (Broadcast payload) = Unit {0}
+IsNotFrom name (Fire id) = Unit {0}
+IsNotFrom name Flush = Unit {0}
+IsNotFrom name (Down peer dice) = Unit {0}
+IsNotFrom name (Shuffle dice) = Unit {0}

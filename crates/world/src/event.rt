@@ -1,0 +1,42 @@
+//! What can happen to a group of nodes.
+use bytes::Bytes;
+use node_names::{Dice, Incarnation, Listed, MsgId, NodeName};
+use std::alloc::Global;
+
+/// An event of a group whose payloads and lists stand on the allocator `A`.
+pub type Event<A = Global> = EventOf<Bytes<A>, Listed<NodeName, A>>;
+
+/// An event, by its kind. `P` is a payload and `L` a list of names.
+#[derive(Drop)]
+pub enum EventOf<P, L> {
+    /// A node runs under a fresh incarnation, with `peers` as its active view. One that runs under that name is
+    /// replaced.
+    Start {
+        name: NodeName,
+        incarnation: Incarnation,
+        peers: L,
+        contact: Option<NodeName>,
+    },
+    /// A running node broadcasts a message.
+    Broadcast { name: NodeName, payload: P },
+    /// The packet at a place of the flight reaches the node that runs under its receiver's name.
+    Arrive { place: usize, dice: Dice },
+    /// The packet at a place of the flight is lost.
+    Lose { place: usize },
+    /// A packet that was sent before, by its number there, is in flight once more.
+    Again { number: usize },
+    /// A node's timer for an id fires.
+    Fire { name: NodeName, id: MsgId },
+    /// A node sends all announcements that it has queued.
+    Flush { name: NodeName },
+    /// A node's link to a peer failed.
+    Down {
+        name: NodeName,
+        peer: NodeName,
+        dice: Dice,
+    },
+    /// A node's membership tick.
+    Shuffle { name: NodeName, dice: Dice },
+    /// A node stops, and its state is gone.
+    Stop { name: NodeName },
+}
