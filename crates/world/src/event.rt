@@ -18,17 +18,32 @@ pub enum EventOf<P, L> {
         contact: Option<NodeName>,
     },
     /// A running node broadcasts a message.
-    Broadcast { name: NodeName, payload: P },
+    Broadcast {
+        name: NodeName,
+        payload: P,
+    },
     /// The packet at a place of the flight reaches the node that runs under its receiver's name.
-    Arrive { place: usize, dice: Dice },
+    Arrive {
+        place: usize,
+        dice: Dice,
+    },
     /// The packet at a place of the flight is lost.
-    Lose { place: usize },
+    Lose {
+        place: usize,
+    },
     /// A packet that was sent before, by its number there, is in flight once more.
-    Again { number: usize },
+    Again {
+        number: usize,
+    },
     /// A node's timer for an id fires.
-    Fire { name: NodeName, id: MsgId },
+    Fire {
+        name: NodeName,
+        id: MsgId,
+    },
     /// A node sends all announcements that it has queued.
-    Flush { name: NodeName },
+    Flush {
+        name: NodeName,
+    },
     /// A node's link to a peer failed.
     Down {
         name: NodeName,
@@ -36,7 +51,12 @@ pub enum EventOf<P, L> {
         dice: Dice,
     },
     /// A node's membership tick.
-    Shuffle { name: NodeName, dice: Dice },
+    Shuffle {
+        name: NodeName,
+        dice: Dice,
+    },
     /// A node stops, and its state is gone.
-    Stop { name: NodeName },
+    Stop {
+        name: NodeName,
+    },
 }

@@ -12,11 +12,7 @@ pub enum StimulusOf<P, N> {
     /// The application broadcasts a message.
     Broadcast(P),
     /// A packet came.
-    Arrive {
-        sender: Origin,
-        note: N,
-        dice: Dice,
-    },
+    Arrive { sender: Origin, note: N, dice: Dice },
     /// The timer for an id fires.
     Fire(MsgId),
     /// Queued announcements are to be sent.

@@ -1,0 +1,36 @@
+-- What a core holds, and how it answers.
+use Rattle.std.specs.Prelude.{◌≡◌, ◌⊎◌, ℕ, List, Option, Some, None, true, IsSome, count_by}
+use Rattle.std.specs.List.{AllByRecursion as Each}
+use Rattle.node_names.specs.NodeName.{Name}
+use Rattle.node_names.specs.declared.ids.MsgId.{MsgId}
+use Rattle.world.specs.Content.{Content}
+use Rattle.world.specs.CoreState.{CoreState}
+use Rattle.world.specs.Delivery.{Delivery}
+use Rattle.world.specs.DeliveryLaw.{ids}
+use Rattle.world.specs.Lists.{IsOneOf}
+use Rattle.world.specs.SpreadLaw.{is_carried, packets_carrying}
+use Rattle.world.specs.Stimulus.{Stimulus}
+use Rattle.world.specs.declared.stimulus.StimulusOf.TheVariants.{Broadcast, Arrive, Fire, Flush, Down, Shuffle}
+
+-- What a core has, it holds.
+abbrev pub HoldsWhatItHas : CoreState → Type 0
+HoldsWhatItHas core = (id : MsgId) → core.has id ≡ true → IsSome (core.payload id)
+
+-- The stimulus is a packet by which the name asks for the id.
+abbrev pub IsAskedBy : {N : Type 0} → (N → Content) → Stimulus N → MsgId → Name → Type 0
+IsAskedBy content (Broadcast payload) id name = ⊥
+IsAskedBy content (Arrive sender note dice) id name = ((content note).asked ≡ Some id) × (name ≡ sender.name)
+IsAskedBy content (Fire wanted) id name = ⊥
+IsAskedBy content Flush id name = ⊥
+IsAskedBy content (Down peer dice) id name = ⊥
+IsAskedBy content (Shuffle dice) id name = ⊥
+
+-- how many packets carry the message, to whomever
+abbrev pub packets_with : {N : Type 0} → (N → Content) → MsgId → List (Name × N) → ℕ
+packets_with content id sends = count_by (λ send. is_carried id (content send.1).carried) sends
+
+-- Who asks for a held message gets exactly one packet that carries it, and no one else does. Payloads are sent only so,
+-- and to spread what the step delivers.
+pub record HoldLaw {N : Type 0} (content : N → Content) (before : CoreState) (stimulus : Stimulus N) (sends : List (Name × N)) (given : List Delivery) : Type 0 where
+  pub answers : (id : MsgId) (name : Name) → IsAskedBy content stimulus id name → IsSome (before.payload id) → (packets_carrying content id name sends ≡ 1) × (packets_with content id sends ≡ 1)
+  pub only : Each (λ send. (id : MsgId) (p : List ℕ) → (content send.1).carried ≡ Some (id, p) → IsOneOf id (ids given) ⊎ (IsAskedBy content stimulus id send.0 × IsSome (before.payload id))) sends

@@ -1,0 +1,19 @@
+-- A core stays who it is.
+use Rattle.std.specs.Prelude.{◌≡◌, ◌<◌, length}
+use Rattle.world.specs.CoreState.{CoreState}
+use Rattle.world.specs.Stimulus.{Stimulus}
+use Rattle.world.specs.declared.TheConstants.{MAX_PAYLOAD}
+use Rattle.world.specs.declared.stimulus.StimulusOf.TheVariants.{Broadcast, Arrive, Fire, Flush, Down, Shuffle}
+
+-- The core has the name and the incarnation that it had.
+abbrev pub IdentityLaw : CoreState → CoreState → Type 0
+IdentityLaw before after = after.me ≡ before.me
+
+-- The stimulus is a broadcast of a payload that is too long: this alone is refused as such.
+abbrev pub IsTooLong : {N : Type 0} → Stimulus N → Type 0
+IsTooLong (Broadcast payload) = MAX_PAYLOAD < length payload
+IsTooLong (Arrive sender note dice) = ⊥
+IsTooLong (Fire id) = ⊥
+IsTooLong Flush = ⊥
+IsTooLong (Down peer dice) = ⊥
+IsTooLong (Shuffle dice) = ⊥

@@ -1,0 +1,42 @@
+//! What a core's step gives: packets to send and messages to deliver.
+ghost use Rattle.std.specs.Prelude.{◌≡◌, [], ◌∷◌, ◌++◌, OnOk, OnErr};
+
+use crate::Delivery;
+use node_names::{Listed, NodeName};
+use std::alloc::{AllocError, Allocator, Global};
+use std::marker::Model;
+
+/// The packets to send, each with its receiver, and the deliveries, both in order. A step appends to both.
+#[derive(Drop)]
+pub struct Out<N: Drop, A: Allocator = Global> {
+    /// The packets, each with the name that it goes to.
+    pub sends: Listed<(NodeName, N), A>,
+    /// The messages for the application.
+    pub deliveries: Listed<Delivery<A>, A>,
+}
+
+impl<N: Drop, A: Allocator> Model for Out<N, A> {
+    ghost use Rattle.std.specs.Prelude.{refl};
+    ghost use Rattle.world.specs.Output.{Output};
+
+    ghost Value = { Output N };
+
+    ghost view = { λ out. record { sends = out.sends; deliveries = out.deliveries } };
+
+    ghost inverse = { λ out. record { sends = out.sends; deliveries = out.deliveries } };
+
+    ghost inverse_ok = { λ out held. refl };
+}
+
+impl<N: Drop, A: Allocator + Copy> Out<N, A> {
+    /// An output with nothing in it.
+    pub fn new(alloc: A) -> Self
+        ensures sends { result.sends ≡ [] }
+        ensures deliveries { result.deliveries ≡ [] }
+    {
+        Out {
+            sends: Listed::new(alloc),
+            deliveries: Listed::new(alloc),
+        }
+    }
+}

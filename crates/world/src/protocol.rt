@@ -1,0 +1,133 @@
+//! One node's protocol as a state machine, and the laws that every such machine keeps.
+ghost use Rattle.std.specs.Prelude.{◌≡◌, ◌↔◌, ◌++◌, ℕ, List, Option, IsTrue, IfOk, IfErr, OnOk, OnErr, IsErrOf, option_copied};
+ghost use Rattle.node_names.specs.NodeName.{Name};
+ghost use Rattle.node_names.specs.Limits.{Limits};
+ghost use Rattle.node_names.specs.declared.ids.Origin.{Origin};
+ghost use Rattle.world.specs.CoreState.{CoreState};
+ghost use Rattle.world.specs.Delivery.{Delivery};
+ghost use Rattle.world.specs.IdentityLaw.{IsTooLong};
+ghost use Rattle.world.specs.Laws.{Laws};
+ghost use Rattle.world.specs.Peers.{are_peers};
+ghost use Rattle.world.specs.Stimulus.{Stimulus};
+
+use crate::out::Out;
+use crate::stimulus::Stimulus;
+use crate::wire::Wire;
+use bytes::Bytes;
+use indexmap::IndexSet;
+use node_names::{Limits, MsgId, NodeName, Origin};
+use std::alloc::{AllocError, Allocator, Global};
+use std::error::Error;
+use std::fmt;
+use std::hash::{BuildHasherDefault, FoldHasher};
+
+/// Names in the order in which they were added.
+pub type NameSet<A = Global> = IndexSet<NodeName, BuildHasherDefault<FoldHasher>, A>;
+
+/// Why a core refused a step. Core and output are then as they were.
+#[derive(Clone, Copy, Debug, PartialEq, Eq)]
+pub enum CoreError {
+    /// The payload of the broadcast has more than 32,768 bytes.
+    PayloadTooLong,
+    /// A number that the step needs is used up: of the messages or of the packets of this incarnation.
+    SeqSpent,
+    /// A growth was refused.
+    OutOfMemory,
+}
+
+impl fmt::Display for CoreError {
+    fn fmt<W: fmt::Write>(&self, f: &mut fmt::Formatter<W>) -> fmt::Result {
+        match self {
+            CoreError::PayloadTooLong => write!(f, "the payload is too long"),
+            CoreError::SeqSpent => write!(f, "the numbers of this incarnation are used up"),
+            CoreError::OutOfMemory => write!(f, "out of memory"),
+        }
+    }
+}
+
+impl Error for CoreError {}
+
+/// A node's protocol: it starts, and then takes one stimulus after the other.
+pub trait Core<A: Allocator>: Sized + Drop {
+    /// The packets that it sends.
+    type Note: Wire<A>;
+
+    /// What it shows of itself.
+    ghost state: { Self → CoreState };
+
+    /// What holds of it at any time under these limits.
+    ghost is_sound: { Limits → Self → Type 0 };
+
+    /// From this origin, limits, peers and contact it may start with these packets, as this core.
+    ghost starts: { Origin → Limits → List Name → Option Name → List (Name × Self.Note) → Self → Type 0 };
+
+    /// At this stimulus it may send these packets, deliver these messages and go on as the second core.
+    ghost steps: { Self → Stimulus Self.Note → List (Name × Self.Note) → List Delivery → Self → Type 0 };
+
+    /// Some number that this step needs is used up.
+    ghost is_spent: { Self → Stimulus Self.Note → Type 0 };
+
+    /// Starts a node with `peers` as its active view. Its only refusal is for want of memory.
+    fn start(
+        alloc: A,
+        me: Origin,
+        limits: Limits,
+        peers: &[NodeName],
+        contact: Option<NodeName>,
+        out: &mut Out<Self::Note, A>,
+    ) -> Result<Self, CoreError>
+        requires { IsTrue (are_peers limits me.name peers.now contact) }
+        ensures started { IfOk result (λ core. (sends : List (Name × Self.Note)) × starts me limits peers.now contact sends core × (out.new ≡ record out.old { sends = out.old.sends ++ sends })) }
+        ensures refused { IfErr result (λ e. e ≡ CoreError.OutOfMemory) }
+        ensures err { OnErr result (out.new ≡ out.old) };
+
+    /// Takes one stimulus, and appends what it sends and delivers.
+    fn step(
+        &mut self,
+        stimulus: &Stimulus<Self::Note, A>,
+        out: &mut Out<Self::Note, A>,
+    ) -> Result<(), CoreError>
+        ensures stepped { OnOk result ((sends : List (Name × Self.Note)) × (given : List Delivery) × steps self.old stimulus.now sends given self.new × (out.new ≡ record { sends = out.old.sends ++ sends; deliveries = out.old.deliveries ++ given })) }
+        ensures too_long { IsErrOf result CoreError.PayloadTooLong ↔ IsTooLong stimulus.now }
+        ensures spent { IsErrOf result CoreError.SeqSpent → is_spent self.old stimulus.now }
+        ensures err { OnErr result ((self.new ≡ self.old) × (out.new ≡ out.old)) };
+
+    /// The same core once more.
+    fn copy(&self) -> Result<Self, AllocError>
+        ensures { IfOk result (λ copy. copy ≡ self.now) };
+
+    /// Who it is: its name and incarnation.
+    fn me(&self) -> Origin
+        ensures { result ≡ (state self.now).me };
+
+    /// Whether it has delivered the message.
+    fn has(&self, id: &MsgId) -> bool
+        ensures { result ≡ (state self.now).has id.now };
+
+    /// The payload that it holds under the id.
+    fn payload(&self, id: &MsgId) -> Option<&Bytes<A>>
+        ensures { option_copied result ≡ (state self.now).payload id.now };
+
+    /// The names that it keeps links to.
+    fn active(&self) -> &NameSet<A>
+        ensures { result.now.keys ≡ (state self.now).active };
+
+    /// The names that it may turn to when a link fails.
+    fn passive(&self) -> &NameSet<A>
+        ensures { result.now.keys ≡ (state self.now).passive };
+
+    /// The announcements that wait to be sent: to whom, of which id, at which round.
+    fn queued(&self) -> &[(NodeName, MsgId, u32)]
+        ensures { result.now ≡ (state self.now).queued };
+
+    /// The announced messages that it lacks: which id, by whom, at which round.
+    fn wants(&self) -> &[(MsgId, NodeName, u32)]
+        ensures { result.now ≡ (state self.now).wants };
+
+    /// The ids whose timers are armed, in order of arming.
+    fn timers(&self) -> &[MsgId]
+        ensures { result.now ≡ (state self.now).timers };
+
+    /// The nine laws: identity, payload, delivery, view, spread, queue, want, ask and hold.
+    ghost lawful: { Laws state Self.Note.content is_sound starts steps };
+}
