@@ -39,16 +39,16 @@ same_name-Decides a b = bytes_decides a b
 pub same_origin-Decides : (a b : Origin) → Decides (same_origin a b) (a ≡ b)
 same_origin-Decides a b =
     Decides-like (same_origin a b)
-      (λ e i. record { name = e.0 i; incarnation = record { 0 = e.1 i } })
-      (λ e. (ap (λ (o : Origin). o.name) e, ap (λ (o : Origin). o.incarnation.0) e))
-      (Decides-and _ _ (same_name-Decides a.name b.name) (unsigned_Decides a.incarnation.0 b.incarnation.0))
+    (λ e i. record { name = e.0 i; incarnation = record { 0 = e.1 i } })
+    (λ e. (ap (λ (o : Origin). o.name) e, ap (λ (o : Origin). o.incarnation.0) e))
+    (Decides-and _ _ (same_name-Decides a.name b.name) (unsigned_Decides a.incarnation.0 b.incarnation.0))
 
 pub same_id-Decides : (a b : MsgId) → Decides (same_id a b) (a ≡ b)
 same_id-Decides a b =
     Decides-like (same_id a b)
-      (λ e i. record { origin = e.0 i; seq = e.1 i })
-      (λ e. (ap (λ (id : MsgId). id.origin) e, ap (λ (id : MsgId). id.seq) e))
-      (Decides-and _ _ (same_origin-Decides a.origin b.origin) (unsigned_Decides a.seq b.seq))
+    (λ e i. record { origin = e.0 i; seq = e.1 i })
+    (λ e. (ap (λ (id : MsgId). id.origin) e, ap (λ (id : MsgId). id.seq) e))
+    (Decides-and _ _ (same_origin-Decides a.origin b.origin) (unsigned_Decides a.seq b.seq))
 
 -- ---- each test is an equivalence, which lemmas on maps and sets ask for
 

@@ -59,16 +59,22 @@ impl Limits {
         ka: u8,
         kp: u8,
     ) -> Result<Limits, LimitsFault>
-        ensures ok {
-            IfOk result (λ limits. limits ≡ record {
-                active = active; passive = passive; arwl = arwl; prwl = prwl; ka = ka; kp = kp;
-            })
-        }
-        ensures accepted {
-            IsOk result ↔ IsAllowed (record {
-                active = active; passive = passive; arwl = arwl; prwl = prwl; ka = ka; kp = kp;
-            })
-        }
+        ensures ok { IfOk result (λ limits. limits ≡ record {
+          active = active;
+          passive = passive;
+          arwl = arwl;
+          prwl = prwl;
+          ka = ka;
+          kp = kp;
+        }) }
+        ensures accepted { IsOk result ↔ IsAllowed (record {
+          active = active;
+          passive = passive;
+          arwl = arwl;
+          prwl = prwl;
+          ka = ka;
+          kp = kp;
+        }) }
     {
         let views = 1 <= active && active <= 16 && 1 <= passive && passive <= 64;
         let walks = prwl <= arwl && arwl <= 32;
