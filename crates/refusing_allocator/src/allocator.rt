@@ -1,6 +1,5 @@
-use std::alloc::{AllocError, Allocator, Global};
-
 use crate::countdown::Countdown;
+use std::alloc::{AllocError, Allocator, Global};
 
 /// An allocator that refuses one growth of those to come, the one that a test names.
 ///

@@ -1,36 +1,36 @@
 //! An allocator for tests, which refuses the growth that a test names.
 //!
-//! Whoever writes a call that allocates wants to know what it leaves behind when memory runs out,
-//! at each of its allocations. A [`RefusingAllocator`] lets a test go through them all: it refuses
-//! the first growth of the call, then, at a fresh try, the second, and so on until a try grows too
-//! few times to be refused.
+//! What does a call leave behind when it runs out of memory? A [`RefusingAllocator`] lets a test
+//! ask that at each growth of the call in turn: it refuses the first one, then, at the next try,
+//! the second, and so on until a try has too few growths to be refused.
 //!
 //! ```text
 //! let heap = RefusingAllocator::new(rt.alloc());
 //! let mut names = Vec::new(&heap);
-//! for n in 1..1_000 {
+//! for n in 1..100 {
 //!     let before = names.clone()?;
 //!     heap.refuse(n);
-//!     let outcome = register(&mut names, "ada");
-//!     let is_refused = heap.is_spent();
-//!     heap.refuse(0);
-//!     if !is_refused {
-//!         outcome?;
-//!         break;
+//!     let outcome = register(&heap, &mut names, "ada");
+//!     if !heap.is_spent() {
+//!         heap.refuse(0);
+//!         return outcome;
 //!     }
-//!     assert!(rt; outcome.is_err());
-//!     assert_eq!(rt; names, before);
+//!     assert!(rt; outcome.is_err(), "growth {n}");
+//!     assert_eq!(rt; names, before, "growth {n}");
 //! }
 //! ```
 //!
-//! A contract cannot say what an atomic word holds. So it is proved that the allocator is a sound
-//! one, and how its count goes down by a growth; which growths are refused, and what `is_spent`
-//! answers, is tested.
+//! The copy to compare with is made before `refuse`, since its growths would be counted, and
+//! `refuse(0)` calls off what no growth was left for.
+//!
+//! A contract cannot say what an atomic word holds. So it is proved that this is a sound allocator
+//! and how a growth changes the count; which growths are refused, and what `is_spent` answers, is
+//! only tested.
 #![tactic(auto)]
 
 mod allocator;
 mod countdown;
-
-
+#[cfg(test)]
+mod tests;
 
 pub use allocator::RefusingAllocator;
