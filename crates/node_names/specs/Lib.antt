@@ -1,4 +1,6 @@
 pub mod NodeName
+pub mod NameFault
 pub mod Ids
 pub mod Same
+pub mod Order
 pub mod Limits

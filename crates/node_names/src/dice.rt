@@ -1,4 +1,5 @@
 //! The random words of one step.
+ghost use Rattle.std.specs.Prelude.{◌≡◌, replicate};
 
 /// Sixteen random words, for the choices of one step.
 ///
@@ -10,4 +11,12 @@ pub struct Dice(pub [u64; 16]);
 impl Dice {
     /// The dice of which each choice takes the first candidate.
     pub const ZEROS: Dice = Dice([0; 16]);
+}
+
+impl Default for Dice {
+    ghost is_default = { λ dice. dice.0 ≡ replicate 16 0 };
+
+    fn default() -> Dice {
+        Dice::ZEROS
+    }
 }

@@ -1,5 +1,5 @@
 //! The limits of a node.
-ghost use Rattle.std.specs.Prelude.{◌≡◌, ◌↔◌, IsOk, IfOk};
+ghost use Rattle.std.specs.Prelude.{◌≡◌, ◌↔◌, IsOk, IfOk, Some, codes};
 ghost use Rattle.node_names.specs.Limits.{IsAllowed};
 
 use std::error::Error;
@@ -141,7 +141,17 @@ impl Limits {
     }
 }
 
+impl Default for Limits {
+    ghost is_default = { λ l. l ≡ record { active = 5; passive = 30; arwl = 6; prwl = 3; ka = 3; kp = 4 } };
+
+    fn default() -> Limits {
+        Limits::STANDARD
+    }
+}
+
 impl fmt::Display for LimitsFault {
+    ghost output = { λ _. Some (codes "the limits are out of range") };
+
     fn fmt<W: fmt::Write>(&self, f: &mut fmt::Formatter<W>) -> fmt::Result {
         match self {
             LimitsFault::BadLimits => write!(f, "the limits are out of range"),

@@ -1,5 +1,5 @@
 //! A list that knows where it allocates.
-ghost use Rattle.std.specs.Prelude.{◌≡◌, ◌↔◌, [], ◌∷◌, ◌++◌, length, take, IsTrue, IfOk, OnOk, OnErr};
+ghost use Rattle.std.specs.Prelude.{◌≡◌, ◌↔◌, [], ◌∷◌, ◌++◌, length, take, IsTrue, IsNone, IfOk, OnOk, OnErr};
 ghost use Rattle.std.specs.Option.{option_to_list};
 ghost use Rattle.std.specs.Cmp.Lexicographic.{pointwise, lists_per, lists_equiv};
 
@@ -34,17 +34,18 @@ impl<T: Drop, A: Allocator> Listed<T, A> {
     }
 
     /// The items of a vector, which is not copied.
-    pub fn from_vec(items: Vec<T, A>) -> Listed<T, A>
-        ensures { result ≡ items.items }
+    pub fn from_vec(vec: Vec<T, A>) -> Listed<T, A>
+        ensures { result ≡ vec.items }
     {
-        Listed { items }
+        Listed { items: vec }
     }
 
     /// The vector of the items, which is not copied.
     pub fn into_vec(self) -> Vec<T, A>
         ensures { result.items ≡ self }
     {
-        self.items
+        let Listed { items } = self;
+        items
     }
 
     /// The items in order.
@@ -79,7 +80,8 @@ impl<T: Drop, A: Allocator> Listed<T, A> {
 
     /// Takes the last item away.
     pub fn pop(&mut self) -> Option<T>
-        ensures { self.old ≡ self.new ++ option_to_list result }
+        ensures last { self.old ≡ self.new ++ option_to_list result }
+        ensures none { IsNone result ↔ (self.old ≡ []) }
     {
         self.items.pop()
     }
@@ -89,11 +91,6 @@ impl<T: Drop, A: Allocator> Listed<T, A> {
         ensures { self.new ≡ take n self.old }
     {
         self.items.truncate(n);
-    }
-
-    /// The allocator of the list.
-    pub fn allocator(&self) -> &A {
-        self.items.allocator()
     }
 }
 

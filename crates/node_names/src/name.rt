@@ -187,6 +187,11 @@ impl fmt::Display for NodeName {
 }
 
 impl fmt::Display for NameFault {
+    ghost use Rattle.std.specs.Prelude.{Some};
+    ghost use Rattle.node_names.specs.NameFault.{fault_text};
+
+    ghost output = { λ fault. Some (fault_text fault) };
+
     fn fmt<W: fmt::Write>(&self, f: &mut fmt::Formatter<W>) -> fmt::Result {
         match self {
             NameFault::Empty => write!(f, "the name is empty"),

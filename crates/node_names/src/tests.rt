@@ -1,4 +1,9 @@
+ghost use Rattle.std.specs.Prelude.{◌≡◌, ◌↔◌, IsTrue};
+ghost use Rattle.node_names.specs.Same.{same_id};
+ghost use Rattle.node_names.specs.Order.{id_cmp};
+
 use super::*;
+use std::cmp::Ordering;
 use std::alloc::{AllocError, Global};
 use std::collections::HashSet;
 use std::fmt::{Debug, Display};
@@ -17,6 +22,21 @@ fn id(rt: &impl Abort, bytes: &[u8], incarnation: u64, seq: u64) -> MsgId {
         },
         seq,
     }
+}
+
+// The derived `==` is the test of the specs.
+fn are_same(a: &MsgId, b: &MsgId) -> bool
+    ensures test { result ≡ same_id a.now b.now }
+    ensures equal { IsTrue result ↔ (a.now ≡ b.now) }
+{
+    a == b
+}
+
+// The derived order is the order of the specs.
+fn compared(a: &MsgId, b: &MsgId) -> Ordering
+    ensures { result ≡ id_cmp a.now b.now }
+{
+    a.cmp(b)
 }
 
 fn shown(alloc: Global, value: &impl Display) -> Result<String, AllocError> {
@@ -73,7 +93,8 @@ fn orders_names_and_ids(rt: HostRuntime) -> Result<(), Fail> {
         id(&rt, b"b", 0, 0),
     ];
     for pair in ids.windows(2) {
-        assert!(rt; pair[0] < pair[1], "{pair:?}");
+        assert_eq!(rt; compared(&pair[0], &pair[1]), Ordering::Less, "{pair:?}");
+        assert!(rt; !are_same(&pair[0], &pair[1]), "{pair:?}");
     }
     let mut seen = HashSet::new(rt.alloc());
     for id in ids {
@@ -120,7 +141,7 @@ fn bounds_limits(rt: HostRuntime) {
         standard.kp(),
     ];
     assert_eq!(rt; sizes, [5, 30, 6, 3, 3, 4]);
-    assert_eq!(rt; Limits::new(5, 30, 6, 3, 3, 4), Ok(standard));
+    assert_eq!(rt; Limits::new(5, 30, 6, 3, 3, 4), Ok(Limits::default()));
 }
 
 #[test]
@@ -169,7 +190,6 @@ fn lists(rt: HostRuntime) -> Result<(), Fail> {
     assert_eq!(rt; debugged(rt.alloc(), &copied)?.as_str(), "[1, 2]");
     let items = copied.into_vec();
     assert_eq!(rt; Listed::from_vec(items).len(), 2);
-    assert_eq!(rt; *list.allocator(), rt.alloc());
-    assert_eq!(rt; Dice::ZEROS.0, [0; 16]);
+    assert_eq!(rt; Dice::default().0, [0; 16]);
     Ok(())
 }
