@@ -1,13 +1,18 @@
 -- Which bytes name a node.
-use Rattle.std.specs.Prelude.{ℕ, ◌<◌, ◌≤◌, ◌-◌, Bool, ◌&&◌, ◌||◌, not, List, ◌++◌, length, take, ◌≡◌, ◌==◌, nat_le, IsTrue, All, position, replicate, Option}
+use Rattle.std.specs.Prelude.{◌≡◌, ℕ, ◌-◌, ◌<◌, ◌≤◌, Bool, ◌||◌, not, ◌==◌, IsTrue, Option, List, ◌++◌, length, take, replicate, position, All}
+use Rattle.std.specs.Char.{is_ascii_lowercase, is_ascii_digit}
 
 -- A node's name is seen as the list of its bytes.
 abbrev pub Name : Type 0
 Name = List ℕ
 
--- a small letter, a digit or a dash
+-- b'-'
+abbrev pub dash : ℕ
+dash = 45
+
+-- whether a byte is a small letter, a digit or a dash
 abbrev pub is_name_byte : ℕ → Bool
-is_name_byte b = ((nat_le 97 b && nat_le b 122) || (nat_le 48 b && nat_le b 57)) || b == 45
+is_name_byte b = is_ascii_lowercase b || is_ascii_digit b || b == dash
 
 -- A name has 1 to 32 bytes, each of them a small letter, a digit or a dash.
 pub record IsNodeName (bytes : Name) : Type 0 where

@@ -9,7 +9,7 @@ ghost use Rattle.std.specs.Prelude.{◌≡◌, replicate};
 pub struct Dice(pub [u64; 16]);
 
 impl Dice {
-    /// The dice of which each choice takes the first candidate.
+    /// Sixteen zeros, with which each choice takes the first candidate.
     pub const ZEROS: Dice = Dice([0; 16]);
 }
 

@@ -6,7 +6,7 @@ ghost use Rattle.node_names.specs.Ids.{origin_text, msg_id_text};
 use crate::name::NodeName;
 use std::fmt;
 
-/// Which of its runs a node is in. Each start of a node takes a greater one than its starts before.
+/// The number of a run of a node. Each start of the node takes a greater one than its starts before.
 #[derive(Clone, Copy, Debug, PartialEq, Eq, PartialOrd, Ord, Hash)]
 pub struct Incarnation(pub u64);
 

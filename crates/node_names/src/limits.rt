@@ -6,7 +6,9 @@ use std::error::Error;
 use std::fmt;
 use std::marker::Model;
 
-/// The sizes of a node's views and the lengths of its walks, under the names of the HyParView paper.
+/// The sizes of a node's views, walks and shuffles, under the names that the HyParView paper gives them.
+///
+/// A contract sees them as the record of these numbers, and each reader says that they are allowed.
 #[derive(Clone, Copy, Debug, PartialEq, Eq, Hash)]
 pub struct Limits {
     active: u8,
@@ -22,11 +24,14 @@ impl Model for Limits {
 
     ghost Value = { Sizes };
 
-    ghost view = { λ a. record { active = a.active; passive = a.passive; arwl = a.arwl; prwl = a.prwl; ka = a.ka; kp = a.kp } };
+    ghost view = { λ a.
+        record { active = a.active; passive = a.passive; arwl = a.arwl; prwl = a.prwl; ka = a.ka; kp = a.kp } };
 
-    ghost invariant = { λ a. IsAllowed (record { active = a.active; passive = a.passive; arwl = a.arwl; prwl = a.prwl; ka = a.ka; kp = a.kp }) };
+    ghost invariant = { λ a. IsAllowed (
+        record { active = a.active; passive = a.passive; arwl = a.arwl; prwl = a.prwl; ka = a.ka; kp = a.kp }) };
 
-    ghost inverse = { λ l. record { active = l.active; passive = l.passive; arwl = l.arwl; prwl = l.prwl; ka = l.ka; kp = l.kp } };
+    ghost inverse = { λ l.
+        record { active = l.active; passive = l.passive; arwl = l.arwl; prwl = l.prwl; ka = l.ka; kp = l.kp } };
 }
 
 /// Why numbers are no limits.
@@ -37,7 +42,7 @@ pub enum LimitsFault {
 }
 
 impl Limits {
-    /// The limits of a node that is given none.
+    /// The sizes that the paper's experiments use.
     pub const STANDARD: Limits = Limits {
         active: 5,
         passive: 30,
@@ -59,22 +64,10 @@ impl Limits {
         ka: u8,
         kp: u8,
     ) -> Result<Limits, LimitsFault>
-        ensures ok { IfOk result (λ limits. limits ≡ record {
-          active = active;
-          passive = passive;
-          arwl = arwl;
-          prwl = prwl;
-          ka = ka;
-          kp = kp;
-        }) }
-        ensures accepted { IsOk result ↔ IsAllowed (record {
-          active = active;
-          passive = passive;
-          arwl = arwl;
-          prwl = prwl;
-          ka = ka;
-          kp = kp;
-        }) }
+        ensures ok { IfOk result (λ limits. limits ≡
+            record { active = active; passive = passive; arwl = arwl; prwl = prwl; ka = ka; kp = kp }) }
+        ensures accepted { IsOk result ↔ IsAllowed (
+            record { active = active; passive = passive; arwl = arwl; prwl = prwl; ka = ka; kp = kp }) }
     {
         let views = 1 <= active && active <= 16 && 1 <= passive && passive <= 64;
         let walks = prwl <= arwl && arwl <= 32;
@@ -108,7 +101,7 @@ impl Limits {
         self.passive
     }
 
-    /// The active random walk length: how many steps a walk through the active views takes at most.
+    /// The active random walk length (ARWL): the greatest number of steps that a joining name is passed on.
     pub fn arwl(&self) -> u8
         ensures value { result ≡ self.now.arwl }
         ensures allowed { IsAllowed self.now }
@@ -116,7 +109,8 @@ impl Limits {
         self.arwl
     }
 
-    /// The passive random walk length: at how many steps left a walk puts its name into a passive view.
+    /// The passive random walk length (PRWL): with this many steps left, a joining name is put into the
+    /// passive view of the node that its walk has reached.
     pub fn prwl(&self) -> u8
         ensures value { result ≡ self.now.prwl }
         ensures allowed { IsAllowed self.now }
@@ -124,7 +118,7 @@ impl Limits {
         self.prwl
     }
 
-    /// The number of names from the active view in a shuffle.
+    /// The greatest number of names from the active view in a shuffle.
     pub fn ka(&self) -> u8
         ensures value { result ≡ self.now.ka }
         ensures allowed { IsAllowed self.now }
@@ -132,7 +126,7 @@ impl Limits {
         self.ka
     }
 
-    /// The number of names from the passive view in a shuffle.
+    /// The greatest number of names from the passive view in a shuffle.
     pub fn kp(&self) -> u8
         ensures value { result ≡ self.now.kp }
         ensures allowed { IsAllowed self.now }

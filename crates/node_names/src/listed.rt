@@ -1,4 +1,4 @@
-//! A list that knows where it allocates.
+//! A list that contracts see as its items alone.
 ghost use Rattle.std.specs.Prelude.{◌≡◌, ◌↔◌, [], ◌∷◌, ◌++◌, length, take, IsTrue, IsNone, IfOk, OnOk, OnErr};
 ghost use Rattle.std.specs.Option.{option_to_list};
 ghost use Rattle.std.specs.Cmp.Lexicographic.{pointwise, lists_per, lists_equiv};
@@ -9,7 +9,8 @@ use std::marker::Model;
 
 /// A growable list in the memory of its allocator.
 ///
-/// A contract sees it as the list of its items, whatever room it has.
+/// A contract sees it as the list of its items. Unlike a `Vec`, it does not show how much room is left, so a
+/// type that holds it can be said to be as it was.
 #[derive(Drop)]
 pub struct Listed<T: Drop, A: Allocator = Global> {
     items: Vec<T, A>,
@@ -69,7 +70,7 @@ impl<T: Drop, A: Allocator> Listed<T, A> {
         self.items.is_empty()
     }
 
-    /// Puts an item at the end. Without memory the item is dropped.
+    /// Puts an item at the end. Where there is no memory, the item is dropped.
     pub fn push(&mut self, item: T) -> Result<(), AllocError>
         ensures ok { OnOk result (self.new ≡ self.old ++ item ∷ []) }
         ensures err { OnErr result (self.new ≡ self.old) }

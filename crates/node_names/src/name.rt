@@ -64,16 +64,17 @@ fn first_bad_byte(bytes: &[u8]) -> Option<usize>
 }
 
 impl NodeName {
-    /// The number of bytes that a name has at most.
+    /// The greatest length of a name, in bytes.
     pub const MAX_LEN: usize = 32;
 
-    /// Reads a name. No bytes at all are reported first, then too many, then the first bad one.
+    /// Reads a name. It reports the lack of any byte first, then too many bytes, then the first bad byte.
     pub fn parse(bytes: &[u8]) -> Result<NodeName, NameFault>
         ensures ok { IfOk result (λ name. name ≡ bytes.now) }
         ensures accepted { IsOk result ↔ IsNodeName bytes.now }
         ensures empty { IsErrOf result NameFault.Empty ↔ (bytes.now ≡ []) }
         ensures too_long { IsErrOf result NameFault.TooLong ↔ (32 < length bytes.now) }
-        ensures bad_byte { (at : ℕ) → IsErrOf result (NameFault.BadByte at) ↔ ((length bytes.now ≤ 32) × (first_bad_byte bytes.now ≡ Some at)) }
+        ensures bad_byte { (at : ℕ) → IsErrOf result (NameFault.BadByte at)
+            ↔ ((length bytes.now ≤ 32) × (first_bad_byte bytes.now ≡ Some at)) }
     {
         if bytes.is_empty() {
             return Err(NameFault::Empty);

@@ -3,8 +3,8 @@ ghost use Rattle.node_names.specs.Same.{same_id};
 ghost use Rattle.node_names.specs.Order.{id_cmp};
 
 use super::*;
-use std::cmp::Ordering;
 use std::alloc::{AllocError, Global};
+use std::cmp::Ordering;
 use std::collections::HashSet;
 use std::fmt::{Debug, Display};
 use std::process::Abort;
