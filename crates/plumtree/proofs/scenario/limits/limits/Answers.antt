@@ -1,0 +1,27 @@
+-- The table gives no other limits than those that were refused.
+use Rattle.std.proofs.Common.{sym, subst}
+use Rattle.toml.specs.View.{table_view}
+use Rattle.node_names.specs.Limits.{Limits as Sizes, IsAllowed}
+use Rattle.plumtree.specs.Scenario.{AreSizes}
+use Rattle.plumtree.proofs.Numbers.{AreSizes-same}
+use Rattle.plumtree.proofs.scenario.limits.limits.Goals as goal
+
+pub returns-in-Err-clause-refused : goal.returns-in-Err-clause-refused
+returns-in-Err-clause-refused c sizes are =
+    let given : Sizes = record {
+      active = c.in_ok-active.active;
+      passive = c.in_ok-passive.passive;
+      arwl = c.in_ok-arwl.arwl;
+      prwl = c.in_ok-prwl.prwl;
+      ka = c.in_ok-ka.ka;
+      kp = c.in_ok-kp.kp;
+    } in
+    let read : AreSizes (table_view c.args.section.now.table.now) given = record {
+      active = rw c.active.ensures.value at c.in_ok-active.ensures;
+      passive = rw c.passive.ensures.value at c.in_ok-passive.ensures;
+      arwl = rw c.arwl.ensures.value at c.in_ok-arwl.ensures;
+      prwl = rw c.prwl.ensures.value at c.in_ok-prwl.ensures;
+      ka = rw c.ka.ensures.value at c.in_ok-ka.ensures;
+      kp = rw c.kp.ensures.value at c.in_ok-kp.ensures;
+    } in
+    absurd (cc (c.in-Err.ensures.accepted.1 (subst IsAllowed (AreSizes-same _ sizes given are.sizes_are read) are.allowed)))

@@ -1,0 +1,11 @@
+-- Why a scenario is refused.
+use Rattle.plumtree.specs.declared.scenario.fault.ScenarioFault.{ScenarioFault}
+use Rattle.plumtree.specs.declared.scenario.fault.ScenarioFault.TheVariants.{Unreadable, TooLong, NotToml, Refused, OutOfMemory}
+
+-- a fault of the input's bytes, before anything is known of the document
+abbrev pub IsReadFault : ScenarioFault → Type 0
+IsReadFault Unreadable = Unit {0}
+IsReadFault TooLong = Unit {0}
+IsReadFault OutOfMemory = Unit {0}
+IsReadFault NotToml = ⊥
+IsReadFault (Refused place key) = ⊥

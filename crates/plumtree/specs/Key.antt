@@ -1,0 +1,24 @@
+-- How the keys of a scenario are written.
+use Rattle.std.specs.Prelude.{ℕ, List, codes}
+use Rattle.plumtree.specs.declared.scenario.fault.Key.{Key}
+use Rattle.plumtree.specs.declared.scenario.fault.Key.TheVariants.{Seed, Limits, Event, Active, Passive, Arwl, Prwl, Ka, Kp, LimitsTogether, Do, Node, Incarnation, Peers, Contact, Text, Place}
+
+-- the word for each key; limits that do not go together have the code of their fault
+abbrev pub word_of : Key → List ℕ
+word_of Seed = codes "seed"
+word_of Limits = codes "limits"
+word_of Event = codes "event"
+word_of Active = codes "active"
+word_of Passive = codes "passive"
+word_of Arwl = codes "arwl"
+word_of Prwl = codes "prwl"
+word_of Ka = codes "ka"
+word_of Kp = codes "kp"
+word_of LimitsTogether = codes "N4"
+word_of Do = codes "do"
+word_of Node = codes "node"
+word_of Incarnation = codes "incarnation"
+word_of Peers = codes "peers"
+word_of Contact = codes "contact"
+word_of Text = codes "text"
+word_of Place = codes "place"

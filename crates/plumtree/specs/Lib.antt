@@ -1,0 +1,5 @@
+pub mod Fault
+pub mod Key
+pub mod Lines
+pub mod Reading
+pub mod Scenario

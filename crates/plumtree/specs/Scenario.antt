@@ -1,0 +1,64 @@
+-- Which scenario a document describes.
+use Rattle.std.specs.Prelude.{◌≡◌, ◌⊎◌, ◌^◌, ◌-◌, ℕ, List, [], ◌∷◌, codes, Option, Some, None, MatchOption}
+use Rattle.std.specs.List.{AllZip}
+use Rattle.toml.specs.Data.{Data, Members, no_members, table}
+use Rattle.node_names.specs.Limits.{Limits as Sizes, IsAllowed}
+use Rattle.plumtree.specs.Reading.{at_key, IsOptional, IsNumber, IsText, IsName, IsNames, IsTables}
+use Rattle.plumtree.specs.declared.scenario.fault.Key.TheVariants.{Seed, Limits, Event, Active, Passive, Arwl, Prwl, Ka, Kp, Do, Node, Incarnation, Peers, Contact, Text, Place}
+use Rattle.plumtree.specs.declared.scenario.action.Action.{Action}
+use Rattle.plumtree.specs.declared.scenario.action.Action.TheVariants.{Start, Broadcast, Arrive, ArriveAll}
+
+-- the greatest number that fits 64 bits
+abbrev pub greatest : ℕ
+greatest = 2 ^ 64 - 1
+
+-- a limit of up to 255, or the standard one where it is left out
+abbrev pub IsLimit : ℕ → Option Data → ℕ → Type 0
+IsLimit standard None limit = limit ≡ standard
+IsLimit standard (Some found) limit = IsNumber 255 (Some found) limit
+
+-- the six limits that a table gives, whether or not they go together
+pub record AreSizes (members : Members) (sizes : Sizes) : Type 0 where
+  pub active : IsLimit 5 (at_key Active members) sizes.active
+  pub passive : IsLimit 30 (at_key Passive members) sizes.passive
+  pub arwl : IsLimit 6 (at_key Arwl members) sizes.arwl
+  pub prwl : IsLimit 3 (at_key Prwl members) sizes.prwl
+  pub ka : IsLimit 3 (at_key Ka members) sizes.ka
+  pub kp : IsLimit 4 (at_key Kp members) sizes.kp
+
+-- the limits that a table gives, where they go together
+pub record AreLimits (members : Members) (sizes : Sizes) : Type 0 where
+  pub sizes_are : AreSizes members sizes
+  pub allowed : IsAllowed sizes
+
+-- what the table of an event describes
+abbrev pub IsAction : Members → Action → Type 0
+IsAction members (Start node incarnation peers contact) = IsText (at_key Do members) (codes "start")
+    × IsName (at_key Node members) node
+    × IsNumber greatest (at_key Incarnation members) incarnation.0
+    × IsNames (at_key Peers members) peers
+    × IsOptional IsName (at_key Contact members) contact
+IsAction members (Broadcast node text) = IsText (at_key Do members) (codes "broadcast")
+    × IsName (at_key Node members) node
+    × IsText (at_key Text members) text
+IsAction members (Arrive place) = IsText (at_key Do members) (codes "arrive") × IsNumber greatest (at_key Place members) place
+IsAction members ArriveAll = IsText (at_key Do members) (codes "arrive_all")
+
+-- what the tables of all events describe, in order
+abbrev pub AreActions : List Members → List Action → Type 0
+AreActions members actions = AllZip IsAction members actions
+
+-- the limits of a document, all of them standard where it gives none
+abbrev pub HasLimits : Option Data → Sizes → Type 0
+HasLimits None sizes = AreLimits no_members sizes
+HasLimits (Some found) sizes = (members : Members) × (found ≡ table members) × AreLimits members sizes
+
+-- the events of a document, as many as a scenario may have
+abbrev pub HasActions : ℕ → Option Data → List Action → Type 0
+HasActions most found actions = (members : List Members) × IsTables most found members × AreActions members actions
+
+-- The scenario that a document describes. Keys that it does not name are nobody's business.
+pub record Describes (most : ℕ) (document : Members) (seed : Option ℕ) (sizes : Sizes) (actions : List Action) : Type 0 where
+  pub seed_is : IsOptional (IsNumber greatest) (at_key Seed document) seed
+  pub limits_are : HasLimits (at_key Limits document) sizes
+  pub actions_are : HasActions most (at_key Event document) actions

@@ -1,0 +1,87 @@
+//! One event of a scenario.
+ghost use Rattle.std.specs.Prelude.{◌≡◌, ◌≢◌, IfOk, IfErr, codes};
+ghost use Rattle.toml.specs.View.{table_view};
+ghost use Rattle.plumtree.specs.Reading.{at_key, IsText};
+ghost use Rattle.plumtree.specs.Scenario.{IsAction};
+
+use super::fault::{Key, ScenarioFault};
+use super::section::Section;
+use bytes::Bytes;
+use node_names::{Incarnation, Listed, NodeName};
+use std::alloc::Global;
+
+/// What an event of a scenario does.
+#[derive(Drop)]
+pub enum Action {
+    /// A node starts.
+    Start {
+        node: NodeName,
+        incarnation: Incarnation,
+        peers: Listed<NodeName>,
+        contact: Option<NodeName>,
+    },
+    /// A node broadcasts a text.
+    Broadcast {
+        node: NodeName,
+        text: Bytes,
+    },
+    /// The packet at a place of the flight arrives.
+    Arrive {
+        place: usize,
+    },
+    /// The oldest packet in flight arrives, again and again until none is in flight.
+    ArriveAll,
+}
+
+impl Action {
+    /// Reads the table of one event.
+    pub fn from_section(alloc: Global, section: &Section<'_>) -> Result<Action, ScenarioFault>
+        ensures ok { IfOk result (IsAction (table_view section.now.table.now)) }
+        ensures refused { IfErr result (λ e. e ≢ ScenarioFault.OutOfMemory → (action : Action) → ¬ IsAction (table_view section.now.table.now) action) }
+    {
+        match section.text(Key::Do)? {
+            "start" => start(alloc, section),
+            "broadcast" => broadcast(alloc, section),
+            "arrive" => arrive(section),
+            "arrive_all" => Ok(Action::ArriveAll),
+            _ => Err(section.refused(Key::Do)),
+        }
+    }
+}
+
+fn start(alloc: Global, section: &Section<'_>) -> Result<Action, ScenarioFault>
+    requires { IsText (at_key Key.Do (table_view section.now.table.now)) (codes "start") }
+    ensures ok { IfOk result (IsAction (table_view section.now.table.now)) }
+    ensures refused { IfErr result (λ e. e ≢ ScenarioFault.OutOfMemory → (action : Action) → ¬ IsAction (table_view section.now.table.now) action) }
+{
+    let node = section.name(Key::Node)?;
+    let incarnation = Incarnation(section.number(Key::Incarnation)?);
+    let peers = section.names(alloc, Key::Peers)?;
+    let contact = section.optional_name(Key::Contact)?;
+    Ok(Action::Start {
+        node,
+        incarnation,
+        peers,
+        contact,
+    })
+}
+
+fn broadcast(alloc: Global, section: &Section<'_>) -> Result<Action, ScenarioFault>
+    requires { IsText (at_key Key.Do (table_view section.now.table.now)) (codes "broadcast") }
+    ensures ok { IfOk result (IsAction (table_view section.now.table.now)) }
+    ensures refused { IfErr result (λ e. e ≢ ScenarioFault.OutOfMemory → (action : Action) → ¬ IsAction (table_view section.now.table.now) action) }
+{
+    let node = section.name(Key::Node)?;
+    let text = section.text(Key::Text)?;
+    let text = Bytes::copy_from_slice(alloc, text.as_bytes())?;
+    Ok(Action::Broadcast { node, text })
+}
+
+fn arrive(section: &Section<'_>) -> Result<Action, ScenarioFault>
+    requires { IsText (at_key Key.Do (table_view section.now.table.now)) (codes "arrive") }
+    ensures ok { IfOk result (IsAction (table_view section.now.table.now)) }
+    ensures refused { IfErr result (λ _. (action : Action) → ¬ IsAction (table_view section.now.table.now) action) }
+{
+    let place = section.number(Key::Place)? as usize;
+    Ok(Action::Arrive { place })
+}

@@ -1,0 +1,37 @@
+//! The limits of a scenario's nodes.
+ghost use Rattle.std.specs.Prelude.{IfOk, IfErr};
+ghost use Rattle.toml.specs.View.{table_view};
+ghost use Rattle.node_names.specs.Limits.{Limits as Sizes};
+ghost use Rattle.plumtree.specs.Reading.{at_key, ReadsRequired};
+ghost use Rattle.plumtree.specs.Scenario.{AreLimits, IsLimit};
+
+use super::fault::{Key, ScenarioFault};
+use super::section::Section;
+use node_names::Limits;
+
+/// The limits, of which each that is left out is the standard one.
+pub fn limits(section: &Section<'_>) -> Result<Limits, ScenarioFault>
+    ensures ok { IfOk result (AreLimits (table_view section.now.table.now)) }
+    ensures refused { IfErr result (λ _. (sizes : Sizes) → ¬ AreLimits (table_view section.now.table.now) sizes) }
+{
+    let standard = Limits::STANDARD;
+    let active = limit(section, Key::Active, standard.active())?;
+    let passive = limit(section, Key::Passive, standard.passive())?;
+    let arwl = limit(section, Key::Arwl, standard.arwl())?;
+    let prwl = limit(section, Key::Prwl, standard.prwl())?;
+    let ka = limit(section, Key::Ka, standard.ka())?;
+    let kp = limit(section, Key::Kp, standard.kp())?;
+    match Limits::new(active, passive, arwl, prwl, ka, kp) {
+        Ok(limits) => Ok(limits),
+        Err(_) => Err(section.refused(Key::LimitsTogether)),
+    }
+}
+
+fn limit(section: &Section<'_>, key: Key, standard: u8) -> Result<u8, ScenarioFault>
+    ensures { ReadsRequired (IsLimit standard) (at_key key (table_view section.now.table.now)) (ScenarioFault.Refused section.now.place key) result }
+{
+    match section.optional_number(key, 255)? {
+        Some(number) => Ok(number as u8),
+        None => Ok(standard),
+    }
+}
