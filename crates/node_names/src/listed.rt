@@ -79,6 +79,14 @@ impl<T: Drop, A: Allocator> Listed<T, A> {
         Ok(())
     }
 
+    /// Moves the items of a vector to the end. Without memory they are dropped.
+    pub fn append(&mut self, mut more: Vec<T, A>) -> Result<(), AllocError>
+        ensures ok { OnOk result (self.new ≡ self.old ++ more.items) }
+        ensures err { OnErr result (self.new ≡ self.old) }
+    {
+        self.items.append(&mut more)
+    }
+
     /// Takes the last item away.
     pub fn pop(&mut self) -> Option<T>
         ensures last { self.old ≡ self.new ++ option_to_list result }
@@ -92,6 +100,11 @@ impl<T: Drop, A: Allocator> Listed<T, A> {
         ensures { self.new ≡ take n self.old }
     {
         self.items.truncate(n);
+    }
+
+    /// The allocator of the list.
+    pub fn allocator(&self) -> &A {
+        self.items.allocator()
     }
 }
 

@@ -7,7 +7,8 @@ use Rattle.node_names.specs.declared.ids.Incarnation.{Incarnation}
 use Rattle.world.specs.CoreState.{CoreState}
 use Rattle.world.specs.Delivery.{Delivery}
 use Rattle.world.specs.Entry.{Entry}
-use Rattle.world.specs.Group.{Group, IsEmptyGroup, node_of, put_node, origin_of, packets}
+use Rattle.world.specs.Event.{Event}
+use Rattle.world.specs.Group.{Group, Logged, IsEmptyGroup, node_of, put_node, origin_of, packets}
 use Rattle.world.specs.Lists.{places}
 use Rattle.node_names.specs.Same.{has_name}
 use Rattle.world.specs.Peers.{are_peers}
@@ -152,3 +153,36 @@ module _
     abbrev pub Run : List Entry → Group C N → Type 0
     Run [] group = IsEmptyGroup group
     Run (entry ∷ past) group = (before : Group C N) × Run past before × Happens before entry group
+
+-- The entry is of this event, and says what it did.
+pub record Tells
+  {C N : Type 0}
+  (state : C → CoreState)
+  (starts : Origin → Limits → List Name → Option Name → List (Name × N) → C → Type 0)
+  (steps : C → Stimulus N → List (Name × N) → List Delivery → C → Type 0)
+  (limits : Limits)
+  (event : Event)
+  (before : Group C N)
+  (entry : Entry)
+  (after : Group C N)
+  : Type 0 where
+  pub of_event : entry.event ≡ event
+  pub first_sent : entry.first_sent ≡ length before.sent
+  pub effect : Effect state starts steps limits before entry after event
+
+-- A call takes the group on by one event: the log grows by an entry that says what happened, and the deliveries are its own.
+pub record Applied
+  {C N : Type 0}
+  (state : C → CoreState)
+  (starts : Origin → Limits → List Name → Option Name → List (Name × N) → C → Type 0)
+  (steps : C → Stimulus N → List (Name × N) → List Delivery → C → Type 0)
+  (event : Event)
+  (given : List Delivery)
+  (old new : Logged C N)
+  : Type 0 where
+  pub entry : Entry
+  pub of_event : entry.event ≡ event
+  pub gave : entry.given ≡ given
+  pub happened : Happens state starts steps old.limits old.group entry new.group
+  pub logged : new.log ≡ old.log ++ entry ∷ []
+  pub same_limits : new.limits ≡ old.limits

@@ -1,12 +1,22 @@
 //! A group of nodes as one pure state machine: events go in, packets and deliveries come out.
 #![tactic(auto)]
 
+mod apply;
+mod commit;
 mod delivery;
 mod entry;
+mod error;
 mod event;
+mod flood_core;
+mod flood_note;
+mod given;
+mod lookup;
+mod names;
 mod node_state;
 mod out;
 mod packet;
+mod plan;
+mod planning;
 mod protocol;
 mod stimulus;
 mod wire;
@@ -14,11 +24,16 @@ mod world;
 
 pub use delivery::Delivery;
 pub use entry::Entry;
+pub use error::WorldError;
 pub use event::{Event, EventOf};
+pub use flood_core::FloodCore;
+pub use flood_note::FloodNote;
+pub use given::{Given, RunFault};
+pub use names::NameSet;
 pub use node_state::NodeState;
 pub use out::Out;
 pub use packet::Packet;
-pub use protocol::{Core, CoreError, NameSet};
+pub use protocol::{Core, CoreError};
 pub use stimulus::{Stimulus, StimulusOf};
 pub use wire::Wire;
 pub use world::World;

@@ -39,4 +39,18 @@ impl<N: Drop, A: Allocator + Copy> Out<N, A> {
             deliveries: Listed::new(alloc),
         }
     }
+
+    /// Appends packets and one delivery.
+    pub(crate) fn extend(&mut self, sends: Vec<(NodeName, N), A>, delivery: Delivery<A>) -> Result<(), AllocError>
+        ensures ok { OnOk result (self.new ≡ record { sends = self.old.sends ++ sends.items; deliveries = self.old.deliveries ++ delivery ∷ [] }) }
+        ensures err { OnErr result (self.new ≡ self.old) }
+    {
+        let kept = self.sends.len();
+        self.sends.append(sends)?;
+        if self.deliveries.push(delivery).is_err() {
+            self.sends.truncate(kept);
+            return Err(AllocError);
+        }
+        Ok(())
+    }
 }

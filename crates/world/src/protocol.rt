@@ -7,22 +7,19 @@ ghost use Rattle.world.specs.CoreState.{CoreState};
 ghost use Rattle.world.specs.Delivery.{Delivery};
 ghost use Rattle.world.specs.IdentityLaw.{IsTooLong};
 ghost use Rattle.world.specs.Laws.{Laws};
+ghost use Rattle.world.specs.Output.{Stepped};
 ghost use Rattle.world.specs.Peers.{are_peers};
 ghost use Rattle.world.specs.Stimulus.{Stimulus};
 
+use crate::names::NameSet;
 use crate::out::Out;
 use crate::stimulus::Stimulus;
 use crate::wire::Wire;
 use bytes::Bytes;
-use indexmap::IndexSet;
 use node_names::{Limits, MsgId, NodeName, Origin};
-use std::alloc::{AllocError, Allocator, Global};
+use std::alloc::{AllocError, Allocator};
 use std::error::Error;
 use std::fmt;
-use std::hash::{BuildHasherDefault, FoldHasher};
-
-/// Names in the order in which they were added.
-pub type NameSet<A = Global> = IndexSet<NodeName, BuildHasherDefault<FoldHasher>, A>;
 
 /// Why a core refused a step. Core and output are then as they were.
 #[derive(Clone, Copy, Debug, PartialEq, Eq)]
@@ -46,6 +43,17 @@ impl fmt::Display for CoreError {
 }
 
 impl Error for CoreError {}
+
+impl From<AllocError> for CoreError {
+    ghost use Rattle.std.specs.Prelude.{◌≡◌};
+    ghost use Rattle.world.specs.declared.protocol.CoreError.TheVariants.{OutOfMemory};
+
+    ghost from_gives = { λ _ e. e ≡ OutOfMemory };
+
+    fn from(_e: AllocError) -> CoreError {
+        CoreError::OutOfMemory
+    }
+}
 
 /// A node's protocol: it starts, and then takes one stimulus after the other.
 pub trait Core<A: Allocator>: Sized + Drop {
@@ -87,7 +95,7 @@ pub trait Core<A: Allocator>: Sized + Drop {
         stimulus: &Stimulus<Self::Note, A>,
         out: &mut Out<Self::Note, A>,
     ) -> Result<(), CoreError>
-        ensures stepped { OnOk result ((sends : List (Name × Self.Note)) × (given : List Delivery) × steps self.old stimulus.now sends given self.new × (out.new ≡ record { sends = out.old.sends ++ sends; deliveries = out.old.deliveries ++ given })) }
+        ensures stepped { OnOk result (Stepped steps self.old stimulus.now out.old self.new out.new) }
         ensures too_long { IsErrOf result CoreError.PayloadTooLong ↔ IsTooLong stimulus.now }
         ensures spent { IsErrOf result CoreError.SeqSpent → is_spent self.old stimulus.now }
         ensures err { OnErr result ((self.new ≡ self.old) × (out.new ≡ out.old)) };

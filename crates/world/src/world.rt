@@ -12,11 +12,11 @@ use std::marker::Model;
 /// A group of nodes under the same limits, all packets that they sent, and the log of what happened.
 #[derive(Drop)]
 pub struct World<C: Core<A>, A: Allocator = Global> {
-    limits: Limits,
-    nodes: Vec<NodeState<C>, A>,
-    sent: Vec<Packet<C::Note>, A>,
-    flight: Vec<usize, A>,
-    log: Vec<Entry<A>, A>,
+    pub(crate) limits: Limits,
+    pub(crate) nodes: Vec<NodeState<C>, A>,
+    pub(crate) sent: Vec<Packet<C::Note>, A>,
+    pub(crate) flight: Vec<usize, A>,
+    pub(crate) log: Vec<Entry<A>, A>,
 }
 
 impl<C: Core<A>, A: Allocator> Model for World<C, A> {
@@ -47,5 +47,45 @@ impl<C: Core<A>, A: Allocator + Copy> World<C, A> {
             flight: Vec::new(alloc),
             log: Vec::new(alloc),
         }
+    }
+
+    /// The allocator that the group was made with.
+    pub fn allocator(&self) -> A {
+        *self.log.allocator()
+    }
+
+    /// The limits of every node.
+    pub fn limits(&self) -> Limits
+        ensures { result ≡ self.now.limits }
+    {
+        self.limits
+    }
+
+    /// The nodes, in the order of their first starts.
+    pub fn nodes(&self) -> &[NodeState<C>]
+        ensures { result.now ≡ self.now.group.nodes }
+    {
+        self.nodes.as_slice()
+    }
+
+    /// All packets that were ever sent, in their order.
+    pub fn sent(&self) -> &[Packet<C::Note>]
+        ensures { result.now ≡ self.now.group.sent }
+    {
+        self.sent.as_slice()
+    }
+
+    /// The places among the sent packets of those in flight, the oldest first.
+    pub fn flight(&self) -> &[usize]
+        ensures { result.now ≡ self.now.group.flight }
+    {
+        self.flight.as_slice()
+    }
+
+    /// The accepted events and what came of them, in their order.
+    pub fn log(&self) -> &[Entry<A>]
+        ensures { result.now ≡ self.now.log }
+    {
+        self.log.as_slice()
     }
 }

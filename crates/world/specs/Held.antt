@@ -1,0 +1,76 @@
+-- Lemmas on a list of messages to which one more is added: proofs, and nothing to believe.
+use Rattle.std.specs.Prelude.{◌≡◌, ◌⊎◌, ◌+◌, ◌<◌, ◌≤◌, ℕ, Bool, true, false, cond, List, [], ◌∷◌, ◌++◌, Option, Some, None, is_some, if◌then◌else◌, refl}
+use Rattle.std.specs.Map.{lookup}
+use Rattle.std.proofs.Common.{inl, inr, sym, ◌∙◌, ap, subst}
+use Rattle.std.proofs.Math.Nat.{le-add_left, le_of_lt, le_refl, le_trans}
+use Rattle.std.proofs.Math.Numerals.{lt-add-one}
+use Rattle.std.proofs.lemmas.Bool.{false≢true}
+use Rattle.std.specs.Option.{unwrap_or}
+use Rattle.node_names.specs.Same.{same_id, same_id-Decides}
+use Rattle.node_names.specs.declared.ids.MsgId.{MsgId}
+use Rattle.node_names.specs.declared.ids.Origin.{Origin}
+use Rattle.world.specs.FloodCore.{HoldsCounted}
+
+-- what two equal options hold is equal
+pub same_inside : {X : Type 0} (x y : X) → Some x ≡ Some y → x ≡ y
+same_inside x y e = ap (λ o. unwrap_or o x) e
+
+-- the added entry is found where none was
+pub lookup-push : {K X : Type 0} (test : K → Bool) (es : List (K × X)) (k : K) (v : X) → lookup test (es ++ (k, v) ∷ []) ≡ (if is_some (lookup test es) then lookup test es else (if test k then Some v else None))
+lookup-push test [] k v = refl
+lookup-push {K} {X} test (e ∷ es) k v = go (test e.0) (lookup-push test es k v)
+  where
+    go : (b : Bool) → lookup test (es ++ (k, v) ∷ []) ≡ (if is_some (lookup test es) then lookup test es else (if test k then Some v else None)) → cond b (Some e.1) (lookup test (es ++ (k, v) ∷ [])) ≡ (if is_some (cond b (Some e.1) (lookup test es)) then cond b (Some e.1) (lookup test es) else (if test k then Some v else None))
+    go true later = refl
+    go false later = later
+
+-- an id is the same as itself
+pub same_id-refl : (id : MsgId) → same_id id id ≡ true
+same_id-refl id = (same_id-Decides id id).1 refl
+
+module _ {X : Type 0} (held : List (MsgId × X)) (id : MsgId) (p : X) where
+  -- what is found after a push was found before, or is what was pushed
+  pub found_after_push : (j : MsgId) (q : X) → lookup (same_id j) (held ++ (id, p) ∷ []) ≡ Some q → (lookup (same_id j) held ≡ Some q) ⊎ ((j ≡ id) × (q ≡ p))
+  found_after_push j q found = go (lookup (same_id j) held) (same_id j id) refl refl (sym (lookup-push (same_id j) held id p) ∙ found)
+    where
+      go : (o : Option X) (b : Bool) → lookup (same_id j) held ≡ o → same_id j id ≡ b → (if is_some o then o else (if b then Some p else None)) ≡ Some q → (lookup (same_id j) held ≡ Some q) ⊎ ((j ≡ id) × (q ≡ p))
+      go (Some r) b is_o is_b e = inl (is_o ∙ e)
+      go None true is_o is_b e = inr ((same_id-Decides j id).0 is_b, sym (same_inside p q e))
+      go None false is_o is_b e = absurd (false≢true (ap is_some e))
+
+  -- what is held after a push was held before, or is what was pushed
+  pub held_after_push : (j : MsgId) → is_some (lookup (same_id j) (held ++ (id, p) ∷ [])) ≡ true → (is_some (lookup (same_id j) held) ≡ true) ⊎ (j ≡ id)
+  held_after_push j is = go (lookup (same_id j) held) (same_id j id) refl refl (subst (λ o. is_some o ≡ true) (lookup-push (same_id j) held id p) is)
+    where
+      go : (o : Option X) (b : Bool) → lookup (same_id j) held ≡ o → same_id j id ≡ b → is_some (if is_some o then o else (if b then Some p else None)) ≡ true → (is_some (lookup (same_id j) held) ≡ true) ⊎ (j ≡ id)
+      go (Some r) b is_o is_b e = inl (ap is_some is_o)
+      go None true is_o is_b e = inr ((same_id-Decides j id).0 is_b)
+      go None false is_o is_b e = absurd (false≢true e)
+
+  -- what was held stays
+  pub stays_after_push : (j : MsgId) → is_some (lookup (same_id j) held) ≡ true → is_some (lookup (same_id j) (held ++ (id, p) ∷ [])) ≡ true
+  stays_after_push j is = subst (λ o. is_some o ≡ true) (sym (lookup-push (same_id j) held id p)) (go (lookup (same_id j) held) is)
+    where
+      go : (o : Option X) → is_some o ≡ true → is_some (if is_some o then o else (if same_id j id then Some p else None)) ≡ true
+      go (Some r) e = refl
+      go None e = absurd (false≢true e)
+
+  -- what was pushed is held
+  pub pushed_is_held : is_some (lookup (same_id id) (held ++ (id, p) ∷ [])) ≡ true
+  pushed_is_held = subst (λ o. is_some o ≡ true) (sym (lookup-push (same_id id) held id p)) (go (lookup (same_id id) held) (same_id id id) (same_id-refl id))
+    where
+      go : (o : Option X) (b : Bool) → b ≡ true → is_some (if is_some o then o else (if b then Some p else None)) ≡ true
+      go (Some r) b e = refl
+      go None true e = refl
+      go None false e = absurd (false≢true e)
+
+-- a pushed message of another origin is not counted, and one of this origin with the next number is
+pub counts_others : (me : Origin) (held : List (MsgId × List ℕ)) (count : ℕ) (id : MsgId) (p : List ℕ) → HoldsCounted me held count → (id.origin ≡ me → ⊥) → HoldsCounted me (held ++ (id, p) ∷ []) count
+counts_others me held count id p counted other j is mine = elim (held_after_push held id p j is) [ inl was ↦ counted j was mine | inr same ↦ absurd (other (sym (ap (λ (i : MsgId). i.origin) same) ∙ mine)) ]
+
+pub counts_next : (me : Origin) (held : List (MsgId × List ℕ)) (count : ℕ) (id : MsgId) (p : List ℕ) → HoldsCounted me held count → id.seq ≡ count + 1 → HoldsCounted me (held ++ (id, p) ∷ []) (count + 1)
+counts_next me held count id p counted next j is mine =
+    elim (held_after_push held id p j is) [
+      | inl was ↦ let bounds : (0 < j.seq) × (j.seq ≤ count) = counted j was mine in (bounds.0, le_trans bounds.1 (le_of_lt (lt-add-one count)))
+      | inr same ↦ let seq : j.seq ≡ count + 1 = ap (λ (i : MsgId). i.seq) same ∙ next in (subst (λ n. 0 < n) (sym seq) (le-add_left 1 count), subst (λ n. n ≤ count + 1) (sym seq) (le_refl (count + 1)))
+    ]

@@ -1,0 +1,118 @@
+//! Playing events: one, or a whole list.
+ghost use Rattle.std.specs.Prelude.{◌≡◌, ◌<◌, [], ◌∷◌, ◌++◌, Some, None, IfOk, IfErr, OnOk, OnErr, MatchResult, length, slice_get, take};
+ghost use Rattle.std.specs.Option.{ForSome};
+ghost use Rattle.world.specs.Play.{Plays, PlaysOn, RefusesAt, given_at};
+ghost use Rattle.world.specs.Plan.{group_after};
+ghost use Rattle.world.specs.Refusals.{IsRefusal, refusal};
+ghost use Rattle.world.specs.Run.{Applied, Happens};
+
+use crate::commit::{change, post, put_last};
+use crate::delivery::Delivery;
+use crate::error::WorldError;
+use crate::event::Event;
+use crate::given::{Given, RunFault};
+use crate::plan::{Plan, copy_deliveries, copy_delivery};
+use crate::protocol::Core;
+use crate::world::World;
+use node_names::Listed;
+use std::alloc::{AllocError, Allocator};
+
+impl<C: Core<A>, A: Allocator + Copy> World<C, A> {
+    /// Does what a plan says, all or nothing.
+    fn commit(&mut self, plan: Plan<C, A>) -> Result<(), AllocError>
+        requires happens { Happens C.state C.starts C.steps self.old.limits self.old.group plan.entry (group_after self.old.group plan.node plan.packets.items plan.leaving plan.again) }
+        requires leaving { ForSome plan.leaving (λ place. place < length self.old.group.flight) }
+        ensures group { OnOk result (self.new.group ≡ group_after self.old.group plan.node plan.packets.items plan.leaving plan.again) }
+        ensures log { OnOk result (self.new.log ≡ self.old.log ++ plan.entry ∷ []) }
+        ensures limits { self.new.limits ≡ self.old.limits }
+        ensures err { OnErr result (self.new ≡ self.old) }
+    {
+        let Plan {
+            node,
+            packets,
+            leaving,
+            again,
+            entry,
+        } = plan;
+        self.log.reserve(1)?;
+        self.nodes.reserve(1)?;
+        post(&mut self.sent, &mut self.flight, packets, leaving, again)?;
+        change(&mut self.nodes, node);
+        put_last(&mut self.log, entry);
+        Ok(())
+    }
+
+    /// Plays one event, and gives what it delivered.
+    ///
+    /// The refusals are tested in the order of `WorldError`'s variants as far as they can meet one event; one for want of
+    /// memory comes last. A refused event changes nothing.
+    pub fn apply(&mut self, event: Event<A>) -> Result<Vec<Delivery<A>, A>, WorldError>
+        ensures applied { IfOk result (λ given. Applied C.state C.starts C.steps event given.items self.old self.new) }
+        ensures err { OnErr result (self.new ≡ self.old) }
+
+        // Each refusal comes exactly where its condition holds and no earlier one does; those for numbers and memory only then.
+        ensures refused { IfErr result (IsRefusal C.is_spent self.old.limits self.old.group event) }
+        ensures accepted { OnOk result (refusal self.old.limits self.old.group event ≡ None) }
+    {
+        let plan = self.plan(&event)?;
+        let given = copy_deliveries(self.allocator(), plan.entry.given.as_slice())?;
+        self.commit(plan)?;
+        Ok(given)
+    }
+
+    /// Plays the events in order until one is refused, and gives what they delivered, each with the place of its event.
+    ///
+    /// At a fault the group stands after the events before that one; the list may be gone on with from there.
+    pub fn run(&mut self, events: &[Event<A>]) -> Result<Vec<Given<A>, A>, RunFault<A>>
+        ensures played { IfOk result (λ given. Plays C.state C.starts C.steps 0 events.now given.items self.old self.new) }
+        ensures stopped { IfErr result (λ fault. Plays C.state C.starts C.steps 0 (take fault.at events.now) fault.given self.old self.new) }
+        ensures refused { IfErr result (λ fault. RefusesAt C.is_spent events.now fault self.new) }
+    {
+        let mut given = Vec::new(self.allocator());
+        for (at, event) in events.iter().enumerate() {
+            if let Err(why) = self.play(at, event, &mut given) {
+                let given = Listed::from_vec(given);
+                return Err(RunFault { at, why, given });
+            }
+        }
+        Ok(given)
+    }
+
+    /// Plays one event of a list, and notes what it delivered.
+    fn play(&mut self, at: usize, event: &Event<A>, given: &mut Vec<Given<A>, A>) -> Result<(), WorldError>
+        ensures applied { OnOk result (PlaysOn C.state C.starts C.steps at event.now given.old.items self.old given.new.items self.new) }
+        ensures err { OnErr result ((self.new ≡ self.old) × (given.new.items ≡ given.old.items)) }
+        ensures refused { IfErr result (IsRefusal C.is_spent self.old.limits self.old.group event.now) }
+        ensures accepted { OnOk result (refusal self.old.limits self.old.group event.now ≡ None) }
+    {
+        let plan = self.plan(event)?;
+        let kept = given.len();
+        note(given, at, plan.entry.given.as_slice())?;
+        if self.commit(plan).is_err() {
+            given.truncate(kept);
+            return Err(WorldError::OutOfMemory);
+        }
+        Ok(())
+    }
+}
+
+/// Notes the deliveries of the event at this place, all or none.
+fn note<A: Allocator + Copy>(given: &mut Vec<Given<A>, A>, at: usize, deliveries: &[Delivery<A>]) -> Result<(), AllocError>
+    ensures ok { OnOk result (given.new.items ≡ given.old.items ++ given_at at deliveries.now) }
+    ensures err { OnErr result (given.new.items ≡ given.old.items) }
+{
+    let mut more = given_of(*given.allocator(), at, deliveries)?;
+    given.append(&mut more)
+}
+
+/// The deliveries, each with the place of the event that gave it.
+fn given_of<A: Allocator + Copy>(alloc: A, at: usize, deliveries: &[Delivery<A>]) -> Result<Vec<Given<A>, A>, AllocError>
+    ensures { IfOk result (λ given. given.items ≡ given_at at deliveries.now) }
+{
+    let mut given = Vec::new(alloc);
+    for delivery in deliveries {
+        let delivery = copy_delivery(delivery)?;
+        given.push(Given { at, delivery })?;
+    }
+    Ok(given)
+}
