@@ -1,7 +1,14 @@
+pub mod FindLemmas
 pub mod FloodMoves
+pub mod GivenLemmas
+pub mod Kept
 pub mod NameLemmas
 pub mod NameSets
 pub mod NodeLemmas
 pub mod PlanLemmas
-pub mod RunLemmas
 pub mod PlayLemmas
+pub mod RestKeeps
+pub mod RunLemmas
+pub mod Runs
+pub mod StartKeeps
+pub mod StepKeeps

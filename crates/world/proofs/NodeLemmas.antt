@@ -1,9 +1,8 @@
 -- Putting a node by its place is putting it by its name.
 use Rattle.std.proofs.Common.{◌≡◌, ◌+◌, ◌<◌, ◌≤◌, ℕ, List, [], ◌∷◌, ◌++◌, length, true, false, sym, ◌∙◌, ap, refl, arith, subst, zero, suc, add-zero}
-use Rattle.std.specs.Prelude.{Bool, Option, Some, None, not, cond, slice_set, nat_lt, if◌then◌else◌}
+use Rattle.std.specs.Prelude.{Bool, Some, None, not, cond, slice_set, nat_lt, if◌then◌else◌}
 use Rattle.std.specs.List.{position, position_or_len}
 use Rattle.std.proofs.lemmas.Bool.Decides.{Decides-ltb, nat_tests}
-use Rattle.node_names.specs.NodeName.{Name}
 use Rattle.node_names.specs.Same.{same_name}
 use Rattle.world.specs.Group.{put_node}
 use Rattle.world.specs.Lists.{places}

@@ -39,27 +39,27 @@ broadcast_accepted limits group name payload event node core is known running sh
 
 -- the arrival of a packet in flight is told by its receiver's step
 pub tells_arrival :
-  {C N : Type 0}
-  (state : C → CoreState)
-  (starts : Origin → Limits → List Name → Option Name → List (Name × N) → C → Type 0)
-  (steps : C → Stimulus N → List (Name × N) → List Delivery → C → Type 0)
-  (limits : Limits)
-  (event : Event)
-  (before : Group C N)
-  (entry : Entry)
-  (after : Group C N)
-  (place : ℕ)
-  (dice : Dice)
-  (number : ℕ)
-  (packet : Packet N) →
-  event ≡ Arrive place dice →
-  entry.event ≡ event →
-  entry.packet ≡ Some number →
-  entry.first_sent ≡ length before.sent →
-  slice_get before.flight place ≡ Some number →
-  slice_get before.sent number ≡ Some packet →
-  Acts state steps before (remove before.flight place) packet.to (stimulus.Arrive packet.sender packet.note dice) entry after →
-  Tells state starts steps limits event before entry after
+    {C N : Type 0}
+    (state : C → CoreState)
+    (starts : Origin → Limits → List Name → Option Name → List (Name × N) → C → Type 0)
+    (steps : C → Stimulus N → List (Name × N) → List Delivery → C → Type 0)
+    (limits : Limits)
+    (event : Event)
+    (before : Group C N)
+    (entry : Entry)
+    (after : Group C N)
+    (place : ℕ)
+    (dice : Dice)
+    (number : ℕ)
+    (packet : Packet N) →
+    event ≡ Arrive place dice →
+    entry.event ≡ event →
+    entry.packet ≡ Some number →
+    entry.first_sent ≡ length before.sent →
+    slice_get before.flight place ≡ Some number →
+    slice_get before.sent number ≡ Some packet →
+    Acts state steps before (remove before.flight place) packet.to (stimulus.Arrive packet.sender packet.note dice) entry after →
+    Tells state starts steps limits event before entry after
 tells_arrival state starts steps limits event before entry after place dice number packet is of_event named first in_flight sent acts =
     record {
       of_event = of_event;
@@ -69,43 +69,44 @@ tells_arrival state starts steps limits event before entry after place dice numb
 
 -- a start that is not refused, with what the core sent, tells its event
 pub tells_start :
-  {C N : Type 0}
-  (state : C → CoreState)
-  (starts : Origin → Limits → List Name → Option Name → List (Name × N) → C → Type 0)
-  (steps : C → Stimulus N → List (Name × N) → List Delivery → C → Type 0)
-  (limits : Limits)
-  (event : Event)
-  (before : Group C N)
-  (name : Name)
-  (incarnation : Incarnation)
-  (peers : List Name)
-  (contact : Option Name)
-  (sends : List (Name × N))
-  (made : List (Packet N))
-  (core : C) →
-  event ≡ Start name incarnation peers contact →
-  stale (node_of name before.nodes) incarnation ≡ None →
-  IsTrue (are_peers limits name peers contact) →
-  starts (record { name = name; incarnation = incarnation }) limits peers contact sends core →
-  made ≡ packets (record { name = name; incarnation = incarnation }) sends →
-  Tells state starts steps limits event before (record { event = event; packet = None; first_sent = length before.sent; moved = false; given = [] }) (group_after before (Some (record { name = name; highest = incarnation; core = Some core })) made None None)
+    {C N : Type 0}
+    (state : C → CoreState)
+    (starts : Origin → Limits → List Name → Option Name → List (Name × N) → C → Type 0)
+    (steps : C → Stimulus N → List (Name × N) → List Delivery → C → Type 0)
+    (limits : Limits)
+    (event : Event)
+    (before : Group C N)
+    (name : Name)
+    (incarnation : Incarnation)
+    (peers : List Name)
+    (contact : Option Name)
+    (sends : List (Name × N))
+    (made : List (Packet N))
+    (core : C) →
+    event ≡ Start name incarnation peers contact →
+    stale (node_of name before.nodes) incarnation ≡ None →
+    IsTrue (are_peers limits name peers contact) →
+    starts (record { name = name; incarnation = incarnation }) limits peers contact sends core →
+    made ≡ packets (record { name = name; incarnation = incarnation }) sends →
+    Tells state starts steps limits event before (record { event = event; packet = None; first_sent = length before.sent; moved = false; given = [] }) (group_after before (Some (record { name = name; highest = incarnation; core = Some core })) made None None)
 tells_start {C} {N} state starts steps limits event before name incarnation peers contact sends made core is fresh fit started are =
     record {
       of_event = refl;
       first_sent = refl;
-      effect = subst (λ e. Effect state starts steps limits before (record { event = event; packet = None; first_sent = length before.sent; moved = false; given = [] }) (group_after before (Some (record { name = name; highest = incarnation; core = Some core })) made None None) e) (sym is)
-        (refl,
-          record {
-            core = core;
-            sends = sends;
-            fresh = is_fresher (node_of name before.nodes) fresh;
-            fit = fit;
-            started = started;
-            nodes = refl;
-            sending = record { sent = ap (λ ps. before.sent ++ ps) are; flight = ap (λ n. before.flight ++ places (length before.sent) n) (ap length are ∙ length-map sends (λ (send : Name × N). record { sender = record { name = name; incarnation = incarnation }; to = send.0; note = send.1 })) };
-            nothing_given = refl;
-            nothing_moved = refl;
-          });
+      effect = subst (λ e. Effect state starts steps limits before (record { event = event; packet = None; first_sent = length before.sent; moved = false; given = [] }) (group_after before (Some (record { name = name; highest = incarnation; core = Some core })) made None None) e) (sym is) (
+        refl,
+        record {
+          core = core;
+          sends = sends;
+          fresh = is_fresher (node_of name before.nodes) fresh;
+          fit = fit;
+          started = started;
+          nodes = refl;
+          sending = record { sent = ap (λ ps. before.sent ++ ps) are; flight = ap (λ n. before.flight ++ places (length before.sent) n) (ap length are ∙ length-map sends (λ (send : Name × N). record { sender = record { name = name; incarnation = incarnation }; to = send.0; note = send.1 })) };
+          nothing_given = refl;
+          nothing_moved = refl;
+        },
+      );
     }
   where
     is_fresher : (o : Option (NodeState C)) → stale o incarnation ≡ None → IfSome o (λ node. node.highest.0 < incarnation.0)
@@ -118,33 +119,35 @@ tells_start {C} {N} state starts steps limits event before name incarnation peer
 
 -- an arrival that a core refuses is refused as its step was
 pub arrival_refused :
-  {C N : Type 0}
-  (is_spent : C → Stimulus N → Type 0)
-  (limits : Limits)
-  (group : Group C N)
-  (event : Event)
-  (place : ℕ)
-  (dice : Dice)
-  (number : ℕ)
-  (packet : Packet N)
-  (node : NodeState C)
-  (core : C)
-  (e : WorldError) →
-  event ≡ Arrive place dice →
-  slice_get group.flight place ≡ Some number →
-  slice_get group.sent number ≡ Some packet →
-  node_of packet.to group.nodes ≡ Some node →
-  node.core ≡ Some core →
-  (e ≡ OutOfMemory) ⊎ ((e ≡ SeqSpent) × is_spent core (stimulus.Arrive packet.sender packet.note dice)) →
-  IsRefusal is_spent limits group event e
+    {C N : Type 0}
+    (is_spent : C → Stimulus N → Type 0)
+    (limits : Limits)
+    (group : Group C N)
+    (event : Event)
+    (place : ℕ)
+    (dice : Dice)
+    (number : ℕ)
+    (packet : Packet N)
+    (node : NodeState C)
+    (core : C)
+    (e : WorldError) →
+    event ≡ Arrive place dice →
+    slice_get group.flight place ≡ Some number →
+    slice_get group.sent number ≡ Some packet →
+    node_of packet.to group.nodes ≡ Some node →
+    node.core ≡ Some core →
+    (e ≡ OutOfMemory) ⊎ ((e ≡ SeqSpent) × is_spent core (stimulus.Arrive packet.sender packet.note dice)) →
+    IsRefusal is_spent limits group event e
 arrival_refused {C} {N} is_spent limits group event place dice number packet node core e is in_flight sent known running late =
     let there : packet_at group place ≡ Some packet = rw in_flight sent in
     subst (λ v. IsRefusal is_spent limits group v e) (sym is)
-      (inr (rw there (not_absent packet.to group.nodes node core known running),
-        elim late [
-          | inl memory ↦ inl memory
-          | inr spent ↦ inr (spent.0, (packet, there, record { node = node; core = core; known = known; running = running; spent = spent.1 }))
-        ]))
+    (inr (
+      rw there (not_absent packet.to group.nodes node core known running),
+      elim late [
+        | inl memory ↦ inl memory
+        | inr spent ↦ inr (spent.0, (packet, there, record { node = node; core = core; known = known; running = running; spent = spent.1 }))
+      ],
+    ))
 
 -- what is found at a place stands before the end
 pub found_within : {X : Type 0} (xs : List X) (k : ℕ) (x : X) → slice_get xs k ≡ Some x → k < length xs

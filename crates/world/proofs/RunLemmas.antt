@@ -9,7 +9,7 @@ use Rattle.world.specs.CoreState.{CoreState}
 use Rattle.world.specs.Delivery.{Delivery}
 use Rattle.world.specs.Entry.{Entry}
 use Rattle.world.specs.Event.{Event}
-use Rattle.world.specs.Group.{Group, Logged}
+use Rattle.world.specs.Group.{Group}
 use Rattle.world.specs.Plan.{group_after, launched, nodes_after, staying}
 use Rattle.world.specs.Run.{Effect, Happens, Run, Tells}
 use Rattle.world.specs.Stimulus.{Stimulus}
@@ -18,25 +18,25 @@ use Rattle.world.specs.declared.packet.Packet.{Packet}
 
 -- a group whose parts are those after the plan is the group after the plan
 pub same_group :
-  {C N : Type 0} (group : Group C N) (changed : Option (NodeState C)) (packets : List (Packet N)) (leaving again : Option ℕ)
-  (nodes : List (NodeState C)) (sent : List (Packet N)) (flight : List ℕ) →
-  nodes ≡ nodes_after changed group.nodes →
-  sent ≡ group.sent ++ packets →
-  flight ≡ staying group.flight leaving ++ launched again (length group.sent) (length packets) →
-  ◌≡◌ {A = Group C N} (record { nodes = nodes; sent = sent; flight = flight }) (group_after group changed packets leaving again)
+    {C N : Type 0} (group : Group C N) (changed : Option (NodeState C)) (packets : List (Packet N)) (leaving again : Option ℕ)
+    (nodes : List (NodeState C)) (sent : List (Packet N)) (flight : List ℕ) →
+    nodes ≡ nodes_after changed group.nodes →
+    sent ≡ group.sent ++ packets →
+    flight ≡ staying group.flight leaving ++ launched again (length group.sent) (length packets) →
+    ◌≡◌ {A = Group C N} (record { nodes = nodes; sent = sent; flight = flight }) (group_after group changed packets leaving again)
 same_group group changed packets leaving again nodes sent flight p q r = λ i. record { nodes = p i; sent = q i; flight = r i }
 
 module _
-  {C N : Type 0}
-  (state : C → CoreState)
-  (starts : Origin → Limits → List Name → Option Name → List (Name × N) → C → Type 0)
-  (steps : C → Stimulus N → List (Name × N) → List Delivery → C → Type 0)
+    {C N : Type 0}
+    (state : C → CoreState)
+    (starts : Origin → Limits → List Name → Option Name → List (Name × N) → C → Type 0)
+    (steps : C → Stimulus N → List (Name × N) → List Delivery → C → Type 0)
   where
-  -- one more entry that says what happened makes a longer run
-  pub run_goes_on : (limits : Limits) (log longer : List Entry) (before after : Group C N) (entry : Entry) → Run state starts steps limits (reverse log) before → Happens state starts steps limits before entry after → longer ≡ log ++ entry ∷ [] → Run state starts steps limits (reverse longer) after
-  run_goes_on limits log longer before after entry run happens is =
-      subst (λ history. Run state starts steps limits history after) (sym (ap reverse is ∙ reverse-append log (entry ∷ []))) (before, run, happens)
+    -- one more entry that says what happened makes a longer run
+    pub run_goes_on : (limits : Limits) (log longer : List Entry) (before after : Group C N) (entry : Entry) → Run state starts steps limits (reverse log) before → Happens state starts steps limits before entry after → longer ≡ log ++ entry ∷ [] → Run state starts steps limits (reverse longer) after
+    run_goes_on limits log longer before after entry run happens is =
+        subst (λ history. Run state starts steps limits history after) (sym (ap reverse is ∙ reverse-append log (entry ∷ []))) (before, run, happens)
 
-  -- an entry that tells an event says what happened
-  pub happens_as_told : (limits : Limits) (event : Event) (before after : Group C N) (entry : Entry) → Tells state starts steps limits event before entry after → Happens state starts steps limits before entry after
-  happens_as_told limits event before after entry told = (told.first_sent, subst (λ e. Effect state starts steps limits before entry after e) (sym told.of_event) told.effect)
+    -- an entry that tells an event says what happened
+    pub happens_as_told : (limits : Limits) (event : Event) (before after : Group C N) (entry : Entry) → Tells state starts steps limits event before entry after → Happens state starts steps limits before entry after
+    happens_as_told limits event before after entry told = (told.first_sent, subst (λ e. Effect state starts steps limits before entry after e) (sym told.of_event) told.effect)

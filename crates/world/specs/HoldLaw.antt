@@ -1,5 +1,5 @@
 -- What a core holds, and how it answers.
-use Rattle.std.specs.Prelude.{◌≡◌, ◌⊎◌, ℕ, List, Option, Some, None, true, IsSome, count_by}
+use Rattle.std.specs.Prelude.{◌≡◌, ◌⊎◌, ℕ, List, Some, true, IsSome, count_by}
 use Rattle.std.specs.List.{AllByRecursion as Each}
 use Rattle.node_names.specs.NodeName.{Name}
 use Rattle.node_names.specs.declared.ids.MsgId.{MsgId}

@@ -1,8 +1,6 @@
 -- What every run keeps: nothing is delivered that was not said, and nothing twice.
-use Rattle.std.specs.Prelude.{◌≡◌, List, [], ◌∷◌, ℕ}
+use Rattle.std.specs.Prelude.{List, [], ◌∷◌, ℕ}
 use Rattle.std.specs.List.{AllByRecursion as Each}
-use Rattle.node_names.specs.declared.ids.MsgId.{MsgId}
-use Rattle.node_names.specs.declared.ids.Origin.{Origin}
 use Rattle.world.specs.Delivery.{Delivery}
 use Rattle.world.specs.Entry.{Entry}
 use Rattle.world.specs.History.{Said, HasDelivery, deliveries}

@@ -1,5 +1,5 @@
 -- All nine laws of a core: of what it is at its start, of what it is at any time, and of what each step does.
-use Rattle.std.specs.Prelude.{◌≡◌, ◌≢◌, ℕ, List, [], Option, None, false, IsTrue}
+use Rattle.std.specs.Prelude.{◌≡◌, ◌≢◌, List, [], Option, None, false, IsTrue}
 use Rattle.std.specs.List.{AllByRecursion as Each}
 use Rattle.node_names.specs.NodeName.{Name}
 use Rattle.node_names.specs.Limits.{Limits}

@@ -11,6 +11,7 @@ pub mod FloodLists
 pub mod FloodSpread
 pub mod FloodTakes
 pub mod Group
+pub mod Headline
 pub mod Held
 pub mod History
 pub mod HoldLaw

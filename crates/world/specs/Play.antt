@@ -29,11 +29,11 @@ given_at at given = map (λ delivery. record { at = at; delivery = delivery }) g
 
 -- The events, of which the first has this place, are applied one after the other, and give these deliveries.
 abbrev pub Plays :
-  {C N : Type 0}
-  (state : C → CoreState)
-  (starts : Origin → Limits → List Name → Option Name → List (Name × N) → C → Type 0)
-  (steps : C → Stimulus N → List (Name × N) → List Delivery → C → Type 0) →
-  ℕ → List Event → List Given → Logged C N → Logged C N → Type 0
+    {C N : Type 0}
+    (state : C → CoreState)
+    (starts : Origin → Limits → List Name → Option Name → List (Name × N) → C → Type 0)
+    (steps : C → Stimulus N → List (Name × N) → List Delivery → C → Type 0) →
+    ℕ → List Event → List Given → Logged C N → Logged C N → Type 0
 Plays state starts steps at [] given old new = (given ≡ []) × (new ≡ old)
 Plays {C} {N} state starts steps at (event ∷ events) given old new =
     (between : Logged C N) × (first : List Delivery) × (later : List Given)
@@ -41,17 +41,17 @@ Plays {C} {N} state starts steps at (event ∷ events) given old new =
 
 -- The event at this place is applied, and its deliveries come behind those that were given.
 pub record PlaysOn
-  {C N : Type 0}
-  (state : C → CoreState)
-  (starts : Origin → Limits → List Name → Option Name → List (Name × N) → C → Type 0)
-  (steps : C → Stimulus N → List (Name × N) → List Delivery → C → Type 0)
-  (at : ℕ)
-  (event : Event)
-  (given : List Given)
-  (old : Logged C N)
-  (more : List Given)
-  (new : Logged C N)
-  : Type 0 where
+    {C N : Type 0}
+    (state : C → CoreState)
+    (starts : Origin → Limits → List Name → Option Name → List (Name × N) → C → Type 0)
+    (steps : C → Stimulus N → List (Name × N) → List Delivery → C → Type 0)
+    (at : ℕ)
+    (event : Event)
+    (given : List Given)
+    (old : Logged C N)
+    (more : List Given)
+    (new : Logged C N)
+    : Type 0 where
   pub delivered : List Delivery
   pub applied : Applied state starts steps event delivered old new
   pub noted : more ≡ given ++ given_at at delivered

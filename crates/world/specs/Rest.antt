@@ -10,8 +10,8 @@ use Rattle.world.specs.CoreState.{CoreState}
 use Rattle.world.specs.Entry.{Entry}
 use Rattle.world.specs.Event.{Event}
 use Rattle.world.specs.Group.{Group}
-use Rattle.world.specs.History.{Delivered, HasDelivery, Says}
-use Rattle.world.specs.Links.{IsSymmetric, Reaches, Runs}
+use Rattle.world.specs.History.{HasDelivery, Says}
+use Rattle.world.specs.Links.{IsSymmetric, Runs}
 use Rattle.world.specs.Lists.{IsOneOf}
 use Rattle.world.specs.declared.event.EventOf.TheVariants.{Start, Broadcast, Arrive, Lose, Again, Fire, Flush, Down, Shuffle, Stop}
 use Rattle.world.specs.declared.packet.Packet.{Packet}

@@ -1,9 +1,8 @@
 -- Runs: what each event does to a group.
-use Rattle.std.specs.Prelude.{◌≡◌, ◌+◌, ◌<◌, ◌↔◌, ℕ, List, [], ◌∷◌, ◌++◌, Option, Some, None, IfSome, IsTrue, true, false, length, slice_get, remove}
+use Rattle.std.specs.Prelude.{◌≡◌, ◌<◌, ◌↔◌, ℕ, List, [], ◌∷◌, ◌++◌, Option, Some, None, IfSome, IsTrue, false, length, slice_get, remove}
 use Rattle.node_names.specs.NodeName.{Name}
 use Rattle.node_names.specs.Limits.{Limits}
 use Rattle.node_names.specs.declared.ids.Origin.{Origin}
-use Rattle.node_names.specs.declared.ids.Incarnation.{Incarnation}
 use Rattle.world.specs.CoreState.{CoreState}
 use Rattle.world.specs.Delivery.{Delivery}
 use Rattle.world.specs.Entry.{Entry}
@@ -156,30 +155,30 @@ module _
 
 -- The entry is of this event, and says what it did.
 pub record Tells
-  {C N : Type 0}
-  (state : C → CoreState)
-  (starts : Origin → Limits → List Name → Option Name → List (Name × N) → C → Type 0)
-  (steps : C → Stimulus N → List (Name × N) → List Delivery → C → Type 0)
-  (limits : Limits)
-  (event : Event)
-  (before : Group C N)
-  (entry : Entry)
-  (after : Group C N)
-  : Type 0 where
+    {C N : Type 0}
+    (state : C → CoreState)
+    (starts : Origin → Limits → List Name → Option Name → List (Name × N) → C → Type 0)
+    (steps : C → Stimulus N → List (Name × N) → List Delivery → C → Type 0)
+    (limits : Limits)
+    (event : Event)
+    (before : Group C N)
+    (entry : Entry)
+    (after : Group C N)
+    : Type 0 where
   pub of_event : entry.event ≡ event
   pub first_sent : entry.first_sent ≡ length before.sent
   pub effect : Effect state starts steps limits before entry after event
 
 -- A call takes the group on by one event: the log grows by an entry that says what happened, and the deliveries are its own.
 pub record Applied
-  {C N : Type 0}
-  (state : C → CoreState)
-  (starts : Origin → Limits → List Name → Option Name → List (Name × N) → C → Type 0)
-  (steps : C → Stimulus N → List (Name × N) → List Delivery → C → Type 0)
-  (event : Event)
-  (given : List Delivery)
-  (old new : Logged C N)
-  : Type 0 where
+    {C N : Type 0}
+    (state : C → CoreState)
+    (starts : Origin → Limits → List Name → Option Name → List (Name × N) → C → Type 0)
+    (steps : C → Stimulus N → List (Name × N) → List Delivery → C → Type 0)
+    (event : Event)
+    (given : List Delivery)
+    (old new : Logged C N)
+    : Type 0 where
   pub entry : Entry
   pub of_event : entry.event ≡ event
   pub gave : entry.given ≡ given

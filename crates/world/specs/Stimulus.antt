@@ -1,9 +1,6 @@
 -- What makes a core step, and what else such a step speaks of.
-use Rattle.std.specs.Prelude.{◌≡◌, ◌≢◌, ℕ, List, [], Option, None}
+use Rattle.std.specs.Prelude.{◌≢◌, ℕ, List}
 use Rattle.node_names.specs.NodeName.{Name}
-use Rattle.node_names.specs.declared.ids.MsgId.{MsgId}
-use Rattle.world.specs.Content.{Content}
-use Rattle.world.specs.CoreState.{CoreState}
 use Rattle.world.specs.declared.stimulus.StimulusOf.{StimulusOf}
 use Rattle.world.specs.declared.stimulus.StimulusOf.TheVariants.{Broadcast, Arrive, Fire, Flush, Down, Shuffle}
 

@@ -1,6 +1,7 @@
 //! Playing events: one, or a whole list.
 ghost use Rattle.std.specs.Prelude.{◌≡◌, ◌<◌, [], ◌∷◌, ◌++◌, Some, None, IfOk, IfErr, OnOk, OnErr, MatchResult, length, slice_get, take};
 ghost use Rattle.std.specs.Option.{ForSome};
+ghost use Rattle.world.specs.Headline.{Headline};
 ghost use Rattle.world.specs.Play.{Plays, PlaysOn, RefusesAt, given_at};
 ghost use Rattle.world.specs.Plan.{group_after};
 ghost use Rattle.world.specs.Refusals.{IsRefusal, refusal};
@@ -67,19 +68,27 @@ impl<C: Core<A>, A: Allocator + Copy> World<C, A> {
         ensures played { IfOk result (λ given. Plays C.state C.starts C.steps 0 events.now given.items self.old self.new) }
         ensures stopped { IfErr result (λ fault. Plays C.state C.starts C.steps 0 (take fault.at events.now) fault.given self.old self.new) }
         ensures refused { IfErr result (λ fault. RefusesAt C.is_spent events.now fault self.new) }
+        ensures headline { Headline C.state self.new }
     {
         let mut given = Vec::new(self.allocator());
         for (at, event) in events.iter().enumerate() {
             if let Err(why) = self.play(at, event, &mut given) {
                 let given = Listed::from_vec(given);
+                self.headline();
                 return Err(RunFault { at, why, given });
             }
         }
+        self.headline();
         Ok(given)
     }
 
     /// Plays one event of a list, and notes what it delivered.
-    fn play(&mut self, at: usize, event: &Event<A>, given: &mut Vec<Given<A>, A>) -> Result<(), WorldError>
+    fn play(
+        &mut self,
+        at: usize,
+        event: &Event<A>,
+        given: &mut Vec<Given<A>, A>,
+    ) -> Result<(), WorldError>
         ensures applied { OnOk result (PlaysOn C.state C.starts C.steps at event.now given.old.items self.old given.new.items self.new) }
         ensures err { OnErr result ((self.new ≡ self.old) × (given.new.items ≡ given.old.items)) }
         ensures refused { IfErr result (IsRefusal C.is_spent self.old.limits self.old.group event.now) }
@@ -97,7 +106,11 @@ impl<C: Core<A>, A: Allocator + Copy> World<C, A> {
 }
 
 /// Notes the deliveries of the event at this place, all or none.
-fn note<A: Allocator + Copy>(given: &mut Vec<Given<A>, A>, at: usize, deliveries: &[Delivery<A>]) -> Result<(), AllocError>
+fn note<A: Allocator + Copy>(
+    given: &mut Vec<Given<A>, A>,
+    at: usize,
+    deliveries: &[Delivery<A>],
+) -> Result<(), AllocError>
     ensures ok { OnOk result (given.new.items ≡ given.old.items ++ given_at at deliveries.now) }
     ensures err { OnErr result (given.new.items ≡ given.old.items) }
 {
@@ -106,7 +119,11 @@ fn note<A: Allocator + Copy>(given: &mut Vec<Given<A>, A>, at: usize, deliveries
 }
 
 /// The deliveries, each with the place of the event that gave it.
-fn given_of<A: Allocator + Copy>(alloc: A, at: usize, deliveries: &[Delivery<A>]) -> Result<Vec<Given<A>, A>, AllocError>
+fn given_of<A: Allocator + Copy>(
+    alloc: A,
+    at: usize,
+    deliveries: &[Delivery<A>],
+) -> Result<Vec<Given<A>, A>, AllocError>
     ensures { IfOk result (λ given. given.items ≡ given_at at deliveries.now) }
 {
     let mut given = Vec::new(alloc);

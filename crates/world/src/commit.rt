@@ -34,7 +34,10 @@ fn put_node<C: Drop, A: Allocator>(nodes: &mut Vec<NodeState<C>, A>, node: NodeS
 }
 
 /// Puts the node that changes, if one does, in the room that there is.
-pub(crate) fn change<C: Drop, A: Allocator>(nodes: &mut Vec<NodeState<C>, A>, node: Option<NodeState<C>>)
+pub(crate) fn change<C: Drop, A: Allocator>(
+    nodes: &mut Vec<NodeState<C>, A>,
+    node: Option<NodeState<C>>,
+)
     requires { vec_len nodes.old < vec_capacity nodes.old }
     ensures { nodes.new.items ≡ nodes_after node nodes.old.items }
 {
@@ -62,7 +65,13 @@ fn launch<A: Allocator>(flight: &mut Vec<usize, A>, first: usize, last: usize)
 }
 
 /// Sends the packets, and changes the flight.
-pub(crate) fn post<N: Drop, A: Allocator>(sent: &mut Vec<Packet<N>, A>, flight: &mut Vec<usize, A>, mut packets: Vec<Packet<N>, A>, leaving: Option<usize>, again: Option<usize>) -> Result<(), AllocError>
+pub(crate) fn post<N: Drop, A: Allocator>(
+    sent: &mut Vec<Packet<N>, A>,
+    flight: &mut Vec<usize, A>,
+    mut packets: Vec<Packet<N>, A>,
+    leaving: Option<usize>,
+    again: Option<usize>,
+) -> Result<(), AllocError>
     requires { ForSome leaving (λ place. place < length flight.old.items) }
     ensures sent { OnOk result (sent.new.items ≡ sent.old.items ++ packets.items) }
     ensures flight { OnOk result (flight.new.items ≡ staying flight.old.items leaving ++ launched again (length sent.old.items) (length packets.items)) }

@@ -16,7 +16,10 @@ pub(crate) fn node_of<'a, C>(nodes: &'a [NodeState<C>], name: &NodeName) -> Opti
 }
 
 /// The node of this name and its core, if it runs.
-pub(crate) fn running<'a, C>(nodes: &'a [NodeState<C>], name: &NodeName) -> Result<(&'a NodeState<C>, &'a C), WorldError>
+pub(crate) fn running<'a, C>(
+    nodes: &'a [NodeState<C>],
+    name: &NodeName,
+) -> Result<(&'a NodeState<C>, &'a C), WorldError>
     ensures known { IfOk result (λ found. node_of name.now nodes.now ≡ Some found.0.now) }
     ensures running { IfOk result (λ found. found.0.now.core ≡ Some found.1.now) }
     ensures absent { IfErr result (λ e. absent (node_of name.now nodes.now) ≡ Some e) }
@@ -38,7 +41,11 @@ pub(crate) fn number_at(flight: &[usize], place: usize) -> Option<usize>
 }
 
 /// The number and the packet at the place of the flight.
-pub(crate) fn packet_at<'a, N>(flight: &[usize], sent: &'a [Packet<N>], place: usize) -> Option<(usize, &'a Packet<N>)>
+pub(crate) fn packet_at<'a, N>(
+    flight: &[usize],
+    sent: &'a [Packet<N>],
+    place: usize,
+) -> Option<(usize, &'a Packet<N>)>
     ensures number { IfSome result (λ found. slice_get flight.now place ≡ Some found.0) }
     ensures packet { IfSome result (λ found. slice_get sent.now found.0 ≡ Some found.1.now) }
     ensures none { IfNone result (sent_under sent.now (slice_get flight.now place) ≡ None) }

@@ -41,7 +41,11 @@ impl<N: Drop, A: Allocator + Copy> Out<N, A> {
     }
 
     /// Appends packets and one delivery.
-    pub(crate) fn extend(&mut self, sends: Vec<(NodeName, N), A>, delivery: Delivery<A>) -> Result<(), AllocError>
+    pub(crate) fn extend(
+        &mut self,
+        sends: Vec<(NodeName, N), A>,
+        delivery: Delivery<A>,
+    ) -> Result<(), AllocError>
         ensures ok { OnOk result (self.new ≡ record { sends = self.old.sends ++ sends.items; deliveries = self.old.deliveries ++ delivery ∷ [] }) }
         ensures err { OnErr result (self.new ≡ self.old) }
     {

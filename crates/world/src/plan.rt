@@ -56,7 +56,13 @@ pub(crate) struct CoreStart<C: Core<A>, A: Allocator> {
 }
 
 /// Starts a core.
-pub(crate) fn start_core<C: Core<A>, A: Allocator + Copy>(alloc: A, me: &Origin, limits: Limits, peers: &[NodeName], contact: &Option<NodeName>) -> Result<CoreStart<C, A>, CoreError>
+pub(crate) fn start_core<C: Core<A>, A: Allocator + Copy>(
+    alloc: A,
+    me: &Origin,
+    limits: Limits,
+    peers: &[NodeName],
+    contact: &Option<NodeName>,
+) -> Result<CoreStart<C, A>, CoreError>
     requires { IsTrue (are_peers limits me.now.name peers.now contact.now) }
     ensures started { IfOk result (λ start. C.starts me.now limits peers.now contact.now start.sends.items start.core) }
     ensures refused { IfErr result (λ e. e ≡ CoreError.OutOfMemory) }
@@ -71,7 +77,11 @@ pub(crate) fn start_core<C: Core<A>, A: Allocator + Copy>(alloc: A, me: &Origin,
 }
 
 /// Steps a copy of the core.
-pub(crate) fn step_copy<C: Core<A>, A: Allocator + Copy>(alloc: A, core: &C, stimulus: &Stimulus<C::Note, A>) -> Result<CoreStep<C, A>, CoreError>
+pub(crate) fn step_copy<C: Core<A>, A: Allocator + Copy>(
+    alloc: A,
+    core: &C,
+    stimulus: &Stimulus<C::Note, A>,
+) -> Result<CoreStep<C, A>, CoreError>
     ensures stepped { IfOk result (λ step. C.steps core.now stimulus.now step.sends.items step.given.items step.core) }
     ensures moved { IfOk result (λ step. (step.moved ≡ false) ↔ SameNames (C.state core.now).active (C.state step.core).active) }
     ensures too_long { IsErrOf result CoreError.PayloadTooLong → IsTooLong stimulus.now }
@@ -98,7 +108,11 @@ fn are_same<A: Allocator>(names: &NameSet<A>, others: &NameSet<A>) -> bool
 }
 
 /// The packets that the sender's sends make.
-pub(crate) fn packets_of<N: Drop, A: Allocator + Copy>(alloc: A, sender: &Origin, sends: Vec<(NodeName, N), A>) -> Result<Vec<Packet<N>, A>, AllocError>
+pub(crate) fn packets_of<N: Drop, A: Allocator + Copy>(
+    alloc: A,
+    sender: &Origin,
+    sends: Vec<(NodeName, N), A>,
+) -> Result<Vec<Packet<N>, A>, AllocError>
     ensures { IfOk result (λ made. made.items ≡ packets sender.now sends.items) }
 {
     let sender = *sender;
@@ -109,7 +123,10 @@ pub(crate) fn packets_of<N: Drop, A: Allocator + Copy>(alloc: A, sender: &Origin
 }
 
 /// The same deliveries once more.
-pub(crate) fn copy_deliveries<A: Allocator + Copy>(alloc: A, given: &[Delivery<A>]) -> Result<Vec<Delivery<A>, A>, AllocError>
+pub(crate) fn copy_deliveries<A: Allocator + Copy>(
+    alloc: A,
+    given: &[Delivery<A>],
+) -> Result<Vec<Delivery<A>, A>, AllocError>
     ensures { IfOk result (λ copies. copies.items ≡ given.now) }
 {
     let mut copies = Vec::new(alloc);
@@ -135,7 +152,12 @@ pub(crate) fn copy_event<A: Allocator + Copy>(event: &Event<A>) -> Result<Event<
     ensures { IfOk result (λ copy. copy ≡ event.now) }
 {
     Ok(match event {
-        EventOf::Start { name, incarnation, peers, contact } => EventOf::Start {
+        EventOf::Start {
+            name,
+            incarnation,
+            peers,
+            contact,
+        } => EventOf::Start {
             name: *name,
             incarnation: *incarnation,
             peers: peers.copy()?,

@@ -8,9 +8,9 @@ ghost use Rattle.world.specs.Refusals.{IsRefusal, refusal, stale};
 ghost use Rattle.world.specs.Run.{Acts, Tells};
 
 use crate::MAX_PAYLOAD;
+use crate::entry::Entry;
 use crate::error::WorldError;
 use crate::event::{Event, EventOf};
-use crate::entry::Entry;
 use crate::lookup::{node_of, number_at, packet_at, running};
 use crate::names::are_peers;
 use crate::node_state::NodeState;
@@ -32,7 +32,12 @@ impl<C: Core<A>, A: Allocator + Copy> World<C, A> {
         ensures accepted { OnOk result (refusal self.now.limits self.now.group event.now ≡ None) }
     {
         match event {
-            EventOf::Start { name, incarnation, peers, contact } => self.plan_start(name, incarnation, peers, contact, event),
+            EventOf::Start {
+                name,
+                incarnation,
+                peers,
+                contact,
+            } => self.plan_start(name, incarnation, peers, contact, event),
             EventOf::Broadcast { name, payload } => self.plan_broadcast(name, payload, event),
             EventOf::Arrive { place, dice } => self.plan_arrive(*place, dice, event),
             EventOf::Lose { place } => self.plan_lose(*place, event),
@@ -46,7 +51,16 @@ impl<C: Core<A>, A: Allocator + Copy> World<C, A> {
     }
 
     /// The plan of a step of a running node's core.
-    fn plan_step(&self, name: &NodeName, node: &NodeState<C>, core: &C, stimulus: &Stimulus<C::Note, A>, event: &Event<A>, packet: Option<usize>, leaving: Option<usize>) -> Result<Plan<C, A>, WorldError>
+    fn plan_step(
+        &self,
+        name: &NodeName,
+        node: &NodeState<C>,
+        core: &C,
+        stimulus: &Stimulus<C::Note, A>,
+        event: &Event<A>,
+        packet: Option<usize>,
+        leaving: Option<usize>,
+    ) -> Result<Plan<C, A>, WorldError>
         requires known { node_of name.now self.now.group.nodes ≡ Some node.now }
         requires running { node.now.core ≡ Some core.now }
         requires fits { IsTooLong stimulus.now → ⊥ }
@@ -84,7 +98,14 @@ impl<C: Core<A>, A: Allocator + Copy> World<C, A> {
     }
 
     /// The plan of a start.
-    fn plan_start(&self, name: &NodeName, incarnation: &Incarnation, peers: &Listed<NodeName, A>, contact: &Option<NodeName>, event: &Event<A>) -> Result<Plan<C, A>, WorldError>
+    fn plan_start(
+        &self,
+        name: &NodeName,
+        incarnation: &Incarnation,
+        peers: &Listed<NodeName, A>,
+        contact: &Option<NodeName>,
+        event: &Event<A>,
+    ) -> Result<Plan<C, A>, WorldError>
         requires { event.now ≡ EventOf.Start name.now incarnation.now peers.now contact.now }
         ensures tells { IfOk result (λ plan. Tells C.state C.starts C.steps self.now.limits event.now self.now.group plan.entry (group_after self.now.group plan.node plan.packets.items plan.leaving plan.again)) }
         ensures leaving { IfOk result (λ plan. ForSome plan.leaving (λ place. place < length self.now.group.flight)) }
@@ -130,7 +151,12 @@ impl<C: Core<A>, A: Allocator + Copy> World<C, A> {
     }
 
     /// The plan of a broadcast.
-    fn plan_broadcast(&self, name: &NodeName, payload: &Bytes<A>, event: &Event<A>) -> Result<Plan<C, A>, WorldError>
+    fn plan_broadcast(
+        &self,
+        name: &NodeName,
+        payload: &Bytes<A>,
+        event: &Event<A>,
+    ) -> Result<Plan<C, A>, WorldError>
         requires { event.now ≡ EventOf.Broadcast name.now payload.now }
         ensures tells { IfOk result (λ plan. Tells C.state C.starts C.steps self.now.limits event.now self.now.group plan.entry (group_after self.now.group plan.node plan.packets.items plan.leaving plan.again)) }
         ensures leaving { IfOk result (λ plan. ForSome plan.leaving (λ place. place < length self.now.group.flight)) }
@@ -147,7 +173,12 @@ impl<C: Core<A>, A: Allocator + Copy> World<C, A> {
     }
 
     /// The plan of an arrival.
-    fn plan_arrive(&self, place: usize, dice: &Dice, event: &Event<A>) -> Result<Plan<C, A>, WorldError>
+    fn plan_arrive(
+        &self,
+        place: usize,
+        dice: &Dice,
+        event: &Event<A>,
+    ) -> Result<Plan<C, A>, WorldError>
         requires { event.now ≡ EventOf.Arrive place dice.now }
         ensures tells { IfOk result (λ plan. Tells C.state C.starts C.steps self.now.limits event.now self.now.group plan.entry (group_after self.now.group plan.node plan.packets.items plan.leaving plan.again)) }
         ensures leaving { IfOk result (λ plan. ForSome plan.leaving (λ place. place < length self.now.group.flight)) }
@@ -163,7 +194,15 @@ impl<C: Core<A>, A: Allocator + Copy> World<C, A> {
             note: packet.note.copy()?,
             dice: *dice,
         };
-        let plan = self.plan_step(&packet.to, node, core, &stimulus, event, Some(number), Some(place))?;
+        let plan = self.plan_step(
+            &packet.to,
+            node,
+            core,
+            &stimulus,
+            event,
+            Some(number),
+            Some(place),
+        )?;
         Ok(plan)
     }
 
@@ -208,7 +247,12 @@ impl<C: Core<A>, A: Allocator + Copy> World<C, A> {
     }
 
     /// The plan of a firing.
-    fn plan_fire(&self, name: &NodeName, id: &MsgId, event: &Event<A>) -> Result<Plan<C, A>, WorldError>
+    fn plan_fire(
+        &self,
+        name: &NodeName,
+        id: &MsgId,
+        event: &Event<A>,
+    ) -> Result<Plan<C, A>, WorldError>
         requires { event.now ≡ EventOf.Fire name.now id.now }
         ensures tells { IfOk result (λ plan. Tells C.state C.starts C.steps self.now.limits event.now self.now.group plan.entry (group_after self.now.group plan.node plan.packets.items plan.leaving plan.again)) }
         ensures leaving { IfOk result (λ plan. ForSome plan.leaving (λ place. place < length self.now.group.flight)) }
@@ -236,7 +280,13 @@ impl<C: Core<A>, A: Allocator + Copy> World<C, A> {
     }
 
     /// The plan of a failed link.
-    fn plan_down(&self, name: &NodeName, peer: &NodeName, dice: &Dice, event: &Event<A>) -> Result<Plan<C, A>, WorldError>
+    fn plan_down(
+        &self,
+        name: &NodeName,
+        peer: &NodeName,
+        dice: &Dice,
+        event: &Event<A>,
+    ) -> Result<Plan<C, A>, WorldError>
         requires { event.now ≡ EventOf.Down name.now peer.now dice.now }
         ensures tells { IfOk result (λ plan. Tells C.state C.starts C.steps self.now.limits event.now self.now.group plan.entry (group_after self.now.group plan.node plan.packets.items plan.leaving plan.again)) }
         ensures leaving { IfOk result (λ plan. ForSome plan.leaving (λ place. place < length self.now.group.flight)) }
@@ -253,7 +303,12 @@ impl<C: Core<A>, A: Allocator + Copy> World<C, A> {
     }
 
     /// The plan of a membership tick.
-    fn plan_shuffle(&self, name: &NodeName, dice: &Dice, event: &Event<A>) -> Result<Plan<C, A>, WorldError>
+    fn plan_shuffle(
+        &self,
+        name: &NodeName,
+        dice: &Dice,
+        event: &Event<A>,
+    ) -> Result<Plan<C, A>, WorldError>
         requires { event.now ≡ EventOf.Shuffle name.now dice.now }
         ensures tells { IfOk result (λ plan. Tells C.state C.starts C.steps self.now.limits event.now self.now.group plan.entry (group_after self.now.group plan.node plan.packets.items plan.leaving plan.again)) }
         ensures leaving { IfOk result (λ plan. ForSome plan.leaving (λ place. place < length self.now.group.flight)) }

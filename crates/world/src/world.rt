@@ -1,5 +1,6 @@
 //! A group of nodes that takes one event after the other.
 ghost use Rattle.std.specs.Prelude.{◌≡◌, []};
+ghost use Rattle.world.specs.Headline.{Headline};
 
 use crate::entry::Entry;
 use crate::node_state::NodeState;
@@ -87,5 +88,12 @@ impl<C: Core<A>, A: Allocator + Copy> World<C, A> {
         ensures { result.now ≡ self.now.log }
     {
         self.log.as_slice()
+    }
+
+    /// Tells a caller's proof what holds of every group of lawful cores. It does nothing.
+    pub fn headline(&self)
+        ensures { Headline C.state self.now }
+    {
+        let _log = &self.log;
     }
 }

@@ -9,9 +9,10 @@ loop-number-preserved g c =
     let count = c.loop-number.number - c.args.first in
     let low = c.loop-number.auto.number in
     let one_more : c.loop-number.number + 1 - c.args.first ≡ suc count = omega arith in
-    let here : c.args.first + count ≡ c.loop-number.number = omega arith in
-    (c.put_last.ensures.items
-      ∙ ap (λ ns. ns ++ c.loop-number.number ∷ []) c.loop-number.invariant.0
-      ∙ append_assoc c.args.flight.now.items (places c.args.first count) (c.loop-number.number ∷ [])
-      ∙ ap (λ ns. c.args.flight.now.items ++ ns) (sym (ap (λ n. places c.args.first n) one_more ∙ places-push c.args.first count ∙ ap (λ n. places c.args.first count ++ n ∷ []) here)),
-      omega arith)
+    let here : c.args.first + count ≡ c.loop-number.number = omega arith in (
+      c.put_last.ensures.items
+          ∙ ap (λ ns. ns ++ c.loop-number.number ∷ []) c.loop-number.invariant.0
+          ∙ append_assoc c.args.flight.now.items (places c.args.first count) (c.loop-number.number ∷ [])
+          ∙ ap (λ ns. c.args.flight.now.items ++ ns) (sym (ap (λ n. places c.args.first n) one_more ∙ places-push c.args.first count ∙ ap (λ n. places c.args.first count ++ n ∷ []) here)),
+      omega arith,
+    )

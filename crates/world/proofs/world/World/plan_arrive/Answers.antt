@@ -1,4 +1,4 @@
-use Rattle.std.proofs.Common.{◌≡◌, rules, arith, sym, ◌∙◌, ap, ◌<◌, length}
+use Rattle.std.proofs.Common.{◌≡◌, rules, sym, ◌∙◌}
 use Rattle.std.specs.Prelude.{Some, slice_get, remove}
 use Rattle.world.specs.Group.{node_of}
 use Rattle.world.specs.Refusals.{IsRefusal}
@@ -13,7 +13,7 @@ returns-in_err-plan-clause-refused g c =
     let sent : slice_get c.args.self.now.group.sent c.in-Some.number ≡ Some c.in-Some.packet.now = rw c.sent.ensures at c.in-Some.ensures.packet in
     let known : node_of c.in-Some.packet.now.to c.args.self.now.group.nodes ≡ Some c.in_ok-node.node.now = rw c.nodes.ensures at c.in_ok-node.ensures.known in
     let refused : IsRefusal g.C.Core.is_spent c.args.self.now.limits c.args.self.now.group c.args.event.now c.in_err-plan.field-0.0 =
-      arrival_refused g.C.Core.is_spent c.args.self.now.limits c.args.self.now.group c.args.event.now c.args.place c.args.dice.now c.in-Some.number c.in-Some.packet.now c.in_ok-node.node.now c.in_ok-node.core.now c.in_err-plan.field-0.0 c.requires in_flight sent known c.in_ok-node.ensures.running (rw c.in_ok-copy.ensures at c.in_err-plan.ensures.refused) in
+    arrival_refused g.C.Core.is_spent c.args.self.now.limits c.args.self.now.group c.args.event.now c.args.place c.args.dice.now c.in-Some.number c.in-Some.packet.now c.in_ok-node.node.now c.in_ok-node.core.now c.in_err-plan.field-0.0 c.requires in_flight sent known c.in_ok-node.ensures.running (rw c.in_ok-copy.ensures at c.in_err-plan.ensures.refused) in
     search (rules, refused)
 
 pub returns-clause-tells : goal.returns-clause-tells

@@ -1,5 +1,5 @@
 -- A running node and a short payload meet no refusal.
-use Rattle.std.proofs.Common.{◌≡◌, ◌≤◌, length, arith, sym, ◌∙◌, ap}
+use Rattle.std.proofs.Common.{◌≡◌, ◌≤◌, length, arith}
 use Rattle.std.specs.Prelude.{Some}
 use Rattle.world.specs.Group.{node_of}
 use Rattle.world.specs.declared.TheConstants.{MAX_PAYLOAD}

@@ -1,0 +1,9 @@
+//! Worked examples of groups of flooding nodes, as tests, and sweeps in which each growth is refused in turn.
+#![tactic(auto)]
+
+#[cfg(test)]
+mod events;
+#[cfg(test)]
+mod rows;
+#[cfg(test)]
+mod sweeps;
