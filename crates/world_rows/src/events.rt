@@ -11,7 +11,12 @@ pub(crate) fn name(text: &str) -> Result<NodeName, Fail> {
 }
 
 /// The start of a node with these peers.
-pub(crate) fn start<A: Allocator + Copy>(alloc: A, node: &str, incarnation: u64, peers: &[&str]) -> Result<Event<A>, Fail> {
+pub(crate) fn start<A: Allocator + Copy>(
+    alloc: A,
+    node: &str,
+    incarnation: u64,
+    peers: &[&str],
+) -> Result<Event<A>, Fail> {
     let mut names = Listed::new(alloc);
     for peer in peers {
         names.push(name(peer)?)?;
@@ -25,7 +30,12 @@ pub(crate) fn start<A: Allocator + Copy>(alloc: A, node: &str, incarnation: u64,
 }
 
 /// The start of a node without peers that has a contact.
-pub(crate) fn start_at<A: Allocator + Copy>(alloc: A, node: &str, incarnation: u64, contact: &str) -> Result<Event<A>, Fail> {
+pub(crate) fn start_at<A: Allocator + Copy>(
+    alloc: A,
+    node: &str,
+    incarnation: u64,
+    contact: &str,
+) -> Result<Event<A>, Fail> {
     Ok(EventOf::Start {
         name: name(node)?,
         incarnation: Incarnation(incarnation),
@@ -35,7 +45,11 @@ pub(crate) fn start_at<A: Allocator + Copy>(alloc: A, node: &str, incarnation: u
 }
 
 /// The broadcast of a text.
-pub(crate) fn broadcast<A: Allocator + Copy>(alloc: A, node: &str, text: &str) -> Result<Event<A>, Fail> {
+pub(crate) fn broadcast<A: Allocator + Copy>(
+    alloc: A,
+    node: &str,
+    text: &str,
+) -> Result<Event<A>, Fail> {
     Ok(EventOf::Broadcast {
         name: name(node)?,
         payload: Bytes::copy_from_slice(alloc, text.as_bytes())?,

@@ -58,7 +58,12 @@ fn lone_node(rt: HostRuntime) -> Result<(), Fail> {
 }
 
 /// Plays the event and compares its refusal.
-fn refused(rt: &impl std::process::Abort, world: &mut World<FloodCore>, event: Event, why: WorldError) {
+fn refused(
+    rt: &impl std::process::Abort,
+    world: &mut World<FloodCore>,
+    event: Event,
+    why: WorldError,
+) {
     let before = world.log().len();
     match world.apply(event) {
         Ok(_) => assert!(rt; false, "the event was accepted"),
@@ -71,20 +76,63 @@ fn refused(rt: &impl std::process::Abort, world: &mut World<FloodCore>, event: E
 fn refused_starts(rt: HostRuntime) -> Result<(), Fail> {
     let alloc = rt.alloc();
     let mut world = World::new(alloc, Limits::STANDARD);
-    refused(&rt, &mut world, start(alloc, "a", 1, &["a"])?, WorldError::BadPeers);
-    refused(&rt, &mut world, start(alloc, "a", 1, &["b", "b"])?, WorldError::BadPeers);
-    refused(&rt, &mut world, start_at(alloc, "a", 1, "a")?, WorldError::BadPeers);
-    refused(&rt, &mut world, start(alloc, "a", 1, &["b", "c", "d", "e", "f", "g"])?, WorldError::BadPeers);
-    refused(&rt, &mut world, broadcast(alloc, "z", "x")?, WorldError::UnknownNode);
+    refused(
+        &rt,
+        &mut world,
+        start(alloc, "a", 1, &["a"])?,
+        WorldError::BadPeers,
+    );
+    refused(
+        &rt,
+        &mut world,
+        start(alloc, "a", 1, &["b", "b"])?,
+        WorldError::BadPeers,
+    );
+    refused(
+        &rt,
+        &mut world,
+        start_at(alloc, "a", 1, "a")?,
+        WorldError::BadPeers,
+    );
+    refused(
+        &rt,
+        &mut world,
+        start(alloc, "a", 1, &["b", "c", "d", "e", "f", "g"])?,
+        WorldError::BadPeers,
+    );
+    refused(
+        &rt,
+        &mut world,
+        broadcast(alloc, "z", "x")?,
+        WorldError::UnknownNode,
+    );
     refused(&rt, &mut world, arrive(0), WorldError::NoPacket);
     world.apply(start(alloc, "a", 1, &["b"])?)?;
     let highest = Incarnation(1);
-    refused(&rt, &mut world, start(alloc, "a", 1, &["b"])?, WorldError::StaleIncarnation { highest });
+    refused(
+        &rt,
+        &mut world,
+        start(alloc, "a", 1, &["b"])?,
+        WorldError::StaleIncarnation { highest },
+    );
     // A stale incarnation is reported before peers that do not fit.
-    refused(&rt, &mut world, start(alloc, "a", 1, &["a"])?, WorldError::StaleIncarnation { highest });
+    refused(
+        &rt,
+        &mut world,
+        start(alloc, "a", 1, &["a"])?,
+        WorldError::StaleIncarnation { highest },
+    );
     let long = vec![in alloc; 0u8; 32_769]?;
     let payload = Bytes::from_vec(long)?;
-    refused(&rt, &mut world, EventOf::Broadcast { name: name("a")?, payload }, WorldError::PayloadTooLong);
+    refused(
+        &rt,
+        &mut world,
+        EventOf::Broadcast {
+            name: name("a")?,
+            payload,
+        },
+        WorldError::PayloadTooLong,
+    );
     assert_eq!(rt; world.nodes().len(), 1);
     Ok(())
 }

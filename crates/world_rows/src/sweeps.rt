@@ -12,7 +12,10 @@ fn every_growth_of_a_run(rt: HostRuntime) -> Result<(), Fail> {
     let alloc = &heap;
     let mut swept = 0u64;
     for n in 1..200 {
-        let mut world: World<FloodCore<&RefusingAllocator>, &RefusingAllocator> = World::new(alloc, Limits::STANDARD);
+        let mut world: World<FloodCore<&RefusingAllocator>, &RefusingAllocator> = World::new(
+            alloc,
+            Limits::STANDARD,
+        );
         let mut events = Vec::new(alloc);
         events.push(start(alloc, "a", 1, &["b"])?)?;
         events.push(start(alloc, "b", 1, &["a"])?)?;
