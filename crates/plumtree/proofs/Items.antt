@@ -1,12 +1,11 @@
 -- The items of a list in a document: as tables, and as texts.
-use Rattle.std.proofs.Common.{◌≡◌, ℕ, ◌+◌, ◌<◌, zero, suc, List, [], ◌∷◌, ◌++◌, length, get_or, All, IsSome, Some, None, refl, take, ◌∙◌, ap, sym, arith, rules, map}
+use Rattle.std.proofs.Common.{◌≡◌, ℕ, ◌+◌, ◌<◌, zero, suc, List, [], ◌∷◌, ◌++◌, length, get_or, All, IsSome, refl, take, ◌∙◌, ap, sym, arith}
 use Rattle.std.proofs.lemmas.List.{take_more}
 use Rattle.toml.proofs.Views.{items_view-push}
 use Rattle.std.proofs.lemmas.List.Elements.{All-head, All-tail, All-cons, All-nil}
-use Rattle.toml.specs.Data.{Data, string, integer, float, boolean, datetime, array, table, Items, item, no_items, Members, no_members, as_table, push_item}
+use Rattle.toml.specs.Data.{Data, string, integer, float, boolean, datetime, array, table, Items, item, Members, no_members, as_table, push_item}
 use Rattle.toml.specs.View.{view, items_view}
 use Rattle.toml.specs.declared.value.Value.{Value}
-use Rattle.node_names.specs.NodeName.{Name}
 use Rattle.plumtree.specs.Reading.{texts, tables}
 
 -- what is a table has members

@@ -1,3 +1,5 @@
+pub mod Documents
+pub mod Faults
 pub mod Items
 pub mod Numbers
 pub mod Texts

@@ -16,8 +16,8 @@ IsLimit-same standard None m n h k = h ∙ sym k
 IsLimit-same standard (Some d) m n h k = IsNumber-same 255 (Some d) m n h k
 
 -- so a table gives one set of limits at most
-pub AreSizes-same : (members : Members) (a b : Sizes) → AreSizes members a → AreSizes members b → a ≡ b
-AreSizes-same members a b h k = λ i. record {
+pub AreSizes-same : (table : Members) (a b : Sizes) → AreSizes table a → AreSizes table b → a ≡ b
+AreSizes-same table a b h k = λ i. record {
   active = IsLimit-same 5 _ a.active b.active h.active k.active i;
   passive = IsLimit-same 30 _ a.passive b.passive h.passive k.passive i;
   arwl = IsLimit-same 6 _ a.arwl b.arwl h.arwl k.arwl i;

@@ -3,7 +3,7 @@ use Rattle.std.proofs.Common.{◌≡◌, ℕ, ◌+◌, ◌<◌, ◌∙◌, List,
 use Rattle.std.specs.Io.KnownBytes.{Appends}
 use Rattle.std.proofs.lemmas.List.{take_more}
 use Rattle.world.specs.Delivery.{Delivery}
-use Rattle.plumtree.specs.Lines.{hexadecimal, hex_digit, line_of, lines_of}
+use Rattle.plumtree.specs.Lines.{hexadecimal, line_of, lines_of}
 
 hexadecimal-append : (bs cs : List ℕ) → hexadecimal (bs ++ cs) ≡ hexadecimal bs ++ hexadecimal cs
 hexadecimal-append [] cs = refl

@@ -9,3 +9,11 @@ IsReadFault TooLong = Unit {0}
 IsReadFault OutOfMemory = Unit {0}
 IsReadFault NotToml = ⊥
 IsReadFault (Refused place key) = ⊥
+
+-- A fault of the input's text, and not of reading it or of the memory for it.
+abbrev pub IsTextFault : ScenarioFault → Type 0
+IsTextFault TooLong = Unit {0}
+IsTextFault NotToml = Unit {0}
+IsTextFault (Refused place key) = Unit {0}
+IsTextFault Unreadable = ⊥
+IsTextFault OutOfMemory = ⊥

@@ -1,5 +1,7 @@
+pub mod Code
 pub mod Fault
 pub mod Key
 pub mod Lines
+pub mod Play
 pub mod Reading
 pub mod Scenario

@@ -1,5 +1,5 @@
 -- What the keys of a scenario hold, and how it is read.
-use Rattle.std.specs.Prelude.{◌≡◌, ◌≢◌, ◌⊎◌, ℕ, ◌≤◌, List, [], ◌∷◌, length, pos, Option, Some, None, option_map, MatchOption, MatchResult, Result, All}
+use Rattle.std.specs.Prelude.{◌≡◌, ◌≢◌, ℕ, ◌≤◌, List, [], ◌∷◌, length, pos, Option, Some, None, option_map, MatchOption, MatchResult, Result, All}
 use Rattle.toml.specs.Data.{Data, Members, Items, no_items, item, string, integer, array, table, get_member}
 use Rattle.node_names.specs.NodeName.{IsNodeName, Name}
 use Rattle.plumtree.specs.Key.{word_of}

@@ -1,6 +1,7 @@
 -- Which scenario a document describes.
-use Rattle.std.specs.Prelude.{◌≡◌, ◌⊎◌, ◌^◌, ◌-◌, ℕ, List, [], ◌∷◌, codes, Option, Some, None, MatchOption}
+use Rattle.std.specs.Prelude.{◌≡◌, ◌^◌, ◌-◌, ◌≤◌, ℕ, List, codes, length, IsUtf8, Option, Some, None}
 use Rattle.std.specs.List.{AllZip}
+use Rattle.toml.specs.Parse.{parse_document}
 use Rattle.toml.specs.Data.{Data, Members, no_members, table}
 use Rattle.node_names.specs.Limits.{Limits as Sizes, IsAllowed}
 use Rattle.plumtree.specs.Reading.{at_key, IsOptional, IsNumber, IsText, IsName, IsNames, IsTables}
@@ -62,3 +63,11 @@ pub record Describes (most : ℕ) (document : Members) (seed : Option ℕ) (size
   pub seed_is : IsOptional (IsNumber greatest) (at_key Seed document) seed
   pub limits_are : HasLimits (at_key Limits document) sizes
   pub actions_are : HasActions most (at_key Event document) actions
+
+-- The text is a scenario: a document, not too long, that describes one.
+pub record IsScenario (longest most : ℕ) (text : List ℕ) (seed : Option ℕ) (sizes : Sizes) (actions : List Action) : Type 0 where
+  pub short : length text ≤ longest
+  pub utf8 : IsUtf8 text
+  pub document : Members
+  pub parsed : parse_document text ≡ Some document
+  pub described : Describes most document seed sizes actions

@@ -2,8 +2,16 @@
 #![tactic(auto)]
 
 mod arguments;
+mod code;
 mod output;
+mod play;
+mod program;
 mod read;
 mod scenario;
+mod simulate;
 
-fn main() {}
+use std::process::ExitCode;
+
+fn main(rt: HostRuntime) -> ExitCode {
+    ExitCode::from(program::run(&rt, &mut rt.stdout(), &mut rt.stderr()))
+}

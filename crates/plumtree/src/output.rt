@@ -53,7 +53,7 @@ pub fn write_lines<A: Allocator, W: Write>(
         push_line(text, delivery)?;
         out.write_all(text.as_bytes())?;
     }
-    Ok(())
+    Ok(out.flush()?)
 }
 
 /// Appends the line of a delivery.

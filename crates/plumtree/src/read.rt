@@ -3,7 +3,7 @@ ghost use Rattle.std.specs.Prelude.{◌≡◌, ◌<◌, ◌≤◌, length, vec_l
 ghost use Rattle.std.specs.Prelude.{None, Some, IsUtf8};
 ghost use Rattle.toml.specs.Parse.{parse_document};
 ghost use Rattle.toml.specs.View.{table_view};
-ghost use Rattle.plumtree.specs.Fault.{IsReadFault};
+ghost use Rattle.plumtree.specs.Fault.{IsReadFault, IsTextFault};
 
 use crate::scenario::ScenarioFault;
 use std::alloc::Global;
@@ -18,6 +18,7 @@ pub fn read_document<R: Read>(alloc: Global, input: &mut R) -> Result<Table, Sce
     ensures ok { IfOk result (λ table. IfSome (R.remaining input.old) (λ text. IsUtf8 text × (parse_document text ≡ Some (table_view table)))) }
     ensures too_long { IsErrOf result ScenarioFault.TooLong → IfSome (R.remaining input.old) (λ text. LONGEST < length text) }
     ensures not_toml { IsErrOf result ScenarioFault.NotToml → IfSome (R.remaining input.old) (λ text. IsUtf8 text → parse_document text ≡ None) }
+    ensures refused { IfErr result (λ fault. IsTextFault fault → IfSome (R.remaining input.old) (λ text. length text ≤ LONGEST → IsUtf8 text → parse_document text ≡ None)) }
     ensures short { IfOk result (λ _. IfSome (R.remaining input.old) (λ text. length text ≤ LONGEST)) }
 {
     let bytes = read_bytes(alloc, input)?;

@@ -1,5 +1,5 @@
 -- Each step reads one more table, and a table that is refused leaves no list of actions.
-use Rattle.std.proofs.Common.{◌≡◌, ◌≤◌, ◌∙◌, ap, get_or, length, take, arith, add-one, subst, List}
+use Rattle.std.proofs.Common.{◌∙◌, ap, get_or, arith, add-one, subst, List}
 use Rattle.std.proofs.lemmas.List.{take_all}
 use Rattle.std.proofs.lemmas.Result.{err_from_is_err_and}
 use Rattle.toml.specs.Data.{Members, no_members}

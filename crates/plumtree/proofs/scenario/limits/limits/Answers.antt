@@ -1,5 +1,5 @@
 -- The table gives no other limits than those that were refused.
-use Rattle.std.proofs.Common.{sym, subst}
+use Rattle.std.proofs.Common.{subst}
 use Rattle.toml.specs.View.{table_view}
 use Rattle.node_names.specs.Limits.{Limits as Sizes, IsAllowed}
 use Rattle.plumtree.specs.Scenario.{AreSizes}

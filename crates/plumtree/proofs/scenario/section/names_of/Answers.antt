@@ -1,5 +1,5 @@
 -- A value that is no name leaves no list of names; and each step adds one name.
-use Rattle.std.proofs.Common.{◌≡◌, ◌∙◌, ap, [], Some, get_or, All}
+use Rattle.std.proofs.Common.{◌∙◌, ap, [], Some, get_or}
 use Rattle.std.proofs.lemmas.List.Elements.{All-push, All-get_or}
 use Rattle.std.proofs.lemmas.Option.{same_Some}
 use Rattle.toml.specs.View.{view}

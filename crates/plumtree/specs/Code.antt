@@ -1,0 +1,16 @@
+-- The codes of a group's refusals.
+use Rattle.std.specs.Prelude.{ℕ, List, ◌++◌, codes}
+use Rattle.std.specs.Fmt.{decimal}
+use Rattle.world.specs.declared.error.WorldError.{WorldError}
+use Rattle.world.specs.declared.error.WorldError.TheVariants.{UnknownNode, NotRunning, StaleIncarnation, BadPeers, NoPacket, PayloadTooLong, SeqSpent, OutOfMemory}
+
+-- `W` and a number; a stale incarnation is printed with the greatest one that there was
+abbrev pub code_of : WorldError → List ℕ
+code_of UnknownNode = codes "W1"
+code_of NotRunning = codes "W2"
+code_of (StaleIncarnation highest) = codes "W3 highest " ++ decimal highest.0
+code_of BadPeers = codes "W4"
+code_of NoPacket = codes "W5"
+code_of PayloadTooLong = codes "W6"
+code_of SeqSpent = codes "W7"
+code_of OutOfMemory = codes "W8"

@@ -1,0 +1,87 @@
+//! The program over any system: its words, its scenario and its two streams.
+ghost use Rattle.std.specs.Prelude.{◌≡◌, ◌⊎◌, ◌≤◌};
+
+use crate::arguments;
+use crate::arguments::Request;
+use crate::scenario::ScenarioFault;
+use crate::simulate::{report, simulate};
+use clap::error::ErrorKind;
+use std::env::Env;
+use std::io::{Input, Write};
+use std::rt::Files;
+use std::{env, fs, io};
+
+/// Does what the command line asks for. The number is the status that the program ends with.
+pub fn run<R, W, F>(rt: &R, out: &mut W, faults: &mut F) -> u8
+where
+    R: AllocGlobal + Env + Files + Input,
+    W: Write,
+    F: Write,
+    ensures { result ≤ 2 }
+{
+    match words(rt) {
+        Ok(words) => obey(rt, words.as_slice(), out, faults),
+        Err(error) => {
+            if error.kind() == io::ErrorKind::OutOfMemory {
+                report(faults, ScenarioFault::OutOfMemory, 1)
+            } else {
+                explain(arguments::not_text(rt.alloc()), out, faults)
+            }
+        }
+    }
+}
+
+/// The words of the command line, the program's own name first.
+fn words<R: AllocGlobal + Env>(rt: &R) -> io::Result<Vec<String>> {
+    Ok(env::args(rt)?.collect(rt.alloc())?)
+}
+
+fn obey<R, W, F>(rt: &R, words: &[String], out: &mut W, faults: &mut F) -> u8
+where
+    R: AllocGlobal + Files + Input,
+    W: Write,
+    F: Write,
+    ensures { result ≤ 2 }
+{
+    match arguments::parse(rt.alloc(), words) {
+        Ok(Request::Simulate { file: None }) => {
+            simulate(rt.alloc(), &mut rt.reader(), out, faults)
+        }
+        Ok(Request::Simulate { file: Some(path) }) => match fs::open(rt, path) {
+            Ok(mut file) => simulate(rt.alloc(), &mut file, out, faults),
+            Err(_) => report(faults, ScenarioFault::Unreadable, 2),
+        },
+        Err(error) => explain(error, out, faults),
+    }
+}
+
+/// Writes the help that was asked for, or what is wrong with the words.
+pub fn explain<W: Write, F: Write>(error: clap::Error, out: &mut W, faults: &mut F) -> u8
+    ensures status { result ≤ 2 }
+    ensures help { result ≡ 0 → faults.new ≡ faults.old }
+    ensures mistake { result ≡ 2 → out.new ≡ out.old }
+{
+    if error.kind() == ErrorKind::OutOfMemory {
+        return report(faults, ScenarioFault::OutOfMemory, 1);
+    }
+    if error.use_stderr() {
+        status_after(write_text(faults, &error), 2)
+    } else {
+        status_after(write_text(out, &error), 0)
+    }
+}
+
+fn write_text<W: Write>(stream: &mut W, error: &clap::Error) -> io::Result<()> {
+    write!(stream, "{error}")?;
+    stream.flush()
+}
+
+/// The status, unless the write failed.
+fn status_after(written: io::Result<()>, status: u8) -> u8
+    ensures { (result ≡ status) ⊎ (result ≡ 1) }
+{
+    match written {
+        Ok(()) => status,
+        Err(_) => 1,
+    }
+}

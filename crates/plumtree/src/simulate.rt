@@ -1,0 +1,109 @@
+//! The program `plumtree sim`, over any reader and writers.
+ghost use Rattle.std.specs.Prelude.{◌≡◌, ◌⊎◌, ◌≤◌, ℕ, List, Option, IfOk, IfErr, IfSome, IsOk};
+ghost use Rattle.node_names.specs.Limits.{Limits as Sizes};
+ghost use Rattle.plumtree.specs.declared.scenario.action.Action.{Action};
+ghost use Rattle.plumtree.specs.Fault.{IsTextFault};
+ghost use Rattle.plumtree.specs.Scenario.{IsScenario};
+
+use crate::output;
+use crate::output::OutputFault;
+use crate::play::{PlayFault, Player};
+use crate::read::{LONGEST, read_document};
+use crate::scenario::{MOST_EVENTS, Scenario, ScenarioFault};
+use std::alloc::{Allocator, Global};
+use std::fmt::Display;
+use std::io;
+use std::io::{Read, Write};
+
+/// The room for a line: the longest payload in hexadecimal, and what stands before it.
+const LINE_ROOM: usize = 66_000;
+
+/// Reads a scenario, plays it, and writes what is delivered to `out` and why it ended early to `faults`.
+///
+/// The number is the status that the program ends with.
+pub fn simulate<R: Read, W: Write, F: Write>(
+    alloc: Global,
+    input: &mut R,
+    out: &mut W,
+    faults: &mut F,
+) -> u8
+    ensures status { result ≤ 2 }
+    ensures quiet { result ≡ 0 → faults.new ≡ faults.old }
+    ensures unplayed { result ≡ 2 → out.new ≡ out.old }
+    ensures scenario { result ≡ 0 → IfSome (R.remaining input.old) (λ text.
+        (seed : Option ℕ) × (sizes : Sizes) × (actions : List Action) × IsScenario LONGEST MOST_EVENTS text seed sizes actions) }
+{
+    match read_scenario(alloc, input) {
+        Ok(scenario) => play_and_print(alloc, &scenario, out, faults),
+        Err(ScenarioFault::OutOfMemory) => report(faults, ScenarioFault::OutOfMemory, 1),
+        Err(fault) => report(faults, fault, 2),
+    }
+}
+
+/// Reads a scenario.
+fn read_scenario<R: Read>(alloc: Global, input: &mut R) -> Result<Scenario, ScenarioFault>
+    ensures ok { IfOk result (λ scenario. IfSome (R.remaining input.old) (λ text.
+        IsScenario LONGEST MOST_EVENTS text scenario.seed scenario.limits scenario.actions.items)) }
+    ensures refused { IfErr result (λ fault. IsTextFault fault → IfSome (R.remaining input.old) (λ text.
+        (seed : Option ℕ) (sizes : Sizes) (actions : List Action) → ¬ IsScenario LONGEST MOST_EVENTS text seed sizes actions)) }
+{
+    let document = read_document(alloc, input)?;
+    Scenario::from_document(alloc, &document)
+}
+
+/// Plays a scenario and prints what came of it.
+fn play_and_print<A: Allocator + Copy, W: Write, F: Write>(
+    alloc: A,
+    scenario: &Scenario,
+    out: &mut W,
+    faults: &mut F,
+) -> u8
+    ensures status { result ≤ 1 }
+    ensures quiet { result ≡ 0 → faults.new ≡ faults.old }
+{
+    let Ok(mut text) = String::with_capacity(alloc, LINE_ROOM) else {
+        return report(faults, PlayFault::OutOfMemory, 1);
+    };
+    let Ok(mut player) = Player::new(alloc, scenario.limits) else {
+        return report(faults, PlayFault::OutOfMemory, 1);
+    };
+    let played = player.play(alloc, scenario.actions.as_slice());
+    let mut deliveries = player.into_deliveries();
+    output::sort(deliveries.as_mut_slice());
+    match output::write_lines(&mut text, deliveries.as_slice(), out) {
+        Ok(()) => report_played(faults, played, 0),
+        Err(OutputFault::Unwritten) => report_played(faults, played, 1),
+        Err(OutputFault::OutOfMemory) => report(faults, PlayFault::OutOfMemory, 1),
+    }
+}
+
+/// Writes why a run ended early, if it did; else the program ends with this status.
+fn report_played<F: Write>(faults: &mut F, played: Result<(), PlayFault>, status: u8) -> u8
+    requires { status ≤ 1 }
+    ensures status { result ≤ 1 }
+    ensures quiet { result ≡ 0 → faults.new ≡ faults.old }
+    ensures played { result ≡ 0 → IsOk played × (status ≡ 0) }
+{
+    match played {
+        Ok(()) => status,
+        Err(fault) => report(faults, fault, 1),
+    }
+}
+
+/// Writes why the program ends with this status. A write that fails is a fault of the run.
+pub fn report<F: Write, D: Display + Drop>(faults: &mut F, fault: D, status: u8) -> u8
+    ensures { (result ≡ status) ⊎ (result ≡ 1) }
+{
+    match write_fault(faults, fault) {
+        Ok(()) => status,
+        Err(_) => 1,
+    }
+}
+
+fn write_fault<F: Write, D: Display + Drop>(faults: &mut F, fault: D) -> io::Result<()> {
+    writeln!(faults, "plumtree: {fault}")?;
+    faults.flush()
+}
+
+#[cfg(test)]
+mod tests;
