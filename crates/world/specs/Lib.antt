@@ -4,6 +4,7 @@ pub mod CoreState
 pub mod Delivery
 pub mod DeliveryLaw
 pub mod Entry
+pub mod ErrorText
 pub mod Event
 pub mod FloodCore
 pub mod FloodLaws

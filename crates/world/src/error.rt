@@ -27,13 +27,17 @@ pub enum WorldError {
 }
 
 impl fmt::Display for WorldError {
+    ghost use Rattle.std.specs.Prelude.{Some};
+    ghost use Rattle.world.specs.ErrorText.{world_error_text};
+
+    ghost output = { λ e. Some (world_error_text e) };
+
     fn fmt<W: fmt::Write>(&self, f: &mut fmt::Formatter<W>) -> fmt::Result {
         match self {
             WorldError::UnknownNode => write!(f, "no node of this name was started"),
             WorldError::NotRunning => write!(f, "the node is stopped"),
             WorldError::StaleIncarnation { highest } => {
-                let number = highest.0;
-                write!(f, "the node ran under incarnation {number} already")
+                write!(f, "the node ran under incarnation {highest} already")
             }
             WorldError::BadPeers => write!(f, "the peers or the contact do not fit the node"),
             WorldError::NoPacket => write!(f, "there is no such packet"),

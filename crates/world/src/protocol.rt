@@ -33,6 +33,11 @@ pub enum CoreError {
 }
 
 impl fmt::Display for CoreError {
+    ghost use Rattle.std.specs.Prelude.{Some};
+    ghost use Rattle.world.specs.ErrorText.{core_error_text};
+
+    ghost output = { λ e. Some (core_error_text e) };
+
     fn fmt<W: fmt::Write>(&self, f: &mut fmt::Formatter<W>) -> fmt::Result {
         match self {
             CoreError::PayloadTooLong => write!(f, "the payload is too long"),

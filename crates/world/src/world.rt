@@ -51,7 +51,7 @@ impl<C: Core<A>, A: Allocator + Copy> World<C, A> {
     }
 
     /// The allocator that the group was made with.
-    pub fn allocator(&self) -> A {
+    pub(crate) fn allocator(&self) -> A {
         *self.log.allocator()
     }
 
