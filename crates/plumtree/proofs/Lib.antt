@@ -2,5 +2,8 @@ pub mod Documents
 pub mod Faults
 pub mod Items
 pub mod Numbers
+pub mod Oks
+pub mod Plays
+pub mod Steps
 pub mod Texts
 pub mod Zips

@@ -1,22 +1,118 @@
--- How the actions of a scenario are played.
-use Rattle.std.specs.Prelude.{ℕ, List, Option, Some, None, replicate}
+-- How the actions of a scenario are played in a group.
+use Rattle.std.specs.Prelude.{◌≡◌, ◌≢◌, ◌<◌, ◌≤◌, ℕ, zero, suc, List, [], ◌∷◌, Option, Some, None, MatchOption, replicate, reverse, slice_get, take, IsPermutation, IsSorted}
+use Rattle.std.specs.Io.KnownBytes.{Appends}
+use Rattle.node_names.specs.NodeName.{Name}
+use Rattle.node_names.specs.Limits.{Limits}
+use Rattle.node_names.specs.declared.ids.Origin.{Origin}
+use Rattle.world.specs.CoreState.{CoreState}
+use Rattle.world.specs.Delivery.{Delivery}
+use Rattle.world.specs.Event.{Event}
+use Rattle.world.specs.Group.{Logged}
+use Rattle.world.specs.History.{deliveries}
+use Rattle.world.specs.Refusals.{IsRefusal}
+use Rattle.world.specs.Run.{Applied}
+use Rattle.world.specs.Stimulus.{Stimulus}
 use Rattle.world.specs.declared.error.WorldError.{WorldError}
 use Rattle.world.specs.declared.error.WorldError.TheVariants as world
-use Rattle.world.specs.declared.event.EventOf.{EventOf}
 use Rattle.world.specs.declared.event.EventOf.TheVariants as event
+use Rattle.plumtree.specs.Lines.{line_cmp, lines_of}
 use Rattle.plumtree.specs.declared.scenario.action.Action.{Action}
 use Rattle.plumtree.specs.declared.scenario.action.Action.TheVariants.{Start, Broadcast, Arrive, ArriveAll}
+use Rattle.plumtree.specs.declared.play.Halt.{Halt}
+use Rattle.plumtree.specs.declared.play.Halt.TheVariants as halt
 use Rattle.plumtree.specs.declared.play.PlayFault.{PlayFault}
 use Rattle.plumtree.specs.declared.play.PlayFault.TheVariants as fault
 
--- The event that an action is played as. The arrivals of `arrive_all` are none that it names.
-abbrev pub event_of : Action → Option (EventOf (List ℕ) (List (List ℕ)))
+-- the arrival of the oldest packet in flight
+abbrev pub oldest : Event
+oldest = event.Arrive 0 (record { 0 = replicate 16 0 })
+
+-- the event that an action is played as; `arrive_all` is as many arrivals as it takes
+abbrev pub event_of : Action → Option Event
 event_of (Start node incarnation peers contact) = Some (event.Start node incarnation peers contact)
 event_of (Broadcast node text) = Some (event.Broadcast node text)
 event_of (Arrive place) = Some (event.Arrive place (record { 0 = replicate 16 0 }))
 event_of ArriveAll = None
 
--- The fault of a refused event; want of memory is no matter of the event.
-abbrev pub fault_of : ℕ → WorldError → PlayFault
-fault_of event world.OutOfMemory = fault.OutOfMemory
-fault_of event why = fault.Refused event (record { 0 = why })
+-- the fault of a halt at this event; want of memory is no matter of the event
+abbrev pub fault_of : ℕ → Halt → PlayFault
+fault_of number (halt.Refused world.OutOfMemory) = fault.OutOfMemory
+fault_of number (halt.Refused why) = fault.Refused number (record { 0 = why })
+fault_of number halt.NoEnd = fault.NoEnd number
+
+-- all deliveries of a group, in the order in which they were given
+abbrev pub delivered : {C N : Type 0} → Logged C N → List Delivery
+delivered group = deliveries (reverse group.log)
+
+-- a group without nodes
+abbrev pub empty_group : {C N : Type 0} → Limits → Logged C N
+empty_group limits = record { limits = limits; group = record { nodes = []; sent = []; flight = [] }; log = [] }
+
+module _
+    {C N : Type 0}
+    (state : C → CoreState)
+    (starts : Origin → Limits → List Name → Option Name → List (Name × N) → C → Type 0)
+    (steps : C → Stimulus N → List (Name × N) → List Delivery → C → Type 0)
+  where
+    -- The event takes the group on, whatever it delivers.
+    abbrev pub Takes : Event → Logged C N → Logged C N → Type 0
+    Takes e old new = (given : List Delivery) × Applied state starts steps e given old new
+
+    -- The oldest packet arrives so many times.
+    abbrev pub Drains : ℕ → Logged C N → Logged C N → Type 0
+    Drains zero old new = new ≡ old
+    Drains (suc n) old new = (between : Logged C N) × Drains n old between × Takes oldest between new
+
+    -- The action is played: as its event, or by arrivals until none is in flight, at most so many.
+    abbrev pub PlaysAction : ℕ → Action → Logged C N → Logged C N → Type 0
+    PlaysAction most action old new = MatchOption (event_of action)
+        ((n : ℕ) × (n ≤ most) × Drains n old new × (new.group.flight ≡ []))
+        (λ e. Takes e old new)
+
+    -- The actions are played in order.
+    abbrev pub PlaysActions : ℕ → List Action → Logged C N → Logged C N → Type 0
+    PlaysActions most [] old new = new ≡ old
+    PlaysActions most (action ∷ actions) old new = (between : Logged C N) × PlaysAction most action old between × PlaysActions most actions between new
+
+    module _ (is_spent : C → Stimulus N → Type 0) where
+      -- The event is refused so by the group.
+      abbrev pub Refuses : Event → WorldError → Logged C N → Type 0
+      Refuses e why group = IsRefusal is_spent group.limits group.group e why
+
+      -- The playing of an action halts: its event, or an arrival after some others, is refused, or something is still in
+      -- flight after the most arrivals.
+      abbrev pub HaltsIn : ℕ → Action → Halt → Logged C N → Logged C N → Type 0
+      HaltsIn most action (halt.Refused why) old new = MatchOption (event_of action)
+          ((n : ℕ) × (n < most) × Drains n old new × Refuses oldest why new)
+          (λ e. (new ≡ old) × Refuses e why new)
+      HaltsIn most action halt.NoEnd old new = (event_of action ≡ None) × (n : ℕ) × (n ≡ most) × Drains n old new × (new.group.flight ≢ [])
+
+      -- The playing halts at the action with this number, after all those before it.
+      pub record HaltsAt (most : ℕ) (actions : List Action) (number : ℕ) (stop : Halt) (old new : Logged C N) : Type 0 where
+        pub action : Action
+        pub before : Logged C N
+        pub listed : slice_get actions number ≡ Some action
+        pub played : PlaysActions most (take number actions) old before
+        pub halted : HaltsIn most action stop before new
+
+      -- The fault is that of a halt.
+      abbrev pub IsHalted : ℕ → List Action → PlayFault → Logged C N → Logged C N → Type 0
+      IsHalted most actions stopped old new = (number : ℕ) × (stop : Halt) × (stopped ≡ fault_of number stop) × HaltsAt most actions number stop old new
+
+-- What the output gains are the lines of all that was delivered, sorted, in a group that played these actions.
+pub record Prints
+    {C N : Type 0}
+    (state : C → CoreState)
+    (starts : Origin → Limits → List Name → Option Name → List (Name × N) → C → Type 0)
+    (steps : C → Stimulus N → List (Name × N) → List Delivery → C → Type 0)
+    (most : ℕ)
+    (limits : Limits)
+    (actions : List Action)
+    (before after : Option (List ℕ))
+    : Type 0 where
+  pub group : Logged C N
+  pub lines : List Delivery
+  pub played : PlaysActions state starts steps most actions (empty_group limits) group
+  pub complete : IsPermutation (delivered group) lines
+  pub sorted : IsSorted line_cmp lines
+  pub written : Appends before after (lines_of lines)

@@ -33,9 +33,9 @@ impl From<io::Error> for OutputFault {
 }
 
 /// Sorts deliveries by node, and those of one node by message.
-pub fn sort<A: Allocator>(deliveries: &mut [Delivery<A>])
-    ensures permutation { IsPermutation deliveries.old deliveries.new }
-    ensures sorted { IsSorted line_cmp deliveries.new }
+pub fn sort<A: Allocator>(deliveries: &mut Vec<Delivery<A>, A>)
+    ensures permutation { IsPermutation deliveries.old.items deliveries.new.items }
+    ensures sorted { IsSorted line_cmp deliveries.new.items }
 {
     deliveries.sort_unstable_by_key(|delivery| (delivery.node, delivery.id));
 }

@@ -1,14 +1,14 @@
 //! Playing a scenario in a simulated group.
-ghost use Rattle.std.specs.Prelude.{◌≡◌, IfOk};
-ghost use Rattle.plumtree.specs.Play.{event_of, fault_of};
+ghost use Rattle.std.specs.Prelude.{◌≡◌, ◌≢◌, [], ◌∷◌, ◌++◌, Err, map, IfOk, IfErr, OnOk};
+ghost use Rattle.plumtree.specs.Play.{event_of, fault_of, delivered, empty_group, HaltsIn, IsHalted, PlaysAction, PlaysActions, Refuses, Takes};
 
 use crate::code::Code;
 use crate::scenario::Action;
 use bytes::Bytes;
 use node_names::{Dice, Limits, Listed};
-use std::alloc::{AllocError, AllocFailed, Allocator};
+use std::alloc::{AllocError, Allocator};
 use thiserror::Error;
-use world::{Delivery, Event, FloodCore, Given, World, WorldError};
+use world::{Core, Delivery, Event, Given, World, WorldError};
 
 /// The most arrivals that one action plays.
 pub const MOST_ARRIVALS: usize = 10_000;
@@ -27,45 +27,46 @@ pub enum PlayFault {
     OutOfMemory,
 }
 
-impl PlayFault {
-    /// That the group refused an event for this reason.
-    fn refused(event: usize, why: WorldError) -> PlayFault
-        ensures { result ≡ fault_of event why }
+/// Why an action was not played to its end.
+#[derive(Clone, Copy, Debug, PartialEq, Eq)]
+pub enum Halt {
+    /// The group refused its event, or one of its arrivals.
+    Refused(WorldError),
+    /// Packets were still in flight after the most arrivals.
+    NoEnd,
+}
+
+impl Halt {
+    /// The fault of a run that halts so at this event.
+    fn at(self, event: usize) -> PlayFault
+        ensures { result ≡ fault_of event self }
     {
-        match why {
-            WorldError::OutOfMemory => PlayFault::OutOfMemory,
-            why => PlayFault::Refused {
+        match self {
+            Halt::Refused(WorldError::OutOfMemory) => PlayFault::OutOfMemory,
+            Halt::Refused(why) => PlayFault::Refused {
                 event,
                 code: Code(why),
             },
+            Halt::NoEnd => PlayFault::NoEnd { event },
         }
-    }
-}
-
-impl From<AllocError> for PlayFault {
-    fn from(_error: AllocError) -> PlayFault {
-        PlayFault::OutOfMemory
-    }
-}
-
-impl<T: Drop> From<AllocFailed<T>> for PlayFault {
-    fn from(_error: AllocFailed<T>) -> PlayFault {
-        PlayFault::OutOfMemory
     }
 }
 
 /// A group of nodes, and what they have delivered so far.
 #[derive(Drop)]
-pub struct Player<A: Allocator + Copy> {
-    group: World<FloodCore<A>, A>,
+pub struct Player<C: Core<A>, A: Allocator> {
+    group: World<C, A>,
     /// Room for the event that is played.
     next: Vec<Event<A>, A>,
     deliveries: Vec<Delivery<A>, A>,
 }
 
-impl<A: Allocator + Copy> Player<A> {
+impl<C: Core<A>, A: Allocator + Copy> Player<C, A> {
     /// A group without nodes.
-    pub fn new(alloc: A, limits: Limits) -> Result<Player<A>, AllocError> {
+    pub fn new(alloc: A, limits: Limits) -> Result<Player<C, A>, AllocError>
+        ensures group { IfOk result (λ player. player.group ≡ empty_group limits) }
+        ensures deliveries { IfOk result (λ player. player.deliveries.items ≡ []) }
+    {
         Ok(Player {
             group: World::new(alloc, limits),
             next: Vec::with_capacity(alloc, 1)?,
@@ -74,23 +75,52 @@ impl<A: Allocator + Copy> Player<A> {
     }
 
     /// What was delivered.
-    pub fn into_deliveries(self) -> Vec<Delivery<A>, A> {
-        self.deliveries
+    pub fn into_deliveries(self) -> Vec<Delivery<A>, A>
+        ensures { result ≡ self.deliveries }
+    {
+        let Player { deliveries, .. } = self;
+        deliveries
     }
 
     /// Plays actions in order.
-    pub fn play(&mut self, alloc: A, actions: &[Action]) -> Result<(), PlayFault> {
+    pub fn play(&mut self, alloc: A, actions: &[Action]) -> Result<(), PlayFault>
+        requires whole { self.old.deliveries.items ≡ delivered self.old.group }
+        ensures ok { OnOk result (PlaysActions C.state C.starts C.steps MOST_ARRIVALS actions.now self.old.group self.new.group) }
+        ensures stopped { IfErr result (λ fault. fault ≢ PlayFault.OutOfMemory → IsHalted C.state C.starts C.steps C.is_spent MOST_ARRIVALS actions.now fault self.old.group self.new.group) }
+        ensures whole { result ≢ Err PlayFault.OutOfMemory → self.new.deliveries.items ≡ delivered self.new.group }
+    {
         for (number, action) in actions.iter().enumerate() {
-            match event_of(alloc, action)? {
-                Some(event) => self.step(number, event)?,
-                None => self.arrive_all(number)?,
+            if let Err(halt) = self.play_action(alloc, action) {
+                return Err(halt.at(number));
             }
         }
         Ok(())
     }
 
+    /// Plays one action.
+    fn play_action(&mut self, alloc: A, action: &Action) -> Result<(), Halt>
+        requires whole { self.old.deliveries.items ≡ delivered self.old.group }
+        ensures ok { OnOk result (PlaysAction C.state C.starts C.steps MOST_ARRIVALS action.now self.old.group self.new.group) }
+        ensures halted { IfErr result (λ halt. halt ≢ Halt.Refused WorldError.OutOfMemory → HaltsIn C.state C.starts C.steps C.is_spent MOST_ARRIVALS action.now halt self.old.group self.new.group) }
+        ensures whole { result ≢ Err (Halt.Refused WorldError.OutOfMemory) → self.new.deliveries.items ≡ delivered self.new.group }
+    {
+        match event_of(alloc, action) {
+            Ok(Some(event)) => match self.step(event) {
+                Ok(()) => Ok(()),
+                Err(why) => Err(Halt::Refused(why)),
+            },
+            Ok(None) => self.arrive_all(),
+            Err(_) => Err(Halt::Refused(WorldError::OutOfMemory)),
+        }
+    }
+
     /// Lets the oldest packet arrive until none is in flight.
-    fn arrive_all(&mut self, number: usize) -> Result<(), PlayFault> {
+    fn arrive_all(&mut self) -> Result<(), Halt>
+        requires whole { self.old.deliveries.items ≡ delivered self.old.group }
+        ensures ok { OnOk result (PlaysAction C.state C.starts C.steps MOST_ARRIVALS Action.ArriveAll self.old.group self.new.group) }
+        ensures halted { IfErr result (λ halt. halt ≢ Halt.Refused WorldError.OutOfMemory → HaltsIn C.state C.starts C.steps C.is_spent MOST_ARRIVALS Action.ArriveAll halt self.old.group self.new.group) }
+        ensures whole { result ≢ Err (Halt.Refused WorldError.OutOfMemory) → self.new.deliveries.items ≡ delivered self.new.group }
+    {
         for _ in 0..MOST_ARRIVALS {
             if self.group.flight().is_empty() {
                 return Ok(());
@@ -99,24 +129,41 @@ impl<A: Allocator + Copy> Player<A> {
                 place: 0,
                 dice: Dice::ZEROS,
             };
-            self.step(number, oldest)?;
+            if let Err(why) = self.step(oldest) {
+                return Err(Halt::Refused(why));
+            }
         }
         if self.group.flight().is_empty() {
             Ok(())
         } else {
-            Err(PlayFault::NoEnd { event: number })
+            Err(Halt::NoEnd)
         }
     }
 
-    /// Plays one event. Room for what it delivers is made first.
-    fn step(&mut self, number: usize, event: Event<A>) -> Result<(), PlayFault> {
+    /// Plays one event.
+    fn step(&mut self, event: Event<A>) -> Result<(), WorldError>
+        requires whole { self.old.deliveries.items ≡ delivered self.old.group }
+        ensures ok { OnOk result (Takes C.state C.starts C.steps event self.old.group self.new.group) }
+        ensures refused { IfErr result (λ why. why ≢ WorldError.OutOfMemory → (self.new.group ≡ self.old.group) × Refuses C.state C.starts C.steps C.is_spent event why self.new.group) }
+        ensures whole { result ≢ Err WorldError.OutOfMemory → self.new.deliveries.items ≡ delivered self.new.group }
+    {
+        self.prepare(event)?;
+        match self.group.run(self.next.as_slice()) {
+            Ok(given) => Ok(append(given, &mut self.deliveries)?),
+            Err(fault) => Err(fault.why),
+        }
+    }
+
+    /// Makes room for what an event may deliver, and puts the event in its place.
+    fn prepare(&mut self, event: Event<A>) -> Result<(), AllocError>
+        ensures next { OnOk result (self.new.next.items ≡ event ∷ []) }
+        ensures group { self.new.group ≡ self.old.group }
+        ensures deliveries { self.new.deliveries.items ≡ self.old.deliveries.items }
+    {
         self.deliveries.reserve(1)?;
         self.next.clear();
         self.next.push(event)?;
-        match self.group.run(self.next.as_slice()) {
-            Ok(given) => append(given, &mut self.deliveries),
-            Err(fault) => Err(PlayFault::refused(number, fault.why)),
-        }
+        Ok(())
     }
 }
 
@@ -152,7 +199,9 @@ fn event_of<A: Allocator + Copy>(alloc: A, action: &Action) -> Result<Option<Eve
 fn append<A: Allocator>(
     given: Vec<Given<A>, A>,
     deliveries: &mut Vec<Delivery<A>, A>,
-) -> Result<(), PlayFault> {
+) -> Result<(), AllocError>
+    ensures { OnOk result (deliveries.new.items ≡ deliveries.old.items ++ map (λ g. g.delivery) given.items) }
+{
     for Given { at: _, delivery } in given {
         deliveries.push(delivery)?;
     }

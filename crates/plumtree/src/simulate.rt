@@ -4,16 +4,19 @@ ghost use Rattle.node_names.specs.Limits.{Limits as Sizes};
 ghost use Rattle.plumtree.specs.declared.scenario.action.Action.{Action};
 ghost use Rattle.plumtree.specs.Fault.{IsTextFault};
 ghost use Rattle.plumtree.specs.Scenario.{IsScenario};
+ghost use Rattle.plumtree.specs.Play.{Prints};
+ghost use Rattle.world.specs.FloodCore.{flood_state, FloodStarts, FloodSteps};
 
 use crate::output;
 use crate::output::OutputFault;
-use crate::play::{PlayFault, Player};
+use crate::play::{MOST_ARRIVALS, PlayFault, Player};
 use crate::read::{LONGEST, read_document};
 use crate::scenario::{MOST_EVENTS, Scenario, ScenarioFault};
 use std::alloc::{Allocator, Global};
 use std::fmt::Display;
 use std::io;
 use std::io::{Read, Write};
+use world::{Core, FloodCore};
 
 /// The room for a line: the longest payload in hexadecimal, and what stands before it.
 const LINE_ROOM: usize = 66_000;
@@ -30,11 +33,12 @@ pub fn simulate<R: Read, W: Write, F: Write>(
     ensures status { result ≤ 2 }
     ensures quiet { result ≡ 0 → faults.new ≡ faults.old }
     ensures unplayed { result ≡ 2 → out.new ≡ out.old }
-    ensures scenario { result ≡ 0 → IfSome (R.remaining input.old) (λ text.
-        (seed : Option ℕ) × (sizes : Sizes) × (actions : List Action) × IsScenario LONGEST MOST_EVENTS text seed sizes actions) }
+    ensures printed { result ≡ 0 → (seed : Option ℕ) × (sizes : Sizes) × (actions : List Action)
+        × IfSome (R.remaining input.old) (λ text. IsScenario LONGEST MOST_EVENTS text seed sizes actions)
+        × Prints flood_state FloodStarts FloodSteps MOST_ARRIVALS sizes actions (W.contents out.old) (W.contents out.new) }
 {
     match read_scenario(alloc, input) {
-        Ok(scenario) => play_and_print(alloc, &scenario, out, faults),
+        Ok(scenario) => play_and_print::<FloodCore, Global, W, F>(alloc, &scenario, out, faults),
         Err(ScenarioFault::OutOfMemory) => report(faults, ScenarioFault::OutOfMemory, 1),
         Err(fault) => report(faults, fault, 2),
     }
@@ -52,7 +56,7 @@ fn read_scenario<R: Read>(alloc: Global, input: &mut R) -> Result<Scenario, Scen
 }
 
 /// Plays a scenario and prints what came of it.
-fn play_and_print<A: Allocator + Copy, W: Write, F: Write>(
+fn play_and_print<C: Core<A>, A: Allocator + Copy, W: Write, F: Write>(
     alloc: A,
     scenario: &Scenario,
     out: &mut W,
@@ -60,16 +64,17 @@ fn play_and_print<A: Allocator + Copy, W: Write, F: Write>(
 ) -> u8
     ensures status { result ≤ 1 }
     ensures quiet { result ≡ 0 → faults.new ≡ faults.old }
+    ensures printed { result ≡ 0 → Prints C.state C.starts C.steps MOST_ARRIVALS scenario.now.limits scenario.now.actions.items (W.contents out.old) (W.contents out.new) }
 {
     let Ok(mut text) = String::with_capacity(alloc, LINE_ROOM) else {
         return report(faults, PlayFault::OutOfMemory, 1);
     };
-    let Ok(mut player) = Player::new(alloc, scenario.limits) else {
+    let Ok(mut player) = Player::<C, A>::new(alloc, scenario.limits) else {
         return report(faults, PlayFault::OutOfMemory, 1);
     };
     let played = player.play(alloc, scenario.actions.as_slice());
     let mut deliveries = player.into_deliveries();
-    output::sort(deliveries.as_mut_slice());
+    output::sort(&mut deliveries);
     match output::write_lines(&mut text, deliveries.as_slice(), out) {
         Ok(()) => report_played(faults, played, 0),
         Err(OutputFault::Unwritten) => report_played(faults, played, 1),

@@ -1,6 +1,7 @@
 //! Whole runs: texts, statuses, and readers and writers that fail.
 use super::*;
 use crate::read::LONGEST;
+use std::alloc::AllocError;
 use std::io::{Error, ErrorKind};
 use std::test::Fail;
 
@@ -370,6 +371,49 @@ fn many_events(rt: HostRuntime) -> Result<(), Fail> {
         faults.as_slice(),
         b"plumtree: scenario: event 0: do\nplumtree: scenario: top: event\n".as_slice()
     );
+    Ok(())
+}
+
+/// Messages of one node to its sixteen peers, and then all arrivals.
+fn flood(alloc: Global, broadcasts: usize) -> Result<String, AllocError> {
+    let mut text = String::from_str(
+        alloc,
+        "limits = { active = 16 }\nevent = [{ do = \"start\", node = \"a\", incarnation = 1, peers = [",
+    )?;
+    for peer in 0..16 {
+        write!(text, "\"b{peer}\", ")?;
+    }
+    text.push_str("] }, ")?;
+    for peer in 0..16 {
+        write!(
+            text,
+            "{{ do = \"start\", node = \"b{peer}\", incarnation = 1 }}, "
+        )?;
+    }
+    for _ in 0..broadcasts {
+        text.push_str("{ do = \"broadcast\", node = \"a\", text = \"\" }, ")?;
+    }
+    text.push_str("{ do = \"arrive_all\" }]")?;
+    Ok(text)
+}
+
+/// Ten thousand packets in flight are the most that arrive together.
+#[test]
+fn most_arrivals(rt: HostRuntime) -> Result<(), Fail> {
+    let alloc = rt.alloc();
+    for (broadcasts, wanted, line) in [
+        (625, 0, ""),
+        (626, 1, "plumtree: event 643: no end after 10000 arrivals\n"),
+    ] {
+        let text = flood(alloc, broadcasts)?;
+        let mut out = Vec::new(alloc);
+        let mut faults = Vec::new(alloc);
+        let status = simulate(alloc, &mut text.as_bytes(), &mut out, &mut faults);
+        assert_eq!(rt; faults.as_slice(), line.as_bytes());
+        assert_eq!(rt; status, wanted);
+        let lines = out.iter().filter(|byte| **byte == b'\n').count();
+        assert_eq!(rt; lines, broadcasts + 10_000);
+    }
     Ok(())
 }
 
