@@ -1,5 +1,5 @@
 -- What every run keeps of its history and of its group: the invariants that the theorems on runs follow from.
-use Rattle.std.proofs.Common.{◌≡◌, ◌≤◌, ℕ, List, [], ◌∷◌, ◌++◌, true, false, ap, refl, subst, zero, suc}
+use Rattle.std.proofs.Common.{◌≡◌, ◌∙◌, ◌<◌, ◌≤◌, ℕ, List, [], ◌∷◌, ◌++◌, true, false, ap, refl, subst, sym, zero, suc}
 use Rattle.std.specs.List.{AllByRecursion as Each}
 use Rattle.std.specs.Prelude.{◌≢◌, Bool, Option, Some, None, IfSome, cond, option_map, slice_get}
 use Rattle.node_names.specs.NodeName.{Name}
@@ -62,6 +62,29 @@ highest_of-put {C} name node nodes = go (same_name name node.name) refl
 -- the last incarnation of the name of a node that is found
 pub highest_of-found : {C : Type 0} (name : Name) (nodes : List (NodeState C)) (node : NodeState C) → node_of name nodes ≡ Some node → highest_of name nodes ≡ Some node.highest
 highest_of-found {C} name nodes node e = ap (λ o. option_map (λ (n : NodeState C). n.highest) o) e
+
+-- a start that is fresh among the nodes is of a greater incarnation than the name's last one
+pub greater_than-last :
+    {C : Type 0}
+    (name : Name)
+    (incarnation : Incarnation)
+    (nodes : List (NodeState C))
+    (history : List Entry) →
+    highest_of name nodes ≡ incarnation_of name history →
+    IfSome (node_of name nodes) (λ node. node.highest.0 < incarnation.0) →
+    (last : Incarnation) →
+    incarnation_of name history ≡ Some last →
+    last.0 < incarnation.0
+greater_than-last {C} name incarnation nodes history highest fresh last is = go (node_of name nodes) refl fresh
+  where
+    go : (o : Option (NodeState C)) → node_of name nodes ≡ o → IfSome o (λ node. node.highest.0 < incarnation.0) → last.0 < incarnation.0
+    go (Some before) at less =
+        let same : Some before.highest ≡ Some last = sym (highest_of-found name nodes before at) ∙ highest ∙ is in
+        let this : before.highest ≡ last = cc in
+        subst (λ (i : Incarnation). i.0 < incarnation.0) this less
+    go None at less =
+        let no : None ≡ Some last = sym (ap (λ o. option_map (λ (n : NodeState C). n.highest) o) at) ∙ highest ∙ is in
+        cc
 
 -- what holds of each of two lists holds of each of both together
 pub each-append : {X : Type 0} (P : X → Type 0) (xs ys : List X) → Each P xs → Each P ys → Each P (xs ++ ys)

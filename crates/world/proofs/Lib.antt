@@ -10,5 +10,6 @@ pub mod PlayLemmas
 pub mod RestKeeps
 pub mod RunLemmas
 pub mod Runs
+pub mod Sayings
 pub mod StartKeeps
 pub mod StepKeeps

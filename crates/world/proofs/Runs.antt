@@ -14,7 +14,7 @@ use Rattle.world.specs.Entry.{Entry}
 use Rattle.world.specs.Event.{Event}
 use Rattle.world.specs.Group.{Group, node_of, origin_of, put_node}
 use Rattle.world.specs.History.{Said, Says, broadcasts_of, counted_by, started_by}
-use Rattle.world.specs.Honest.{Honest, Once, SaidByThen}
+use Rattle.world.specs.Honest.{HasOnePayload, Honest, Once, SaidByThen}
 use Rattle.world.specs.Laws.{Laws}
 use Rattle.world.specs.Links.{ViewsAreSound}
 use Rattle.world.specs.PayloadLaw.{Brings}
@@ -25,8 +25,9 @@ use Rattle.world.specs.declared.event.EventOf.TheVariants.{Start, Broadcast, Arr
 use Rattle.world.specs.declared.node_state.NodeState.{NodeState}
 use Rattle.world.specs.declared.stimulus.StimulusOf.TheVariants as stimulus
 use Rattle.world.proofs.FindLemmas.{found_name, name_is, tells_apart}
-use Rattle.world.proofs.Kept.{Keeps, KeepsCore, KeepsPacket, each-at, each-weaken, highest_of-found, if_some-weaken}
+use Rattle.world.proofs.Kept.{Keeps, KeepsCore, KeepsPacket, each-at, each-weaken, greater_than-last, highest_of-found, if_some-weaken}
 use Rattle.world.proofs.RestKeeps.{quiet_keeps, stop_keeps}
+use Rattle.world.proofs.Sayings.{AreFresh, IsFreshAfter, says_one}
 use Rattle.world.proofs.StartKeeps.{start_keeps}
 use Rattle.world.proofs.StepKeeps.{IsStepOf, step_keeps}
 
@@ -184,6 +185,24 @@ module _
         }))
     run_keeps (entry ∷ past) group run = event_keeps state content is_sound starts steps laws limits past entry run.0 group (run_keeps past run.0 run.1) entry.event refl run.2.1
 
+    -- a start is fresh
+    fresh_after : (event : Event) (past : List Entry) (entry : Entry) (before after : Group C N) → Effect state starts steps limits before entry after event → Keeps state content is_sound limits past before.nodes before.sent → IsFreshAfter past event
+    fresh_after (Start name incarnation peers contact) past entry before after effect kept = greater_than-last name incarnation before.nodes past (kept.highest name) effect.1.fresh
+    fresh_after (Broadcast name payload) past entry before after effect kept = tt
+    fresh_after (Arrive place dice) past entry before after effect kept = tt
+    fresh_after (Lose place) past entry before after effect kept = tt
+    fresh_after (Again number) past entry before after effect kept = tt
+    fresh_after (Fire name id) past entry before after effect kept = tt
+    fresh_after (Flush name) past entry before after effect kept = tt
+    fresh_after (Down name peer dice) past entry before after effect kept = tt
+    fresh_after (Shuffle name dice) past entry before after effect kept = tt
+    fresh_after (Stop name) past entry before after effect kept = tt
+
+    -- every start is
+    are_fresh : (history : List Entry) (group : Group C N) → Run state starts steps limits history group → AreFresh history
+    are_fresh [] group run = tt
+    are_fresh (entry ∷ past) group run = (fresh_after entry.event past entry run.0 group run.2.1 (run_keeps past run.0 run.1), are_fresh past run.0 run.1)
+
     module _ (history : List Entry) (group : Group C N) (run : Run state starts steps limits history group) where
       -- every delivery was said by then, with its payload
       pub honest : Honest history
@@ -192,6 +211,10 @@ module _
       -- so its id was said
       pub said_by_then : SaidByThen history
       said_by_then = said_from_honest history honest
+
+      -- a message has one payload
+      pub one_payload : HasOnePayload history
+      one_payload = says_one history (are_fresh history group run)
 
       -- no run of a node delivers a message twice
       pub once : Once history

@@ -1,7 +1,7 @@
 -- A start keeps what runs keep.
 use Rattle.std.proofs.Common.{◌≡◌, ◌∙◌, ◌<◌, ◌≤◌, ℕ, List, [], ◌∷◌, ◌++◌, true, false, sym, ap, refl, subst, inl, inr, arith}
 use Rattle.std.specs.List.{AllByRecursion as Each}
-use Rattle.std.specs.Prelude.{◌≢◌, Bool, Option, Some, None, IfSome, cond, option_map}
+use Rattle.std.specs.Prelude.{◌≢◌, Bool, Option, Some, None, IfSome, cond}
 use Rattle.node_names.specs.NodeName.{Name}
 use Rattle.node_names.specs.Limits.{Limits}
 use Rattle.node_names.specs.Same.{same_name, same_name-Decides}
@@ -21,7 +21,7 @@ use Rattle.world.specs.declared.node_state.NodeState.{NodeState}
 use Rattle.world.specs.declared.packet.Packet.{Packet}
 use Rattle.world.proofs.FindLemmas.{each-put_node, found_name, name_is, put_cases, tells_apart}
 use Rattle.world.proofs.GivenLemmas.{given_either, once-append}
-use Rattle.world.proofs.Kept.{IsStarted, Keeps, KeepsCore, KeepsPacket, each-append, each-both, each-weaken, highest_of, highest_of-found, highest_of-put}
+use Rattle.world.proofs.Kept.{IsStarted, Keeps, KeepsCore, KeepsPacket, each-append, each-both, each-weaken, greater_than-last, highest_of, highest_of-put}
 
 -- an entry that gives nothing adds no delivery
 pub delivered_before : (past : List Entry) (entry : Entry) (origin : Origin) (id : MsgId) → entry.given ≡ [] → Delivered (entry ∷ past) origin id → Delivered past origin id
@@ -65,16 +65,7 @@ module _
   where
     -- the last start before was of a smaller incarnation
     greater : (last : Incarnation) → incarnation_of me.name past ≡ Some last → last.0 < me.incarnation.0
-    greater last is = go (node_of me.name nodes) refl fresh
-      where
-        go : (o : Option (NodeState C)) → node_of me.name nodes ≡ o → IfSome o (λ node. node.highest.0 < me.incarnation.0) → last.0 < me.incarnation.0
-        go (Some before) at less =
-            let same : Some before.highest ≡ Some last = sym (highest_of-found me.name nodes before at) ∙ kept.highest me.name ∙ is in
-            let this : before.highest ≡ last = cc in
-            subst (λ (i : Incarnation). i.0 < me.incarnation.0) this less
-        go None at less =
-            let no : None ≡ Some last = sym (ap (λ o. option_map (λ (n : NodeState C). n.highest) o) at) ∙ kept.highest me.name ∙ is in
-            cc
+    greater = greater_than-last me.name me.incarnation nodes past (kept.highest me.name) fresh
 
     -- so the new run delivered nothing yet
     nothing_yet : (id : MsgId) → Delivered past me id → ⊥

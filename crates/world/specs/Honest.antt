@@ -1,6 +1,7 @@
 -- What every run keeps: nothing is delivered that was not said, and nothing twice.
-use Rattle.std.specs.Prelude.{List, [], ◌∷◌, ℕ}
+use Rattle.std.specs.Prelude.{◌≡◌, List, [], ◌∷◌, ℕ}
 use Rattle.std.specs.List.{AllByRecursion as Each}
+use Rattle.node_names.specs.declared.ids.MsgId.{MsgId}
 use Rattle.world.specs.Delivery.{Delivery}
 use Rattle.world.specs.Entry.{Entry}
 use Rattle.world.specs.History.{Said, HasDelivery, deliveries}
@@ -23,3 +24,7 @@ AreOnce (d ∷ given) = (HasDelivery given d.node d.id → ⊥) × AreOnce given
 -- No run of a node delivers a message twice.
 abbrev pub Once : List Entry → Type 0
 Once history = AreOnce (deliveries history)
+
+-- No message is said with two payloads, so all who deliver it agree on what it is.
+abbrev pub HasOnePayload : List Entry → Type 0
+HasOnePayload history = (id : MsgId) (p q : List ℕ) → Said history id p → Said history id q → p ≡ q

@@ -3,7 +3,7 @@ use Rattle.std.proofs.Common.{subst}
 use Rattle.std.specs.Prelude.{reverse}
 use Rattle.world.specs.Group.{Logged}
 use Rattle.world.specs.Run.{Run}
-use Rattle.world.proofs.Runs.{honest, once, views_sound}
+use Rattle.world.proofs.Runs.{honest, once, one_payload, views_sound}
 use Rattle.world.proofs.world.World.headline.Goals as goal
 
 pub returns : goal.returns
@@ -12,6 +12,7 @@ returns g c =
     subst (λ (w : Logged g.row.C.Denot g.row.C-Note.Denot). Run g.C.Core.state g.C.Core.starts g.C.Core.steps w.limits (reverse w.log) w.group) c.self.view_is c.self.invariant in
     record {
       honest = honest g.C.Core.state g.C.Note.Wire.content g.C.Core.is_sound g.C.Core.starts g.C.Core.steps g.met.C.Core.lawful c.args.self.now.limits (reverse c.args.self.now.log) c.args.self.now.group run;
+      agreed = one_payload g.C.Core.state g.C.Note.Wire.content g.C.Core.is_sound g.C.Core.starts g.C.Core.steps g.met.C.Core.lawful c.args.self.now.limits (reverse c.args.self.now.log) c.args.self.now.group run;
       once = once g.C.Core.state g.C.Note.Wire.content g.C.Core.is_sound g.C.Core.starts g.C.Core.steps g.met.C.Core.lawful c.args.self.now.limits (reverse c.args.self.now.log) c.args.self.now.group run;
       views = views_sound g.C.Core.state g.C.Note.Wire.content g.C.Core.is_sound g.C.Core.starts g.C.Core.steps g.met.C.Core.lawful c.args.self.now.limits (reverse c.args.self.now.log) c.args.self.now.group run;
     }
