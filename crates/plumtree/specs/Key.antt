@@ -1,7 +1,7 @@
 -- How the keys of a scenario are written.
 use Rattle.std.specs.Prelude.{ℕ, List, codes}
 use Rattle.plumtree.specs.declared.scenario.fault.Key.{Key}
-use Rattle.plumtree.specs.declared.scenario.fault.Key.TheVariants.{Seed, Limits, Event, Active, Passive, Arwl, Prwl, Ka, Kp, LimitsTogether, Do, Node, Incarnation, Peers, Contact, Text, Place}
+use Rattle.plumtree.specs.declared.scenario.fault.Key.TheVariants.{Seed, Limits, Event, Active, Passive, Arwl, Prwl, Ka, Kp, LimitsTogether, Do, Node, Incarnation, Peers, Contact, Text, Place, Number}
 
 -- the word for each key; limits that do not go together have the code of their fault
 abbrev pub word_of : Key → List ℕ
@@ -22,3 +22,4 @@ word_of Peers = codes "peers"
 word_of Contact = codes "contact"
 word_of Text = codes "text"
 word_of Place = codes "place"
+word_of Number = codes "number"

@@ -5,9 +5,9 @@ use Rattle.toml.specs.Parse.{parse_document}
 use Rattle.toml.specs.Data.{Data, Members, no_members, table}
 use Rattle.node_names.specs.Limits.{Limits as Sizes, IsAllowed}
 use Rattle.plumtree.specs.Reading.{at_key, IsOptional, IsNumber, IsText, IsName, IsNames, IsTables}
-use Rattle.plumtree.specs.declared.scenario.fault.Key.TheVariants.{Seed, Limits, Event, Active, Passive, Arwl, Prwl, Ka, Kp, Do, Node, Incarnation, Peers, Contact, Text, Place}
+use Rattle.plumtree.specs.declared.scenario.fault.Key.TheVariants.{Seed, Limits, Event, Active, Passive, Arwl, Prwl, Ka, Kp, Do, Node, Incarnation, Peers, Contact, Text, Place, Number}
 use Rattle.plumtree.specs.declared.scenario.action.Action.{Action}
-use Rattle.plumtree.specs.declared.scenario.action.Action.TheVariants.{Start, Broadcast, Arrive, ArriveAll}
+use Rattle.plumtree.specs.declared.scenario.action.Action.TheVariants.{Start, Broadcast, Arrive, Lose, Again, Stop, ArriveAll}
 
 -- the greatest number that fits 64 bits
 abbrev pub greatest : ℕ
@@ -43,6 +43,9 @@ IsAction members (Broadcast node text) = IsText (at_key Do members) (codes "broa
     × IsName (at_key Node members) node
     × IsText (at_key Text members) text
 IsAction members (Arrive place) = IsText (at_key Do members) (codes "arrive") × IsNumber greatest (at_key Place members) place
+IsAction members (Lose place) = IsText (at_key Do members) (codes "lose") × IsNumber greatest (at_key Place members) place
+IsAction members (Again number) = IsText (at_key Do members) (codes "again") × IsNumber greatest (at_key Number members) number
+IsAction members (Stop node) = IsText (at_key Do members) (codes "stop") × IsName (at_key Node members) node
 IsAction members ArriveAll = IsText (at_key Do members) (codes "arrive_all")
 
 -- what the tables of all events describe, in order

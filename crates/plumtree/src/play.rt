@@ -191,6 +191,9 @@ fn event_of<A: Allocator + Copy>(alloc: A, action: &Action) -> Result<Option<Eve
             place: *place,
             dice: Dice::ZEROS,
         },
+        Action::Lose { place } => Event::Lose { place: *place },
+        Action::Again { number } => Event::Again { number: *number },
+        Action::Stop { node } => Event::Stop { name: *node },
         Action::ArriveAll => return Ok(None),
     }))
 }

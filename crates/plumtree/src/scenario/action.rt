@@ -29,6 +29,18 @@ pub enum Action {
     Arrive {
         place: usize,
     },
+    /// The packet at a place of the flight is lost.
+    Lose {
+        place: usize,
+    },
+    /// The packet that was sent with a number, counted from 0, is in flight once more.
+    Again {
+        number: usize,
+    },
+    /// A node stops.
+    Stop {
+        node: NodeName,
+    },
     /// The oldest packet in flight arrives, again and again until none is in flight.
     ArriveAll,
 }
@@ -43,6 +55,9 @@ impl Action {
             "start" => start(alloc, section),
             "broadcast" => broadcast(alloc, section),
             "arrive" => arrive(section),
+            "lose" => lose(section),
+            "again" => again(section),
+            "stop" => stop(section),
             "arrive_all" => Ok(Action::ArriveAll),
             _ => Err(section.refused(Key::Do)),
         }
@@ -84,4 +99,31 @@ fn arrive(section: &Section<'_>) -> Result<Action, ScenarioFault>
 {
     let place = section.number(Key::Place)? as usize;
     Ok(Action::Arrive { place })
+}
+
+fn lose(section: &Section<'_>) -> Result<Action, ScenarioFault>
+    requires { IsText (at_key Key.Do (table_view section.now.table.now)) (codes "lose") }
+    ensures ok { IfOk result (IsAction (table_view section.now.table.now)) }
+    ensures refused { IfErr result (λ _. (action : Action) → ¬ IsAction (table_view section.now.table.now) action) }
+{
+    let place = section.number(Key::Place)? as usize;
+    Ok(Action::Lose { place })
+}
+
+fn again(section: &Section<'_>) -> Result<Action, ScenarioFault>
+    requires { IsText (at_key Key.Do (table_view section.now.table.now)) (codes "again") }
+    ensures ok { IfOk result (IsAction (table_view section.now.table.now)) }
+    ensures refused { IfErr result (λ _. (action : Action) → ¬ IsAction (table_view section.now.table.now) action) }
+{
+    let number = section.number(Key::Number)? as usize;
+    Ok(Action::Again { number })
+}
+
+fn stop(section: &Section<'_>) -> Result<Action, ScenarioFault>
+    requires { IsText (at_key Key.Do (table_view section.now.table.now)) (codes "stop") }
+    ensures ok { IfOk result (IsAction (table_view section.now.table.now)) }
+    ensures refused { IfErr result (λ _. (action : Action) → ¬ IsAction (table_view section.now.table.now) action) }
+{
+    let node = section.name(Key::Node)?;
+    Ok(Action::Stop { node })
 }

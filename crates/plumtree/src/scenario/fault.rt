@@ -81,6 +81,7 @@ pub enum Key {
     Contact,
     Text,
     Place,
+    Number,
 }
 
 impl Key {
@@ -106,6 +107,7 @@ impl Key {
             Key::Contact => "contact",
             Key::Text => "text",
             Key::Place => "place",
+            Key::Number => "number",
         }
     }
 }

@@ -31,7 +31,7 @@ do = "arrive_all"
 const HELLO_LINES: &str = "deliver a/1 a/1/1 5 68656c6c6f\ndeliver b/1 a/1/1 5 68656c6c6f\n";
 
 /// Texts that are refused, each with its line.
-const REFUSED: [(&str, &str); 44] = [
+const REFUSED: [(&str, &str); 50] = [
     ("seed", "plumtree: scenario is not TOML\n"),
     (
         "seed = 9223372036854775808",
@@ -85,7 +85,7 @@ const REFUSED: [(&str, &str); 44] = [
         "plumtree: scenario: event 0: do\n",
     ),
     (
-        "[[event]]\ndo = \"lose\"\nplace = 0",
+        "[[event]]\ndo = \"flush\"\nnode = \"a\"",
         "plumtree: scenario: event 0: do\n",
     ),
     (
@@ -161,6 +161,30 @@ const REFUSED: [(&str, &str); 44] = [
         "plumtree: scenario: event 0: place\n",
     ),
     (
+        "[[event]]\ndo = \"lose\"\nnumber = 0",
+        "plumtree: scenario: event 0: place\n",
+    ),
+    (
+        "[[event]]\ndo = \"lose\"\nplace = 0.0",
+        "plumtree: scenario: event 0: place\n",
+    ),
+    (
+        "[[event]]\ndo = \"again\"\nplace = 0",
+        "plumtree: scenario: event 0: number\n",
+    ),
+    (
+        "[[event]]\ndo = \"again\"\nnumber = -1",
+        "plumtree: scenario: event 0: number\n",
+    ),
+    (
+        "[[event]]\ndo = \"stop\"",
+        "plumtree: scenario: event 0: node\n",
+    ),
+    (
+        "[[event]]\ndo = \"stop\"\nnode = \"B\"",
+        "plumtree: scenario: event 0: node\n",
+    ),
+    (
         "event = [{ do = \"arrive_all\" }, { do = \"arrive\" }, {}]",
         "plumtree: scenario: event 1: place\n",
     ),
@@ -175,7 +199,7 @@ const REFUSED: [(&str, &str); 44] = [
 ];
 
 /// Texts that are no scenario of two nodes, with the status, the output and the line of a fault.
-const PLAYED: [(&str, u8, &str, &str); 14] = [
+const PLAYED: [(&str, u8, &str, &str); 22] = [
     ("", 0, "", ""),
     (
         "seed = 9223372036854775807\nticks = 0\nnode = 1\n",
@@ -237,6 +261,58 @@ const PLAYED: [(&str, u8, &str, &str); 14] = [
         1,
         "",
         "plumtree: event 0: W5\n",
+    ),
+    // One packet was sent, and its repeat is the last that arrives: nothing is left to lose.
+    (
+        "event = [{ do = \"start\", node = \"a\", incarnation = 1, peers = [\"b\"] }, { do = \"start\", node = \"b\", incarnation = 1, peers = [\"a\"] }, { do = \"broadcast\", node = \"a\", text = \"x\" }, { do = \"again\", number = 0 }, { do = \"arrive_all\" }, { do = \"lose\", place = 0 }]",
+        1,
+        "deliver a/1 a/1/1 1 78\ndeliver b/1 a/1/1 1 78\n",
+        "plumtree: event 5: W5\n",
+    ),
+    // Packets are counted from 0, so there is no number 1.
+    (
+        "event = [{ do = \"start\", node = \"a\", incarnation = 1, peers = [\"b\"] }, { do = \"start\", node = \"b\", incarnation = 1, peers = [\"a\"] }, { do = \"broadcast\", node = \"a\", text = \"x\" }, { do = \"again\", number = 1 }]",
+        1,
+        "deliver a/1 a/1/1 1 78\n",
+        "plumtree: event 3: W5\n",
+    ),
+    // A lost packet is not in flight any more, and yet it can be repeated.
+    (
+        "event = [{ do = \"start\", node = \"a\", incarnation = 1, peers = [\"b\"] }, { do = \"start\", node = \"b\", incarnation = 1, peers = [\"a\"] }, { do = \"broadcast\", node = \"a\", text = \"x\" }, { do = \"lose\", place = 0 }, { do = \"arrive_all\" }]",
+        0,
+        "deliver a/1 a/1/1 1 78\n",
+        "",
+    ),
+    (
+        "event = [{ do = \"start\", node = \"a\", incarnation = 1, peers = [\"b\"] }, { do = \"start\", node = \"b\", incarnation = 1, peers = [\"a\"] }, { do = \"broadcast\", node = \"a\", text = \"x\" }, { do = \"lose\", place = 0 }, { do = \"again\", number = 0 }, { do = \"arrive\", place = 0 }]",
+        0,
+        "deliver a/1 a/1/1 1 78\ndeliver b/1 a/1/1 1 78\n",
+        "",
+    ),
+    // A node that is stopped broadcasts nothing, takes nothing and stops no second time.
+    (
+        "event = [{ do = \"start\", node = \"a\", incarnation = 1, peers = [\"b\"] }, { do = \"start\", node = \"b\", incarnation = 1, peers = [\"a\"] }, { do = \"broadcast\", node = \"a\", text = \"x\" }, { do = \"stop\", node = \"a\" }, { do = \"broadcast\", node = \"a\", text = \"y\" }]",
+        1,
+        "deliver a/1 a/1/1 1 78\n",
+        "plumtree: event 4: W2\n",
+    ),
+    (
+        "event = [{ do = \"start\", node = \"a\", incarnation = 1, peers = [\"b\"] }, { do = \"start\", node = \"b\", incarnation = 1, peers = [\"a\"] }, { do = \"broadcast\", node = \"a\", text = \"x\" }, { do = \"stop\", node = \"b\" }, { do = \"arrive_all\" }]",
+        1,
+        "deliver a/1 a/1/1 1 78\n",
+        "plumtree: event 4: W2\n",
+    ),
+    (
+        "event = [{ do = \"start\", node = \"a\", incarnation = 1, peers = [\"b\"] }, { do = \"start\", node = \"b\", incarnation = 1, peers = [\"a\"] }, { do = \"broadcast\", node = \"a\", text = \"x\" }, { do = \"stop\", node = \"b\" }, { do = \"stop\", node = \"b\" }]",
+        1,
+        "deliver a/1 a/1/1 1 78\n",
+        "plumtree: event 4: W2\n",
+    ),
+    (
+        "event = [{ do = \"stop\", node = \"b\" }]",
+        1,
+        "",
+        "plumtree: event 0: W1\n",
     ),
     // The second arrival of `arrive_all` reaches `c`, which was never started; `b` has delivered by then.
     (
