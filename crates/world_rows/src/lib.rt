@@ -2,7 +2,9 @@
 #![tactic(auto)]
 
 #[cfg(test)]
-mod events;
+mod act;
+#[cfg(test)]
+mod play;
 #[cfg(test)]
 mod rows;
 #[cfg(test)]
