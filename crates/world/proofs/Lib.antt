@@ -1,5 +1,8 @@
+pub mod Carrying
+pub mod Delivering
 pub mod FindLemmas
 pub mod FloodMoves
+pub mod Flying
 pub mod GivenLemmas
 pub mod Kept
 pub mod NameLemmas
@@ -8,8 +11,10 @@ pub mod NodeLemmas
 pub mod PlanLemmas
 pub mod PlayLemmas
 pub mod RestKeeps
+pub mod Resting
 pub mod RunLemmas
 pub mod Runs
 pub mod Sayings
 pub mod StartKeeps
 pub mod StepKeeps
+pub mod Steps

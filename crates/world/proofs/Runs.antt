@@ -199,7 +199,7 @@ module _
     fresh_after (Stop name) past entry before after effect kept = tt
 
     -- every start is
-    are_fresh : (history : List Entry) (group : Group C N) → Run state starts steps limits history group → AreFresh history
+    pub are_fresh : (history : List Entry) (group : Group C N) → Run state starts steps limits history group → AreFresh history
     are_fresh [] group run = tt
     are_fresh (entry ∷ past) group run = (fresh_after entry.event past entry run.0 group run.2.1 (run_keeps past run.0 run.1), are_fresh past run.0 run.1)
 

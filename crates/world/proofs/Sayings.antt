@@ -101,7 +101,7 @@ now id p past (Shuffle name dice) says = absurd says
 now id p past (Stop name) says = absurd says
 
 -- so whatever was said is counted
-said_counted : (id : MsgId) (p : List ℕ) (history : List Entry) → AreFresh history → Said history id p → IsCounted id (incarnation_of id.origin.name history) (broadcasts_of id.origin.name history)
+pub said_counted : (id : MsgId) (p : List ℕ) (history : List Entry) → AreFresh history → Said history id p → IsCounted id (incarnation_of id.origin.name history) (broadcasts_of id.origin.name history)
 said_counted id p [] fresh said = absurd said
 said_counted id p (entry ∷ past) fresh said =
     elim said [
@@ -110,7 +110,7 @@ said_counted id p (entry ∷ past) fresh said =
     ]
 
 -- and not said again
-not_again : (id : MsgId) (p : List ℕ) (past : List Entry) (event : Event) → Says event past id p → IsCounted id (incarnation_of id.origin.name past) (broadcasts_of id.origin.name past) → ⊥
+pub not_again : (id : MsgId) (p : List ℕ) (past : List Entry) (event : Event) → Says event past id p → IsCounted id (incarnation_of id.origin.name past) (broadcasts_of id.origin.name past) → ⊥
 not_again id p past (Broadcast name payload) says is =
     let started : incarnation_of id.origin.name past ≡ Some id.origin.incarnation = subst (λ n. incarnation_of n past ≡ Some id.origin.incarnation) (sym says.0) says.1 in
     let same : Some id.origin.incarnation ≡ Some is.incarnation = sym started ∙ is.started in

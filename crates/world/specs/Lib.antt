@@ -33,5 +33,6 @@ pub mod Run
 pub mod SoundViews
 pub mod SpreadLaw
 pub mod Stimulus
+pub mod UnderWay
 pub mod ViewLaw
 pub mod WantLaw

@@ -9,11 +9,12 @@ use Rattle.world.specs.Content.{Content}
 use Rattle.world.specs.CoreState.{CoreState}
 use Rattle.world.specs.Entry.{Entry}
 use Rattle.world.specs.Event.{Event}
-use Rattle.world.specs.Group.{Group}
-use Rattle.world.specs.History.{HasDelivery, Says}
-use Rattle.world.specs.Links.{IsSymmetric, Runs}
+use Rattle.world.specs.Group.{Group, node_of, origin_of}
+use Rattle.world.specs.History.{Delivered, HasDelivery, Says}
+use Rattle.world.specs.Links.{IsSymmetric, Reaches, Runs}
 use Rattle.world.specs.Lists.{IsOneOf}
 use Rattle.world.specs.declared.event.EventOf.TheVariants.{Start, Broadcast, Arrive, Lose, Again, Fire, Flush, Down, Shuffle, Stop}
+use Rattle.world.specs.declared.node_state.NodeState.{NodeState}
 use Rattle.world.specs.declared.packet.Packet.{Packet}
 
 -- The event says the message after this past, with whatever payload.
@@ -69,3 +70,12 @@ GaveFrom {N} sent event entry parent = ⊥
 abbrev pub IsParent : {N : Type 0} → List (Packet N) → List Entry → Origin → MsgId → Option Origin → Type 0
 IsParent sent [] node id parent = ⊥
 IsParent sent (entry ∷ past) node id parent = (HasDelivery entry.given node id × GaveFrom sent entry.event entry parent) ⊎ IsParent sent past node id parent
+
+-- The name runs, and has delivered the message in the run that it is in.
+abbrev pub DeliveredAt : {C N : Type 0} → Group C N → List Entry → Name → MsgId → Type 0
+DeliveredAt {C} group history name id = (node : NodeState C) × (core : C) × (node_of name group.nodes ≡ Some node) × (node.core ≡ Some core) × Delivered history (origin_of node) id
+
+-- Wherever the run is undisturbed for a message and the group is at rest for it, every node in reach of its origin has
+-- delivered it.
+abbrev pub IsDeliveredInReach : {C N : Type 0} → (C → CoreState) → (N → Content) → List Entry → Group C N → Type 0
+IsDeliveredInReach state content history group = (id : MsgId) → IsUndisturbed state history group id → IsAtRest state content group id → (name : Name) → Reaches state group id.origin.name name → DeliveredAt group history name id

@@ -68,7 +68,7 @@ impl<C: Core<A>, A: Allocator + Copy> World<C, A> {
         ensures played { IfOk result (λ given. Plays C.state C.starts C.steps 0 events.now given.items self.old self.new) }
         ensures stopped { IfErr result (λ fault. Plays C.state C.starts C.steps 0 (take fault.at events.now) fault.given self.old self.new) }
         ensures refused { IfErr result (λ fault. RefusesAt C.is_spent events.now fault self.new) }
-        ensures headline { Headline C.state self.new }
+        ensures headline { Headline C.state C.Note.content self.new }
     {
         let mut given = Vec::new(self.allocator());
         for (at, event) in events.iter().enumerate() {

@@ -92,7 +92,7 @@ impl<C: Core<A>, A: Allocator + Copy> World<C, A> {
 
     /// Tells a caller's proof what holds of every group of lawful cores. It does nothing.
     pub fn headline(&self)
-        ensures { Headline C.state self.now }
+        ensures { Headline C.state C.Note.content self.now }
     {
         let _log = &self.log;
     }
