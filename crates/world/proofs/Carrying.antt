@@ -156,14 +156,15 @@ module _
           | inr there ↦ inr ((λ e. there.0 (e ∙ named)), (runs.0, there.1, runs.2))
         ]
 
-    -- the core that stepped runs afterwards
+    -- the node with the core that stepped is found afterwards
+    pub found_new : node_of name after.nodes ≡ Some (record step.acts.node { core = Some step.acts.new })
+    found_new =
+        subst (λ ns. node_of name ns ≡ Some (record step.acts.node { core = Some step.acts.new })) (sym step.acts.nodes)
+        (put_same name (record step.acts.node { core = Some step.acts.new }) before.nodes (subst (λ n. same_name name n ≡ true) named (name_is name)))
+
+    -- so that core runs
     runs_new : Runs after name step.acts.new
-    runs_new = (
-      record step.acts.node { core = Some step.acts.new },
-      subst (λ ns. node_of name ns ≡ Some (record step.acts.node { core = Some step.acts.new })) (sym step.acts.nodes)
-          (put_same name (record step.acts.node { core = Some step.acts.new }) before.nodes (subst (λ n. same_name name n ≡ true) named (name_is name))),
-      refl,
-    )
+    runs_new = (record step.acts.node { core = Some step.acts.new }, found_new, refl)
 
     -- and any other core runs on
     runs_on : (other : Name) (core : C) → (other ≡ name → ⊥) → Runs before other core → Runs after other core

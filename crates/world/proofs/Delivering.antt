@@ -64,7 +64,7 @@ abbrev pub HasDelivered : {C : Type 0} → (C → CoreState) → List Entry → 
 HasDelivered {C} state history nodes = (name : Name) (node : NodeState C) (core : C) → node_of name nodes ≡ Some node → node.core ≡ Some core → (id : MsgId) → (state core).has id ≡ true → Delivered history (origin_of node) id
 
 -- what was delivered stays so
-stays_delivered : (past : List Entry) (entry : Entry) (node : Origin) (id : MsgId) → Delivered past node id → Delivered (entry ∷ past) node id
+pub stays_delivered : (past : List Entry) (entry : Entry) (node : Origin) (id : MsgId) → Delivered past node id → Delivered (entry ∷ past) node id
 stays_delivered past entry node id = given-left (deliveries past) entry.given node id
 
 module _

@@ -8,6 +8,7 @@ pub mod Kept
 pub mod NameLemmas
 pub mod NameSets
 pub mod NodeLemmas
+pub mod Parenting
 pub mod PlanLemmas
 pub mod PlayLemmas
 pub mod RestKeeps

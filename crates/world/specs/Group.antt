@@ -1,5 +1,5 @@
 -- A group of nodes, whatever their cores and their packets are.
-use Rattle.std.specs.Prelude.{◌≡◌, ℕ, List, [], ◌∷◌, Option, map, find, if◌then◌else◌}
+use Rattle.std.specs.Prelude.{◌≡◌, ℕ, List, [], ◌∷◌, Option, Some, None, map, find, if◌then◌else◌}
 use Rattle.node_names.specs.NodeName.{Name}
 use Rattle.node_names.specs.Limits.{Limits}
 use Rattle.node_names.specs.declared.ids.Origin.{Origin}
@@ -30,6 +30,15 @@ pub record IsEmptyGroup {C N : Type 0} (group : Group C N) : Type 0 where
 -- the node of this name
 abbrev pub node_of : {C : Type 0} → Name → List (NodeState C) → Option (NodeState C)
 node_of name nodes = find (λ node. same_name name node.name) nodes
+
+-- the core of a node that runs
+abbrev pub core_in : {C : Type 0} → Option (NodeState C) → Option C
+core_in None = None
+core_in (Some node) = node.core
+
+-- the core that runs under this name
+abbrev pub core_of : {C : Type 0} → Name → List (NodeState C) → Option C
+core_of name nodes = core_in (node_of name nodes)
 
 -- the nodes with this one in the place of the one of its name, or last where there is none
 abbrev pub put_node : {C : Type 0} → NodeState C → List (NodeState C) → List (NodeState C)

@@ -6,17 +6,19 @@ use Rattle.world.specs.CoreState.{CoreState}
 use Rattle.world.specs.Group.{Logged}
 use Rattle.world.specs.Honest.{HasOnePayload, Honest, Once}
 use Rattle.world.specs.Links.{ViewsAreSound}
+use Rattle.world.specs.Parents.{HaveParents}
 use Rattle.world.specs.Rest.{IsDeliveredInReach, IsUndisturbed}
 use Rattle.world.specs.UnderWay.{IsCarriedOn}
 
 -- Each delivery is of a message that was said by then, with the payload that was said; a message is said with one payload
 -- alone; no run of a node delivers a message twice; and no view of a running node exceeds its bound, names a node twice or
--- names its owner. Where the group stayed undisturbed since a message was said, it is carried on between every two linked
+-- names its owner. Each delivery is its origin's own, or came from one who had delivered the message before. Where the group stayed undisturbed since a message was said, it is carried on between every two linked
 -- nodes; and where the group is also at rest for it, every node in reach of its origin has delivered it.
 pub record Headline {C N : Type 0} (state : C → CoreState) (content : N → Content) (world : Logged C N) : Type 0 where
   pub honest : Honest (reverse world.log)
   pub agreed : HasOnePayload (reverse world.log)
   pub once : Once (reverse world.log)
   pub views : ViewsAreSound state world.limits world.group
+  pub parents : HaveParents world.group.sent (reverse world.log)
   pub carried : (id : MsgId) → IsUndisturbed state (reverse world.log) world.group id → IsCarriedOn state content world.group id
   pub delivered : IsDeliveredInReach state content (reverse world.log) world.group

@@ -23,6 +23,7 @@ pub mod Links
 pub mod Lists
 pub mod Output
 pub mod PayloadLaw
+pub mod Parents
 pub mod Peers
 pub mod Plan
 pub mod Play

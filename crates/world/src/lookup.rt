@@ -1,6 +1,6 @@
 //! Finding a node by its name.
 ghost use Rattle.std.specs.Prelude.{◌≡◌, Some, None, IfOk, IfErr, IfSome, IfNone, option_copied, slice_get};
-ghost use Rattle.world.specs.Group.{node_of};
+ghost use Rattle.world.specs.Group.{core_of, node_of};
 ghost use Rattle.world.specs.Refusals.{absent, sent_under};
 
 use crate::error::WorldError;
@@ -13,6 +13,13 @@ pub(crate) fn node_of<'a, C>(nodes: &'a [NodeState<C>], name: &NodeName) -> Opti
     ensures { option_copied result ≡ node_of name.now nodes.now }
 {
     nodes.iter().find(|node| *name == node.name)
+}
+
+/// The core that runs under this name.
+pub(crate) fn core_of<'a, C>(nodes: &'a [NodeState<C>], name: &NodeName) -> Option<&'a C>
+    ensures { option_copied result ≡ core_of name.now nodes.now }
+{
+    node_of(nodes, name)?.core.as_ref()
 }
 
 /// The node of this name and its core, if it runs.

@@ -1,12 +1,14 @@
 //! A group of nodes that takes one event after the other.
-ghost use Rattle.std.specs.Prelude.{◌≡◌, []};
+ghost use Rattle.std.specs.Prelude.{◌≡◌, [], option_copied};
+ghost use Rattle.world.specs.Group.{core_of};
 ghost use Rattle.world.specs.Headline.{Headline};
 
 use crate::entry::Entry;
+use crate::lookup::core_of;
 use crate::node_state::NodeState;
 use crate::packet::Packet;
 use crate::protocol::Core;
-use node_names::Limits;
+use node_names::{Limits, NodeName};
 use std::alloc::{Allocator, Global};
 use std::marker::Model;
 
@@ -67,6 +69,13 @@ impl<C: Core<A>, A: Allocator + Copy> World<C, A> {
         ensures { result.now ≡ self.now.group.nodes }
     {
         self.nodes.as_slice()
+    }
+
+    /// The core that runs under the name, if one does.
+    pub fn core(&self, name: &NodeName) -> Option<&C>
+        ensures { option_copied result ≡ core_of name.now self.now.group.nodes }
+    {
+        core_of(self.nodes(), name)
     }
 
     /// All packets that were ever sent, in their order.
