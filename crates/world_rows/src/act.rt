@@ -75,9 +75,9 @@ pub(crate) fn event<A: Allocator + Copy>(alloc: A, act: &Act) -> Result<Event<A>
         Act::Arrive(place) => EventOf::Arrive { place, dice },
         Act::Lose(place) => EventOf::Lose { place },
         Act::Again(number) => EventOf::Again { number },
-        Act::Fire(node, origin) => EventOf::Fire {
+        Act::Fire(node, from) => EventOf::Fire {
             name: name(node)?,
-            id: first_id(origin)?,
+            id: id(from, 1, 1)?,
         },
         Act::Flush(node) => EventOf::Flush { name: name(node)? },
         Act::Down(node, peer) => EventOf::Down {
@@ -93,13 +93,18 @@ pub(crate) fn event<A: Allocator + Copy>(alloc: A, act: &Act) -> Result<Event<A>
     })
 }
 
-/// The id of the first message of a name's first incarnation.
-fn first_id(origin: &str) -> Result<MsgId, Fail> {
+/// The run of a name under an incarnation.
+pub(crate) fn origin(text: &str, incarnation: u64) -> Result<Origin, Fail> {
+    Ok(Origin {
+        name: name(text)?,
+        incarnation: Incarnation(incarnation),
+    })
+}
+
+/// The id of a message of such a run.
+pub(crate) fn id(text: &str, incarnation: u64, seq: u64) -> Result<MsgId, Fail> {
     Ok(MsgId {
-        origin: Origin {
-            name: name(origin)?,
-            incarnation: Incarnation(1),
-        },
-        seq: 1,
+        origin: origin(text, incarnation)?,
+        seq,
     })
 }

@@ -1,0 +1,12 @@
+//! Looking at a group: who is in reach of whom, whether the group is at rest for a message, and who gave it to whom.
+#![tactic(auto)]
+
+mod branch;
+mod links;
+mod rest;
+mod trees;
+
+pub use branch::Branch;
+pub use links::is_symmetric;
+pub use rest::is_at_rest;
+pub use trees::tree;
