@@ -1,0 +1,14 @@
+mod Agree
+mod BodyFaults
+mod Counts
+mod Decoded
+mod Encoded
+mod FieldsAgree
+mod FrameAgrees
+mod ListsAgree
+mod NameReading
+pub mod Putting
+mod RowsAgree
+mod Sizes
+mod Times
+mod Streams

@@ -1,0 +1,31 @@
+-- Cutting a stream of bytes into frames.
+use Rattle.std.specs.Prelude.{◌≡◌, ◌≢◌, ℕ, List, [], ◌∷◌, ◌++◌, Option, Some, None, Result, Ok, Err}
+use Rattle.frames.specs.declared.fault.FrameFault.{FrameFault}
+use Rattle.frames.specs.declared.fault.FrameFault.TheVariants.{Short}
+use Rattle.frames.specs.Answer.{IsFaultOf}
+use Rattle.frames.specs.Frame.{Frame}
+use Rattle.frames.specs.Grammar.{IsSpelling}
+use Rattle.frames.specs.Reading.{read}
+
+-- The bytes begin with a spelling of the frame, and the new ones are those after it.
+pub record Cuts (frame : Frame) (old new : List ℕ) : Type 0 where
+  pub spelling : List ℕ
+  pub spelled : IsSpelling frame spelling
+  pub parts : old ≡ spelling ++ new
+
+-- What the next frame of some bytes is: one that they begin with; none, where they end before it does; or a fault, which is
+-- the first of the order of faults, or want of memory. The bytes stay, but for those of the frame.
+abbrev pub IsNext : Result (Option Frame) FrameFault → List ℕ → List ℕ → Type 0
+IsNext (Ok (Some frame)) old new = Cuts frame old new
+IsNext (Ok None) old new = (read old ≡ Err Short) × (new ≡ old)
+IsNext (Err fault) old new = IsFaultOf fault (read old) × (fault ≢ Short) × (new ≡ old)
+
+-- The stream is the spellings of the frames, one after the other, and the rest.
+abbrev pub Begins : List Frame → List ℕ → List ℕ → Type 0
+Begins [] stream rest = stream ≡ rest
+Begins (frame ∷ frames) stream rest = (after : List ℕ) × Cuts frame stream after × Begins frames after rest
+
+-- The fault that was met, if one was, is that of the bytes.
+abbrev pub IsMet : Option FrameFault → List ℕ → Type 0
+IsMet None bytes = Unit {0}
+IsMet (Some fault) bytes = (read bytes ≡ Err fault) × (fault ≢ Short)

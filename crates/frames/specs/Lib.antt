@@ -1,0 +1,11 @@
+pub mod Answer
+pub mod Body
+pub mod Content
+pub mod FaultText
+pub mod Field
+pub mod Frame
+pub mod Grammar
+pub mod Kind
+pub mod Reading
+pub mod Writing
+pub mod Cutting

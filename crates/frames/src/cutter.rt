@@ -1,0 +1,107 @@
+//! Cutting a stream of bytes into frames.
+ghost use Rattle.std.specs.Prelude.{◌≡◌, ◌<◌, ◌++◌, [], None, Ok, length, OnOk, OnErr};
+ghost use Rattle.frames.specs.Cutting.{IsNext};
+
+use crate::MAX_FRAME;
+use crate::decoding::decode;
+use crate::fault::FrameFault;
+use crate::frame::Frame;
+use std::alloc::{AllocError, Allocator, Global};
+use std::marker::Model;
+
+/// The frames of a stream whose bytes come in pieces of any size.
+///
+/// A contract sees a cutter as the bytes that it has been fed and that are no part of a frame that it gave. Between two
+/// frames it keeps less than one frame of them. Each byte is copied in once and, on average, moved at most once more, and a
+/// frame is read once it is whole.
+#[derive(Drop)]
+pub struct Cutter<A: Allocator = Global> {
+    /// What was fed, but for some of the frames given at its front.
+    buffer: Vec<u8, A>,
+    /// How many bytes of the buffer belong to frames that were given.
+    given: usize,
+    /// The fault that the bytes left have, once it was met.
+    fault: Option<FrameFault>,
+}
+
+impl<A: Allocator> Model for Cutter<A> {
+    ghost use Rattle.std.specs.Prelude.{◌≤◌, List, ℕ, length, drop};
+    ghost use Rattle.frames.specs.Cutting.{IsMet};
+
+    ghost Value = { List ℕ };
+
+    ghost view = { λ c. drop c.given c.buffer.items };
+
+    ghost invariant = { λ c. (c.given ≤ length c.buffer.items) × IsMet c.fault (drop c.given c.buffer.items) };
+}
+
+impl<A: Allocator + Copy> Cutter<A> {
+    /// A cutter that was fed nothing.
+    pub fn new(alloc: A) -> Cutter<A>
+        ensures { result ≡ [] }
+    {
+        Cutter {
+            buffer: Vec::new(alloc),
+            given: 0,
+            fault: None,
+        }
+    }
+
+    /// The bytes that it was fed and that are no part of a frame that it gave.
+    fn rest(&self) -> &[u8]
+        ensures { result.now ≡ self.now }
+    {
+        &self.buffer[self.given..]
+    }
+
+    /// How many of the bytes that it was fed are no part of a frame that it gave.
+    pub fn left(&self) -> usize
+        ensures { result ≡ length self.now }
+    {
+        self.buffer.len() - self.given
+    }
+
+    /// Takes the next bytes of the stream.
+    pub fn feed(&mut self, piece: &[u8]) -> Result<(), AllocError>
+        ensures ok { OnOk result (self.new ≡ self.old ++ piece.now) }
+        ensures err { OnErr result (self.new ≡ self.old) }
+    {
+        self.forget_given();
+        self.buffer.extend_from_slice(piece)
+    }
+
+    /// Drops the frames that were given, once they take as much room as the bytes left.
+    fn forget_given(&mut self)
+        ensures { self.new ≡ self.old }
+    {
+        if self.given >= self.buffer.len() - self.given {
+            self.buffer.drain(..self.given);
+            self.given = 0;
+        }
+    }
+
+    /// The next frame, or none as long as it is not whole.
+    ///
+    /// After a fault other than want of memory the answer is that fault from then on. `Short` is never one.
+    pub fn next(&mut self) -> Result<Option<Frame<A>>, FrameFault>
+        ensures next { IsNext result self.old self.new }
+        // Less than a frame is kept, once none is whole.
+        ensures few { result ≡ Ok None → length self.new < MAX_FRAME }
+    {
+        if let Some(fault) = self.fault {
+            return Err(fault);
+        }
+        match decode(*self.buffer.allocator(), self.rest()) {
+            Ok((frame, len)) => {
+                self.given += len;
+                Ok(Some(frame))
+            }
+            Err(FrameFault::Short) => Ok(None),
+            Err(FrameFault::OutOfMemory) => Err(FrameFault::OutOfMemory),
+            Err(fault) => {
+                self.fault = Some(fault);
+                Err(fault)
+            }
+        }
+    }
+}

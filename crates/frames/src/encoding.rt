@@ -1,0 +1,85 @@
+//! Writing a frame as bytes.
+ghost use Rattle.std.specs.Prelude.{◌≡◌, ◌<◌, ◌≤◌, ◌-◌, ◌^◌, ◌++◌, List, ℕ, length, drop, IsTrue, IfOk, OnOk};
+ghost use Rattle.std.specs.Int.{w32, to_be_bytes};
+ghost use Rattle.frames.specs.Frame.{Frame as Spelled, has_good_counts, has_good_fields};
+ghost use Rattle.frames.specs.Grammar.{IsSpelling, fields_of, layout};
+ghost use Rattle.frames.specs.Writing.{PutsAll};
+
+use crate::body::{Body, BodyOf};
+use crate::frame::Frame;
+use crate::kind::Kind;
+use crate::put::{
+    put_announcements, put_byte, put_flag, put_id, put_name, put_names, put_number, put_origin,
+    put_payload, put_round,
+};
+use bytes::Bytes;
+use std::alloc::{AllocError, Allocator};
+
+/// The fields of a kind.
+#[tactic(auto, using(crate::proofs::Putting::puts_none, crate::proofs::Putting::puts_then, crate::proofs::Putting::puts_last))]
+fn put_fields<A: Allocator>(out: &mut Vec<u8, A>, body: &Body<A>) -> Result<(), AllocError>
+    requires fields { IsTrue (has_good_fields body.now) }
+    requires counts { IsTrue (has_good_counts body.now) }
+    ensures { OnOk result (PutsAll (fields_of body.now) out.old.items out.new.items) }
+{
+    match body {
+        BodyOf::Join | BodyOf::Disconnect | BodyOf::Prune => Ok(()),
+        BodyOf::ForwardJoin { new, ttl } => {
+            put_name(out, new)?;
+            put_byte(out, *ttl)
+        }
+        BodyOf::Neighbor { high } => put_flag(out, *high),
+        BodyOf::NeighborReply { accepted } => put_flag(out, *accepted),
+        BodyOf::Shuffle { origin, ttl, names } => {
+            put_name(out, origin)?;
+            put_byte(out, *ttl)?;
+            put_names(out, names.as_slice())
+        }
+        BodyOf::ShuffleReply { names } => put_names(out, names.as_slice()),
+        BodyOf::Gossip { id, round, payload } => {
+            put_id(out, id)?;
+            put_round(out, *round)?;
+            put_payload(out, payload.as_slice())
+        }
+        BodyOf::IHave { entries } => put_announcements(out, entries.as_slice()),
+        BodyOf::Graft { id, round } => {
+            put_id(out, id)?;
+            put_round(out, *round)
+        }
+    }
+}
+
+/// The body of a frame.
+#[tactic(auto, using(crate::proofs::Putting::puts_then))]
+fn put_frame<A: Allocator>(out: &mut Vec<u8, A>, frame: &Frame<A>) -> Result<(), AllocError>
+    ensures { OnOk result (PutsAll (layout frame.now) out.old.items out.new.items) }
+{
+    put_byte(out, 1)?;
+    put_byte(out, Kind::of(frame.body()).number())?;
+    put_origin(out, &frame.sender())?;
+    put_number(out, frame.number())?;
+    put_fields(out, frame.body())
+}
+
+/// Writes the number of the bytes after the first four into those.
+fn put_length(out: &mut [u8])
+    requires some { 4 ≤ length out.old }
+    requires few { length out.old < 2 ^ 32 }
+    ensures { out.new ≡ to_be_bytes w32 (length out.old - 4) ++ drop 4 out.old }
+{
+    let len = (out.len() - 4) as u32;
+    out[..4].copy_from_slice(&len.to_be_bytes());
+}
+
+/// The one spelling of the frame.
+pub fn encode<A: Allocator + Copy>(alloc: A, frame: &Frame<A>) -> Result<Bytes<A>, AllocError>
+    ensures spelled { IfOk result (λ bytes. IsSpelling frame.now bytes) }
+    // No other frame's spelling begins with it, nor does it begin with one.
+    ensures alone { IfOk result (λ bytes. (f : Spelled) (spelling x y : List ℕ) → IsSpelling f spelling
+        → bytes ++ x ≡ spelling ++ y → (bytes ≡ spelling) × (frame.now ≡ f)) }
+{
+    let mut out = Vec::from_slice(alloc, &[0; 4])?;
+    put_frame(&mut out, frame)?;
+    put_length(out.as_mut_slice());
+    Ok(Bytes::from_vec(out)?)
+}

@@ -1,0 +1,81 @@
+//! The kinds of frames.
+ghost use Rattle.std.specs.Prelude.{◌≡◌};
+ghost use Rattle.frames.specs.Kind.{kind_numbered, kind_of, number_of};
+
+use crate::body::BodyOf;
+
+/// A kind of frame, which its bytes give as a number.
+#[derive(Clone, Copy, Debug, PartialEq, Eq)]
+pub(crate) enum Kind {
+    Join,
+    ForwardJoin,
+    Neighbor,
+    NeighborReply,
+    Disconnect,
+    Shuffle,
+    ShuffleReply,
+    Gossip,
+    IHave,
+    Graft,
+    Prune,
+}
+
+impl Kind {
+    /// The kind of a body.
+    pub(crate) fn of<P, L, E>(body: &BodyOf<P, L, E>) -> Kind
+        ensures { result ≡ kind_of body.now }
+    {
+        match body {
+            BodyOf::Join => Kind::Join,
+            BodyOf::ForwardJoin { .. } => Kind::ForwardJoin,
+            BodyOf::Neighbor { .. } => Kind::Neighbor,
+            BodyOf::NeighborReply { .. } => Kind::NeighborReply,
+            BodyOf::Disconnect => Kind::Disconnect,
+            BodyOf::Shuffle { .. } => Kind::Shuffle,
+            BodyOf::ShuffleReply { .. } => Kind::ShuffleReply,
+            BodyOf::Gossip { .. } => Kind::Gossip,
+            BodyOf::IHave { .. } => Kind::IHave,
+            BodyOf::Graft { .. } => Kind::Graft,
+            BodyOf::Prune => Kind::Prune,
+        }
+    }
+
+    /// The number of the kind.
+    pub(crate) fn number(self) -> u8
+        ensures { result ≡ number_of self }
+    {
+        match self {
+            Kind::Join => 1,
+            Kind::ForwardJoin => 2,
+            Kind::Neighbor => 3,
+            Kind::NeighborReply => 4,
+            Kind::Disconnect => 5,
+            Kind::Shuffle => 6,
+            Kind::ShuffleReply => 7,
+            Kind::Gossip => 8,
+            Kind::IHave => 9,
+            Kind::Graft => 10,
+            Kind::Prune => 11,
+        }
+    }
+
+    /// The kind of this number, if there is one.
+    pub(crate) fn numbered(number: u8) -> Option<Kind>
+        ensures { result ≡ kind_numbered number }
+    {
+        match number {
+            1 => Some(Kind::Join),
+            2 => Some(Kind::ForwardJoin),
+            3 => Some(Kind::Neighbor),
+            4 => Some(Kind::NeighborReply),
+            5 => Some(Kind::Disconnect),
+            6 => Some(Kind::Shuffle),
+            7 => Some(Kind::ShuffleReply),
+            8 => Some(Kind::Gossip),
+            9 => Some(Kind::IHave),
+            10 => Some(Kind::Graft),
+            11 => Some(Kind::Prune),
+            _ => None,
+        }
+    }
+}

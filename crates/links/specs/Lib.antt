@@ -1,0 +1,4 @@
+pub mod EndText
+pub mod Pumping
+pub mod Draining
+pub mod Tape

@@ -1,0 +1,59 @@
+-- What a call that pumps a reader's bytes into a sink does.
+use Rattle.std.specs.Prelude.{◌≡◌, ℕ, Bool, ◌||◌, ◌==◌, List, ◌++◌, length, Option, Some, None, Err, IfSome, nat_lt}
+use Rattle.std.specs.Io.KnownBytes.{Consumes, IsAtEnd}
+use Rattle.frames.specs.declared.fault.FrameFault.TheVariants as fault
+use Rattle.frames.specs.Cutting.{Begins, Cuts}
+use Rattle.frames.specs.Frame.{Frame as Sent}
+use Rattle.frames.specs.Reading.{read}
+use Rattle.links.specs.declared.ends.LinkEnd.{LinkEnd}
+use Rattle.links.specs.declared.ends.LinkEnd.TheVariants.{ReadFault, WriteFault, Frame, Ended, TurnLimit, SinkClosed, OutOfMemory}
+
+-- Whether a count of failures rose, or stands at the greatest that there is.
+abbrev pub has_risen : ℕ → ℕ → Bool
+has_risen old new = nat_lt old new || new == 18446744073709551615
+
+-- No whole frame begins the bytes: they end before it does.
+abbrev pub IsPartial : List ℕ → Type 0
+IsPartial bytes = read bytes ≡ Err fault.Short
+
+-- How it ended, where rest is the stream after the frames that the sink took, and left what the cutter has then. At the
+-- end of the stream, at a failed read and where the turns are used up the sink took all whole frames; at a fault too, and
+-- the fault is that of the next. A sink that takes no more was offered one frame more. Where memory was refused, bytes that
+-- were read may be lost.
+abbrev pub EndsSo : LinkEnd → List ℕ → List ℕ → Type 0
+EndsSo ReadFault rest left = IsPartial rest × (left ≡ rest)
+EndsSo (WriteFault bytes) rest left = ⊥
+EndsSo (Frame f) rest left = (read rest ≡ Err f) × (left ≡ rest)
+EndsSo (Ended n) rest left = IsPartial rest × (left ≡ rest) × (n ≡ length left)
+EndsSo TurnLimit rest left = IsPartial rest × (left ≡ rest)
+EndsSo SinkClosed rest left = (frame : Sent) × Cuts frame rest left
+EndsSo OutOfMemory rest left = (lost : List ℕ) × (rest ≡ left ++ lost)
+
+-- What the sink took is, in order, the frames of a stream: of the bytes that the cutter had and those that were read.
+pub record Pumps (end : LinkEnd) (cutter cutter' : List ℕ) (taken taken' : List Sent) (known known' : Option (List ℕ)) : Type 0 where
+  pub frames : List Sent
+  pub bytes : List ℕ
+  pub rest : List ℕ
+  pub sunk : taken' ≡ taken ++ frames
+  pub consumed : Consumes known known' bytes
+  pub stream : Begins frames (cutter ++ bytes) rest
+  pub ends : EndsSo end rest cutter'
+
+-- The ends that come of giving frames to a sink.
+abbrev pub ComesOfGiving : LinkEnd → Type 0
+ComesOfGiving ReadFault = ⊥
+ComesOfGiving (WriteFault bytes) = ⊥
+ComesOfGiving (Frame f) = Unit {0}
+ComesOfGiving (Ended n) = ⊥
+ComesOfGiving TurnLimit = ⊥
+ComesOfGiving SinkClosed = Unit {0}
+ComesOfGiving OutOfMemory = Unit {0}
+
+-- What the sink took of the frames that the cutter had, where it ended the call so or goes on.
+pub record Gives (end : Option LinkEnd) (cutter cutter' : List ℕ) (taken taken' : List Sent) : Type 0 where
+  pub frames : List Sent
+  pub rest : List ℕ
+  pub sunk : taken' ≡ taken ++ frames
+  pub stream : Begins frames cutter rest
+  pub goes_on : end ≡ None → IsPartial rest × (cutter' ≡ rest)
+  pub stops : IfSome end (λ e. ComesOfGiving e × EndsSo e rest cutter')

@@ -1,0 +1,53 @@
+//! From a source of frames to a stream of bytes.
+ghost use Rattle.std.specs.Prelude.{◌≡◌, ◌≤◌, length, take};
+ghost use Rattle.std.specs.Io.KnownBytes.{Appends};
+ghost use Rattle.links.specs.Draining.{Drains};
+
+use crate::ends::LinkEnd;
+use crate::metered::MeteredWrite;
+use crate::sink::Source;
+use std::alloc::Allocator;
+
+/// Writes the bytes in as many calls as it takes, and answers how many went out: all, unless a call failed or took none.
+fn put<W: MeteredWrite>(writer: &mut W, bytes: &[u8]) -> usize
+    ensures some { result ≤ length bytes.now }
+    ensures written { Appends (W.contents writer.old) (W.contents writer.new) (take result bytes.now) }
+{
+    let mut at = 0;
+    while at < bytes.len() {
+        match writer.write(&bytes[at..]) {
+            Ok(0) | Err(_) => return at,
+            Ok(n) => at += n,
+        }
+    }
+    at
+}
+
+/// Writes the source's items, one after the other, until it has none or `frames` of them went out, and answers how many
+/// bytes that were. No call of the writer spans two items.
+///
+/// `WriteFault`: a call of the writer failed or took no byte; what went out before is counted. `OutOfMemory`: the source
+/// answered it; all that it gave before went out.
+pub fn drain<S: Source<A>, W: MeteredWrite, A: Allocator>(
+    source: &mut S,
+    writer: &mut W,
+    frames: u32,
+) -> Result<u64, LinkEnd>
+    ensures { Drains result (S.is_spent source.new) frames (S.given source.old) (S.given source.new)
+        (W.contents writer.old) (W.contents writer.new) }
+{
+    let mut bytes: u64 = 0;
+    for _ in 0..frames {
+        let item = match source.next() {
+            Ok(Some(item)) => item,
+            Ok(None) => return Ok(bytes),
+            Err(_) => return Err(LinkEnd::OutOfMemory),
+        };
+        let written = put(writer, item.as_slice());
+        bytes += written as u64;
+        if written < item.len() {
+            return Err(LinkEnd::WriteFault { bytes });
+        }
+    }
+    Ok(bytes)
+}

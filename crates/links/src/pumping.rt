@@ -1,0 +1,85 @@
+//! From a stream of bytes to a sink of frames.
+ghost use Rattle.std.specs.Prelude.{◌≡◌, ℕ, IsTrue};
+ghost use Rattle.std.specs.Io.KnownBytes.{IsAtEnd};
+ghost use Rattle.links.specs.Pumping.{Gives, Pumps, has_risen};
+
+use crate::ends::LinkEnd;
+use crate::metered::MeteredRead;
+use crate::sink::Sink;
+use frames::{Cutter, FrameFault};
+use std::alloc::Allocator;
+
+/// The most bytes of one read.
+const PIECE: usize = 4_096;
+
+/// Gives the sink the whole frames that the cutter has, and answers how the call ends if it does.
+fn give<S: Sink<A>, A: Allocator + Copy>(cutter: &mut Cutter<A>, sink: &mut S) -> Option<LinkEnd>
+    ensures { Gives result cutter.old cutter.new (S.taken sink.old) (S.taken sink.new) }
+{
+    loop {
+        match cutter.next() {
+            Ok(Some(frame)) => {
+                if !sink.frame(frame) {
+                    return Some(LinkEnd::SinkClosed);
+                }
+            }
+            Ok(None) => return None,
+            Err(FrameFault::OutOfMemory) => return Some(LinkEnd::OutOfMemory),
+            Err(fault) => return Some(LinkEnd::Frame(fault)),
+        }
+    }
+}
+
+/// Reads at most `turns` times, at most 4,096 bytes at once, and gives the sink the whole frames of what the cutter has and
+/// of what was read, in order.
+///
+/// The frames that the cutter has are given before the first read. A failed call that the reader does not count was
+/// interrupted: it is a turn, and no more. After `TurnLimit` the call may be made again; after every other end the link is
+/// closed.
+pub fn pump<R: MeteredRead, S: Sink<A>, A: Allocator + Copy>(
+    reader: &mut R,
+    cutter: &mut Cutter<A>,
+    sink: &mut S,
+    turns: u64,
+) -> LinkEnd
+    ensures frames { Pumps result cutter.old cutter.new (S.taken sink.old) (S.taken sink.new)
+        (R.remaining reader.old) (R.remaining reader.new) }
+    ensures read_fault { result ≡ LinkEnd.ReadFault → IsTrue (has_risen (R.failed reader.old) (R.failed reader.new)) }
+    ensures ended { (left : ℕ) → result ≡ LinkEnd.Ended left → IsAtEnd (R.remaining reader.new) }
+{
+    let before = reader.failures();
+    if let Some(end) = give(cutter, sink) {
+        return end;
+    }
+    let mut piece = [0; PIECE];
+    for _ in 0..turns {
+        match reader.read(&mut piece) {
+            Ok(0) => {
+                return LinkEnd::Ended {
+                    left: cutter.left(),
+                };
+            }
+            Ok(n) => {
+                if cutter.feed(&piece[..n]).is_err() {
+                    return LinkEnd::OutOfMemory;
+                }
+                if let Some(end) = give(cutter, sink) {
+                    return end;
+                }
+            }
+            Err(_) => {
+                if rose(before, reader.failures()) {
+                    return LinkEnd::ReadFault;
+                }
+            }
+        }
+    }
+    LinkEnd::TurnLimit
+}
+
+/// Whether a count of failures rose.
+fn rose(before: u64, now: u64) -> bool
+    ensures { result ≡ has_risen before now }
+{
+    before < now || now == u64::MAX
+}

@@ -1,0 +1,34 @@
+//! Where frames go, and where their bytes come from.
+ghost use Rattle.std.specs.Prelude.{◌≡◌, ◌≤◌, ◌∷◌, ◌++◌, [], ℕ, List, Some, None, Ok, OnErr, length};
+ghost use Rattle.std.specs.Bool.{OnTrue, OnFalse};
+ghost use Rattle.frames.specs.Frame.{Frame as Sent};
+
+use bytes::Bytes;
+use frames::Frame;
+use std::alloc::{AllocError, Allocator};
+
+/// What takes frames.
+pub trait Sink<A: Allocator> {
+    /// The frames that it took.
+    ghost taken: { Self → List Sent };
+
+    /// Takes a frame, or answers `false`: it takes no more, and has not taken this one.
+    fn frame(&mut self, frame: Frame<A>) -> bool
+        ensures took { OnTrue result (taken self.new ≡ taken self.old ++ frame ∷ []) }
+        ensures closed { OnFalse result (taken self.new ≡ taken self.old) };
+}
+
+/// What gives the bytes of frames, one frame an item.
+pub trait Source<A: Allocator> {
+    /// The items that it gave.
+    ghost given: { Self → List (List ℕ) };
+
+    /// It has nothing to give.
+    ghost is_spent: { Self → Type 0 } = { λ _. Unit {0} };
+
+    /// The next item, or none as long as there is none.
+    fn next(&mut self) -> Result<Option<Bytes<A>>, AllocError>
+        ensures some { (item : List ℕ) → result ≡ Ok (Some item) → (given self.new ≡ given self.old ++ item ∷ []) × (length item ≤ 32880) }
+        ensures none { result ≡ Ok None → (given self.new ≡ given self.old) × is_spent self.new }
+        ensures err { OnErr result (given self.new ≡ given self.old) };
+}

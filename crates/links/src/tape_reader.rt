@@ -1,0 +1,69 @@
+//! A reader over memory.
+ghost use Rattle.std.specs.Prelude.{◌≡◌, Some};
+
+use crate::metered::MeteredRead;
+use bytes::Bytes;
+use std::alloc::{Allocator, Global};
+use std::io;
+use std::io::{ErrorKind, Read};
+use std::marker::Model;
+
+/// Gives the bytes of a tape in pieces of the sizes that it was told, and fails at one call if it is to.
+#[derive(Drop)]
+pub struct TapeReader<A: Allocator = Global> {
+    bytes: Bytes<A>,
+    pieces: Vec<usize, A>,
+    fails: Option<usize>,
+    calls: usize,
+    failures: u64,
+}
+
+impl<A: Allocator> Model for TapeReader<A> {
+    ghost use Rattle.links.specs.Tape.{Tape};
+
+    ghost Value = { Tape };
+
+    ghost view = { λ t. record { bytes = t.bytes; failures = t.failures } };
+}
+
+impl<A: Allocator> TapeReader<A> {
+    /// A reader of these bytes. Call number k, from 0, gives at most as many as `pieces` has at k, but at least one, and as
+    /// many as there are and fit where `pieces` has no k. The call of number `fails` fails and gives nothing.
+    pub fn new(bytes: Bytes<A>, pieces: Vec<usize, A>, fails: Option<usize>) -> TapeReader<A>
+        ensures { result ≡ record { bytes = bytes; failures = 0 } }
+    {
+        TapeReader {
+            bytes,
+            pieces,
+            fails,
+            calls: 0,
+            failures: 0,
+        }
+    }
+}
+
+impl<A: Allocator> Read for TapeReader<A> {
+    ghost remaining = { λ t. Some t.bytes };
+
+    fn read(&mut self, buf: &mut [u8]) -> io::Result<usize> {
+        let call = self.calls;
+        self.calls = call.saturating_add(1);
+        if self.fails == Some(call) {
+            self.failures = self.failures.saturating_add(1);
+            return Err(io::Error::from(ErrorKind::Other));
+        }
+        let most = self.pieces.as_slice().get(call).copied().unwrap_or(usize::MAX);
+        let n = most.max(1).min(buf.len()).min(self.bytes.len());
+        buf[..n].copy_from_slice(&self.bytes.as_slice()[..n]);
+        self.bytes.advance(n);
+        Ok(n)
+    }
+}
+
+impl<A: Allocator> MeteredRead for TapeReader<A> {
+    ghost failed = { λ t. t.failures };
+
+    fn failures(&self) -> u64 {
+        self.failures
+    }
+}
