@@ -1,0 +1,5 @@
+mod Fits
+mod Lawful
+mod LawfulRows
+mod Requests
+mod Walks

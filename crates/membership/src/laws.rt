@@ -1,0 +1,41 @@
+//! What holds of every row of the table. Nothing runs here: a caller calls these for what they ensure.
+ghost use Rattle.std.specs.Prelude.{◌≢◌, ◌<◌, ℕ, length};
+ghost use Rattle.node_names.specs.NodeName.{Name};
+ghost use Rattle.node_names.specs.declared.dice.Dice.{Dice};
+ghost use Rattle.views.specs.Views.{AreSound};
+ghost use Rattle.membership.specs.Event.{Event};
+ghost use Rattle.membership.specs.Laws.{FitFrames, FitsFrame, GoesOnOnce, IsFromAnother, Lawful, OneRequest, walks};
+ghost use Rattle.membership.specs.Membership.{Membership, still};
+ghost use Rattle.membership.specs.Table.{table};
+
+/// Each row keeps the views sound and their owner and limits, sends nothing to the owner, and tells exactly whom the active
+/// view lost and gained.
+pub fn every_row_is_lawful()
+    ensures { (m : Membership) (event : Event) (dice : Dice) → AreSound m.views → IsFromAnother m.views.owner event
+        → Lawful m (table event dice (still m)) }
+{
+}
+
+/// A JOIN starts fewer walks than the active view has places. A walk goes on at most once, with one step less, so it is passed
+/// on at most as often as it has steps.
+pub fn walks_are_bounded()
+    ensures starts { (m : Membership) (dice : Dice) (sender : Name) → AreSound m.views → sender ≢ m.views.owner
+        → length (walks (table (Event.Join sender) dice (still m)).sends) < m.views.limits.active }
+    ensures goes_on { (m : Membership) (dice : Dice) (sender new : Name) (ttl : ℕ)
+        → GoesOnOnce new ttl (table (Event.ForwardJoin sender new ttl) dice (still m)).sends }
+{
+}
+
+/// A request stands until it is answered, its link fails or the tick forgets it; only then is another made, of a passive name,
+/// by the event's last message.
+pub fn one_request_stands()
+    ensures { (m : Membership) (event : Event) (dice : Dice) → OneRequest m event (table event dice (still m)) }
+{
+}
+
+/// Each message fits a frame, if those that came do.
+pub fn messages_fit_frames()
+    ensures { (m : Membership) (event : Event) (dice : Dice) → AreSound m.views → FitsFrame event
+        → FitFrames (table event dice (still m)) }
+{
+}

@@ -1,0 +1,15 @@
+//! Membership after HyParView: which nodes a node keeps links to, and which it could turn to.
+#![tactic(auto)]
+
+mod draft;
+mod laws;
+mod membership;
+mod moves;
+mod pick;
+mod rows;
+
+pub use laws::{
+    every_row_is_lawful, messages_fit_frames, one_request_stands, walks_are_bounded,
+};
+pub use membership::Membership;
+pub use moves::Moves;

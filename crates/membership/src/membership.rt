@@ -1,0 +1,269 @@
+//! A node's membership.
+ghost use Rattle.std.specs.Prelude.{◌≡◌, [], IfOk, OnOk, OnErr, None};
+ghost use Rattle.views.specs.Views.{ArePeers, fresh};
+ghost use Rattle.membership.specs.Membership.{Ends, still};
+ghost use Rattle.membership.specs.Draft.{turn_of};
+ghost use Rattle.membership.specs.Event.{Event};
+ghost use Rattle.membership.specs.Table.{table};
+
+use crate::draft::Draft;
+use crate::moves::Moves;
+use frames::BodyOf;
+use node_names::{Dice, Limits, Listed, NodeName};
+use std::alloc::{AllocError, Allocator, Global};
+use std::marker::Model;
+use views::Views;
+
+/// The part of a node that keeps its views, and answers the messages that are about them.
+#[derive(Drop)]
+pub struct Membership<A: Allocator = Global> {
+    views: Views<A>,
+    asked: Option<NodeName>,
+    shuffled: Listed<NodeName, A>,
+}
+
+impl<A: Allocator> Model for Membership<A> {
+    ghost use Rattle.membership.specs.Membership.{Membership as Plain};
+
+    ghost Value = { Plain };
+
+    ghost view = { λ m. record { views = m.views; asked = m.asked; shuffled = m.shuffled } };
+}
+
+impl<A: Allocator> Membership<A> {
+    /// The two views.
+    pub fn views(&self) -> &Views<A>
+        ensures { result.now ≡ self.now.views }
+    {
+        &self.views
+    }
+
+    /// The name that was asked to become a neighbour and has not answered.
+    pub fn asked(&self) -> Option<NodeName>
+        ensures { result ≡ self.now.asked }
+    {
+        self.asked
+    }
+}
+
+impl<A: Allocator + Copy> Membership<A> {
+    /// The membership of a node whose active names are the peers.
+    pub fn new(
+        alloc: A,
+        owner: NodeName,
+        limits: Limits,
+        peers: &[NodeName],
+    ) -> Result<Membership<A>, AllocError>
+        requires { ArePeers owner limits peers.now }
+        ensures { IfOk result (λ m. m ≡ record { views = fresh owner limits peers.now; asked = None; shuffled = [] }) }
+    {
+        let views = Views::new(alloc, owner, limits, peers)?;
+        Ok(Membership {
+            views,
+            asked: None,
+            shuffled: Listed::new(alloc),
+        })
+    }
+
+    /// The same membership once more.
+    pub fn copy(&self) -> Result<Membership<A>, AllocError>
+        ensures { IfOk result (λ copy. copy ≡ self.now) }
+    {
+        let views = self.views.copy()?;
+        let remembered = self.shuffled.copy()?;
+        Ok(Membership {
+            views,
+            asked: self.asked,
+            shuffled: remembered,
+        })
+    }
+
+    /// A turn in which nothing is done yet.
+    fn draft(&self) -> Result<Draft<A>, AllocError>
+        ensures { IfOk result (λ draft. turn_of draft ≡ still self.now) }
+    {
+        let alloc = *self.shuffled.allocator();
+        let views = self.views.copy()?;
+        let shuffled = self.shuffled.copy()?;
+        Ok(Draft {
+            views,
+            asked: self.asked,
+            shuffled,
+            sends: Listed::new(alloc),
+            downs: Listed::new(alloc),
+            ups: Listed::new(alloc),
+        })
+    }
+
+    /// Stands as the turn says, and appends what it sent and told.
+    fn end(&mut self, draft: Draft<A>, moves: &mut Moves<A>) -> Result<(), AllocError>
+        ensures ok { OnOk result (Ends (turn_of draft) moves.old self.new moves.new) }
+        ensures err { OnErr result ((self.new ≡ self.old) × (moves.new ≡ moves.old)) }
+    {
+        let Draft {
+            views,
+            asked,
+            shuffled,
+            sends,
+            downs,
+            ups,
+        } = draft;
+        moves.append(sends, downs, ups)?;
+        self.views = views;
+        self.asked = asked;
+        self.shuffled = shuffled;
+        Ok(())
+    }
+
+    /// Joins the group by a contact.
+    pub fn join(&mut self, contact: NodeName, moves: &mut Moves<A>) -> Result<(), AllocError>
+        ensures ok { (dice : _) → OnOk result (Ends (table (Event.Joins contact) dice (still self.old)) moves.old self.new moves.new) }
+        ensures err { OnErr result ((self.new ≡ self.old) × (moves.new ≡ moves.old)) }
+    {
+        let mut draft = self.draft()?;
+        draft.send(contact, BodyOf::Join)?;
+        self.end(draft, moves)
+    }
+
+    /// A node joins by this one.
+    pub fn on_join(
+        &mut self,
+        sender: NodeName,
+        dice: &Dice,
+        moves: &mut Moves<A>,
+    ) -> Result<(), AllocError>
+        ensures ok { OnOk result (Ends (table (Event.Join sender) dice.now (still self.old)) moves.old self.new moves.new) }
+        ensures err { OnErr result ((self.new ≡ self.old) × (moves.new ≡ moves.old)) }
+    {
+        let mut draft = self.draft()?;
+        draft.on_join(sender, dice)?;
+        self.end(draft, moves)
+    }
+
+    /// The name of a node that joins, with the steps that its walk has left.
+    pub fn on_forward_join(
+        &mut self,
+        sender: NodeName,
+        new: NodeName,
+        ttl: u8,
+        dice: &Dice,
+        moves: &mut Moves<A>,
+    ) -> Result<(), AllocError>
+        ensures ok { OnOk result (Ends (table (Event.ForwardJoin sender new ttl) dice.now (still self.old)) moves.old self.new moves.new) }
+        ensures err { OnErr result ((self.new ≡ self.old) × (moves.new ≡ moves.old)) }
+    {
+        let mut draft = self.draft()?;
+        draft.on_forward_join(sender, new, ttl, dice)?;
+        self.end(draft, moves)
+    }
+
+    /// A request to become a neighbour.
+    pub fn on_neighbor(
+        &mut self,
+        sender: NodeName,
+        high: bool,
+        dice: &Dice,
+        moves: &mut Moves<A>,
+    ) -> Result<(), AllocError>
+        ensures ok { OnOk result (Ends (table (Event.Neighbor sender high) dice.now (still self.old)) moves.old self.new moves.new) }
+        ensures err { OnErr result ((self.new ≡ self.old) × (moves.new ≡ moves.old)) }
+    {
+        let mut draft = self.draft()?;
+        draft.on_neighbor(sender, high, dice)?;
+        self.end(draft, moves)
+    }
+
+    /// The answer to such a request.
+    pub fn on_reply(
+        &mut self,
+        sender: NodeName,
+        accepted: bool,
+        dice: &Dice,
+        moves: &mut Moves<A>,
+    ) -> Result<(), AllocError>
+        ensures ok { OnOk result (Ends (table (Event.Reply sender accepted) dice.now (still self.old)) moves.old self.new moves.new) }
+        ensures err { OnErr result ((self.new ≡ self.old) × (moves.new ≡ moves.old)) }
+    {
+        let mut draft = self.draft()?;
+        draft.on_reply(sender, accepted, dice)?;
+        self.end(draft, moves)
+    }
+
+    /// The sender has dropped this node out of its active view.
+    pub fn on_disconnect(
+        &mut self,
+        sender: NodeName,
+        dice: &Dice,
+        moves: &mut Moves<A>,
+    ) -> Result<(), AllocError>
+        ensures ok { OnOk result (Ends (table (Event.Disconnect sender) dice.now (still self.old)) moves.old self.new moves.new) }
+        ensures err { OnErr result ((self.new ≡ self.old) × (moves.new ≡ moves.old)) }
+    {
+        let mut draft = self.draft()?;
+        draft.on_disconnect(sender, dice)?;
+        self.end(draft, moves)
+    }
+
+    /// Names that `origin` knows, with the steps that they have left.
+    pub fn on_shuffle(
+        &mut self,
+        sender: NodeName,
+        origin: NodeName,
+        ttl: u8,
+        names: &[NodeName],
+        dice: &Dice,
+        moves: &mut Moves<A>,
+    ) -> Result<(), AllocError>
+        ensures ok { OnOk result (Ends (table (Event.Shuffle sender origin ttl names.now) dice.now (still self.old)) moves.old self.new moves.new) }
+        ensures err { OnErr result ((self.new ≡ self.old) × (moves.new ≡ moves.old)) }
+    {
+        let mut draft = self.draft()?;
+        draft.on_shuffle(sender, origin, ttl, names, dice)?;
+        self.end(draft, moves)
+    }
+
+    /// The names that a shuffle of this node is answered with.
+    pub fn on_shuffle_reply(
+        &mut self,
+        sender: NodeName,
+        names: &[NodeName],
+        dice: &Dice,
+        moves: &mut Moves<A>,
+    ) -> Result<(), AllocError>
+        ensures ok { OnOk result (Ends (table (Event.ShuffleReply sender names.now) dice.now (still self.old)) moves.old self.new moves.new) }
+        ensures err { OnErr result ((self.new ≡ self.old) × (moves.new ≡ moves.old)) }
+    {
+        let mut draft = self.draft()?;
+        draft.on_shuffle_reply(names, dice)?;
+        self.end(draft, moves)
+    }
+
+    /// The link to a peer failed.
+    pub fn on_down(
+        &mut self,
+        peer: NodeName,
+        dice: &Dice,
+        moves: &mut Moves<A>,
+    ) -> Result<(), AllocError>
+        ensures ok { OnOk result (Ends (table (Event.Down peer) dice.now (still self.old)) moves.old self.new moves.new) }
+        ensures err { OnErr result ((self.new ≡ self.old) × (moves.new ≡ moves.old)) }
+    {
+        let mut draft = self.draft()?;
+        draft.on_down(peer, dice)?;
+        self.end(draft, moves)
+    }
+
+    /// The membership tick.
+    pub fn tick(
+        &mut self,
+        dice: &Dice,
+        moves: &mut Moves<A>,
+    ) -> Result<(), AllocError>
+        ensures ok { OnOk result (Ends (table (Event.Tick) dice.now (still self.old)) moves.old self.new moves.new) }
+        ensures err { OnErr result ((self.new ≡ self.old) × (moves.new ≡ moves.old)) }
+    {
+        let mut draft = self.draft()?;
+        draft.on_tick(dice)?;
+        self.end(draft, moves)
+    }
+}

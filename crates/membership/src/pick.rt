@@ -1,0 +1,64 @@
+//! One name out of a view, by a word of the dice.
+ghost use Rattle.std.specs.Prelude.{◌≡◌, ◌%◌, ◌<◌, ◌≤◌, length, slice_get};
+ghost use Rattle.node_names.specs.Same.{has_name};
+ghost use Rattle.views.specs.Names.{chosen, others};
+
+use node_names::NodeName;
+
+/// Whether the list has the name.
+fn has_name(names: &[NodeName], name: &NodeName) -> bool
+    ensures { result ≡ has_name names.now name.now }
+{
+    names.iter().any(|other| name == other)
+}
+
+/// The number of the names that are not excepted.
+fn count_others(excepted: &[NodeName], names: &[NodeName]) -> usize
+    ensures value { result ≡ length (others excepted.now names.now) }
+    ensures few { result ≤ length names.now }
+{
+    let mut count = 0;
+    for name in names {
+        if !has_name(excepted, name) {
+            count += 1;
+        }
+    }
+    count
+}
+
+/// The name at a place among those that are not excepted.
+fn nth_other(excepted: &[NodeName], names: &[NodeName], place: usize) -> Option<NodeName>
+    ensures { result ≡ slice_get (others excepted.now names.now) place }
+{
+    let mut before = place;
+    for name in names {
+        if !has_name(excepted, name) {
+            if before == 0 {
+                return Some(*name);
+            }
+            before -= 1;
+        }
+    }
+    None
+}
+
+/// The name that a word chooses among those that are not excepted, if there are any.
+pub(crate) fn pick(excepted: &[NodeName], names: &[NodeName], word: u64) -> Option<NodeName>
+    ensures { result ≡ chosen word (others excepted.now names.now) }
+{
+    let count = count_others(excepted, names);
+    if count == 0 {
+        return None;
+    }
+    nth_other(excepted, names, (word % count as u64) as usize)
+}
+
+/// The name that a word chooses, if there are any.
+pub(crate) fn choose(names: &[NodeName], word: u64) -> Option<NodeName>
+    ensures { result ≡ chosen word names.now }
+{
+    if names.is_empty() {
+        return None;
+    }
+    Some(names[(word % names.len() as u64) as usize])
+}

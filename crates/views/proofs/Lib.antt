@@ -1,0 +1,5 @@
+pub mod CallerLemmas
+mod Integration
+mod Lists
+mod NameSets
+mod Sound

@@ -1,0 +1,11 @@
+//! The two bounded views that a node has of its group: the active view, to whose names it keeps links, and the passive
+//! view, from which it replaces failed ones.
+#![tactic(auto)]
+
+mod name_set;
+mod sample;
+mod sets;
+mod views;
+
+pub use name_set::NameSet;
+pub use views::Views;
