@@ -1,0 +1,4 @@
+pub mod GossipLemmas
+pub mod IdOrder
+pub mod PacketLemmas
+pub mod StoreLemmas

@@ -1,0 +1,6 @@
+pub mod Effects
+pub mod Fault
+pub mod State
+pub mod Announcements
+pub mod Store
+pub mod Table

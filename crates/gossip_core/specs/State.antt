@@ -1,0 +1,25 @@
+-- What a node's gossip is seen as.
+use Rattle.std.specs.Prelude.{◌≡◌, ℕ, ◌<◌, ◌≤◌, true, List, is_some}
+use Rattle.std.specs.FinSet as set
+use Rattle.std.specs.Map.{lookup}
+use Rattle.node_names.specs.Order.{id_cmp}
+use Rattle.node_names.specs.Same.{same_id}
+use Rattle.node_names.specs.declared.ids.Origin.{Origin}
+use Rattle.node_names.specs.declared.ids.MsgId.{MsgId}
+use Rattle.missing.specs.Missing.{Missing}
+use Rattle.peer_sets.specs.PeerSets.{PeerSets}
+
+-- Who the node is, how many messages it has broadcast, its eager and lazy peers with what waits for them, what it knows
+-- of messages that it lacks, the ids that it knows, and the messages that it holds, in order of delivery.
+pub record GossipState : Type 0 where
+  pub me : Origin
+  pub spent : ℕ
+  pub peers : PeerSets
+  pub missing : Missing
+  pub known : set.FinSet id_cmp
+  pub held : List (MsgId × List ℕ)
+
+-- What always holds: of its own messages the node knows those that it has broadcast, and what it holds it knows.
+pub record IsSound (gossip : GossipState) : Type 0 where
+  pub counted : (id : MsgId) → set.contains gossip.known id ≡ true → id.origin ≡ gossip.me → (0 < id.seq) × (id.seq ≤ gossip.spent)
+  pub held_is_known : (id : MsgId) → is_some (lookup (same_id id) gossip.held) ≡ true → set.contains gossip.known id ≡ true

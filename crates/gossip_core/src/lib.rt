@@ -1,0 +1,13 @@
+//! Plumtree's part of a node: how it spreads, announces, asks for and repairs messages.
+#![tactic(auto)]
+
+mod announcements;
+mod effects;
+mod fault;
+mod gossip;
+mod spread;
+mod store;
+
+pub use effects::Effects;
+pub use fault::GossipFault;
+pub use gossip::Gossip;

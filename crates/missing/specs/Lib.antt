@@ -1,0 +1,3 @@
+pub mod Wants
+pub mod Timers
+pub mod Missing

@@ -1,0 +1,4 @@
+pub mod Distinct
+pub mod MemberLemmas
+pub mod QueueLemmas
+pub mod SoundLemmas

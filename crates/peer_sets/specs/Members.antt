@@ -1,0 +1,62 @@
+-- The members of a node's peer sets, each eager or lazy.
+use Rattle.std.specs.Prelude.{◌≡◌, ◌&&◌, ◌||◌, Bool, true, false, not, List, [], ◌∷◌, ◌++◌, Option, None, Some, map, filter, if◌then◌else◌}
+use Rattle.std.specs.List.{list_any}
+use Rattle.node_names.specs.NodeName.{Name}
+use Rattle.node_names.specs.Same.{same_name}
+use Rattle.peer_sets.specs.declared.kind.PeerKind.{PeerKind}
+use Rattle.peer_sets.specs.declared.kind.PeerKind.TheVariants.{Eager, Lazy}
+
+-- whether a peer of this kind gets payloads
+abbrev pub is_eager_kind : PeerKind → Bool
+is_eager_kind Eager = true
+is_eager_kind Lazy = false
+
+-- whether the name is a member
+abbrev pub is_member : List (Name × PeerKind) → Name → Bool
+is_member members name = list_any (λ m. same_name name m.0) members
+
+-- whether the name is an eager member
+abbrev pub is_eager : List (Name × PeerKind) → Name → Bool
+is_eager members name = list_any (λ m. same_name name m.0 && is_eager_kind m.1) members
+
+-- whether the name is a lazy member
+abbrev pub is_lazy : List (Name × PeerKind) → Name → Bool
+is_lazy members name = list_any (λ m. same_name name m.0 && not (is_eager_kind m.1)) members
+
+-- Each member is eager or lazy, and none is both.
+pub record IsSplit (members : List (Name × PeerKind)) : Type 0 where
+  pub each_has_a_kind : (name : Name) → is_member members name ≡ (is_eager members name || is_lazy members name)
+  pub none_has_both : (name : Name) → (is_eager members name && is_lazy members name) ≡ false
+
+-- the names of the members, in their order
+abbrev pub names : List (Name × PeerKind) → List Name
+names members = map (λ m. m.0) members
+
+-- whether the name is the one that is left out
+abbrev pub is_left_out : Option Name → Name → Bool
+is_left_out None name = false
+is_left_out (Some left_out) name = same_name left_out name
+
+-- the names of the eager members but one
+abbrev pub eager_but : Option Name → List (Name × PeerKind) → List Name
+eager_but left_out members = names (filter (λ m. is_eager_kind m.1 && not (is_left_out left_out m.0)) members)
+
+-- the names of the lazy members but one
+abbrev pub lazy_but : Option Name → List (Name × PeerKind) → List Name
+lazy_but left_out members = names (filter (λ m. not (is_eager_kind m.1) && not (is_left_out left_out m.0)) members)
+
+-- these peers as members that are all eager
+abbrev pub all_eager : List Name → List (Name × PeerKind)
+all_eager peers = map (λ peer. (peer, Eager)) peers
+
+-- the members and this one, which is eager and last; a member stays what it is
+abbrev pub with_member : Name → List (Name × PeerKind) → List (Name × PeerKind)
+with_member name members = if is_member members name then members else members ++ (name, Eager) ∷ []
+
+-- the members but this one
+abbrev pub without_member : Name → List (Name × PeerKind) → List (Name × PeerKind)
+without_member name members = filter (λ m. not (same_name name m.0)) members
+
+-- the members, where the one of this name is of this kind
+abbrev pub with_kind : Name → PeerKind → List (Name × PeerKind) → List (Name × PeerKind)
+with_kind name kind members = map (λ m. if same_name name m.0 then (m.0, kind) else m) members

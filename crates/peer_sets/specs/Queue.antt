@@ -1,0 +1,43 @@
+-- The announcements that wait to be sent: to whom, of which id, at which round.
+use Rattle.std.specs.Prelude.{◌&&◌, ℕ, Bool, not, List, [], ◌∷◌, ◌++◌, map, filter, if◌then◌else◌}
+use Rattle.std.specs.List.{list_any}
+use Rattle.node_names.specs.NodeName.{Name}
+use Rattle.node_names.specs.Same.{same_name, same_id}
+use Rattle.node_names.specs.declared.ids.MsgId.{MsgId}
+
+-- the place of an entry: whom it is for, and the id
+abbrev pub place_of : Name × MsgId × ℕ → Name × MsgId
+place_of entry = (entry.0, entry.1)
+
+-- whether two places are the same
+abbrev pub same_place : Name × MsgId → Name × MsgId → Bool
+same_place a b = same_name a.0 b.0 && same_id a.1 b.1
+
+-- whether an entry of the id waits for the peer
+abbrev pub is_queued : Name → MsgId → List (Name × MsgId × ℕ) → Bool
+is_queued peer id queued = list_any (same_place (peer, id)) (map place_of queued)
+
+-- the queue and this entry, which goes last; there is one entry at most for a peer and an id
+abbrev pub with_entry : Name → MsgId → ℕ → List (Name × MsgId × ℕ) → List (Name × MsgId × ℕ)
+with_entry peer id round queued = if is_queued peer id queued then queued else queued ++ (peer, id, round) ∷ []
+
+-- the queue and an entry of the id for each of these peers, in their order, that has none
+abbrev pub with_entries : List Name → MsgId → ℕ → List (Name × MsgId × ℕ) → List (Name × MsgId × ℕ)
+with_entries peers id round queued = queued ++ map (λ peer. (peer, id, round)) (filter (λ peer. not (is_queued peer id queued)) peers)
+
+-- the queue but the entries for this peer
+abbrev pub without_entries : Name → List (Name × MsgId × ℕ) → List (Name × MsgId × ℕ)
+without_entries peer queued = filter (λ entry. not (same_name peer entry.0)) queued
+
+-- what waits for the peer, in queue order
+abbrev pub waiting_for : Name → List (Name × MsgId × ℕ) → List (MsgId × ℕ)
+waiting_for peer queued = map (λ entry. (entry.1, entry.2)) (filter (λ entry. same_name peer entry.0) queued)
+
+-- the peers that something waits for, each once, in the order of their first entries
+abbrev pub receivers : List (Name × MsgId × ℕ) → List Name
+receivers [] = []
+receivers (entry ∷ queued) = entry.0 ∷ filter (λ peer. not (same_name entry.0 peer)) (receivers queued)
+
+-- what waits, by receiver
+abbrev pub batches : List (Name × MsgId × ℕ) → List (Name × List (MsgId × ℕ))
+batches queued = map (λ peer. (peer, waiting_for peer queued)) (receivers queued)
