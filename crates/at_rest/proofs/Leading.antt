@@ -155,11 +155,12 @@ delivered_branch sent id (entry ∷ past) node h =
     elim (either_has (deliveries past) entry.given node id h) [
       | inl before ↦ more_branches node (tree_of sent id past) (branches_of sent id entry) (delivered_branch sent id past node before)
       | inr now ↦ (
-          let found = given_one entry.given node id now in
-          (record { node = found.0.node; parent = parent_by sent entry.packet entry.event },
-          one-right (tree_of sent id past) (branches_of sent id entry) (record { node = found.0.node; parent = parent_by sent entry.packet entry.event })
-          (one-chosen (λ (d : Delivery). record { node = d.node; parent = parent_by sent entry.packet entry.event }) (λ (d : Delivery). same_id id d.id) entry.given found.0 found.1 ((same_id-Decides id found.0.id).1 (sym found.3))),
-          found.2))
+          let found = given_one entry.given node id now in (
+            record { node = found.0.node; parent = parent_by sent entry.packet entry.event },
+            one-right (tree_of sent id past) (branches_of sent id entry) (record { node = found.0.node; parent = parent_by sent entry.packet entry.event })
+                (one-chosen (λ (d : Delivery). record { node = d.node; parent = parent_by sent entry.packet entry.event }) (λ (d : Delivery). same_id id d.id) entry.given found.0 found.1 ((same_id-Decides id found.0.id).1 (sym found.3))),
+            found.2,
+          ))
     ]
 
 -- the branches of two lists lead to the origin one after the other

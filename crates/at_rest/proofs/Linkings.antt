@@ -79,6 +79,6 @@ module _ {C N : Type 0} (state : C → CoreState) (group : Group C N) where
       members_run = λ name peer core runs member. let back = all_back h name core runs peer member in (back.0, back.1);
     }),
     (λ symmetric. all_pass (λ (node : NodeState C). links_back state group.nodes node.name) group.nodes (each_of_one (λ (node : NodeState C). links_back state group.nodes node.name ≡ true) group.nodes (λ node one. is_back node.name (λ core runs peer member.
-      let link = (symmetric.both_ways node.name peer).0 (core, runs, member, symmetric.members_run node.name peer core runs member) in
-      (link.0, link.1, link.2)))))
+        let link = (symmetric.both_ways node.name peer).0 (core, runs, member, symmetric.members_run node.name peer core runs member) in
+        (link.0, link.1, link.2))))),
   )

@@ -46,10 +46,12 @@ is_silent_on id content silent =
     carried : (o : Option (MsgId × List ℕ)) → content.carried ≡ o → is_carried id o ≡ true → ⊥
     carried None e h = false≢true h
     carried (Some message) e h = silent.carries_not message.1 (e ∙ ap (λ i. Some (i, message.1)) (sym ((same_id-Decides id message.0).0 h)))
+
     announced : is_announced id content.announced ≡ true → ⊥
     announced h =
         let found = one_passes (λ (entry : MsgId × ℕ). same_id id entry.0) content.announced h in
         silent.announces_not found.0.1 (subst (λ i. IsOneOf (i, found.0.1) content.announced) (sym ((same_id-Decides id found.0.0).0 found.2)) found.1)
+
     asked : (o : Option MsgId) → content.asked ≡ o → is_asked id o ≡ true → ⊥
     asked None e h = false≢true h
     asked (Some other) e h = silent.asks_not (e ∙ ap Some (sym ((same_id-Decides id other).0 h)))
@@ -73,6 +75,7 @@ is_quiet_core id core quiet =
     queued h =
         let found = one_passes (λ (x : Name × MsgId × ℕ). same_id id x.1) core.queued h in
         each_one (λ (entry : Name × MsgId × ℕ). entry.1 ≢ id) core.queued found.0 quiet.queues_not found.1 (sym ((same_id-Decides id found.0.1).0 found.2))
+
     timed : has_id core.timers id ≡ true → ⊥
     timed h =
         let found = one_passes (same_id id) core.timers h in
@@ -115,10 +118,10 @@ module _ {C N : Type 0} (state : C → CoreState) (content : N → Content) (gro
   pub rest_is : (test : Bool) → test ≡ (is_silent_flight content id group.sent group.flight && are_quiet state id group.nodes) → (test ≡ true) ↔ IsAtRest state content group id
   rest_is test is_so = (
     (λ h.
-      let both : (is_silent_flight content id group.sent group.flight && are_quiet state id group.nodes) ≡ true = sym is_so ∙ h in
-      record {
-        nothing_flies = flight_is (first_holds (is_silent_flight content id group.sent group.flight) (are_quiet state id group.nodes) both);
-        nodes_are_quiet = nodes_are (second_holds (is_silent_flight content id group.sent group.flight) (are_quiet state id group.nodes) both);
-      }),
-    (λ rest. is_so ∙ both_hold (is_silent_flight content id group.sent group.flight) (are_quiet state id group.nodes) (is_flight rest.nothing_flies) (are_nodes rest.nodes_are_quiet))
+        let both : (is_silent_flight content id group.sent group.flight && are_quiet state id group.nodes) ≡ true = sym is_so ∙ h in
+        record {
+          nothing_flies = flight_is (first_holds (is_silent_flight content id group.sent group.flight) (are_quiet state id group.nodes) both);
+          nodes_are_quiet = nodes_are (second_holds (is_silent_flight content id group.sent group.flight) (are_quiet state id group.nodes) both);
+        }),
+    (λ rest. is_so ∙ both_hold (is_silent_flight content id group.sent group.flight) (are_quiet state id group.nodes) (is_flight rest.nothing_flies) (are_nodes rest.nodes_are_quiet)),
   )

@@ -55,9 +55,7 @@ fn is_asked(asked: Option<MsgId>, id: &MsgId) -> bool
 fn is_silent<N: Wire<A>, A: Allocator>(note: &N, id: &MsgId) -> bool
     ensures { result ≡ is_silent id.now (N.content note.now) }
 {
-    !is_carried(note, id)
-        && !is_announced(note.announced(), id)
-        && !is_asked(note.asked(), id)
+    !is_carried(note, id) && !is_announced(note.announced(), id) && !is_asked(note.asked(), id)
 }
 
 /// Whether the packet that was sent with this number says nothing of the message.

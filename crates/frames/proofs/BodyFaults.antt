@@ -170,7 +170,7 @@ body_few len after e =
       | inr few ↦ elim (cases_lt (length after) len) [
         | inl short ↦ (short, few)
         | inr enough ↦ absurd (length_faults (4 + len) (frame (take len after)) (λ d. frame_faults (take len after) d) (sym (body_whole len after few enough) ∙ e))
-        ]
+      ]
     ]
 
 -- bytes that end before their frame does are fewer than a frame may have
@@ -179,8 +179,8 @@ few_left bytes e =
     elim (cases_lt (length bytes) 4) [
       | inl short ↦ omega arith
       | inr long ↦
-        let h = body_few (from_be_bytes w32 (take 4 bytes)) (drop 4 bytes) (sym (read_long bytes long) ∙ e) in
-        omega (arith, length-drop 4 bytes, h, long)
+          let h = body_few (from_be_bytes w32 (take 4 bytes)) (drop 4 bytes) (sym (read_long bytes long) ∙ e) in
+          omega (arith, length-drop 4 bytes, h, long)
     ]
 
 -- a fault that is Short is that of reading

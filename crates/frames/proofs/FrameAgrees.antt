@@ -94,7 +94,7 @@ pub frame_again : (f : Frame) → AllByRecursion Holds (layout f) → frame (spe
 unfolding frame
 frame_again f h =
     let rows : fields (kind_of f.body) (spelled (fields_of f.body)) ≡ Ok (f.body, []) =
-        ap (fields (kind_of f.body)) (sym (append-nil (spelled (fields_of f.body)))) ∙ fields_again f.body [] h.1.1.1.1 in
+    ap (fields (kind_of f.body)) (sym (append-nil (spelled (fields_of f.body)))) ∙ fields_again f.body [] h.1.1.1.1 in
     again_first version_agrees (λ _. kind >>= λ k. origin >>= λ o. number >>= λ n. alone (fields k) >>= λ v. done (frame_of o n v)) tt ((number_of (kind_of f.body) ∷ []) ++ (origin_octets f.sender ++ (to_be_bytes w64 f.number ++ spelled (fields_of f.body)))) tt
     ∙ again_first kind_agrees (λ k. origin >>= λ o. number >>= λ n. alone (fields k) >>= λ v. done (frame_of o n v)) (kind_of f.body) (origin_octets f.sender ++ (to_be_bytes w64 f.number ++ spelled (fields_of f.body))) tt
     ∙ again_first origin_agrees (λ o. number >>= λ n. alone (fields (kind_of f.body)) >>= λ v. done (frame_of o n v)) f.sender (to_be_bytes w64 f.number ++ spelled (fields_of f.body)) h.1.1.0

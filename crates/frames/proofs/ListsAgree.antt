@@ -37,8 +37,8 @@ module _ {X : Type 0} {r : Reader X} {text : X → List ℕ} {Fits : X → Type 
       let d = done_is (p.value ∷ q.0.0) xs q.0.1 rest q.2 in
       let t = times_take n p.after q.0.0 q.0.1 p.bytes_after q.1 in
       let parts : bytes ≡ flat_map text (p.value ∷ q.0.0) ++ rest =
-          parts_then bytes (text p.value) p.after (flat_map text q.0.0) rest p.parts (parts_done p.after (flat_map text q.0.0) q.0.1 rest t.parts d.1)
-          ∙ ap (λ b. b ++ rest) (sym (flat_map-cons text p.value q.0.0)) in
+      parts_then bytes (text p.value) p.after (flat_map text q.0.0) rest p.parts (parts_done p.after (flat_map text q.0.0) q.0.1 rest t.parts d.1)
+      ∙ ap (λ b. b ++ rest) (sym (flat_map-cons text p.value q.0.0)) in
       subst (λ ys. Taken text Fits (suc n) bytes ys rest) d.0 (record { parts = parts; count = ap suc t.count; fits = (p.fits, t.fits) })
 
   times_again : (xs : List X) (rest : List ℕ) → AllByRecursion Fits xs → times (length xs) r (flat_map text xs ++ rest) ≡ Ok (xs, rest)

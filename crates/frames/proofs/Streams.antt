@@ -40,9 +40,9 @@ body_more len after more fault e n =
       | inr few ↦ elim (cases_lt (length after) len) [
         | inl short ↦ absurd (n (fault_is fault Short (sym e ∙ body_short len after few short)))
         | inr enough ↦
-          body_whole len (after ++ more) few (omega (arith, length-append after more))
-          ∙ ap (λ t. with_length (4 + len) (frame t)) (take-append-le len after more enough) ∙ sym (body_whole len after few enough) ∙ e
-        ]
+            body_whole len (after ++ more) few (omega (arith, length-append after more))
+            ∙ ap (λ t. with_length (4 + len) (frame t)) (take-append-le len after more enough) ∙ sym (body_whole len after few enough) ∙ e
+      ]
     ]
 
 -- ---- a frame behind its length
@@ -61,10 +61,10 @@ read_more bytes more fault e n =
     elim (cases_lt (length bytes) 4) [
       | inl short ↦ absurd (n (fault_is fault Short (sym e ∙ read_short bytes short)))
       | inr long ↦
-        read_long (bytes ++ more) (omega (arith, length-append bytes more))
-        ∙ ap (λ t. body_of (from_be_bytes w32 t) (drop 4 (bytes ++ more))) (take-append-le 4 bytes more long)
-        ∙ ap (body_of (from_be_bytes w32 (take 4 bytes))) (drop-append-le 4 bytes more long)
-        ∙ body_more (from_be_bytes w32 (take 4 bytes)) (drop 4 bytes) more fault (sym (read_long bytes long) ∙ e) n
+          read_long (bytes ++ more) (omega (arith, length-append bytes more))
+          ∙ ap (λ t. body_of (from_be_bytes w32 t) (drop 4 (bytes ++ more))) (take-append-le 4 bytes more long)
+          ∙ ap (body_of (from_be_bytes w32 (take 4 bytes))) (drop-append-le 4 bytes more long)
+          ∙ body_more (from_be_bytes w32 (take 4 bytes)) (drop 4 bytes) more fault (sym (read_long bytes long) ∙ e) n
     ]
 
 -- a fault that was met stays

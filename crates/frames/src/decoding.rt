@@ -30,10 +30,7 @@ fn whole<A: Allocator + Copy>(alloc: A, body: &[u8]) -> Result<Frame<A>, FrameFa
 ///
 /// The answer is the first fault in the order of docs/frames.md: `Short` where the bytes end before the frame does,
 /// `OutOfMemory` only for bytes without a fault.
-pub fn decode<A: Allocator + Copy>(
-    alloc: A,
-    bytes: &[u8],
-) -> Result<(Frame<A>, usize), FrameFault>
+pub fn decode<A: Allocator + Copy>(alloc: A, bytes: &[u8]) -> Result<(Frame<A>, usize), FrameFault>
     // What is read is spelled so.
     ensures found { IfOk result (λ x. IsSpelling x.0 (take x.1 bytes.now) × (x.1 ≤ length bytes.now)) }
     // What begins with a spelling is read, unless memory runs out.

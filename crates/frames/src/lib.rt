@@ -31,6 +31,3 @@ pub const MAX_BODY: usize = 32_876;
 
 /// The most bytes of a frame, those of its length among them.
 pub const MAX_FRAME: usize = 32_880;
-
-#[cfg(test)]
-mod tests;

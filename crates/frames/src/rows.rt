@@ -16,10 +16,7 @@ use std::alloc::Allocator;
 use world::MAX_PAYLOAD;
 
 #[tactic(auto, unfolding(crate::specs::Reading::names, crate::specs::Reading::alone))]
-fn names<A: Allocator>(
-    alloc: A,
-    fields: &mut Fields<'_>,
-) -> Result<Listed<NodeName, A>, FrameFault>
+fn names<A: Allocator>(alloc: A, fields: &mut Fields<'_>) -> Result<Listed<NodeName, A>, FrameFault>
     ensures { Makes (λ names. (names, [])) result (read.alone read.names fields.old) }
 {
     let count = usize::from(fields.byte()?);
@@ -44,10 +41,7 @@ fn announcements<A: Allocator>(
 }
 
 #[tactic(auto, unfolding(crate::specs::Reading::payload, crate::specs::Reading::alone, crate::specs::Reading::end))]
-fn payload<A: Allocator + Copy>(
-    alloc: A,
-    fields: &mut Fields<'_>,
-) -> Result<Bytes<A>, FrameFault>
+fn payload<A: Allocator + Copy>(alloc: A, fields: &mut Fields<'_>) -> Result<Bytes<A>, FrameFault>
     ensures { Makes (λ payload. (payload, [])) result (read.alone read.payload fields.old) }
 {
     let len = fields.word32()? as usize;

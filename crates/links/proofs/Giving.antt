@@ -78,7 +78,6 @@ pumps_on e cutter mid mid' cutter' taken taken1 taken' known known1 known' frame
   ends = g.stops.1;
 }
 
-
 -- what was read and could not be kept
 pub pumps_lost : (cutter mid cutter' : List ℕ) (taken taken1 : List Frame) (known known1 known' : Option (List ℕ)) (frames : List Frame) (bytes piece : List ℕ)
     → taken1 ≡ taken ++ frames → Consumes known known1 bytes → Begins frames (cutter ++ bytes) mid → Consumes known1 known' piece → cutter' ≡ mid
@@ -110,9 +109,14 @@ IsPumped cutter cutter' taken taken' known known' =
 pub pumped_on : (cutter mid mid' cutter' : List ℕ) (taken taken1 taken' : List Frame) (known known1 known' : Option (List ℕ)) (piece : List ℕ)
     → IsPumped cutter mid taken taken1 known known1 → Consumes known1 known' piece → mid' ≡ mid ++ piece → Gives None mid' cutter' taken1 taken' → IsPumped cutter cutter' taken taken' known known'
 pumped_on cutter mid mid' cutter' taken taken1 taken' known known1 known' piece p c m g =
-    let on = g.goes_on refl in
-    (p.0 ++ g.frames, p.1 ++ piece, g.sunk ∙ ap (λ s. s ++ g.frames) p.2 ∙ append_assoc taken p.0 g.frames, Consumes-trans known known1 known' p.1 piece p.3 c,
-     subst (λ s. Begins (p.0 ++ g.frames) (cutter ++ (p.1 ++ piece)) s) (sym on.1) (stream_on cutter p.1 piece mid mid' g.rest p.0 g.frames p.4 m g.stream), subst IsPartial (sym on.1) on.0)
+    let on = g.goes_on refl in (
+      p.0 ++ g.frames,
+      p.1 ++ piece,
+      g.sunk ∙ ap (λ s. s ++ g.frames) p.2 ∙ append_assoc taken p.0 g.frames,
+      Consumes-trans known known1 known' p.1 piece p.3 c,
+      subst (λ s. Begins (p.0 ++ g.frames) (cutter ++ (p.1 ++ piece)) s) (sym on.1) (stream_on cutter p.1 piece mid mid' g.rest p.0 g.frames p.4 m g.stream),
+      subst IsPartial (sym on.1) on.0,
+    )
 
 -- a read that gave nothing
 pub pumped_still : (cutter mid : List ℕ) (taken taken1 : List Frame) (known known1 known' : Option (List ℕ)) → IsPumped cutter mid taken taken1 known known1 → Keeps known1 known' → IsPumped cutter mid taken taken1 known known'

@@ -31,9 +31,10 @@ joined-more items item = flat_map-append (λ i. i) items (item ∷ []) ∙ ap (�
 pub drained_on : (a b c : Option (List ℕ)) (items : List (List ℕ)) (item : List ℕ) (bytes n : ℕ) → Appends a b (joined items) → Appends b c (take n item) → n ≤ length item → length item ≤ n → bytes ≡ length (joined items)
     → Appends a c (joined (items ++ item ∷ [])) × (bytes + n ≡ length (joined (items ++ item ∷ [])))
 drained_on a b c items item bytes n p q few whole size =
-    let all : take n item ≡ item = take_whole n item whole in
-    (subst (Appends a c) (sym (joined-more items item)) (Appends-trans a b c (joined items) item p (subst (Appends b c) all q)),
-     omega (arith, ap length (joined-more items item), length-append (joined items) item, few, whole, size))
+    let all : take n item ≡ item = take_whole n item whole in (
+      subst (Appends a c) (sym (joined-more items item)) (Appends-trans a b c (joined items) item p (subst (Appends b c) all q)),
+      omega (arith, ap length (joined-more items item), length-append (joined items) item, few, whole, size),
+    )
 
 -- an item went out in part
 pub drained_in_part : (is_spent : Type 0) (frames : ℕ) (given given' : List (List ℕ)) (a b c : Option (List ℕ)) (items : List (List ℕ)) (item : List ℕ) (bytes n : ℕ)
@@ -41,7 +42,7 @@ pub drained_in_part : (is_spent : Type 0) (frames : ℕ) (given given' : List (L
     → Drains (Err (WriteFault (bytes + n))) is_spent frames given given' a c
 drained_in_part is_spent frames given given' a b c items item bytes n asked few p q part size =
     let front : take (bytes + n) (joined (items ++ item ∷ [])) ≡ joined items ++ take n item =
-        ap (take (bytes + n)) (joined-more items item) ∙ ap (λ k. take (k + n) (joined items ++ item)) size ∙ take-append-add (joined items) item n in
+    ap (take (bytes + n)) (joined-more items item) ∙ ap (λ k. take (k + n) (joined items ++ item)) size ∙ take-append-add (joined items) item n in
     record {
       items = items ++ item ∷ [];
       bytes = bytes + n;

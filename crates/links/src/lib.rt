@@ -16,6 +16,3 @@ pub use pumping::pump;
 pub use sink::{Sink, Source};
 pub use tape_reader::TapeReader;
 pub use tape_writer::TapeWriter;
-
-#[cfg(test)]
-mod tests;

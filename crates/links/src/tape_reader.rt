@@ -52,7 +52,12 @@ impl<A: Allocator> Read for TapeReader<A> {
             self.failures = self.failures.saturating_add(1);
             return Err(io::Error::from(ErrorKind::Other));
         }
-        let most = self.pieces.as_slice().get(call).copied().unwrap_or(usize::MAX);
+        let most = self
+            .pieces
+            .as_slice()
+            .get(call)
+            .copied()
+            .unwrap_or(usize::MAX);
         let n = most.max(1).min(buf.len()).min(self.bytes.len());
         buf[..n].copy_from_slice(&self.bytes.as_slice()[..n]);
         self.bytes.advance(n);

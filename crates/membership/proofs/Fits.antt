@@ -90,10 +90,10 @@ module _ (m : Membership) (dice : Dice) where
   fit-forward_join sender new ttl =
       if_either FitFrames (same_name new m.views.owner) _ _ (λ own. tt)
       (λ foreign. if_either FitFrames (ttl == 0 || nat_le (length m.views.active) 1) _ _
-        (λ ends. fit-welcome dice new (still m) tt)
-        (λ goes_on. if_either (λ noted. FitFrames (walk_on dice sender new (ttl - 1) noted)) (ttl == m.views.limits.prwl) _ _
-          (λ notes. fit-walk_on (view.add_passive dice new m.views) sender new (ttl - 1))
-          (λ passes. fit-walk_on m.views sender new (ttl - 1))))
+      (λ ends. fit-welcome dice new (still m) tt)
+      (λ goes_on. if_either (λ noted. FitFrames (walk_on dice sender new (ttl - 1) noted)) (ttl == m.views.limits.prwl) _ _
+      (λ notes. fit-walk_on (view.add_passive dice new m.views) sender new (ttl - 1))
+      (λ passes. fit-walk_on m.views sender new (ttl - 1))))
 
   fit-neighbor : (sender : Name) (high : Bool) → FitFrames (on_neighbor dice sender high (still m))
   fit-neighbor sender high =
@@ -105,8 +105,8 @@ module _ (m : Membership) (dice : Dice) where
   fit-reply sender true =
       if_either FitFrames (has_name (close_request sender (still m)).views.active sender) _ _ (λ there. fit-close sender (still m) tt)
       (λ absent. if_either FitFrames (view.has_room (close_request sender (still m)).views) _ _
-        (λ room. fit-admit dice sender (close_request sender (still m)) (fit-close sender (still m) tt))
-        (λ full. fit-send (close_request sender (still m)) (fit-close sender (still m) tt) sender body.Disconnect refl refl))
+      (λ room. fit-admit dice sender (close_request sender (still m)) (fit-close sender (still m) tt))
+      (λ full. fit-send (close_request sender (still m)) (fit-close sender (still m) tt) sender body.Disconnect refl refl))
   fit-reply sender false = fit-step_down dice sender (close_request sender (still m)) (fit-close sender (still m) tt)
 
   fit-disconnect : (sender : Name) → FitFrames (on_disconnect dice sender (still m))
@@ -118,8 +118,8 @@ module _ (m : Membership) (dice : Dice) where
       if_either FitFrames (has_name m.views.active peer) _ _
       (λ there. fit-promote dice [] (close_request peer (lose peer (still m))) (fit-close peer (lose peer (still m)) tt))
       (λ absent. if_either FitFrames (is_asked peer m.asked) _ _
-        (λ is. fit-promote dice [] (close_request peer (forget peer (still m))) (fit-close peer (forget peer (still m)) tt))
-        (λ is. tt))
+      (λ is. fit-promote dice [] (close_request peer (forget peer (still m))) (fit-close peer (forget peer (still m)) tt))
+      (λ is. tt))
 
   fit-start_shuffle : view.AreSound m.views → FitFrames (start_shuffle dice (still m))
   fit-start_shuffle sound =
@@ -135,10 +135,10 @@ module _ (m : Membership) (dice : Dice) where
   fit-shuffle sender origin ttl names few =
       if_either FitFrames (same_name origin m.views.owner) _ _ (λ own. tt)
       (λ foreign. if_either FitFrames (nat_lt 0 (ttl - 1) && nat_lt 1 (length m.views.active)) _ _
-        (λ goes_on. option_either FitFrames (chosen (word dice 1) (others (sender ∷ origin ∷ []) m.views.active)) _ _
-          (λ next is. ((refl, fits_count names few), tt))
-          ((refl, answer_fits dice (length names) m.views.passive), tt))
-        (λ ends. ((refl, answer_fits dice (length names) m.views.passive), tt)))
+      (λ goes_on. option_either FitFrames (chosen (word dice 1) (others (sender ∷ origin ∷ []) m.views.active)) _ _
+      (λ next is. ((refl, fits_count names few), tt))
+      ((refl, answer_fits dice (length names) m.views.passive), tt))
+      (λ ends. ((refl, answer_fits dice (length names) m.views.passive), tt)))
 
 pub table_fits_frames : (m : Membership) (event : Event) (dice : Dice) → view.AreSound m.views → FitsFrame event → FitFrames (table event dice (still m))
 table_fits_frames m (Joins contact) dice sound few = ((refl, refl), tt)

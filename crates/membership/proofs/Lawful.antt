@@ -112,9 +112,11 @@ module _ (m : Membership) where
             others_told : (o : Option Name) → evicted v.limits.active (word dice 0) v.active ≡ o → Each (λ other. other ≢ m.views.owner) (option_to_list o)
             others_told None is = tt
             others_told (Some gone) is = (active_another gone (dropped_was_active v.limits.active (word dice 0) v.active gone is), tt)
+
             were_active : (o : Option Name) → evicted v.limits.active (word dice 0) v.active ≡ o → Each (λ other. has_name m.views.active other ≡ true) (option_to_list o)
             were_active None is = tt
             were_active (Some gone) is = (subst (λ names. has_name names gone ≡ true) alike.active (dropped_was_active v.limits.active (word dice 0) v.active gone is), tt)
+
             one_at_most : (o : Option Name) → length (option_to_list o) ≤ 1
             one_at_most None = omega arith
             one_at_most (Some gone) = omega arith

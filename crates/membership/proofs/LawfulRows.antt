@@ -44,23 +44,23 @@ module _ (m : Membership) (sound : view.AreSound m.views) (dice : Dice) where
   lawful-walk_on v alike sender new ttl another =
       option_either Law (chosen (word dice 1) (others (sender ∷ new ∷ []) v.active)) _ _
       (λ next is. lawful-send m (quiet m v m.asked m.shuffled []) (lawful-quiet m v alike m.asked m.shuffled [] tt) next (body.ForwardJoin new ttl)
-        (active_another m v alike m.asked m.shuffled [] tt next (chosen_other_is_there (word dice 1) (sender ∷ new ∷ []) v.active next is)))
+      (active_another m v alike m.asked m.shuffled [] tt next (chosen_other_is_there (word dice 1) (sender ∷ new ∷ []) v.active next is)))
       (lawful-welcome v alike m.asked m.shuffled new another)
 
   pub lawful-forward_join : (sender new : Name) (ttl : ℕ) → Law (on_forward_join dice sender new ttl (still m))
   lawful-forward_join sender new ttl =
       if_either Law (same_name new m.views.owner) _ _ (λ own. lawful-quiet m m.views same m.asked m.shuffled [] tt)
       (λ foreign. if_either Law (ttl == 0 || nat_le (length m.views.active) 1) _ _
-        (λ ends. lawful-welcome m.views same m.asked m.shuffled new (differ new m.views.owner foreign))
-        (λ goes_on. if_either (λ noted. Law (walk_on dice sender new (ttl - 1) noted)) (ttl == m.views.limits.prwl) _ _
-          (λ notes. lawful-walk_on (view.add_passive dice new m.views)
-            (record {
-              sound = sound-add_passive dice new m.views sound;
-              owner = owner-add_passive dice new m.views;
-              limits = limits-add_passive dice new m.views;
-              active = active-add_passive dice new m.views;
-            }) sender new (ttl - 1) (differ new m.views.owner foreign))
-          (λ passes. lawful-walk_on m.views same sender new (ttl - 1) (differ new m.views.owner foreign))))
+      (λ ends. lawful-welcome m.views same m.asked m.shuffled new (differ new m.views.owner foreign))
+      (λ goes_on. if_either (λ noted. Law (walk_on dice sender new (ttl - 1) noted)) (ttl == m.views.limits.prwl) _ _
+      (λ notes. lawful-walk_on (view.add_passive dice new m.views)
+      (record {
+        sound = sound-add_passive dice new m.views sound;
+        owner = owner-add_passive dice new m.views;
+        limits = limits-add_passive dice new m.views;
+        active = active-add_passive dice new m.views;
+      }) sender new (ttl - 1) (differ new m.views.owner foreign))
+      (λ passes. lawful-walk_on m.views same sender new (ttl - 1) (differ new m.views.owner foreign))))
 
   pub lawful-neighbor : (sender : Name) (high : Bool) → sender ≢ m.views.owner → Law (on_neighbor dice sender high (still m))
   lawful-neighbor sender high another =
@@ -76,8 +76,8 @@ module _ (m : Membership) (sound : view.AreSound m.views) (dice : Dice) where
   lawful-reply sender true another =
       closed (λ t. Law (if has_name t.views.active sender then t else if view.has_room t.views then admit dice sender t else send sender body.Disconnect t)) sender
       (λ asked. if_either Law (has_name m.views.active sender) _ _ (λ there. lawful-quiet m m.views same asked m.shuffled [] tt)
-        (λ absent. if_either Law (view.has_room m.views) _ _ (λ room. lawful-admit m m.views same asked m.shuffled [] tt dice sender)
-          (λ full. lawful-send m (quiet m m.views asked m.shuffled []) (lawful-quiet m m.views same asked m.shuffled [] tt) sender body.Disconnect another)))
+      (λ absent. if_either Law (view.has_room m.views) _ _ (λ room. lawful-admit m m.views same asked m.shuffled [] tt dice sender)
+      (λ full. lawful-send m (quiet m m.views asked m.shuffled []) (lawful-quiet m m.views same asked m.shuffled [] tt) sender body.Disconnect another)))
   lawful-reply sender false another =
       closed (λ t. Law (step_down dice sender t)) sender (λ asked. lawful-step_down m m.views same asked m.shuffled [] tt dice sender)
 
@@ -92,8 +92,8 @@ module _ (m : Membership) (sound : view.AreSound m.views) (dice : Dice) where
       if_either Law (has_name m.views.active peer) _ _
       (λ there. lawful-promote m (close_request peer (lose peer (still m))) (lawful-close m (lose peer (still m)) (lawful-lose m m.views same m.asked m.shuffled [] tt dice peer there) peer) dice [])
       (λ absent. if_either Law (is_asked peer m.asked) _ _
-        (λ is. lawful-promote m (close_request peer (forget peer (still m))) (lawful-close m (forget peer (still m)) (forgets absent) peer) dice [])
-        (λ is. lawful-quiet m m.views same m.asked m.shuffled [] tt))
+      (λ is. lawful-promote m (close_request peer (forget peer (still m))) (lawful-close m (forget peer (still m)) (forgets absent) peer) dice [])
+      (λ is. lawful-quiet m m.views same m.asked m.shuffled [] tt))
     where
       forgets : has_name m.views.active peer ≡ false → Law (forget peer (still m))
       forgets absent = lawful-quiet m (view.forget peer m.views) (record { sound = sound-forget peer m.views sound; owner = refl; limits = refl; active = active-forget_absent dice peer m.views sound absent }) m.asked m.shuffled [] tt
@@ -102,7 +102,7 @@ module _ (m : Membership) (sound : view.AreSound m.views) (dice : Dice) where
   lawful-start_shuffle =
       option_either Law (chosen (word dice 1) m.views.active) _ _
       (λ target is. lawful-quiet m m.views same m.asked (shuffled_passive dice m.views) _
-        (active_another m m.views same m.asked m.shuffled [] tt target (chosen_is_there (word dice 1) m.views.active target is), tt))
+      (active_another m m.views same m.asked m.shuffled [] tt target (chosen_is_there (word dice 1) m.views.active target is), tt))
       (lawful-quiet m m.views same m.asked m.shuffled [] tt)
 
   pub lawful-tick : Law (on_tick dice (still m))
@@ -121,11 +121,11 @@ module _ (m : Membership) (sound : view.AreSound m.views) (dice : Dice) where
   lawful-shuffle sender origin ttl names =
       if_either Law (same_name origin m.views.owner) _ _ (λ own. lawful-quiet m m.views same m.asked m.shuffled [] tt)
       (λ foreign. if_either Law (nat_lt 0 (ttl - 1) && nat_lt 1 (length m.views.active)) _ _
-        (λ goes_on. option_either Law (chosen (word dice 1) (others (sender ∷ origin ∷ []) m.views.active)) _ _
-          (λ next is. lawful-send m (still m) (lawful-quiet m m.views same m.asked m.shuffled [] tt) next (body.Shuffle origin (ttl - 1) names)
-            (active_another m m.views same m.asked m.shuffled [] tt next (chosen_other_is_there (word dice 1) (sender ∷ origin ∷ []) m.views.active next is)))
-          (accepts foreign))
-        (λ ends. accepts foreign))
+      (λ goes_on. option_either Law (chosen (word dice 1) (others (sender ∷ origin ∷ []) m.views.active)) _ _
+      (λ next is. lawful-send m (still m) (lawful-quiet m m.views same m.asked m.shuffled [] tt) next (body.Shuffle origin (ttl - 1) names)
+      (active_another m m.views same m.asked m.shuffled [] tt next (chosen_other_is_there (word dice 1) (sender ∷ origin ∷ []) m.views.active next is)))
+      (accepts foreign))
+      (λ ends. accepts foreign))
     where
       accepts : same_name origin m.views.owner ≡ false → Law (accept_shuffle dice origin names (still m))
       accepts foreign =

@@ -76,10 +76,10 @@ module _ (m : Membership) (dice : Dice) where
   asked-forward_join sender new ttl =
       if_either (λ t. t.asked ≡ m.asked) (same_name new m.views.owner) _ _ (λ own. refl)
       (λ foreign. if_either (λ t. t.asked ≡ m.asked) (ttl == 0 || nat_le (length m.views.active) 1) _ _
-        (λ ends. asked-admit dice new (still m))
-        (λ goes_on. if_either (λ noted. (walk_on dice sender new (ttl - 1) noted).asked ≡ m.asked) (ttl == m.views.limits.prwl) _ _
-          (λ notes. asked-walk_on (view.add_passive dice new m.views) sender new (ttl - 1))
-          (λ passes. asked-walk_on m.views sender new (ttl - 1))))
+      (λ ends. asked-admit dice new (still m))
+      (λ goes_on. if_either (λ noted. (walk_on dice sender new (ttl - 1) noted).asked ≡ m.asked) (ttl == m.views.limits.prwl) _ _
+      (λ notes. asked-walk_on (view.add_passive dice new m.views) sender new (ttl - 1))
+      (λ passes. asked-walk_on m.views sender new (ttl - 1))))
 
   asked-neighbor : (sender : Name) (high : Bool) → (on_neighbor dice sender high (still m)).asked ≡ m.asked
   asked-neighbor sender high =
@@ -89,8 +89,8 @@ module _ (m : Membership) (dice : Dice) where
   asked-shuffle sender origin ttl names =
       if_either (λ t. t.asked ≡ m.asked) (same_name origin m.views.owner) _ _ (λ own. refl)
       (λ foreign. if_either (λ t. t.asked ≡ m.asked) (nat_lt 0 (ttl - 1) && nat_lt 1 (length m.views.active)) _ _
-        (λ goes_on. option_either (λ t. t.asked ≡ m.asked) (chosen (word dice 1) (others (sender ∷ origin ∷ []) m.views.active)) _ _ (λ next is. refl) refl)
-        (λ ends. refl))
+      (λ goes_on. option_either (λ t. t.asked ≡ m.asked) (chosen (word dice 1) (others (sender ∷ origin ∷ []) m.views.active)) _ _ (λ next is. refl) refl)
+      (λ ends. refl))
 
   asked-start_shuffle : (start_shuffle dice (still m)).asked ≡ m.asked
   asked-start_shuffle = option_either (λ t. t.asked ≡ m.asked) (chosen (word dice 1) m.views.active) _ _ (λ target is. refl) refl

@@ -81,8 +81,8 @@ welcomed_is_active m sound dice name another =
     if_either (λ t. has_name t.views.active name ≡ true) (view.is_settled m.views name) _ _
     (λ settled. or_true (same_name name m.views.owner) (has_name m.views.active name) settled (not_same name m.views.owner another))
     (λ new. subst (λ names. has_name names name ≡ true) (sym (active-add_active dice name m.views sound new))
-      (list_any-append (same_name name) (others (option_to_list (evicted m.views.limits.active (word dice 0) m.views.active)) m.views.active) (name ∷ [])
-      ∙ true_or (has_name (others (option_to_list (evicted m.views.limits.active (word dice 0) m.views.active)) m.views.active) name) (same_name name name || false) (ap (λ b. b || false) (same_name-laws.refl name))))
+    (list_any-append (same_name name) (others (option_to_list (evicted m.views.limits.active (word dice 0) m.views.active)) m.views.active) (name ∷ [])
+    ∙ true_or (has_name (others (option_to_list (evicted m.views.limits.active (word dice 0) m.views.active)) m.views.active) name) (same_name name name || false) (ap (λ b. b || false) (same_name-laws.refl name))))
 
 -- a JOIN starts fewer walks than the active view has places
 pub join_is_bounded : (m : Membership) → view.AreSound m.views → (dice : Dice) (sender : Name) → sender ≢ m.views.owner → length (walks (on_join dice sender (still m)).sends) < m.views.limits.active
@@ -90,7 +90,7 @@ join_is_bounded m sound dice sender another =
     let active = (welcome dice sender (still m)).views.active in
     let lawful = lawful-join m sound dice sender another in
     let front : walks (on_join dice sender (still m)).sends ≡ walks (map (λ other. (other, body.ForwardJoin sender m.views.limits.arwl)) (others (sender ∷ []) active)) =
-        walks-append (welcome dice sender (still m)).sends _ ∙ ap (λ none. none ++ walks (map (λ other. (other, body.ForwardJoin sender m.views.limits.arwl)) (others (sender ∷ []) active))) (walks-welcome dice sender (still m) refl) in
+    walks-append (welcome dice sender (still m)).sends _ ∙ ap (λ none. none ++ walks (map (λ other. (other, body.ForwardJoin sender m.views.limits.arwl)) (others (sender ∷ []) active))) (walks-welcome dice sender (still m) refl) in
     let few : length (others (sender ∷ []) active) < length active = fewer-others sender active (welcomed_is_active m sound dice sender another) in
     let within : length active ≤ m.views.limits.active = subst (λ (limits : Limits). length active ≤ limits.active) lawful.limits_stay lawful.sound.active_within in
     subst (λ sent. length sent < m.views.limits.active) (sym front)
@@ -107,13 +107,14 @@ pub walk_goes_on_once : (dice : Dice) (sender new : Name) (ttl : ℕ) (m : Membe
 walk_goes_on_once dice sender new ttl m =
     if_either Once (same_name new m.views.owner) _ _ (λ own. inl refl)
     (λ foreign. if_either Once (ttl == 0 || nat_le (length m.views.active) 1) _ _
-      (λ ends. inl (walks-welcome dice new (still m) refl))
-      (λ goes_on. if_either (λ noted. Once (walk_on dice sender new (ttl - 1) noted)) (ttl == m.views.limits.prwl) _ _
-        (λ notes. walked (view.add_passive dice new m.views) (left_over ttl _ goes_on))
-        (λ passes. walked m.views (left_over ttl _ goes_on))))
+    (λ ends. inl (walks-welcome dice new (still m) refl))
+    (λ goes_on. if_either (λ noted. Once (walk_on dice sender new (ttl - 1) noted)) (ttl == m.views.limits.prwl) _ _
+    (λ notes. walked (view.add_passive dice new m.views) (left_over ttl _ goes_on))
+    (λ passes. walked m.views (left_over ttl _ goes_on))))
   where
     Once : Turn → Type 0
     Once t = GoesOnOnce new ttl t.sends
+
     walked : (v : view.Views) → 0 < ttl → GoesOnOnce new ttl (walk_on dice sender new (ttl - 1) (record (still m) { views = v })).sends
     walked v left = option_either (λ t. GoesOnOnce new ttl t.sends) (chosen (word dice 1) (others (sender ∷ new ∷ []) v.active)) _ _
         (λ next is. inr (next, refl, left))

@@ -24,13 +24,13 @@ abbrev pub admit : Dice → Name → Turn → Turn
 admit dice name t =
     if view.is_settled t.views name then t
     else (
-      let dropped = option_to_list (view.dropped_for dice name t.views) in
-      record t {
-        views = view.add_active dice name t.views;
-        sends = t.sends ++ map (λ other. (other, Disconnect)) dropped;
-        downs = t.downs ++ dropped;
-        ups = t.ups ++ name ∷ [];
-      })
+    let dropped = option_to_list (view.dropped_for dice name t.views) in
+    record t {
+      views = view.add_active dice name t.views;
+      sends = t.sends ++ map (λ other. (other, Disconnect)) dropped;
+      downs = t.downs ++ dropped;
+      ups = t.ups ++ name ∷ [];
+    })
 
 -- Demote: an active name becomes passive, and is a down.
 abbrev pub step_down : Dice → Name → Turn → Turn

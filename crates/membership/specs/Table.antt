@@ -34,8 +34,8 @@ on_forward_join dice sender new ttl t =
     if same_name new t.views.owner then t
     else if ttl == 0 || nat_le (length t.views.active) 1 then welcome dice new t
     else (
-      let noted = if ttl == t.views.limits.prwl then record t { views = view.add_passive dice new t.views } else t in
-      walk_on dice sender new (ttl - 1) noted)
+    let noted = if ttl == t.views.limits.prwl then record t { views = view.add_passive dice new t.views } else t in
+    walk_on dice sender new (ttl - 1) noted)
 
 -- NEIGHBOR: a high one is accepted. A low one is accepted where the sender is active or has room, and else refused.
 abbrev pub on_neighbor : Dice → Name → Bool → Turn → Turn
@@ -85,10 +85,10 @@ on_shuffle dice sender origin ttl names t =
     if same_name origin t.views.owner then t
     else if nat_lt 0 (ttl - 1) && nat_lt 1 (length t.views.active)
     then
-      option_map_or
-      (λ next. send next (body.Shuffle origin (ttl - 1) names) t)
-      (chosen (word dice 1) (others (sender ∷ origin ∷ []) t.views.active))
-      (accept_shuffle dice origin names t)
+    option_map_or
+    (λ next. send next (body.Shuffle origin (ttl - 1) names) t)
+    (chosen (word dice 1) (others (sender ∷ origin ∷ []) t.views.active))
+    (accept_shuffle dice origin names t)
     else accept_shuffle dice origin names t
 
 -- SHUFFLEREPLY: its names are integrated, those remembered leave first, and nothing is remembered.

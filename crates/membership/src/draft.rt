@@ -105,11 +105,7 @@ impl<A: Allocator + Copy> Draft<A> {
     }
 
     /// Asks a passive name to become a neighbour, where there is room and nobody is asked.
-    pub(crate) fn promote(
-        &mut self,
-        excepted: &[NodeName],
-        dice: &Dice,
-    ) -> Result<(), AllocError>
+    pub(crate) fn promote(&mut self, excepted: &[NodeName], dice: &Dice) -> Result<(), AllocError>
         ensures { OnOk result (turn_of self.new ≡ block.promote dice.now excepted.now (turn_of self.old)) }
     {
         if !self.has_room() || self.asked.is_some() {

@@ -13,8 +13,7 @@ ghost use Rattle.membership.specs.Table.{table};
 pub fn every_row_is_lawful()
     ensures { (m : Membership) (event : Event) (dice : Dice) → AreSound m.views → IsFromAnother m.views.owner event
         → Lawful m (table event dice (still m)) }
-{
-}
+{}
 
 /// A JOIN starts fewer walks than the active view has places. A walk goes on at most once, with one step less, so it is passed
 /// on at most as often as it has steps.
@@ -23,19 +22,16 @@ pub fn walks_are_bounded()
         → length (walks (table (Event.Join sender) dice (still m)).sends) < m.views.limits.active }
     ensures goes_on { (m : Membership) (dice : Dice) (sender new : Name) (ttl : ℕ)
         → GoesOnOnce new ttl (table (Event.ForwardJoin sender new ttl) dice (still m)).sends }
-{
-}
+{}
 
 /// A request stands until it is answered, its link fails or the tick forgets it; only then is another made, of a passive name,
 /// by the event's last message.
 pub fn one_request_stands()
     ensures { (m : Membership) (event : Event) (dice : Dice) → OneRequest m event (table event dice (still m)) }
-{
-}
+{}
 
 /// Each message fits a frame, if those that came do.
 pub fn messages_fit_frames()
     ensures { (m : Membership) (event : Event) (dice : Dice) → AreSound m.views → FitsFrame event
         → FitFrames (table event dice (still m)) }
-{
-}
+{}

@@ -254,11 +254,7 @@ impl<A: Allocator + Copy> Membership<A> {
     }
 
     /// The membership tick.
-    pub fn tick(
-        &mut self,
-        dice: &Dice,
-        moves: &mut Moves<A>,
-    ) -> Result<(), AllocError>
+    pub fn tick(&mut self, dice: &Dice, moves: &mut Moves<A>) -> Result<(), AllocError>
         ensures ok { OnOk result (Ends (table (Event.Tick) dice.now (still self.old)) moves.old self.new moves.new) }
         ensures err { OnErr result ((self.new ≡ self.old) × (moves.new ≡ moves.old)) }
     {

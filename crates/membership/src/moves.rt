@@ -51,7 +51,10 @@ impl<A: Allocator + Copy> Moves<A> {
         ups: Listed<NodeName, A>,
     ) -> Result<(), AllocError>
         ensures ok { OnOk result (self.new ≡ record {
-            sends = self.old.sends ++ sends; downs = self.old.downs ++ downs; ups = self.old.ups ++ ups }) }
+          sends = self.old.sends ++ sends;
+          downs = self.old.downs ++ downs;
+          ups = self.old.ups ++ ups;
+        }) }
         ensures err { OnErr result (self.new ≡ self.old) }
     {
         let sent = self.sends.len();

@@ -170,11 +170,7 @@ impl<A: Allocator + Copy> Draft<A> {
     }
 
     /// The active names of a shuffle with the target.
-    fn shuffled_active(
-        &self,
-        target: NodeName,
-        dice: &Dice,
-    ) -> Result<Vec<NodeName, A>, AllocError>
+    fn shuffled_active(&self, target: NodeName, dice: &Dice) -> Result<Vec<NodeName, A>, AllocError>
         ensures { IfOk result (λ names. names.items ≡ block.shuffled_active dice.now target self.now.views) }
     {
         let limits = self.views.limits();

@@ -63,6 +63,7 @@ others-one q (name ∷ names) distinct = by (same_name q name) refl (others-one 
     flipped : (b : Bool) → same_name q name ≡ b → has_name (q ∷ []) name ≡ b
     flipped true is = ap (λ c. c || false) (same_name-laws.symm name q ∙ is)
     flipped false is = ap (λ c. c || false) (same_name-laws.symm name q ∙ is)
+
     by : (b : Bool) → same_name q name ≡ b → others (q ∷ []) names ≡ without q names → cond (not (has_name (q ∷ []) name)) (name ∷ others (q ∷ []) names) (others (q ∷ []) names) ≡ cond b names (name ∷ without q names)
     by true is rest = ap (λ c. cond (not c) (name ∷ others (q ∷ []) names) (others (q ∷ []) names)) (flipped true is) ∙ all_others q name names is (IsDistinct-head same_name name names distinct)
     by false is rest = ap (λ c. cond (not c) (name ∷ others (q ∷ []) names) (others (q ∷ []) names)) (flipped false is) ∙ ap (λ left. name ∷ left) rest
@@ -90,6 +91,7 @@ fewer-others q (name ∷ names) there = by (same_name q name) refl there (fewer-
     few : (b : Bool) → length (cond b (name ∷ others (q ∷ []) names) (others (q ∷ []) names)) ≤ suc (length (others (q ∷ []) names))
     few true = omega arith
     few false = omega arith
+
     by : (b : Bool) → same_name q name ≡ b → (b || has_name names q) ≡ true → (has_name names q ≡ true → length (others (q ∷ []) names) < length names) → length (cond (not (has_name (q ∷ []) name)) (name ∷ others (q ∷ []) names) (others (q ∷ []) names)) < suc (length names)
     by true is there rest =
         let e : has_name (q ∷ []) name ≡ true = ap (λ c. c || false) (same_name-laws.symm name q ∙ is) in
@@ -153,6 +155,7 @@ one-same sent dice i name = by (knows i.views name)
       limits = ap (λ (v : Views). v.limits) (same-clear_place sent dice i);
       active = ap (λ (v : Views). v.active) (same-clear_place sent dice i);
     }
+
     by : (b : Bool) → SameButPassive i.views (if b then i else (let room = if nat_lt (length i.views.passive) i.views.limits.passive then i else clear_place sent dice i in record room { views = put_passive name room.views })).views
     by true = record { owner = refl; limits = refl; active = refl }
     by false = same (nat_lt (length i.views.passive) i.views.limits.passive)

@@ -117,8 +117,8 @@ abbrev pub integrate_one : List Name → Dice → Integration → Name → Integ
 integrate_one sent dice i name =
     if knows i.views name then i
     else (
-      let roomy = if nat_lt (length i.views.passive) i.views.limits.passive then i else clear_place sent dice i in
-      record roomy { views = put_passive name roomy.views })
+    let roomy = if nat_lt (length i.views.passive) i.views.limits.passive then i else clear_place sent dice i in
+    record roomy { views = put_passive name roomy.views })
 
 -- Integrate: each of the names in turn comes into the passive view, and those that were sent leave it first.
 abbrev pub integrate : List Name → List Name → Dice → Views → Views

@@ -145,7 +145,10 @@ impl<A: Allocator> Sets<A> {
     fn first_passive(&self, names: &[NodeName]) -> Option<NodeName>
         ensures { result ≡ find (has_name self.now.passive.keys) names.now }
     {
-        names.iter().copied().find(|name| self.passive.contains(name))
+        names
+            .iter()
+            .copied()
+            .find(|name| self.passive.contains(name))
     }
 
     /// Takes the first of the sent names that is there out of the passive view, or else the one that the next of the words

@@ -1,7 +1,8 @@
 //! The two views of a node.
 ghost use Rattle.std.specs.Prelude.{◌≡◌, ◌≤◌, [], ◌∷◌, OnOk, OnErr, IfOk, length, take};
 ghost use Rattle.views.specs.Views.{AreSound, ArePeers, add_active, add_passive, demote, drop_active, dropped_for, evicted_for, forget, fresh, has_either, integrate};
-ghost use Rattle.views.specs.Names.{others, sample};
+ghost use Rattle.node_names.specs.Same.{has_name};
+ghost use Rattle.views.specs.Names.{chosen, others, sample, word};
 
 use crate::name_set::{NameSet, set_of};
 use crate::sample::{others, sample};
@@ -141,6 +142,7 @@ impl<A: Allocator> Views<A> {
     /// Moves an active name to the passive view. `false` says that it was not active, and nothing changed.
     pub fn demote(&mut self, name: NodeName, dice: &Dice) -> Result<bool, AllocError>
         ensures ok { OnOk result (self.new ≡ demote dice.now name self.old) }
+        ensures found { IfOk result (λ found. found ≡ has_name self.old.active name) }
         ensures err { OnErr result (self.new ≡ self.old) }
     {
         self.sets.reserve()?;
@@ -150,6 +152,7 @@ impl<A: Allocator> Views<A> {
     /// Demotes the active name that word 0 chooses, and gives it.
     pub fn drop_active(&mut self, dice: &Dice) -> Result<Option<NodeName>, AllocError>
         ensures ok { OnOk result (self.new ≡ drop_active dice.now self.old) }
+        ensures dropped { IfOk result (λ dropped. dropped ≡ chosen (word dice.now 0) self.old.active) }
         ensures err { OnErr result (self.new ≡ self.old) }
     {
         self.sets.reserve()?;

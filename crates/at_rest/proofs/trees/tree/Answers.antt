@@ -13,14 +13,14 @@ pub returns-clause-parents : goal.returns-clause-parents
 returns-clause-parents g c =
     ok-weaken c.branches.result _ _
     (λ tree is. subst (λ (bs : List Branch). Each (λ b. IsParent c.args.world.now.group.sent (reverse c.args.world.now.log) b.node c.args.id.now b.parent) bs)
-      (sym (rw c.sent.ensures at (rw c.log.ensures at is)))
-      (parents_are c.args.world.now.group.sent c.args.id.now (reverse c.args.world.now.log) c.headline.ensures.parents))
+    (sym (rw c.sent.ensures at (rw c.log.ensures at is)))
+    (parents_are c.args.world.now.group.sent c.args.id.now (reverse c.args.world.now.log) c.headline.ensures.parents))
     c.branches.ensures
 
 pub returns-clause-leads : goal.returns-clause-leads
 returns-clause-leads g c =
     ok-weaken c.branches.result _ _
     (λ tree is. subst (λ (bs : List Branch). LeadToOrigin c.args.id.now [] bs)
-      (sym (rw c.sent.ensures at (rw c.log.ensures at is)))
-      (tree_leads c.args.world.now.group.sent c.args.id.now (reverse c.args.world.now.log) c.headline.ensures.parents))
+    (sym (rw c.sent.ensures at (rw c.log.ensures at is)))
+    (tree_leads c.args.world.now.group.sent c.args.id.now (reverse c.args.world.now.log) c.headline.ensures.parents))
     c.branches.ensures

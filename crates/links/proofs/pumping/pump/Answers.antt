@@ -20,12 +20,12 @@ pub loop-preserved : goal.loop-preserved
 loop-preserved g c =
     elim c.match-read.branch [
       | in-Ok+else-is_err+in_default-give w ↦
-        let fed = on_ok (w.feed.new.self ≡ c.loop.cutter ++ take w.in-Ok.n c.read.new.buf) w.feed.result (sym w.is_err.ensures.value ∙ w.if-is_err.false) w.feed.ensures.ok in
-        subst (λ s. IsPumped c.args.cutter.now c.match-read.cutter (g.S.Sink.taken c.args.sink.now) (g.S.Sink.taken s) (g.R.Read.remaining c.args.reader.now) (g.R.Read.remaining c.read.new.self)) (sym w.sink-is)
-        (subst (λ t. IsPumped c.args.cutter.now t (g.S.Sink.taken c.args.sink.now) (g.S.Sink.taken w.give-in-Ok.new.sink) (g.R.Read.remaining c.args.reader.now) (g.R.Read.remaining c.read.new.self)) (sym w.cutter-is)
-        (pumped_on _ _ _ _ _ _ _ _ _ _ _ c.loop.invariant w.in-Ok.ensures.bytes.0 fed w.in_default-give.ensures))
+          let fed = on_ok (w.feed.new.self ≡ c.loop.cutter ++ take w.in-Ok.n c.read.new.buf) w.feed.result (sym w.is_err.ensures.value ∙ w.if-is_err.false) w.feed.ensures.ok in
+          subst (λ s. IsPumped c.args.cutter.now c.match-read.cutter (g.S.Sink.taken c.args.sink.now) (g.S.Sink.taken s) (g.R.Read.remaining c.args.reader.now) (g.R.Read.remaining c.read.new.self)) (sym w.sink-is)
+          (subst (λ t. IsPumped c.args.cutter.now t (g.S.Sink.taken c.args.sink.now) (g.S.Sink.taken w.give-in-Ok.new.sink) (g.R.Read.remaining c.args.reader.now) (g.R.Read.remaining c.read.new.self)) (sym w.cutter-is)
+          (pumped_on _ _ _ _ _ _ _ _ _ _ _ c.loop.invariant w.in-Ok.ensures.bytes.0 fed w.in_default-give.ensures))
       | in-Err+else-rose w ↦
-        subst (λ s. IsPumped c.args.cutter.now c.match-read.cutter (g.S.Sink.taken c.args.sink.now) (g.S.Sink.taken s) (g.R.Read.remaining c.args.reader.now) (g.R.Read.remaining c.read.new.self)) (sym w.sink-is)
-        (subst (λ t. IsPumped c.args.cutter.now t (g.S.Sink.taken c.args.sink.now) (g.S.Sink.taken c.loop.sink) (g.R.Read.remaining c.args.reader.now) (g.R.Read.remaining c.read.new.self)) (sym w.cutter-is)
-        (pumped_still _ _ _ _ _ _ _ c.loop.invariant w.in-Err.ensures.bytes))
+          subst (λ s. IsPumped c.args.cutter.now c.match-read.cutter (g.S.Sink.taken c.args.sink.now) (g.S.Sink.taken s) (g.R.Read.remaining c.args.reader.now) (g.R.Read.remaining c.read.new.self)) (sym w.sink-is)
+          (subst (λ t. IsPumped c.args.cutter.now t (g.S.Sink.taken c.args.sink.now) (g.S.Sink.taken c.loop.sink) (g.R.Read.remaining c.args.reader.now) (g.R.Read.remaining c.read.new.self)) (sym w.cutter-is)
+          (pumped_still _ _ _ _ _ _ _ c.loop.invariant w.in-Err.ensures.bytes))
     ]

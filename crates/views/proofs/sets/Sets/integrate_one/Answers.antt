@@ -16,7 +16,7 @@ put_last-requires-clause-absent g c =
     let absent = unknown_not_passive start.views name (sym c.knows.ensures ∙ c.if-knows.false) in
     elim c.if-len-from.branch [
       | then-len-from w ↦
-        subst (λ (s : Sets _). has_name s.passive.keys name ≡ false) (sym w.self-is)
-        (subst (λ names. has_name names name ≡ false) (sym (ap (λ (i : Integration). i.views.passive) w.clear_place.ensures.cleared)) (lacks-clear_place c.args.sent.now c.args.dice.now start name absent))
+          subst (λ (s : Sets _). has_name s.passive.keys name ≡ false) (sym w.self-is)
+          (subst (λ names. has_name names name ≡ false) (sym (ap (λ (i : Integration). i.views.passive) w.clear_place.ensures.cleared)) (lacks-clear_place c.args.sent.now c.args.dice.now start name absent))
       | else-len-from w ↦ subst (λ (s : Sets _). has_name s.passive.keys name ≡ false) (sym w.self-is) absent
     ]
