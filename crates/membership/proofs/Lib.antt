@@ -1,5 +1,6 @@
-mod Fits
+pub mod About
+pub mod Fits
 mod Lawful
-mod LawfulRows
+pub mod LawfulRows
 mod Requests
 mod Walks

@@ -4,6 +4,7 @@ use Rattle.std.specs.List.{AllByRecursion as Each}
 use Rattle.node_names.specs.NodeName.{Name}
 use Rattle.node_names.specs.Same.{has_name}
 use Rattle.frames.specs.Body.{Body}
+use Rattle.frames.specs.Content.{body_content, membership}
 use Rattle.frames.specs.Frame.{has_good_fields, has_good_counts}
 use Rattle.frames.specs.declared.TheConstants.{MAX_NAMES}
 use Rattle.frames.specs.declared.body.BodyOf.TheVariants as body
@@ -77,6 +78,10 @@ FitsFrame Tick = Unit {0}
 -- Each message fits a frame.
 abbrev pub FitFrames : Turn → Type 0
 FitFrames turn = Each (λ send. (has_good_fields send.1 ≡ true) × (has_good_counts send.1 ≡ true)) turn.sends
+
+-- Each message is about membership alone: it carries no payload, announces nothing and asks for nothing.
+abbrev pub AreAboutMembership : Turn → Type 0
+AreAboutMembership turn = Each (λ send. body_content send.1 ≡ membership) turn.sends
 
 -- The event closes a request to the name: it is the name's answer, its link failed, or it is the tick, which forgets it.
 abbrev pub Closes : Name → Event → Type 0

@@ -4,7 +4,7 @@ ghost use Rattle.node_names.specs.NodeName.{Name};
 ghost use Rattle.node_names.specs.declared.dice.Dice.{Dice};
 ghost use Rattle.views.specs.Views.{AreSound};
 ghost use Rattle.membership.specs.Event.{Event};
-ghost use Rattle.membership.specs.Laws.{FitFrames, FitsFrame, GoesOnOnce, IsFromAnother, Lawful, OneRequest, walks};
+ghost use Rattle.membership.specs.Laws.{AreAboutMembership, FitFrames, FitsFrame, GoesOnOnce, IsFromAnother, Lawful, OneRequest, walks};
 ghost use Rattle.membership.specs.Membership.{Membership, still};
 ghost use Rattle.membership.specs.Table.{table};
 
@@ -34,4 +34,9 @@ pub fn one_request_stands()
 pub fn messages_fit_frames()
     ensures { (m : Membership) (event : Event) (dice : Dice) → AreSound m.views → FitsFrame event
         → FitFrames (table event dice (still m)) }
+{}
+
+/// Each message is about membership alone.
+pub fn messages_are_about_membership()
+    ensures { (m : Membership) (event : Event) (dice : Dice) → AreAboutMembership (table event dice (still m)) }
 {}

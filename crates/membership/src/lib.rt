@@ -8,6 +8,9 @@ mod moves;
 mod pick;
 mod rows;
 
-pub use laws::{every_row_is_lawful, messages_fit_frames, one_request_stands, walks_are_bounded};
+pub use laws::{
+    every_row_is_lawful, messages_are_about_membership, messages_fit_frames, one_request_stands,
+    walks_are_bounded,
+};
 pub use membership::Membership;
 pub use moves::Moves;
