@@ -1,6 +1,9 @@
 pub mod Linkings
 pub mod Lists
 pub mod Nodes
+pub mod Paths
+pub mod Fronts
+pub mod Levels
 pub mod Silences
 pub mod Leading
 pub mod Oks

@@ -1,14 +1,14 @@
 -- The test of links tells what the definition of symmetry says.
-use Rattle.std.proofs.Common.{◌≡◌, ◌∙◌, List, true, false, sym, ap, refl, subst, inl, inr}
-use Rattle.std.specs.List.{AllByRecursion as Each, list_all, list_any}
+use Rattle.std.proofs.Common.{◌≡◌, ◌∙◌, List, true, false, sym, ap, refl, subst}
+use Rattle.std.specs.List.{list_all}
 use Rattle.std.specs.Option.{option_map_or}
-use Rattle.std.specs.Prelude.{◌↔◌, Bool, Option, Some, None}
+use Rattle.std.specs.Prelude.{◌↔◌, Option, Some, None}
 use Rattle.std.proofs.lemmas.Bool.{false≢true}
 use Rattle.node_names.specs.NodeName.{Name}
 use Rattle.node_names.specs.Same.{has_name, same_name, same_name-Decides}
 use Rattle.world.specs.CoreState.{CoreState}
 use Rattle.world.specs.Group.{Group, core_of}
-use Rattle.world.specs.Links.{IsRunning, IsSymmetric, Linked, Runs}
+use Rattle.world.specs.Links.{IsSymmetric, Linked, Runs}
 use Rattle.world.specs.Lists.{IsOneOf}
 use Rattle.world.specs.declared.node_state.NodeState.{NodeState}
 use Rattle.at_rest.specs.Linking.{all_link_back, has_link, links_back}

@@ -1,7 +1,7 @@
 -- Tests over lists, and what they tell.
 use Rattle.std.proofs.Common.{◌≡◌, ◌∙◌, List, [], ◌∷◌, true, false, sym, ap, refl, subst, inl, inr}
 use Rattle.std.specs.List.{AllByRecursion as Each, list_all, list_any}
-use Rattle.std.specs.Prelude.{◌⊎◌, ◌&&◌, ◌||◌, Bool, not}
+use Rattle.std.specs.Prelude.{◌&&◌, ◌||◌, Bool, not}
 use Rattle.std.proofs.lemmas.Bool.{false≢true}
 use Rattle.world.specs.Lists.{IsOneOf}
 

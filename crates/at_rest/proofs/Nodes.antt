@@ -1,7 +1,6 @@
 -- The node and the core of a name.
-use Rattle.std.proofs.Common.{◌≡◌, ◌∙◌, List, [], ◌∷◌, true, false, sym, ap, refl, subst, inl, inr}
+use Rattle.std.proofs.Common.{◌≡◌, ◌∙◌, List, [], ◌∷◌, true, false, sym, ap, refl, inl, inr}
 use Rattle.std.specs.Prelude.{Bool, Option, Some, None, cond}
-use Rattle.std.proofs.lemmas.Bool.{false≢true}
 use Rattle.node_names.specs.NodeName.{Name}
 use Rattle.node_names.specs.Same.{same_name, same_name-Decides}
 use Rattle.world.specs.Group.{Group, core_in, core_of, node_of}

@@ -1,3 +1,4 @@
 pub mod Linking
+pub mod Reach
 pub mod Silence
 pub mod Tree

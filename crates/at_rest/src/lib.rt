@@ -3,10 +3,12 @@
 
 mod branch;
 mod links;
+mod reaching;
 mod rest;
 mod trees;
 
 pub use branch::Branch;
 pub use links::is_symmetric;
+pub use reaching::reach;
 pub use rest::is_at_rest;
 pub use trees::tree;
