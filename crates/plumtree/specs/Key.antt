@@ -1,7 +1,7 @@
 -- How the keys of a scenario are written.
 use Rattle.std.specs.Prelude.{ℕ, List, codes}
 use Rattle.plumtree.specs.declared.scenario.fault.Key.{Key}
-use Rattle.plumtree.specs.declared.scenario.fault.Key.TheVariants.{Seed, Limits, Event, Active, Passive, Arwl, Prwl, Ka, Kp, LimitsTogether, Do, Node, Incarnation, Peers, Contact, Text, Place, Number}
+use Rattle.plumtree.specs.declared.scenario.fault.Key.TheVariants.{Seed, Limits, Event, Active, Passive, Arwl, Prwl, Ka, Kp, LimitsTogether, Do, Node, Incarnation, Peers, Contact, Text, Place, Number, Origin, Seq, Peer}
 
 -- the word for each key; limits that do not go together have the code of their fault
 abbrev pub word_of : Key → List ℕ
@@ -23,3 +23,6 @@ word_of Contact = codes "contact"
 word_of Text = codes "text"
 word_of Place = codes "place"
 word_of Number = codes "number"
+word_of Origin = codes "origin"
+word_of Seq = codes "seq"
+word_of Peer = codes "peer"

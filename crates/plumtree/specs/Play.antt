@@ -17,7 +17,7 @@ use Rattle.world.specs.declared.error.WorldError.TheVariants as world
 use Rattle.world.specs.declared.event.EventOf.TheVariants as event
 use Rattle.plumtree.specs.Lines.{line_cmp, lines_of}
 use Rattle.plumtree.specs.declared.scenario.action.Action.{Action}
-use Rattle.plumtree.specs.declared.scenario.action.Action.TheVariants.{Start, Broadcast, Arrive, Lose, Again, Stop, ArriveAll}
+use Rattle.plumtree.specs.declared.scenario.action.Action.TheVariants.{Start, Broadcast, Arrive, Lose, Again, Fire, Flush, Shuffle, Down, Stop, ArriveAll}
 use Rattle.plumtree.specs.declared.play.Halt.{Halt}
 use Rattle.plumtree.specs.declared.play.Halt.TheVariants as halt
 use Rattle.plumtree.specs.declared.play.PlayFault.{PlayFault}
@@ -34,6 +34,10 @@ event_of (Broadcast node text) = Some (event.Broadcast node text)
 event_of (Arrive place) = Some (event.Arrive place (record { 0 = replicate 16 0 }))
 event_of (Lose place) = Some (event.Lose place)
 event_of (Again number) = Some (event.Again number)
+event_of (Fire node id) = Some (event.Fire node id)
+event_of (Flush node) = Some (event.Flush node)
+event_of (Shuffle node) = Some (event.Shuffle node (record { 0 = replicate 16 0 }))
+event_of (Down node peer) = Some (event.Down node peer (record { 0 = replicate 16 0 }))
 event_of (Stop node) = Some (event.Stop node)
 event_of ArriveAll = None
 

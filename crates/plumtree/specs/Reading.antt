@@ -34,6 +34,10 @@ ReadsRequired Means found fault result = ReadsRequiredAs (λ x. x) Means found f
 abbrev pub IsNumber : ℕ → Option Data → ℕ → Type 0
 IsNumber most found number = (found ≡ Some (integer (pos number))) × (number ≤ most)
 
+-- a whole number from 1, which is at most `most`
+abbrev pub IsNumberFromOne : ℕ → Option Data → ℕ → Type 0
+IsNumberFromOne most found number = IsNumber most found number × (1 ≤ number)
+
 -- a text
 abbrev pub IsText : Option Data → List ℕ → Type 0
 IsText found text = found ≡ Some (string text)

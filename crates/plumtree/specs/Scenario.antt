@@ -4,10 +4,10 @@ use Rattle.std.specs.List.{AllZip}
 use Rattle.toml.specs.Parse.{parse_document}
 use Rattle.toml.specs.Data.{Data, Members, no_members, table}
 use Rattle.node_names.specs.Limits.{Limits as Sizes, IsAllowed}
-use Rattle.plumtree.specs.Reading.{at_key, IsOptional, IsNumber, IsText, IsName, IsNames, IsTables}
-use Rattle.plumtree.specs.declared.scenario.fault.Key.TheVariants.{Seed, Limits, Event, Active, Passive, Arwl, Prwl, Ka, Kp, Do, Node, Incarnation, Peers, Contact, Text, Place, Number}
+use Rattle.plumtree.specs.Reading.{at_key, IsOptional, IsNumber, IsNumberFromOne, IsText, IsName, IsNames, IsTables}
+use Rattle.plumtree.specs.declared.scenario.fault.Key.TheVariants.{Seed, Limits, Event, Active, Passive, Arwl, Prwl, Ka, Kp, Do, Node, Incarnation, Peers, Contact, Text, Place, Number, Origin, Seq, Peer}
 use Rattle.plumtree.specs.declared.scenario.action.Action.{Action}
-use Rattle.plumtree.specs.declared.scenario.action.Action.TheVariants.{Start, Broadcast, Arrive, Lose, Again, Stop, ArriveAll}
+use Rattle.plumtree.specs.declared.scenario.action.Action.TheVariants.{Start, Broadcast, Arrive, Lose, Again, Fire, Flush, Shuffle, Down, Stop, ArriveAll}
 
 -- the greatest number that fits 64 bits
 abbrev pub greatest : ℕ
@@ -45,6 +45,16 @@ IsAction members (Broadcast node text) = IsText (at_key Do members) (codes "broa
 IsAction members (Arrive place) = IsText (at_key Do members) (codes "arrive") × IsNumber greatest (at_key Place members) place
 IsAction members (Lose place) = IsText (at_key Do members) (codes "lose") × IsNumber greatest (at_key Place members) place
 IsAction members (Again number) = IsText (at_key Do members) (codes "again") × IsNumber greatest (at_key Number members) number
+IsAction members (Fire node id) = IsText (at_key Do members) (codes "fire")
+    × IsName (at_key Node members) node
+    × IsName (at_key Origin members) id.origin.name
+    × IsNumber greatest (at_key Incarnation members) id.origin.incarnation.0
+    × IsNumberFromOne greatest (at_key Seq members) id.seq
+IsAction members (Flush node) = IsText (at_key Do members) (codes "flush") × IsName (at_key Node members) node
+IsAction members (Shuffle node) = IsText (at_key Do members) (codes "shuffle") × IsName (at_key Node members) node
+IsAction members (Down node peer) = IsText (at_key Do members) (codes "down")
+    × IsName (at_key Node members) node
+    × IsName (at_key Peer members) peer
 IsAction members (Stop node) = IsText (at_key Do members) (codes "stop") × IsName (at_key Node members) node
 IsAction members ArriveAll = IsText (at_key Do members) (codes "arrive_all")
 

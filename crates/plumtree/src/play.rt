@@ -171,29 +171,35 @@ impl<C: Core<A>, A: Allocator + Copy> Player<C, A> {
 fn event_of<A: Allocator + Copy>(alloc: A, action: &Action) -> Result<Option<Event<A>>, AllocError>
     ensures { IfOk result (λ event. event ≡ event_of action.now) }
 {
-    Ok(Some(match action {
+    let dice = Dice::ZEROS;
+    Ok(Some(match *action {
         Action::Start {
             node,
             incarnation,
-            peers,
+            ref peers,
             contact,
         } => Event::Start {
-            name: *node,
-            incarnation: *incarnation,
+            name: node,
+            incarnation,
             peers: Listed::from_vec(Vec::from_slice(alloc, peers.as_slice())?),
-            contact: *contact,
+            contact,
         },
-        Action::Broadcast { node, text } => Event::Broadcast {
-            name: *node,
+        Action::Broadcast { node, ref text } => Event::Broadcast {
+            name: node,
             payload: Bytes::copy_from_slice(alloc, text.as_slice())?,
         },
-        Action::Arrive { place } => Event::Arrive {
-            place: *place,
-            dice: Dice::ZEROS,
+        Action::Arrive { place } => Event::Arrive { place, dice },
+        Action::Lose { place } => Event::Lose { place },
+        Action::Again { number } => Event::Again { number },
+        Action::Fire { node, id } => Event::Fire { name: node, id },
+        Action::Flush { node } => Event::Flush { name: node },
+        Action::Shuffle { node } => Event::Shuffle { name: node, dice },
+        Action::Down { node, peer } => Event::Down {
+            name: node,
+            peer,
+            dice,
         },
-        Action::Lose { place } => Event::Lose { place: *place },
-        Action::Again { number } => Event::Again { number: *number },
-        Action::Stop { node } => Event::Stop { name: *node },
+        Action::Stop { node } => Event::Stop { name: node },
         Action::ArriveAll => return Ok(None),
     }))
 }

@@ -7,7 +7,7 @@ ghost use Rattle.plumtree.specs.Scenario.{IsAction};
 use super::fault::{Key, ScenarioFault};
 use super::section::Section;
 use bytes::Bytes;
-use node_names::{Incarnation, Listed, NodeName};
+use node_names::{Incarnation, Listed, MsgId, NodeName, Origin};
 use std::alloc::Global;
 
 /// What an event of a scenario does.
@@ -37,6 +37,24 @@ pub enum Action {
     Again {
         number: usize,
     },
+    /// A node's timer for a message fires.
+    Fire {
+        node: NodeName,
+        id: MsgId,
+    },
+    /// A node sends its queued announcements.
+    Flush {
+        node: NodeName,
+    },
+    /// A node's membership tick.
+    Shuffle {
+        node: NodeName,
+    },
+    /// A node's link to a peer fails.
+    Down {
+        node: NodeName,
+        peer: NodeName,
+    },
     /// A node stops.
     Stop {
         node: NodeName,
@@ -57,6 +75,10 @@ impl Action {
             "arrive" => arrive(section),
             "lose" => lose(section),
             "again" => again(section),
+            "fire" => fire(section),
+            "flush" => flush(section),
+            "shuffle" => shuffle(section),
+            "down" => down(section),
             "stop" => stop(section),
             "arrive_all" => Ok(Action::ArriveAll),
             _ => Err(section.refused(Key::Do)),
@@ -117,6 +139,50 @@ fn again(section: &Section<'_>) -> Result<Action, ScenarioFault>
 {
     let number = section.number(Key::Number)? as usize;
     Ok(Action::Again { number })
+}
+
+fn fire(section: &Section<'_>) -> Result<Action, ScenarioFault>
+    requires { IsText (at_key Key.Do (table_view section.now.table.now)) (codes "fire") }
+    ensures ok { IfOk result (IsAction (table_view section.now.table.now)) }
+    ensures refused { IfErr result (λ _. (action : Action) → ¬ IsAction (table_view section.now.table.now) action) }
+{
+    let node = section.name(Key::Node)?;
+    let name = section.name(Key::Origin)?;
+    let incarnation = Incarnation(section.number(Key::Incarnation)?);
+    let seq = section.number_from_one(Key::Seq)?;
+    let origin = Origin { name, incarnation };
+    Ok(Action::Fire {
+        node,
+        id: MsgId { origin, seq },
+    })
+}
+
+fn flush(section: &Section<'_>) -> Result<Action, ScenarioFault>
+    requires { IsText (at_key Key.Do (table_view section.now.table.now)) (codes "flush") }
+    ensures ok { IfOk result (IsAction (table_view section.now.table.now)) }
+    ensures refused { IfErr result (λ _. (action : Action) → ¬ IsAction (table_view section.now.table.now) action) }
+{
+    let node = section.name(Key::Node)?;
+    Ok(Action::Flush { node })
+}
+
+fn shuffle(section: &Section<'_>) -> Result<Action, ScenarioFault>
+    requires { IsText (at_key Key.Do (table_view section.now.table.now)) (codes "shuffle") }
+    ensures ok { IfOk result (IsAction (table_view section.now.table.now)) }
+    ensures refused { IfErr result (λ _. (action : Action) → ¬ IsAction (table_view section.now.table.now) action) }
+{
+    let node = section.name(Key::Node)?;
+    Ok(Action::Shuffle { node })
+}
+
+fn down(section: &Section<'_>) -> Result<Action, ScenarioFault>
+    requires { IsText (at_key Key.Do (table_view section.now.table.now)) (codes "down") }
+    ensures ok { IfOk result (IsAction (table_view section.now.table.now)) }
+    ensures refused { IfErr result (λ _. (action : Action) → ¬ IsAction (table_view section.now.table.now) action) }
+{
+    let node = section.name(Key::Node)?;
+    let peer = section.name(Key::Peer)?;
+    Ok(Action::Down { node, peer })
 }
 
 fn stop(section: &Section<'_>) -> Result<Action, ScenarioFault>

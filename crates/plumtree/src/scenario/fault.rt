@@ -82,6 +82,9 @@ pub enum Key {
     Text,
     Place,
     Number,
+    Origin,
+    Seq,
+    Peer,
 }
 
 impl Key {
@@ -108,6 +111,9 @@ impl Key {
             Key::Text => "text",
             Key::Place => "place",
             Key::Number => "number",
+            Key::Origin => "origin",
+            Key::Seq => "seq",
+            Key::Peer => "peer",
         }
     }
 }

@@ -3,7 +3,7 @@ ghost use Rattle.std.specs.Prelude.{◌≡◌, ◌≢◌, ℕ, List, Some, optio
 ghost use Rattle.node_names.specs.NodeName.{IsNodeName, Name};
 ghost use Rattle.toml.specs.View.{view, table_view, items_view};
 ghost use Rattle.toml.specs.Data.{Members, as_table};
-ghost use Rattle.plumtree.specs.Reading.{at_key, ReadsOptional, ReadsOptionalAs, ReadsRequired, ReadsRequiredAs, IsNumber, IsText, IsName, IsTable, IsNames, IsList, IsTables, tables, texts};
+ghost use Rattle.plumtree.specs.Reading.{at_key, ReadsOptional, ReadsOptionalAs, ReadsRequired, ReadsRequiredAs, IsNumber, IsNumberFromOne, IsText, IsName, IsTable, IsNames, IsList, IsTables, tables, texts};
 
 use super::fault::{Key, Place, ScenarioFault};
 use node_names::{Listed, NodeName};
@@ -55,6 +55,16 @@ impl<'a> Section<'a> {
         match self.optional_number(key, u64::MAX)? {
             Some(number) => Ok(number),
             None => Err(self.refused(key)),
+        }
+    }
+
+    /// The whole number at a key, from 1.
+    pub fn number_from_one(&self, key: Key) -> Result<u64, ScenarioFault>
+        ensures { ReadsRequired (IsNumberFromOne u64.MAX) (at_key key (table_view self.now.table.now)) (ScenarioFault.Refused self.now.place key) result }
+    {
+        match self.number(key)? {
+            0 => Err(self.refused(key)),
+            number => Ok(number),
         }
     }
 

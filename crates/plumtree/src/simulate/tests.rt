@@ -31,7 +31,7 @@ do = "arrive_all"
 const HELLO_LINES: &str = "deliver a/1 a/1/1 5 68656c6c6f\ndeliver b/1 a/1/1 5 68656c6c6f\n";
 
 /// Texts that are refused, each with its line.
-const REFUSED: [(&str, &str); 50] = [
+const REFUSED: [(&str, &str); 60] = [
     ("seed", "plumtree: scenario is not TOML\n"),
     (
         "seed = 9223372036854775808",
@@ -85,8 +85,48 @@ const REFUSED: [(&str, &str); 50] = [
         "plumtree: scenario: event 0: do\n",
     ),
     (
-        "[[event]]\ndo = \"flush\"\nnode = \"a\"",
+        "[[event]]\ndo = \"Flush\"\nnode = \"a\"",
         "plumtree: scenario: event 0: do\n",
+    ),
+    (
+        "[[event]]\ndo = \"flush\"",
+        "plumtree: scenario: event 0: node\n",
+    ),
+    (
+        "[[event]]\ndo = \"shuffle\"\nnode = 1",
+        "plumtree: scenario: event 0: node\n",
+    ),
+    (
+        "[[event]]\ndo = \"down\"\npeer = 1",
+        "plumtree: scenario: event 0: node\n",
+    ),
+    (
+        "[[event]]\ndo = \"down\"\nnode = \"a\"",
+        "plumtree: scenario: event 0: peer\n",
+    ),
+    (
+        "[[event]]\ndo = \"down\"\nnode = \"a\"\npeer = \"B\"",
+        "plumtree: scenario: event 0: peer\n",
+    ),
+    (
+        "[[event]]\ndo = \"fire\"\norigin = 1",
+        "plumtree: scenario: event 0: node\n",
+    ),
+    (
+        "[[event]]\ndo = \"fire\"\nnode = \"a\"\norigin = \"\"\nincarnation = -1",
+        "plumtree: scenario: event 0: origin\n",
+    ),
+    (
+        "[[event]]\ndo = \"fire\"\nnode = \"a\"\norigin = \"b\"\nseq = 0",
+        "plumtree: scenario: event 0: incarnation\n",
+    ),
+    (
+        "[[event]]\ndo = \"fire\"\nnode = \"a\"\norigin = \"b\"\nincarnation = 0",
+        "plumtree: scenario: event 0: seq\n",
+    ),
+    (
+        "[[event]]\ndo = \"fire\"\nnode = \"a\"\norigin = \"b\"\nincarnation = 0\nseq = 0",
+        "plumtree: scenario: event 0: seq\n",
     ),
     (
         "[[event]]\ndo = \"arrive_all\"\n[[event]]\ndo = \"x\"",
@@ -199,7 +239,7 @@ const REFUSED: [(&str, &str); 50] = [
 ];
 
 /// Texts that are no scenario of two nodes, with the status, the output and the line of a fault.
-const PLAYED: [(&str, u8, &str, &str); 22] = [
+const PLAYED: [(&str, u8, &str, &str); 27] = [
     ("", 0, "", ""),
     (
         "seed = 9223372036854775807\nticks = 0\nnode = 1\n",
@@ -313,6 +353,38 @@ const PLAYED: [(&str, u8, &str, &str); 22] = [
         1,
         "",
         "plumtree: event 0: W1\n",
+    ),
+    // A node floods to the peers that it still has.
+    (
+        "event = [{ do = \"start\", node = \"a\", incarnation = 1, peers = [\"b\", \"c\"] }, { do = \"start\", node = \"b\", incarnation = 1 }, { do = \"start\", node = \"c\", incarnation = 1 }, { do = \"down\", node = \"a\", peer = \"b\" }, { do = \"broadcast\", node = \"a\", text = \"x\" }, { do = \"arrive_all\" }]",
+        0,
+        "deliver a/1 a/1/1 1 78\ndeliver c/1 a/1/1 1 78\n",
+        "",
+    ),
+    // Nodes that are not there or stopped take part in nothing.
+    (
+        "event = [{ do = \"fire\", node = \"a\", origin = \"a\", incarnation = 0, seq = 1 }]",
+        1,
+        "",
+        "plumtree: event 0: W1\n",
+    ),
+    (
+        "event = [{ do = \"start\", node = \"a\", incarnation = 1 }, { do = \"flush\", node = \"b\" }]",
+        1,
+        "",
+        "plumtree: event 1: W1\n",
+    ),
+    (
+        "event = [{ do = \"start\", node = \"a\", incarnation = 1 }, { do = \"stop\", node = \"a\" }, { do = \"shuffle\", node = \"a\" }]",
+        1,
+        "",
+        "plumtree: event 2: W2\n",
+    ),
+    (
+        "event = [{ do = \"start\", node = \"a\", incarnation = 1 }, { do = \"stop\", node = \"a\" }, { do = \"down\", node = \"a\", peer = \"b\" }]",
+        1,
+        "",
+        "plumtree: event 2: W2\n",
     ),
     // The second arrival of `arrive_all` reaches `c`, which was never started; `b` has delivered by then.
     (
