@@ -31,7 +31,7 @@ do = "arrive_all"
 const HELLO_LINES: &str = "deliver a/1 a/1/1 5 68656c6c6f\ndeliver b/1 a/1/1 5 68656c6c6f\n";
 
 /// Texts that are refused, each with its line.
-const REFUSED: [(&str, &str); 60] = [
+const REFUSED: [(&str, &str); 50] = [
     ("seed", "plumtree: scenario is not TOML\n"),
     (
         "seed = 9223372036854775808",
@@ -87,46 +87,6 @@ const REFUSED: [(&str, &str); 60] = [
     (
         "[[event]]\ndo = \"Flush\"\nnode = \"a\"",
         "plumtree: scenario: event 0: do\n",
-    ),
-    (
-        "[[event]]\ndo = \"flush\"",
-        "plumtree: scenario: event 0: node\n",
-    ),
-    (
-        "[[event]]\ndo = \"shuffle\"\nnode = 1",
-        "plumtree: scenario: event 0: node\n",
-    ),
-    (
-        "[[event]]\ndo = \"down\"\npeer = 1",
-        "plumtree: scenario: event 0: node\n",
-    ),
-    (
-        "[[event]]\ndo = \"down\"\nnode = \"a\"",
-        "plumtree: scenario: event 0: peer\n",
-    ),
-    (
-        "[[event]]\ndo = \"down\"\nnode = \"a\"\npeer = \"B\"",
-        "plumtree: scenario: event 0: peer\n",
-    ),
-    (
-        "[[event]]\ndo = \"fire\"\norigin = 1",
-        "plumtree: scenario: event 0: node\n",
-    ),
-    (
-        "[[event]]\ndo = \"fire\"\nnode = \"a\"\norigin = \"\"\nincarnation = -1",
-        "plumtree: scenario: event 0: origin\n",
-    ),
-    (
-        "[[event]]\ndo = \"fire\"\nnode = \"a\"\norigin = \"b\"\nseq = 0",
-        "plumtree: scenario: event 0: incarnation\n",
-    ),
-    (
-        "[[event]]\ndo = \"fire\"\nnode = \"a\"\norigin = \"b\"\nincarnation = 0",
-        "plumtree: scenario: event 0: seq\n",
-    ),
-    (
-        "[[event]]\ndo = \"fire\"\nnode = \"a\"\norigin = \"b\"\nincarnation = 0\nseq = 0",
-        "plumtree: scenario: event 0: seq\n",
     ),
     (
         "[[event]]\ndo = \"arrive_all\"\n[[event]]\ndo = \"x\"",
@@ -235,6 +195,50 @@ const REFUSED: [(&str, &str); 60] = [
     (
         "ticks = 0\nnode = 1\n[[event]]\ndo = \"arrive_all\"\nplace = -1\n[[event]]",
         "plumtree: scenario: event 1: do\n",
+    ),
+];
+
+/// Texts that are refused for a key of a tick, a timer or a failed link, each with its line.
+const REFUSED_TICKS: [(&str, &str); 10] = [
+    (
+        "[[event]]\ndo = \"flush\"",
+        "plumtree: scenario: event 0: node\n",
+    ),
+    (
+        "[[event]]\ndo = \"shuffle\"\nnode = 1",
+        "plumtree: scenario: event 0: node\n",
+    ),
+    (
+        "[[event]]\ndo = \"down\"\npeer = 1",
+        "plumtree: scenario: event 0: node\n",
+    ),
+    (
+        "[[event]]\ndo = \"down\"\nnode = \"a\"",
+        "plumtree: scenario: event 0: peer\n",
+    ),
+    (
+        "[[event]]\ndo = \"down\"\nnode = \"a\"\npeer = \"B\"",
+        "plumtree: scenario: event 0: peer\n",
+    ),
+    (
+        "[[event]]\ndo = \"fire\"\norigin = 1",
+        "plumtree: scenario: event 0: node\n",
+    ),
+    (
+        "[[event]]\ndo = \"fire\"\nnode = \"a\"\norigin = \"\"\nincarnation = -1",
+        "plumtree: scenario: event 0: origin\n",
+    ),
+    (
+        "[[event]]\ndo = \"fire\"\nnode = \"a\"\norigin = \"b\"\nseq = 0",
+        "plumtree: scenario: event 0: incarnation\n",
+    ),
+    (
+        "[[event]]\ndo = \"fire\"\nnode = \"a\"\norigin = \"b\"\nincarnation = 0",
+        "plumtree: scenario: event 0: seq\n",
+    ),
+    (
+        "[[event]]\ndo = \"fire\"\nnode = \"a\"\norigin = \"b\"\nincarnation = 0\nseq = 0",
+        "plumtree: scenario: event 0: seq\n",
     ),
 ];
 
@@ -406,6 +410,19 @@ const PLAYED: [(&str, u8, &str, &str); 27] = [
 fn refused_scenarios(rt: HostRuntime) {
     let alloc = rt.alloc();
     for (text, line) in REFUSED {
+        let mut out = Vec::new(alloc);
+        let mut faults = Vec::new(alloc);
+        let status = simulate(alloc, &mut text.as_bytes(), &mut out, &mut faults);
+        assert_eq!(rt; faults.as_slice(), line.as_bytes(), "at {text}");
+        assert_eq!(rt; status, 2, "at {text}");
+        assert!(rt; out.is_empty(), "at {text}");
+    }
+}
+
+#[test]
+fn refused_ticks(rt: HostRuntime) {
+    let alloc = rt.alloc();
+    for (text, line) in REFUSED_TICKS {
         let mut out = Vec::new(alloc);
         let mut faults = Vec::new(alloc);
         let status = simulate(alloc, &mut text.as_bytes(), &mut out, &mut faults);
