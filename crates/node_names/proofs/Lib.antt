@@ -1,2 +1,3 @@
 mod Alphabet
 mod Padding
+pub mod Drawing

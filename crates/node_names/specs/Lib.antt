@@ -1,3 +1,4 @@
+pub mod Draws
 pub mod NodeName
 pub mod NameFault
 pub mod Ids

@@ -1,5 +1,8 @@
 //! The random words of one step.
 ghost use Rattle.std.specs.Prelude.{◌≡◌, replicate};
+ghost use Rattle.node_names.specs.Draws.{after_words, words};
+
+use rand_core::Rng;
 
 /// Sixteen random words, for the choices of one step.
 ///
@@ -11,6 +14,18 @@ pub struct Dice(pub [u64; 16]);
 impl Dice {
     /// Sixteen zeros, with which each choice takes the first candidate.
     pub const ZEROS: Dice = Dice([0; 16]);
+
+    /// The next sixteen words of a generator, in order.
+    pub fn draw<R: Rng>(rng: &mut R) -> Dice
+        ensures words { result.0 ≡ words 16 (R.stream rng.old) }
+        ensures left { R.stream rng.new ≡ after_words 16 (R.stream rng.old) }
+    {
+        let mut words = [0; 16];
+        for i in 0..16 {
+            words[i] = rng.next_u64();
+        }
+        Dice(words)
+    }
 }
 
 impl Default for Dice {
