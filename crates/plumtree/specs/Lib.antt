@@ -4,4 +4,5 @@ pub mod Key
 pub mod Lines
 pub mod Play
 pub mod Reading
+pub mod Rolls
 pub mod Scenario

@@ -1,5 +1,5 @@
 -- How the actions of a scenario are played in a group.
-use Rattle.std.specs.Prelude.{◌≡◌, ◌≢◌, ◌<◌, ◌≤◌, ℕ, zero, suc, List, [], ◌∷◌, Option, Some, None, MatchOption, replicate, reverse, slice_get, take, IsPermutation, IsSorted}
+use Rattle.std.specs.Prelude.{◌≡◌, ◌≢◌, ◌<◌, ◌≤◌, ℕ, zero, suc, List, [], ◌∷◌, Option, Some, None, MatchOption, reverse, slice_get, take, IsPermutation, IsSorted}
 use Rattle.std.specs.Io.KnownBytes.{Appends}
 use Rattle.node_names.specs.NodeName.{Name}
 use Rattle.node_names.specs.Limits.{Limits}
@@ -15,6 +15,9 @@ use Rattle.world.specs.Stimulus.{Stimulus}
 use Rattle.world.specs.declared.error.WorldError.{WorldError}
 use Rattle.world.specs.declared.error.WorldError.TheVariants as world
 use Rattle.world.specs.declared.event.EventOf.TheVariants as event
+use Rattle.rand_core.specs.Stream.{Stream}
+use Rattle.node_names.specs.declared.dice.Dice.{Dice}
+use Rattle.plumtree.specs.Rolls.{after_roll, rolled, rolls_of}
 use Rattle.plumtree.specs.Lines.{line_cmp, lines_of}
 use Rattle.plumtree.specs.declared.scenario.action.Action.{Action}
 use Rattle.plumtree.specs.declared.scenario.action.Action.TheVariants.{Start, Broadcast, Arrive, Lose, Again, Fire, Flush, Shuffle, Down, Stop, ArriveAll}
@@ -24,22 +27,36 @@ use Rattle.plumtree.specs.declared.play.PlayFault.{PlayFault}
 use Rattle.plumtree.specs.declared.play.PlayFault.TheVariants as fault
 
 -- the arrival of the oldest packet in flight
-abbrev pub oldest : Event
-oldest = event.Arrive 0 (record { 0 = replicate 16 0 })
+abbrev pub oldest : Dice → Event
+oldest dice = event.Arrive 0 dice
 
--- the event that an action is played as; `arrive_all` is as many arrivals as it takes
-abbrev pub event_of : Action → Option Event
-event_of (Start node incarnation peers contact) = Some (event.Start node incarnation peers contact)
-event_of (Broadcast node text) = Some (event.Broadcast node text)
-event_of (Arrive place) = Some (event.Arrive place (record { 0 = replicate 16 0 }))
-event_of (Lose place) = Some (event.Lose place)
-event_of (Again number) = Some (event.Again number)
-event_of (Fire node id) = Some (event.Fire node id)
-event_of (Flush node) = Some (event.Flush node)
-event_of (Shuffle node) = Some (event.Shuffle node (record { 0 = replicate 16 0 }))
-event_of (Down node peer) = Some (event.Down node peer (record { 0 = replicate 16 0 }))
-event_of (Stop node) = Some (event.Stop node)
-event_of ArriveAll = None
+-- the event that an action is played as, with these dice if it draws any; `arrive_all` is as many arrivals as it takes
+abbrev pub event_of : Dice → Action → Option Event
+event_of dice (Start node incarnation peers contact) = Some (event.Start node incarnation peers contact)
+event_of dice (Broadcast node text) = Some (event.Broadcast node text)
+event_of dice (Arrive place) = Some (event.Arrive place dice)
+event_of dice (Lose place) = Some (event.Lose place)
+event_of dice (Again number) = Some (event.Again number)
+event_of dice (Fire node id) = Some (event.Fire node id)
+event_of dice (Flush node) = Some (event.Flush node)
+event_of dice (Shuffle node) = Some (event.Shuffle node dice)
+event_of dice (Down node peer) = Some (event.Down node peer dice)
+event_of dice (Stop node) = Some (event.Stop node)
+event_of dice ArriveAll = None
+
+-- what the dice are drawn from after the event of an action: arrivals, ticks and failed links have drawn theirs
+abbrev pub rolls_after : Action → Option Stream → Option Stream
+rolls_after (Start node incarnation peers contact) rolls = rolls
+rolls_after (Broadcast node text) rolls = rolls
+rolls_after (Arrive place) rolls = after_roll rolls
+rolls_after (Lose place) rolls = rolls
+rolls_after (Again number) rolls = rolls
+rolls_after (Fire node id) rolls = rolls
+rolls_after (Flush node) rolls = rolls
+rolls_after (Shuffle node) rolls = after_roll rolls
+rolls_after (Down node peer) rolls = after_roll rolls
+rolls_after (Stop node) rolls = rolls
+rolls_after ArriveAll rolls = rolls
 
 -- the fault of a halt at this event; want of memory is no matter of the event
 abbrev pub fault_of : ℕ → Halt → PlayFault
@@ -55,6 +72,11 @@ delivered group = deliveries (reverse group.log)
 abbrev pub empty_group : {C N : Type 0} → Limits → Logged C N
 empty_group limits = record { limits = limits; group = record { nodes = []; sent = []; flight = [] }; log = [] }
 
+-- A group, and what its next dice are drawn from.
+pub record Standing (C N : Type 0) : Type 0 where
+  pub rolls : Option Stream
+  pub group : Logged C N
+
 module _
     {C N : Type 0}
     (state : C → CoreState)
@@ -65,21 +87,27 @@ module _
     abbrev pub Takes : Event → Logged C N → Logged C N → Type 0
     Takes e old new = (given : List Delivery) × Applied state starts steps e given old new
 
-    -- The oldest packet arrives so many times.
-    abbrev pub Drains : ℕ → Logged C N → Logged C N → Type 0
-    Drains zero old new = new ≡ old
-    Drains (suc n) old new = (between : Logged C N) × Drains n old between × Takes oldest between new
+    -- The oldest packet arrives, with the next dice.
+    pub record Arrives (old new : Standing C N) : Type 0 where
+      pub taken : Takes (oldest (rolled old.rolls)) old.group new.group
+      pub rolled_on : new.rolls ≡ after_roll old.rolls
 
-    -- The action is played: as its event, or by arrivals until none is in flight, at most so many.
-    abbrev pub PlaysAction : ℕ → Action → Logged C N → Logged C N → Type 0
-    PlaysAction most action old new = MatchOption (event_of action)
-        ((n : ℕ) × (n ≤ most) × Drains n old new × (new.group.flight ≡ []))
-        (λ e. Takes e old new)
+    -- The oldest packet arrives so many times.
+    abbrev pub Drains : ℕ → Standing C N → Standing C N → Type 0
+    Drains zero old new = new ≡ old
+    Drains (suc n) old new = (between : Standing C N) × Drains n old between × Arrives between new
+
+    -- The action is played: as its event, with the next dice if it draws any, or by arrivals until none is in flight, at
+    -- most so many.
+    abbrev pub PlaysAction : ℕ → Action → Standing C N → Standing C N → Type 0
+    PlaysAction most action old new = MatchOption (event_of (rolled old.rolls) action)
+        ((n : ℕ) × (n ≤ most) × Drains n old new × (new.group.group.flight ≡ []))
+        (λ e. Takes e old.group new.group × (new.rolls ≡ rolls_after action old.rolls))
 
     -- The actions are played in order.
-    abbrev pub PlaysActions : ℕ → List Action → Logged C N → Logged C N → Type 0
+    abbrev pub PlaysActions : ℕ → List Action → Standing C N → Standing C N → Type 0
     PlaysActions most [] old new = new ≡ old
-    PlaysActions most (action ∷ actions) old new = (between : Logged C N) × PlaysAction most action old between × PlaysActions most actions between new
+    PlaysActions most (action ∷ actions) old new = (between : Standing C N) × PlaysAction most action old between × PlaysActions most actions between new
 
     module _ (is_spent : C → Stimulus N → Type 0) where
       -- The event is refused so by the group.
@@ -88,22 +116,22 @@ module _
 
       -- The playing of an action halts: its event, or an arrival after some others, is refused, or something is still in
       -- flight after the most arrivals.
-      abbrev pub HaltsIn : ℕ → Action → Halt → Logged C N → Logged C N → Type 0
-      HaltsIn most action (halt.Refused why) old new = MatchOption (event_of action)
-          ((n : ℕ) × (n < most) × Drains n old new × Refuses oldest why new)
-          (λ e. (new ≡ old) × Refuses e why new)
-      HaltsIn most action halt.NoEnd old new = (event_of action ≡ None) × (n : ℕ) × (n ≡ most) × Drains n old new × (new.group.flight ≢ [])
+      abbrev pub HaltsIn : ℕ → Action → Halt → Standing C N → Logged C N → Type 0
+      HaltsIn most action (halt.Refused why) old new = MatchOption (event_of (rolled old.rolls) action)
+          ((n : ℕ) × (n < most) × (between : Standing C N) × Drains n old between × (new ≡ between.group) × Refuses (oldest (rolled between.rolls)) why new)
+          (λ e. (new ≡ old.group) × Refuses e why new)
+      HaltsIn most action halt.NoEnd old new = (event_of (rolled old.rolls) action ≡ None) × (n : ℕ) × (n ≡ most) × (between : Standing C N) × Drains n old between × (new ≡ between.group) × (new.group.flight ≢ [])
 
       -- The playing halts at the action with this number, after all those before it.
-      pub record HaltsAt (most : ℕ) (actions : List Action) (number : ℕ) (stop : Halt) (old new : Logged C N) : Type 0 where
+      pub record HaltsAt (most : ℕ) (actions : List Action) (number : ℕ) (stop : Halt) (old : Standing C N) (new : Logged C N) : Type 0 where
         pub action : Action
-        pub before : Logged C N
+        pub before : Standing C N
         pub listed : slice_get actions number ≡ Some action
         pub played : PlaysActions most (take number actions) old before
         pub halted : HaltsIn most action stop before new
 
       -- The fault is that of a halt.
-      abbrev pub IsHalted : ℕ → List Action → PlayFault → Logged C N → Logged C N → Type 0
+      abbrev pub IsHalted : ℕ → List Action → PlayFault → Standing C N → Logged C N → Type 0
       IsHalted most actions stopped old new = (number : ℕ) × (stop : Halt) × (stopped ≡ fault_of number stop) × HaltsAt most actions number stop old new
 
 -- What the output gains are the lines of all that was delivered, sorted, in a group that played these actions.
@@ -113,13 +141,15 @@ pub record Prints
     (starts : Origin → Limits → List Name → Option Name → List (Name × N) → C → Type 0)
     (steps : C → Stimulus N → List (Name × N) → List Delivery → C → Type 0)
     (most : ℕ)
+    (seed : Option ℕ)
     (limits : Limits)
     (actions : List Action)
     (before after : Option (List ℕ))
     : Type 0 where
   pub group : Logged C N
+  pub rolls : Option Stream
   pub lines : List Delivery
-  pub played : PlaysActions state starts steps most actions (empty_group limits) group
+  pub played : PlaysActions state starts steps most actions (record { rolls = rolls_of seed; group = empty_group limits }) (record { rolls = rolls; group = group })
   pub complete : IsPermutation (delivered group) lines
   pub sorted : IsSorted line_cmp lines
   pub written : Appends before after (lines_of lines)

@@ -7,6 +7,7 @@ mod output;
 mod play;
 mod program;
 mod read;
+mod rolls;
 mod scenario;
 mod simulate;
 

@@ -1,11 +1,13 @@
 //! Playing a scenario in a simulated group.
 ghost use Rattle.std.specs.Prelude.{◌≡◌, ◌≢◌, [], ◌∷◌, ◌++◌, Err, map, IfOk, IfErr, OnOk};
-ghost use Rattle.plumtree.specs.Play.{event_of, fault_of, delivered, empty_group, HaltsIn, IsHalted, PlaysAction, PlaysActions, Refuses, Takes};
+ghost use Rattle.plumtree.specs.Play.{event_of, fault_of, delivered, empty_group, rolls_after, HaltsIn, IsHalted, PlaysAction, PlaysActions, Refuses, Takes};
+ghost use Rattle.plumtree.specs.Rolls.{rolled, rolls_in, rolls_of};
 
 use crate::code::Code;
+use crate::rolls::Rolls;
 use crate::scenario::Action;
 use bytes::Bytes;
-use node_names::{Dice, Limits, Listed};
+use node_names::{Limits, Listed};
 use std::alloc::{AllocError, Allocator};
 use thiserror::Error;
 use world::{Core, Delivery, Event, Given, World, WorldError};
@@ -56,19 +58,22 @@ impl Halt {
 #[derive(Drop)]
 pub struct Player<C: Core<A>, A: Allocator> {
     group: World<C, A>,
+    rolls: Rolls,
     /// Room for the event that is played.
     next: Vec<Event<A>, A>,
     deliveries: Vec<Delivery<A>, A>,
 }
 
 impl<C: Core<A>, A: Allocator + Copy> Player<C, A> {
-    /// A group without nodes.
-    pub fn new(alloc: A, limits: Limits) -> Result<Player<C, A>, AllocError>
+    /// A group without nodes, whose dice are drawn by this seed.
+    pub fn new(alloc: A, seed: Option<u64>, limits: Limits) -> Result<Player<C, A>, AllocError>
+        ensures rolls { IfOk result (λ player. rolls_in player.rolls ≡ rolls_of seed) }
         ensures group { IfOk result (λ player. player.group ≡ empty_group limits) }
         ensures deliveries { IfOk result (λ player. player.deliveries.items ≡ []) }
     {
         Ok(Player {
             group: World::new(alloc, limits),
+            rolls: Rolls::new(seed),
             next: Vec::with_capacity(alloc, 1)?,
             deliveries: Vec::new(alloc),
         })
@@ -85,8 +90,8 @@ impl<C: Core<A>, A: Allocator + Copy> Player<C, A> {
     /// Plays actions in order.
     pub fn play(&mut self, alloc: A, actions: &[Action]) -> Result<(), PlayFault>
         requires whole { self.old.deliveries.items ≡ delivered self.old.group }
-        ensures ok { OnOk result (PlaysActions C.state C.starts C.steps MOST_ARRIVALS actions.now self.old.group self.new.group) }
-        ensures stopped { IfErr result (λ fault. fault ≢ PlayFault.OutOfMemory → IsHalted C.state C.starts C.steps C.is_spent MOST_ARRIVALS actions.now fault self.old.group self.new.group) }
+        ensures ok { OnOk result (PlaysActions C.state C.starts C.steps MOST_ARRIVALS actions.now (record { rolls = rolls_in self.old.rolls; group = self.old.group }) (record { rolls = rolls_in self.new.rolls; group = self.new.group })) }
+        ensures stopped { IfErr result (λ fault. fault ≢ PlayFault.OutOfMemory → IsHalted C.state C.starts C.steps C.is_spent MOST_ARRIVALS actions.now fault (record { rolls = rolls_in self.old.rolls; group = self.old.group }) self.new.group) }
         ensures whole { result ≢ Err PlayFault.OutOfMemory → self.new.deliveries.items ≡ delivered self.new.group }
     {
         for (number, action) in actions.iter().enumerate() {
@@ -100,11 +105,11 @@ impl<C: Core<A>, A: Allocator + Copy> Player<C, A> {
     /// Plays one action.
     fn play_action(&mut self, alloc: A, action: &Action) -> Result<(), Halt>
         requires whole { self.old.deliveries.items ≡ delivered self.old.group }
-        ensures ok { OnOk result (PlaysAction C.state C.starts C.steps MOST_ARRIVALS action.now self.old.group self.new.group) }
-        ensures halted { IfErr result (λ halt. halt ≢ Halt.Refused WorldError.OutOfMemory → HaltsIn C.state C.starts C.steps C.is_spent MOST_ARRIVALS action.now halt self.old.group self.new.group) }
+        ensures ok { OnOk result (PlaysAction C.state C.starts C.steps MOST_ARRIVALS action.now (record { rolls = rolls_in self.old.rolls; group = self.old.group }) (record { rolls = rolls_in self.new.rolls; group = self.new.group })) }
+        ensures halted { IfErr result (λ halt. halt ≢ Halt.Refused WorldError.OutOfMemory → HaltsIn C.state C.starts C.steps C.is_spent MOST_ARRIVALS action.now halt (record { rolls = rolls_in self.old.rolls; group = self.old.group }) self.new.group) }
         ensures whole { result ≢ Err (Halt.Refused WorldError.OutOfMemory) → self.new.deliveries.items ≡ delivered self.new.group }
     {
-        match event_of(alloc, action) {
+        match event_of(alloc, &mut self.rolls, action) {
             Ok(Some(event)) => match self.step(event) {
                 Ok(()) => Ok(()),
                 Err(why) => Err(Halt::Refused(why)),
@@ -117,8 +122,8 @@ impl<C: Core<A>, A: Allocator + Copy> Player<C, A> {
     /// Lets the oldest packet arrive until none is in flight.
     fn arrive_all(&mut self) -> Result<(), Halt>
         requires whole { self.old.deliveries.items ≡ delivered self.old.group }
-        ensures ok { OnOk result (PlaysAction C.state C.starts C.steps MOST_ARRIVALS Action.ArriveAll self.old.group self.new.group) }
-        ensures halted { IfErr result (λ halt. halt ≢ Halt.Refused WorldError.OutOfMemory → HaltsIn C.state C.starts C.steps C.is_spent MOST_ARRIVALS Action.ArriveAll halt self.old.group self.new.group) }
+        ensures ok { OnOk result (PlaysAction C.state C.starts C.steps MOST_ARRIVALS Action.ArriveAll (record { rolls = rolls_in self.old.rolls; group = self.old.group }) (record { rolls = rolls_in self.new.rolls; group = self.new.group })) }
+        ensures halted { IfErr result (λ halt. halt ≢ Halt.Refused WorldError.OutOfMemory → HaltsIn C.state C.starts C.steps C.is_spent MOST_ARRIVALS Action.ArriveAll halt (record { rolls = rolls_in self.old.rolls; group = self.old.group }) self.new.group) }
         ensures whole { result ≢ Err (Halt.Refused WorldError.OutOfMemory) → self.new.deliveries.items ≡ delivered self.new.group }
     {
         for _ in 0..MOST_ARRIVALS {
@@ -127,7 +132,7 @@ impl<C: Core<A>, A: Allocator + Copy> Player<C, A> {
             }
             let oldest = Event::Arrive {
                 place: 0,
-                dice: Dice::ZEROS,
+                dice: self.rolls.roll(),
             };
             if let Err(why) = self.step(oldest) {
                 return Err(Halt::Refused(why));
@@ -146,6 +151,7 @@ impl<C: Core<A>, A: Allocator + Copy> Player<C, A> {
         ensures ok { OnOk result (Takes C.state C.starts C.steps event self.old.group self.new.group) }
         ensures refused { IfErr result (λ why. why ≢ WorldError.OutOfMemory → (self.new.group ≡ self.old.group) × Refuses C.state C.starts C.steps C.is_spent event why self.new.group) }
         ensures whole { result ≢ Err WorldError.OutOfMemory → self.new.deliveries.items ≡ delivered self.new.group }
+        ensures rolls { self.new.rolls ≡ self.old.rolls }
     {
         self.prepare(event)?;
         match self.group.run(self.next.as_slice()) {
@@ -158,6 +164,7 @@ impl<C: Core<A>, A: Allocator + Copy> Player<C, A> {
     fn prepare(&mut self, event: Event<A>) -> Result<(), AllocError>
         ensures next { OnOk result (self.new.next.items ≡ event ∷ []) }
         ensures group { self.new.group ≡ self.old.group }
+        ensures rolls { self.new.rolls ≡ self.old.rolls }
         ensures deliveries { self.new.deliveries.items ≡ self.old.deliveries.items }
     {
         self.deliveries.reserve(1)?;
@@ -168,10 +175,14 @@ impl<C: Core<A>, A: Allocator + Copy> Player<C, A> {
 }
 
 /// The event that an action is, or `None` where it is as many arrivals as there are packets.
-fn event_of<A: Allocator + Copy>(alloc: A, action: &Action) -> Result<Option<Event<A>>, AllocError>
-    ensures { IfOk result (λ event. event ≡ event_of action.now) }
+fn event_of<A: Allocator + Copy>(
+    alloc: A,
+    rolls: &mut Rolls,
+    action: &Action,
+) -> Result<Option<Event<A>>, AllocError>
+    ensures event { IfOk result (λ event. event ≡ event_of (rolled (rolls_in rolls.old)) action.now) }
+    ensures rolls { OnOk result (rolls_in rolls.new ≡ rolls_after action.now (rolls_in rolls.old)) }
 {
-    let dice = Dice::ZEROS;
     Ok(Some(match *action {
         Action::Start {
             node,
@@ -188,16 +199,22 @@ fn event_of<A: Allocator + Copy>(alloc: A, action: &Action) -> Result<Option<Eve
             name: node,
             payload: Bytes::copy_from_slice(alloc, text.as_slice())?,
         },
-        Action::Arrive { place } => Event::Arrive { place, dice },
+        Action::Arrive { place } => Event::Arrive {
+            place,
+            dice: rolls.roll(),
+        },
         Action::Lose { place } => Event::Lose { place },
         Action::Again { number } => Event::Again { number },
         Action::Fire { node, id } => Event::Fire { name: node, id },
         Action::Flush { node } => Event::Flush { name: node },
-        Action::Shuffle { node } => Event::Shuffle { name: node, dice },
+        Action::Shuffle { node } => Event::Shuffle {
+            name: node,
+            dice: rolls.roll(),
+        },
         Action::Down { node, peer } => Event::Down {
             name: node,
             peer,
-            dice,
+            dice: rolls.roll(),
         },
         Action::Stop { node } => Event::Stop { name: node },
         Action::ArriveAll => return Ok(None),

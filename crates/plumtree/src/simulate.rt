@@ -35,7 +35,7 @@ pub fn simulate<R: Read, W: Write, F: Write>(
     ensures unplayed { result ≡ 2 → out.new ≡ out.old }
     ensures printed { result ≡ 0 → (seed : Option ℕ) × (sizes : Sizes) × (actions : List Action)
         × IfSome (R.remaining input.old) (λ text. IsScenario LONGEST MOST_EVENTS text seed sizes actions)
-        × Prints flood_state FloodStarts FloodSteps MOST_ARRIVALS sizes actions (W.contents out.old) (W.contents out.new) }
+        × Prints flood_state FloodStarts FloodSteps MOST_ARRIVALS seed sizes actions (W.contents out.old) (W.contents out.new) }
 {
     match read_scenario(alloc, input) {
         Ok(scenario) => play_and_print::<FloodCore, Global, W, F>(alloc, &scenario, out, faults),
@@ -64,12 +64,12 @@ fn play_and_print<C: Core<A>, A: Allocator + Copy, W: Write, F: Write>(
 ) -> u8
     ensures status { result ≤ 1 }
     ensures quiet { result ≡ 0 → faults.new ≡ faults.old }
-    ensures printed { result ≡ 0 → Prints C.state C.starts C.steps MOST_ARRIVALS scenario.now.limits scenario.now.actions.items (W.contents out.old) (W.contents out.new) }
+    ensures printed { result ≡ 0 → Prints C.state C.starts C.steps MOST_ARRIVALS scenario.now.seed scenario.now.limits scenario.now.actions.items (W.contents out.old) (W.contents out.new) }
 {
     let Ok(mut text) = String::with_capacity(alloc, LINE_ROOM) else {
         return report(faults, PlayFault::OutOfMemory, 1);
     };
-    let Ok(mut player) = Player::<C, A>::new(alloc, scenario.limits) else {
+    let Ok(mut player) = Player::<C, A>::new(alloc, scenario.seed, scenario.limits) else {
         return report(faults, PlayFault::OutOfMemory, 1);
     };
     let played = player.play(alloc, scenario.actions.as_slice());

@@ -4,6 +4,7 @@ use Rattle.std.proofs.lemmas.Option.{slice_get_read}
 use Rattle.plumtree.specs.Play.{fault_of}
 use Rattle.plumtree.specs.declared.play.TheConstants.{MOST_ARRIVALS}
 use Rattle.plumtree.proofs.Plays.{PlaysActions-more}
+use Rattle.plumtree.specs.Rolls.{rolls_in}
 use Rattle.plumtree.proofs.play.Player.play.Goals as goal
 
 pub returns-in-Err-clause-stopped : goal.returns-in-Err-clause-stopped
@@ -13,7 +14,7 @@ returns-in-Err-clause-stopped g c has_memory = (
   c.at.ensures,
   record {
     action = c.index-actions-number.result;
-    before = c.loop-number.self.group;
+    before = record { rolls = rolls_in c.loop-number.self.rolls; group = c.loop-number.self.group };
     listed = slice_get_read c.args.actions.now (length c.args.actions.now) c.loop-number.number c.index-actions-number.result refl c.loop-number-test.true c.index-actions-number.is;
     played = c.loop-number.invariant.1;
     halted = c.in-Err.ensures.halted (λ memory. has_memory (c.at.ensures ∙ ap (fault_of c.loop-number.number) memory));
@@ -23,5 +24,5 @@ returns-in-Err-clause-stopped g c has_memory = (
 pub loop-number-preserved : goal.loop-number-preserved
 loop-number-preserved g c = (
   c.in_default.ensures.whole (λ e. absurd (cc e)),
-  PlaysActions-more g.C.Core.state g.C.Core.starts g.C.Core.steps MOST_ARRIVALS c.args.actions.now c.loop-number.number c.index-actions-number.result c.args.self.now.group c.loop-number.self.group c.play_action.new.self.group c.loop-number-test.true c.index-actions-number.is c.loop-number.invariant.1 c.in_default.ensures.ok,
+  PlaysActions-more g.C.Core.state g.C.Core.starts g.C.Core.steps MOST_ARRIVALS c.args.actions.now c.loop-number.number c.index-actions-number.result (record { rolls = rolls_in c.args.self.now.rolls; group = c.args.self.now.group }) (record { rolls = rolls_in c.loop-number.self.rolls; group = c.loop-number.self.group }) (record { rolls = rolls_in c.play_action.new.self.rolls; group = c.play_action.new.self.group }) c.loop-number-test.true c.index-actions-number.is c.loop-number.invariant.1 c.in_default.ensures.ok,
 )
