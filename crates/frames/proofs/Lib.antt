@@ -1,6 +1,7 @@
 mod Agree
 mod BodyFaults
 mod Counts
+mod Cuttings
 mod Decoded
 mod Encoded
 mod FieldsAgree

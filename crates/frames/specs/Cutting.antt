@@ -29,3 +29,30 @@ Begins (frame ∷ frames) stream rest = (after : List ℕ) × Cuts frame stream 
 abbrev pub IsMet : Option FrameFault → List ℕ → Type 0
 IsMet None bytes = Unit {0}
 IsMet (Some fault) bytes = (read bytes ≡ Err fault) × (fault ≢ Short)
+
+-- A call of a cutter that changes it: a piece was fed, or a frame was given.
+pub data Call : Type 0 where
+  fed : List ℕ → Call
+  gave : Frame → Call
+
+-- The calls were made one after the other, and led from the old bytes to the new ones.
+abbrev pub Calls : List Call → List ℕ → List ℕ → Type 0
+Calls [] old new = old ≡ new
+Calls (fed piece ∷ calls) old new = Calls calls (old ++ piece) new
+Calls (gave frame ∷ calls) old new = (after : List ℕ) × Cuts frame old after × Calls calls after new
+
+-- the stream that was fed
+abbrev pub fed_by : List Call → List ℕ
+fed_by [] = []
+fed_by (fed piece ∷ calls) = piece ++ fed_by calls
+fed_by (gave frame ∷ calls) = fed_by calls
+
+-- the frames that were given
+abbrev pub given_by : List Call → List Frame
+given_by [] = []
+given_by (fed piece ∷ calls) = given_by calls
+given_by (gave frame ∷ calls) = frame ∷ given_by calls
+
+-- No frame begins the bytes: they end before it does, or have a fault.
+abbrev pub IsDone : List ℕ → Type 0
+IsDone bytes = (fault : FrameFault) × (read bytes ≡ Err fault)

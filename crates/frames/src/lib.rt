@@ -9,9 +9,12 @@ mod fault;
 mod fields;
 mod frame;
 mod kind;
+mod laws;
 mod list;
 mod put;
 mod rows;
+#[cfg(test)]
+mod tests;
 
 pub use body::{Body, BodyOf};
 pub use cutter::Cutter;
@@ -19,6 +22,7 @@ pub use decoding::decode;
 pub use encoding::encode;
 pub use fault::FrameFault;
 pub use frame::Frame;
+pub use laws::cuttings_agree;
 
 /// The most names in a list of a frame.
 pub const MAX_NAMES: usize = 8;
