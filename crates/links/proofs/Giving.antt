@@ -1,10 +1,10 @@
 -- Frames that are cut one after the other.
-use Rattle.std.proofs.Common.{◌≡◌, ℕ, ◌+◌, ◌<◌, List, [], ◌∷◌, ◌++◌, length, Bool, true, false, Option, Some, None, Result, Ok, Err, refl, sym, ap, subst, ◌∙◌, append_assoc, arith}
+use Rattle.std.proofs.Common.{◌≡◌, ℕ, ◌+◌, ◌*◌, ◌<◌, ◌≤◌, List, [], ◌∷◌, ◌++◌, length, take, Bool, true, false, Option, Some, None, Result, Ok, Err, refl, sym, ap, subst, ◌∙◌, append_assoc, arith}
 use Rattle.std.specs.Prelude.{OnOk, OnErr, is_err}
 use Rattle.std.specs.Int.{w32, to_be_bytes}
 use Rattle.std.specs.Io.KnownBytes.{Consumes, Keeps}
 use Rattle.std.proofs.KnownBytes.{Consumes-nil, Consumes-trans, Consumes-kept}
-use Rattle.std.proofs.lemmas.List.{length-append, append-nil}
+use Rattle.std.proofs.lemmas.List.{length-append, length-take, append-nil}
 use Rattle.frames.specs.Cutting.{Begins, Cuts, IsNext}
 use Rattle.frames.specs.Frame.{Frame}
 use Rattle.frames.specs.Grammar.{layout, spelled}
@@ -47,13 +47,14 @@ pub no_end : (e : LinkEnd) (left : ℕ) → ComesOfGiving e → e ≡ Ended left
 no_end e left h is = subst ComesOfGiving is h
 
 -- what was given before anything was read
-pub pumps_first : (e : LinkEnd) (cutter cutter' : List ℕ) (taken taken' : List Frame) (known : Option (List ℕ)) → (o : Option LinkEnd) → o ≡ Some e → Gives o cutter cutter' taken taken' → Pumps e cutter cutter' taken taken' known known
-pumps_first e cutter cutter' taken taken' known o is given = let g = subst (λ p. Gives p cutter cutter' taken taken') is given in record {
+pub pumps_first : (e : LinkEnd) (turns : ℕ) (cutter cutter' : List ℕ) (taken taken' : List Frame) (known : Option (List ℕ)) → (o : Option LinkEnd) → o ≡ Some e → Gives o cutter cutter' taken taken' → Pumps e turns cutter cutter' taken taken' known known
+pumps_first e turns cutter cutter' taken taken' known o is given = let g = subst (λ p. Gives p cutter cutter' taken taken') is given in record {
   frames = g.frames;
   bytes = [];
   rest = g.rest;
   sunk = g.sunk;
   consumed = Consumes-nil known;
+  few = omega arith;
   stream = subst (λ s. Begins g.frames s g.rest) (sym (append-nil cutter)) g.stream;
   ends = g.stops.1;
 }
@@ -67,13 +68,14 @@ stream_on cutter bytes piece mid mid' rest frames more b m g =
 -- what was given of the bytes before and of a piece more
 pub pumps_on : (e : LinkEnd) (cutter mid mid' cutter' : List ℕ) (taken taken1 taken' : List Frame) (known known1 known' : Option (List ℕ)) (frames : List Frame) (bytes piece : List ℕ)
     → taken1 ≡ taken ++ frames → Consumes known known1 bytes → Begins frames (cutter ++ bytes) mid → Consumes known1 known' piece → mid' ≡ mid ++ piece
-    → (o : Option LinkEnd) → o ≡ Some e → Gives o mid' cutter' taken1 taken' → Pumps e cutter cutter' taken taken' known known'
-pumps_on e cutter mid mid' cutter' taken taken1 taken' known known1 known' frames bytes piece t c b c' m o is given = let g = subst (λ p. Gives p mid' cutter' taken1 taken') is given in record {
+    → (o : Option LinkEnd) → o ≡ Some e → Gives o mid' cutter' taken1 taken' → (turns : ℕ) → length (bytes ++ piece) ≤ 4096 * turns → Pumps e turns cutter cutter' taken taken' known known'
+pumps_on e cutter mid mid' cutter' taken taken1 taken' known known1 known' frames bytes piece t c b c' m o is given turns few = let g = subst (λ p. Gives p mid' cutter' taken1 taken') is given in record {
   frames = frames ++ g.frames;
   bytes = bytes ++ piece;
   rest = g.rest;
   sunk = g.sunk ∙ ap (λ s. s ++ g.frames) t ∙ append_assoc taken frames g.frames;
   consumed = Consumes-trans known known1 known' bytes piece c c';
+  few = few;
   stream = stream_on cutter bytes piece mid mid' g.rest frames g.frames b m g.stream;
   ends = g.stops.1;
 }
@@ -81,13 +83,14 @@ pumps_on e cutter mid mid' cutter' taken taken1 taken' known known1 known' frame
 -- what was read and could not be kept
 pub pumps_lost : (cutter mid cutter' : List ℕ) (taken taken1 : List Frame) (known known1 known' : Option (List ℕ)) (frames : List Frame) (bytes piece : List ℕ)
     → taken1 ≡ taken ++ frames → Consumes known known1 bytes → Begins frames (cutter ++ bytes) mid → Consumes known1 known' piece → cutter' ≡ mid
-    → Pumps OutOfMemory cutter cutter' taken taken1 known known'
-pumps_lost cutter mid cutter' taken taken1 known known1 known' frames bytes piece t c b c' m = record {
+    → (turns : ℕ) → length (bytes ++ piece) ≤ 4096 * turns → Pumps OutOfMemory turns cutter cutter' taken taken1 known known'
+pumps_lost cutter mid cutter' taken taken1 known known1 known' frames bytes piece t c b c' m turns few = record {
   frames = frames;
   bytes = bytes ++ piece;
   rest = mid ++ piece;
   sunk = t;
   consumed = Consumes-trans known known1 known' bytes piece c c';
+  few = few;
   stream = subst (λ s. Begins frames s (mid ++ piece)) (append_assoc cutter bytes piece) (begins_behind frames (cutter ++ bytes) mid piece b);
   ends = (piece, ap (λ s. s ++ piece) (sym m));
 }
@@ -100,15 +103,23 @@ pub on_ok : {X E : Type 0} (P : Type 0) (r : Result X E) → is_err r ≡ false 
 on_ok P (Ok x) e h = h
 on_ok P (Err x) e h = absurd cc
 
--- what was pumped so far, where no whole frame is left
-abbrev pub IsPumped : (cutter cutter' : List ℕ) (taken taken' : List Frame) (known known' : Option (List ℕ)) → Type 0
-IsPumped cutter cutter' taken taken' known known' =
-    (frames : List Frame) × (bytes : List ℕ) × (taken' ≡ taken ++ frames) × Consumes known known' bytes × Begins frames (cutter ++ bytes) cutter' × IsPartial cutter'
+-- a read gives no more than it has room for
+pub piece_few : (n : ℕ) (buf : List ℕ) → length buf ≡ 4096 → length (take n buf) ≤ 4096
+piece_few n buf size = omega (arith, length-take n buf, size)
+
+-- with a read more
+pub read_few : (bytes piece : List ℕ) (made turns : ℕ) → length bytes ≤ 4096 * made → length piece ≤ 4096 → made < turns → length (bytes ++ piece) ≤ 4096 * turns
+read_few bytes piece made turns few size more = omega (arith, length-append bytes piece, few, size, more)
+
+-- what was pumped so far in these turns, where no whole frame is left
+abbrev pub IsPumped : (turns : ℕ) (cutter cutter' : List ℕ) (taken taken' : List Frame) (known known' : Option (List ℕ)) → Type 0
+IsPumped turns cutter cutter' taken taken' known known' =
+    (frames : List Frame) × (bytes : List ℕ) × (taken' ≡ taken ++ frames) × Consumes known known' bytes × Begins frames (cutter ++ bytes) cutter' × IsPartial cutter' × (length bytes ≤ 4096 * turns)
 
 -- a piece more
-pub pumped_on : (cutter mid mid' cutter' : List ℕ) (taken taken1 taken' : List Frame) (known known1 known' : Option (List ℕ)) (piece : List ℕ)
-    → IsPumped cutter mid taken taken1 known known1 → Consumes known1 known' piece → mid' ≡ mid ++ piece → Gives None mid' cutter' taken1 taken' → IsPumped cutter cutter' taken taken' known known'
-pumped_on cutter mid mid' cutter' taken taken1 taken' known known1 known' piece p c m g =
+pub pumped_on : (made : ℕ) (cutter mid mid' cutter' : List ℕ) (taken taken1 taken' : List Frame) (known known1 known' : Option (List ℕ)) (piece : List ℕ)
+    → IsPumped made cutter mid taken taken1 known known1 → Consumes known1 known' piece → mid' ≡ mid ++ piece → Gives None mid' cutter' taken1 taken' → length piece ≤ 4096 → IsPumped (made + 1) cutter cutter' taken taken' known known'
+pumped_on made cutter mid mid' cutter' taken taken1 taken' known known1 known' piece p c m g few =
     let on = g.goes_on refl in (
       p.0 ++ g.frames,
       p.1 ++ piece,
@@ -116,8 +127,9 @@ pumped_on cutter mid mid' cutter' taken taken1 taken' known known1 known' piece 
       Consumes-trans known known1 known' p.1 piece p.3 c,
       subst (λ s. Begins (p.0 ++ g.frames) (cutter ++ (p.1 ++ piece)) s) (sym on.1) (stream_on cutter p.1 piece mid mid' g.rest p.0 g.frames p.4 m g.stream),
       subst IsPartial (sym on.1) on.0,
+      omega (arith, length-append p.1 piece, p.6, few),
     )
 
 -- a read that gave nothing
-pub pumped_still : (cutter mid : List ℕ) (taken taken1 : List Frame) (known known1 known' : Option (List ℕ)) → IsPumped cutter mid taken taken1 known known1 → Keeps known1 known' → IsPumped cutter mid taken taken1 known known'
-pumped_still cutter mid taken taken1 known known1 known' p k = (p.0, p.1, p.2, Consumes-kept known known1 known' p.1 p.3 k, p.4, p.5)
+pub pumped_still : (made : ℕ) (cutter mid : List ℕ) (taken taken1 : List Frame) (known known1 known' : Option (List ℕ)) → IsPumped made cutter mid taken taken1 known known1 → Keeps known1 known' → IsPumped (made + 1) cutter mid taken taken1 known known'
+pumped_still made cutter mid taken taken1 known known1 known' p k = (p.0, p.1, p.2, Consumes-kept known known1 known' p.1 p.3 k, p.4, p.5, omega (arith, p.6))

@@ -1,5 +1,5 @@
 -- What a call that pumps a reader's bytes into a sink does.
-use Rattle.std.specs.Prelude.{◌≡◌, ℕ, Bool, ◌||◌, ◌==◌, List, ◌++◌, length, Option, Some, None, Err, IfSome, nat_lt}
+use Rattle.std.specs.Prelude.{◌≡◌, ℕ, ◌*◌, ◌≤◌, Bool, ◌||◌, ◌==◌, List, ◌++◌, length, Option, Some, None, Err, IfSome, nat_lt}
 use Rattle.std.specs.Io.KnownBytes.{Consumes, IsAtEnd}
 use Rattle.frames.specs.declared.fault.FrameFault.TheVariants as fault
 use Rattle.frames.specs.Cutting.{Begins, Cuts}
@@ -29,13 +29,15 @@ EndsSo TurnLimit rest left = IsPartial rest × (left ≡ rest)
 EndsSo SinkClosed rest left = (frame : Sent) × Cuts frame rest left
 EndsSo OutOfMemory rest left = (lost : List ℕ) × (rest ≡ left ++ lost)
 
--- What the sink took is, in order, the frames of a stream: of the bytes that the cutter had and those that were read.
-pub record Pumps (end : LinkEnd) (cutter cutter' : List ℕ) (taken taken' : List Sent) (known known' : Option (List ℕ)) : Type 0 where
+-- What the sink took is, in order, the frames of a stream: of the bytes that the cutter had and those that were read, which
+-- are at most 4,096 for each turn.
+pub record Pumps (end : LinkEnd) (turns : ℕ) (cutter cutter' : List ℕ) (taken taken' : List Sent) (known known' : Option (List ℕ)) : Type 0 where
   pub frames : List Sent
   pub bytes : List ℕ
   pub rest : List ℕ
   pub sunk : taken' ≡ taken ++ frames
   pub consumed : Consumes known known' bytes
+  pub few : length bytes ≤ 4096 * turns
   pub stream : Begins frames (cutter ++ bytes) rest
   pub ends : EndsSo end rest cutter'
 

@@ -42,7 +42,7 @@ pub fn pump<R: MeteredRead, S: Sink<A>, A: Allocator + Copy>(
     sink: &mut S,
     turns: u64,
 ) -> LinkEnd
-    ensures frames { Pumps result cutter.old cutter.new (S.taken sink.old) (S.taken sink.new)
+    ensures frames { Pumps result turns cutter.old cutter.new (S.taken sink.old) (S.taken sink.new)
         (R.remaining reader.old) (R.remaining reader.new) }
     ensures read_fault { result ≡ LinkEnd.ReadFault → IsTrue (has_risen (R.failed reader.old) (R.failed reader.new)) }
     ensures ended { (left : ℕ) → result ≡ LinkEnd.Ended left → IsAtEnd (R.remaining reader.new) }
