@@ -6,14 +6,17 @@ ghost use Rattle.links.specs.Pumping.{Gives, Pumps, has_risen};
 use crate::ends::LinkEnd;
 use crate::metered::MeteredRead;
 use crate::sink::Sink;
-use frames::{Cutter, FrameFault};
+use frames::{Cutter, Frame, FrameFault};
 use std::alloc::Allocator;
 
 /// The most bytes of one read.
 const PIECE: usize = 4_096;
 
 /// Gives the sink the whole frames that the cutter has, and answers how the call ends if it does.
-fn give<S: Sink<A>, A: Allocator + Copy>(cutter: &mut Cutter<A>, sink: &mut S) -> Option<LinkEnd>
+fn give<S: Sink<Frame<A>>, A: Allocator + Copy>(
+    cutter: &mut Cutter<A>,
+    sink: &mut S,
+) -> Option<LinkEnd>
     ensures { Gives result cutter.old cutter.new (S.taken sink.old) (S.taken sink.new) }
 {
     loop {
@@ -36,7 +39,7 @@ fn give<S: Sink<A>, A: Allocator + Copy>(cutter: &mut Cutter<A>, sink: &mut S) -
 /// The frames that the cutter has are given before the first read. A failed call that the reader does not count was
 /// interrupted: it is a turn, and no more. After `TurnLimit` the call may be made again; after every other end the link is
 /// closed.
-pub fn pump<R: MeteredRead, S: Sink<A>, A: Allocator + Copy>(
+pub fn pump<R: MeteredRead, S: Sink<Frame<A>>, A: Allocator + Copy>(
     reader: &mut R,
     cutter: &mut Cutter<A>,
     sink: &mut S,

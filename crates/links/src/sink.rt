@@ -1,19 +1,19 @@
 //! Where frames go, and where their bytes come from.
 ghost use Rattle.std.specs.Prelude.{◌≡◌, ◌≤◌, ◌∷◌, ◌++◌, [], ℕ, List, Some, None, Ok, OnErr, length};
 ghost use Rattle.std.specs.Bool.{OnTrue, OnFalse};
-ghost use Rattle.frames.specs.Frame.{Frame as Sent};
 
 use bytes::Bytes;
-use frames::Frame;
 use std::alloc::{AllocError, Allocator};
 
-/// What takes frames.
-pub trait Sink<A: Allocator> {
+/// What takes frames, whose type is `F`.
+///
+/// The parameter is not the frames' allocator: an impl of a trait that takes a value over an allocator by value is not covered.
+pub trait Sink<F> {
     /// The frames that it took.
-    ghost taken: { Self → List Sent };
+    ghost taken: { Self → List F };
 
     /// Takes a frame, or answers `false`: it takes no more, and has not taken this one.
-    fn frame(&mut self, frame: Frame<A>) -> bool
+    fn frame(&mut self, frame: F) -> bool
         ensures took { OnTrue result (taken self.new ≡ taken self.old ++ frame ∷ []) }
         ensures closed { OnFalse result (taken self.new ≡ taken self.old) };
 }
