@@ -8,4 +8,6 @@ mod codec;
 #[cfg(test)]
 mod cutting;
 #[cfg(test)]
+mod linking;
+#[cfg(test)]
 mod rows;
