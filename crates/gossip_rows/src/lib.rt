@@ -2,6 +2,10 @@
 #![tactic(auto)]
 
 #[cfg(test)]
+mod announcements;
+#[cfg(test)]
 mod named;
 #[cfg(test)]
-mod sets;
+mod peers;
+#[cfg(test)]
+mod texts;
