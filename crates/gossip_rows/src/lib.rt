@@ -2,10 +2,20 @@
 #![tactic(auto)]
 
 #[cfg(test)]
+mod act;
+#[cfg(test)]
 mod announcements;
+#[cfg(test)]
+mod limits;
 #[cfg(test)]
 mod named;
 #[cfg(test)]
 mod peers;
+#[cfg(test)]
+mod play;
+#[cfg(test)]
+mod rows;
+#[cfg(test)]
+mod sweeps;
 #[cfg(test)]
 mod texts;

@@ -3,7 +3,7 @@ ghost use Rattle.std.specs.List.{IsDistinct};
 ghost use Rattle.node_names.specs.Same.{same_name};
 
 use crate::named::{Id, id, name, pair};
-use crate::texts::push_peers;
+use crate::texts::{push_entries, push_peers};
 use node_names::{MsgId, NodeName};
 use peer_sets::PeerSets;
 use refusing_allocator::RefusingAllocator;
@@ -69,15 +69,6 @@ fn queue<A: Allocator + Copy>(
     peers.queue(peer, id, round)
 }
 
-/// Appends announcements.
-fn push_entries<B: Allocator>(text: &mut String<B>, entries: &[(MsgId, u32)]) -> Result<(), Fail> {
-    for (id, round) in entries {
-        write!(text, " {id}:{round}")?;
-    }
-    write!(text, "; ")?;
-    Ok(())
-}
-
 /// Flushes, and appends what waited.
 fn flush<A: Allocator + Copy, B: Allocator>(
     text: &mut String<B>,
@@ -90,6 +81,7 @@ fn flush<A: Allocator + Copy, B: Allocator>(
     for (peer, entries) in batches.as_slice() {
         write!(text, "{peer}")?;
         push_entries(text, entries.as_slice())?;
+        write!(text, "; ")?;
     }
     Ok(Ok(()))
 }

@@ -1,0 +1,167 @@
+//! Calls of the node `c`, which starts with the peers `a` and `b`, and what each gives and leaves, worked out by hand.
+use crate::act::Act;
+use crate::named::Id;
+
+/// A call, what it gives, and what the readers answer after it.
+pub(crate) type Turn = (Act, &'static str, &'static str);
+
+const A1: Id = ("a", 1);
+
+const A2: Id = ("a", 2);
+
+const C1: Id = ("c", 1);
+
+const C7: Id = ("c", 7);
+
+/// The messages that the readers are asked about.
+pub(crate) const ASKED: [Id; 6] = [A1, A2, ("b", 1), C1, ("c", 2), C7];
+
+/// A message is announced, asked for, comes twice, and another goes out.
+const REPAIR: &[Turn] = &[
+    (
+        Act::OnIHave("a", A1, 0),
+        "",
+        "a+ b+ | | a/1/1:a:0 | a/1/1 | ",
+    ),
+    (
+        Act::Fire(A1),
+        "to a graft a/1/1 0; ",
+        "a+ b+ | | | a/1/1 | ",
+    ),
+    (
+        Act::OnGossip("b", A1, 0, "m"),
+        "deliver a/1/1 m; to a gossip a/1/1 1 m; ",
+        "a+ b+ | | | | a/1/1=m ",
+    ),
+    (
+        Act::OnGossip("a", A1, 0, "m"),
+        "to a prune; ",
+        "a- b+ | | | | a/1/1=m ",
+    ),
+    (
+        Act::Broadcast("n"),
+        "deliver c/1/1 n; to b gossip c/1/1 0 n; ",
+        "a- b+ | a:c/1/1:0 | | | a/1/1=m c/1/1=n ",
+    ),
+    (
+        Act::Flush,
+        "to a ihave c/1/1:0; ",
+        "a- b+ | | | | a/1/1=m c/1/1=n ",
+    ),
+    (Act::OnPrune("b"), "", "a- b- | | | | a/1/1=m c/1/1=n "),
+    (
+        Act::OnGraft("a", C1, 0),
+        "to a gossip c/1/1 0 n; ",
+        "a+ b- | | | | a/1/1=m c/1/1=n ",
+    ),
+];
+
+/// Strangers are answered and heard, and do not become members.
+const STRANGERS: &[Turn] = &[
+    (
+        Act::OnGossip("z", A1, 4_294_967_295, "m"),
+        "deliver a/1/1 m; to a gossip a/1/1 4294967295 m; to b gossip a/1/1 4294967295 m; ",
+        "a+ b+ | | | | a/1/1=m ",
+    ),
+    (Act::OnGossip("z", A1, 0, "m"), "", "a+ b+ | | | | a/1/1=m "),
+    (Act::OnIHave("z", A2, 0), "", "a+ b+ | | | | a/1/1=m "),
+    // Known messages and those of the node's own run are not wanted.
+    (Act::OnIHave("a", A1, 3), "", "a+ b+ | | | | a/1/1=m "),
+    (Act::OnIHave("a", C7, 0), "", "a+ b+ | | | | a/1/1=m "),
+    (Act::OnGossip("a", C7, 0, "x"), "", "a+ b+ | | | | a/1/1=m "),
+    (Act::OnPrune("z"), "", "a+ b+ | | | | a/1/1=m "),
+    (
+        Act::OnGraft("z", A1, 5),
+        "to z gossip a/1/1 5 m; ",
+        "a+ b+ | | | | a/1/1=m ",
+    ),
+    // What is not held is not answered; the asking member is eager all the same.
+    (Act::OnPrune("b"), "", "a+ b- | | | | a/1/1=m "),
+    (Act::OnGraft("b", A2, 5), "", "a+ b+ | | | | a/1/1=m "),
+];
+
+/// Announcers are asked one after the other, and what is about a lost peer goes.
+const ANNOUNCERS: &[Turn] = &[
+    (
+        Act::OnIHave("a", A1, 1),
+        "",
+        "a+ b+ | | a/1/1:a:1 | a/1/1 | ",
+    ),
+    (
+        Act::OnIHave("b", A1, 2),
+        "",
+        "a+ b+ | | a/1/1:a:1 a/1/1:b:2 | a/1/1 | ",
+    ),
+    (
+        Act::OnIHave("a", A1, 7),
+        "",
+        "a+ b+ | | a/1/1:a:1 a/1/1:b:2 | a/1/1 | ",
+    ),
+    (
+        Act::OnIHave("a", A2, 1),
+        "",
+        "a+ b+ | | a/1/1:a:1 a/1/1:b:2 a/1/2:a:1 | a/1/1 a/1/2 | ",
+    ),
+    (Act::Down("a"), "", "b+ | | a/1/1:b:2 | a/1/1 a/1/2 | "),
+    (
+        Act::Fire(A1),
+        "to b graft a/1/1 2; ",
+        "b+ | | | a/1/1 a/1/2 | ",
+    ),
+    (Act::Fire(A1), "", "b+ | | | a/1/2 | "),
+    (Act::Fire(A1), "", "b+ | | | a/1/2 | "),
+    (Act::Up("a"), "", "b+ a+ | | | a/1/2 | "),
+    (Act::Up("b"), "", "b+ a+ | | | a/1/2 | "),
+    (Act::OnPrune("a"), "", "b+ a- | | | a/1/2 | "),
+    (
+        Act::Broadcast("x"),
+        "deliver c/1/1 x; to b gossip c/1/1 0 x; ",
+        "b+ a- | a:c/1/1:0 | | a/1/2 | c/1/1=x ",
+    ),
+    (Act::Down("a"), "", "b+ | | | a/1/2 | c/1/1=x "),
+    (
+        Act::OnGossip("b", A2, 3, ""),
+        "deliver a/1/2 ; ",
+        "b+ | | | | a/1/2= c/1/1=x ",
+    ),
+];
+
+/// A lazy peer that is asked, or brings a message, is eager again.
+const LAZY: &[Turn] = &[
+    (Act::OnPrune("a"), "", "a- b+ | | | | "),
+    (Act::OnPrune("b"), "", "a- b- | | | | "),
+    (
+        Act::OnIHave("a", A1, 4),
+        "",
+        "a- b- | | a/1/1:a:4 | a/1/1 | ",
+    ),
+    (
+        Act::Fire(A1),
+        "to a graft a/1/1 4; ",
+        "a+ b- | | | a/1/1 | ",
+    ),
+    (
+        Act::OnGossip("b", A1, 4, "m"),
+        "deliver a/1/1 m; to a gossip a/1/1 5 m; ",
+        "a+ b+ | | | | a/1/1=m ",
+    ),
+    (Act::OnPrune("a"), "", "a- b+ | | | | a/1/1=m "),
+    (
+        Act::OnGossip("b", A2, 0, "n"),
+        "deliver a/1/2 n; ",
+        "a- b+ | a:a/1/2:1 | | | a/1/1=m a/1/2=n ",
+    ),
+    (
+        Act::Broadcast("o"),
+        "deliver c/1/1 o; to b gossip c/1/1 0 o; ",
+        "a- b+ | a:a/1/2:1 a:c/1/1:0 | | | a/1/1=m a/1/2=n c/1/1=o ",
+    ),
+    (
+        Act::Flush,
+        "to a ihave a/1/2:1 c/1/1:0; ",
+        "a- b+ | | | | a/1/1=m a/1/2=n c/1/1=o ",
+    ),
+];
+
+/// All of them.
+pub(crate) const ROWS: [&[Turn]; 4] = [REPAIR, STRANGERS, ANNOUNCERS, LAZY];
