@@ -1,0 +1,36 @@
+-- What a core holds and hears fits frames, so that what it sends does.
+use Rattle.std.specs.Prelude.{◌≡◌, ◌<◌, ◌≤◌, ℕ, true, List, Some, length}
+use Rattle.std.specs.List.{AllByRecursion as Each}
+use Rattle.std.specs.Map.{lookup}
+use Rattle.node_names.specs.NodeName.{Name}
+use Rattle.node_names.specs.Same.{same_id}
+use Rattle.node_names.specs.declared.ids.MsgId.{MsgId}
+use Rattle.world.specs.Stimulus.{Stimulus}
+use Rattle.world.specs.declared.TheConstants.{MAX_PAYLOAD}
+use Rattle.world.specs.declared.stimulus.StimulusOf.TheVariants.{Broadcast, Arrive, Fire, Flush, Down, Shuffle}
+use Rattle.frames.specs.Body.{Body}
+use Rattle.frames.specs.Frame.{Frame, has_good_fields, has_good_counts}
+use Rattle.gossip_core.specs.State.{GossipState}
+
+-- The numbers of the messages that are held, wait or are wanted count from 1, and what is held is no longer than payloads may be.
+pub record FitsFrames (g : GossipState) : Type 0 where
+  pub held : (id : MsgId) (p : List ℕ) → lookup (same_id id) g.held ≡ Some p → (0 < id.seq) × (length p ≤ MAX_PAYLOAD)
+  pub queued : Each (λ entry. 0 < entry.1.seq) g.peers.queued
+  pub wants : Each (λ entry. 0 < entry.0.seq) g.missing.wants
+
+-- The body may stand in a frame.
+abbrev pub IsFit : Body → Type 0
+IsFit body = (has_good_fields body ≡ true) × (has_good_counts body ≡ true)
+
+-- All these may.
+abbrev pub AreFit : List (Name × Body) → Type 0
+AreFit sends = Each (λ send. IsFit send.1) sends
+
+-- What comes fits: a payload is no longer than payloads may be, and a packet is a frame.
+abbrev pub ComesFit : Stimulus Frame → Type 0
+ComesFit (Broadcast payload) = length payload ≤ MAX_PAYLOAD
+ComesFit (Arrive sender frame dice) = IsFit frame.body
+ComesFit (Fire id) = Unit {0}
+ComesFit Flush = Unit {0}
+ComesFit (Down peer dice) = Unit {0}
+ComesFit (Shuffle dice) = Unit {0}

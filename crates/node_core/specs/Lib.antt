@@ -1,0 +1,14 @@
+pub mod Plum
+pub mod Steps
+pub mod Members
+pub mod Numbered
+pub mod Fits
+pub mod Resting
+pub mod Firing
+pub mod Wanting
+pub mod Flushing
+pub mod Spreading
+pub mod Moving
+pub mod Whole
+pub mod Starting
+pub mod PlumLaws

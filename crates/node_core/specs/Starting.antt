@@ -1,0 +1,106 @@
+-- A core starts: what that owes. Proofs, and nothing to believe.
+use Rattle.std.specs.Prelude.{◌≡◌, ◌≢◌, ◌&&◌, ◌+◌, true, false, not, List, Option, Some, None, length, refl, IsTrue, nat_le}
+use Rattle.std.specs.FinSet as set
+use Rattle.std.specs.List.{AllByRecursion as Each}
+use Rattle.std.proofs.Common.{sym, ◌∙◌, subst, zero-le}
+use Rattle.std.proofs.lemmas.Bool.{false≢true, true≢false}
+use Rattle.node_names.specs.NodeName.{Name}
+use Rattle.node_names.specs.Limits.{Limits}
+use Rattle.node_names.specs.Order.{id_cmp}
+use Rattle.node_names.specs.Same.{same_name-Decides, has_name}
+use Rattle.node_names.specs.declared.ids.Origin.{Origin}
+use Rattle.world.specs.FloodLaws.{distinct_peers}
+use Rattle.world.specs.FloodLists.{and_left, and_right, not_true, within_bound, distinct_none}
+use Rattle.world.specs.Laws.{IsSilent, StartLaws}
+use Rattle.world.specs.Peers.{are_peers, are_distinct, is_contact}
+use Rattle.frames.specs.Content.{frame_content}
+use Rattle.frames.specs.Frame.{Frame}
+use Rattle.views.specs.Views.{ArePeers}
+use Rattle.missing.proofs.SoundLemmas.{sound-empty}
+use Rattle.peer_sets.proofs.MemberLemmas.{names-all_eager}
+use Rattle.peer_sets.proofs.SoundLemmas.{sound-new}
+use Rattle.node_core.specs.Plum.{Plum, IsSoundPlum, plum_state}
+use Rattle.node_core.specs.Steps.{PlumStarts, newcomer, numbered, opening}
+
+module _ (limits : Limits) (owner : Name) (peers : List Name) (contact : Option Name) (fit : IsTrue (are_peers limits owner peers contact)) where
+  later : (are_distinct peers && (not (has_name peers owner) && not (is_contact contact owner))) ≡ true
+  later = and_right (nat_le (length peers) limits.active) _ fit
+
+  -- the peers are as the views want them
+  pub fit_views : ArePeers owner limits peers
+  fit_views =
+      record {
+        within = within_bound (length peers) limits.active (and_left (nat_le (length peers) limits.active) _ fit);
+        distinct = distinct_peers limits owner peers contact fit;
+        of_others = not_true (has_name peers owner) (and_left (not (has_name peers owner)) (not (is_contact contact owner)) (and_right (are_distinct peers) _ later));
+      }
+
+  -- and the contact is another
+  pub another_contact : is_contact contact owner ≡ false
+  another_contact = not_true (is_contact contact owner) (and_right (not (has_name peers owner)) (not (is_contact contact owner)) (and_right (are_distinct peers) _ later))
+
+module _ (me : Origin) (limits : Limits) (peers : List Name) (contact : Option Name) (sends : List (Name × Frame)) (core : Plum) (fit : IsTrue (are_peers limits me.name peers contact)) (started : PlumStarts me limits peers contact sends core) where
+  to_another : (c : Option Name) → is_contact c me.name ≡ false → Each (λ send. send.0 ≢ me.name) (numbered me 0 (opening c))
+  to_another None apart = tt
+  to_another (Some c) apart = ((λ same. true≢false (sym ((same_name-Decides c me.name).1 same) ∙ apart)), tt)
+
+  silent : (c : Option Name) → Each (λ send. IsSilent (frame_content send.1)) (numbered me 0 (opening c))
+  silent None = tt
+  silent (Some c) = (record { carries_nothing = refl; announces_nothing = refl; asks_nothing = refl }, tt)
+
+  first : Plum
+  first = newcomer me limits peers 0 (0 + length (opening contact))
+
+  first_laws : StartLaws frame_content me peers (numbered me 0 (opening contact)) (plum_state (newcomer me limits peers 0 (0 + length (opening contact))))
+  first_laws =
+      record {
+        is_me = refl;
+        has_nothing = set.contains-empty id_cmp;
+        holds_nothing = λ id. refl;
+        active_are_peers = refl;
+        passive_is_empty = refl;
+        queue_is_empty = refl;
+        wants_nothing = refl;
+        arms_nothing = refl;
+        counts_nothing = refl;
+        sends_to_others = to_another contact (another_contact limits me.name peers contact fit);
+        sends_silent = silent contact;
+      }
+
+  pub starts_well : StartLaws frame_content me peers sends (plum_state core)
+  starts_well = subst (λ c. StartLaws frame_content me peers sends (plum_state c)) (sym started.leaves) (subst (λ s. StartLaws frame_content me peers s (plum_state (newcomer me limits peers 0 (0 + length (opening contact))))) (sym started.sent) first_laws)
+
+  first_sound : IsSoundPlum limits (newcomer me limits peers 0 (0 + length (opening contact)))
+  first_sound =
+      let fits : ArePeers me.name limits peers = fit_views limits me.name peers contact fit in
+      record {
+        views =
+            record {
+              allowed = started.allowed;
+              active_within = fits.within;
+              passive_within = zero-le;
+              active_distinct = fits.distinct;
+              passive_distinct = distinct_none;
+              active_of_others = fits.of_others;
+              passive_of_others = refl;
+              disjoint = λ name is. refl;
+            };
+        its_limits = refl;
+        owner = refl;
+        its_gossip = refl;
+        members = names-all_eager peers;
+        whole =
+            record {
+              peers = sound-new peers fits.distinct;
+              missing = sound-empty;
+              store = record { counted = λ id is own. absurd (false≢true (sym (set.contains-empty id_cmp id) ∙ is)); held_is_known = λ id is. absurd (false≢true is) };
+              known_is_held = λ id is. absurd (false≢true (sym (set.contains-empty id_cmp id) ∙ is));
+              queued_is_known = tt;
+              wants_of_members = tt;
+              wants_lacked = tt;
+              timers_lacked = tt;
+            };
+      }
+
+  pub starts_soundly : IsSoundPlum limits core
+  starts_soundly = subst (IsSoundPlum limits) (sym started.leaves) first_sound

@@ -1,0 +1,12 @@
+//! One node: HyParView's membership and Plumtree's gossip, joined into one core.
+#![tactic(auto)]
+
+mod gossiping;
+mod hearing;
+mod laws;
+mod moving;
+mod telling;
+mod turning;
+
+pub use laws::{core_is_lawful, packets_fit_frames};
+pub use turning::turn;
