@@ -1,4 +1,6 @@
 //! What is sent and what readers answer, as texts.
+use frames::{Body, BodyOf};
+use membership::{Membership, Moves};
 use node_names::NodeName;
 use std::alloc::Allocator;
 use std::fmt::Write;
@@ -12,6 +14,18 @@ pub(crate) fn push_names<B: Allocator>(
 ) -> Result<(), Fail> {
     for name in names {
         write!(text, "{name} ")?;
+    }
+    Ok(())
+}
+
+/// Appends names that became active, or are so no longer.
+fn push_told<B: Allocator>(
+    text: &mut String<B>,
+    what: &str,
+    names: &[NodeName],
+) -> Result<(), Fail> {
+    for name in names {
+        write!(text, "{what} {name}; ")?;
     }
     Ok(())
 }
@@ -33,5 +47,77 @@ pub(crate) fn views_text<A: Allocator, B: Allocator>(
 ) -> Result<String<B>, Fail> {
     let mut text = String::new(texts);
     push_views(&mut text, views)?;
+    Ok(text)
+}
+
+/// What the readers of a membership answer: the views, and who is asked.
+pub(crate) fn shown<A: Allocator, B: Allocator>(
+    texts: B,
+    membership: &Membership<A>,
+) -> Result<String<B>, Fail> {
+    let mut text = String::new(texts);
+    push_views(&mut text, membership.views())?;
+    write!(text, "|")?;
+    if let Some(asked) = membership.asked() {
+        write!(text, " {asked}")?;
+    }
+    Ok(text)
+}
+
+/// Appends a shuffle, or the answer to one.
+fn push_shuffle<A: Allocator, B: Allocator>(
+    text: &mut String<B>,
+    body: &Body<A>,
+) -> Result<(), Fail> {
+    match body {
+        BodyOf::Shuffle { origin, ttl, names } => {
+            write!(text, "SHUFFLE {origin} {ttl}: ")?;
+            push_names(text, names.as_slice())
+        }
+        BodyOf::ShuffleReply { names } => {
+            write!(text, "SHUFFLEREPLY: ")?;
+            push_names(text, names.as_slice())
+        }
+        _ => Ok(write!(text, "no message of membership")?),
+    }
+}
+
+/// Appends what a message says.
+fn push_body<A: Allocator, B: Allocator>(text: &mut String<B>, body: &Body<A>) -> Result<(), Fail> {
+    match body {
+        BodyOf::Join => Ok(write!(text, "JOIN")?),
+        BodyOf::ForwardJoin { new, ttl } => Ok(write!(text, "FORWARDJOIN {new} {ttl}")?),
+        BodyOf::Neighbor { high } => Ok(write!(text, "NEIGHBOR high: {high}")?),
+        BodyOf::NeighborReply { accepted } => Ok(write!(
+            text,
+            "NEIGHBORREPLY accepted: {accepted}"
+        )?),
+        BodyOf::Disconnect => Ok(write!(text, "DISCONNECT")?),
+        _ => push_shuffle(text, body),
+    }
+}
+
+/// Appends messages with their receivers.
+fn push_sends<A: Allocator, B: Allocator>(
+    text: &mut String<B>,
+    sends: &[(NodeName, Body<A>)],
+) -> Result<(), Fail> {
+    for (to, body) in sends {
+        write!(text, "{to}: ")?;
+        push_body(text, body)?;
+        write!(text, "; ")?;
+    }
+    Ok(())
+}
+
+/// What an event gave: the messages, then the downs, then the ups.
+pub(crate) fn given<A: Allocator, B: Allocator>(
+    texts: B,
+    moves: &Moves<A>,
+) -> Result<String<B>, Fail> {
+    let mut text = String::new(texts);
+    push_sends(&mut text, moves.sends.as_slice())?;
+    push_told(&mut text, "down", moves.downs.as_slice())?;
+    push_told(&mut text, "up", moves.ups.as_slice())?;
     Ok(text)
 }
