@@ -1,5 +1,5 @@
 //! Playing the rows event by event.
-use crate::act::hear;
+use crate::act::{Act, hear};
 use crate::named::{dice, limits, name};
 use crate::rows::{ROWS, Row, Turn};
 use crate::texts::{given, shown};
@@ -38,6 +38,37 @@ pub(crate) fn start<A: Allocator + Copy>(alloc: A, row: &Row) -> Result<Membersh
     Ok(membership)
 }
 
+/// Compares a text with the one that is wanted at this event.
+fn compare(rt: &impl Abort, text: &str, wanted: &str, act: &Act) {
+    assert_eq!(rt; text, wanted, "{act:?}");
+}
+
+/// Compares what an event gave.
+pub(crate) fn compare_given<A: Allocator, B: Allocator>(
+    rt: &impl Abort,
+    texts: B,
+    moves: &Moves<A>,
+    wanted: &str,
+    act: &Act,
+) -> Result<(), Fail> {
+    let text = given(texts, moves)?;
+    compare(rt, text.as_str(), wanted, act);
+    Ok(())
+}
+
+/// Compares what the readers answer after an event.
+pub(crate) fn compare_shown<A: Allocator, B: Allocator>(
+    rt: &impl Abort,
+    texts: B,
+    membership: &Membership<A>,
+    wanted: &str,
+    act: &Act,
+) -> Result<(), Fail> {
+    let text = shown(texts, membership)?;
+    compare(rt, text.as_str(), wanted, act);
+    Ok(())
+}
+
 /// Plays an event over ample memory, and compares what it gives and leaves.
 pub(crate) fn play<A: Allocator + Copy, B: Allocator + Copy>(
     rt: &impl Abort,
@@ -47,10 +78,10 @@ pub(crate) fn play<A: Allocator + Copy, B: Allocator + Copy>(
     turn: &Turn,
 ) -> Result<(), Fail> {
     let mut moves = Moves::new(alloc);
-    hear(texts, membership, &mut moves, &turn.0, &dice(turn.1))??;
-    assert_eq!(rt; given(texts, &moves)?.as_str(), turn.2, "{:?}", turn.0);
-    assert_eq!(rt; shown(texts, membership)?.as_str(), turn.3, "{:?}", turn.0);
-    Ok(())
+    let dice = dice(turn.1);
+    hear(texts, membership, &mut moves, &turn.0, &dice)??;
+    compare_given(rt, texts, &moves, turn.2, &turn.0)?;
+    compare_shown(rt, texts, membership, turn.3, &turn.0)
 }
 
 /// Plays events over ample memory.
@@ -67,15 +98,35 @@ pub(crate) fn play_all<A: Allocator + Copy, B: Allocator + Copy>(
     Ok(())
 }
 
-/// Plays a row, and compares a copy with what each event leaves.
-fn play_row<A: Allocator + Copy>(rt: &impl Abort, alloc: A, row: &Row) -> Result<(), Fail> {
-    let mut membership = start(alloc, row)?;
-    for turn in row.3 {
-        play(rt, alloc, alloc, &mut membership, turn)?;
-        let copy = membership.copy()?;
-        assert_eq!(rt; shown(alloc, &copy)?.as_str(), turn.3);
+/// Compares a copy with what an event left.
+fn compare_copy<A: Allocator + Copy>(
+    rt: &impl Abort,
+    alloc: A,
+    membership: &Membership<A>,
+    turn: &Turn,
+) -> Result<(), Fail> {
+    let copy = membership.copy()?;
+    compare_shown(rt, alloc, &copy, turn.3, &turn.0)
+}
+
+/// Plays events, and compares a copy with what each leaves.
+fn play_copied<A: Allocator + Copy>(
+    rt: &impl Abort,
+    alloc: A,
+    membership: &mut Membership<A>,
+    turns: &[Turn],
+) -> Result<(), Fail> {
+    for turn in turns {
+        play(rt, alloc, alloc, membership, turn)?;
+        compare_copy(rt, alloc, membership, turn)?;
     }
     Ok(())
+}
+
+/// Plays a row.
+fn play_row<A: Allocator + Copy>(rt: &impl Abort, alloc: A, row: &Row) -> Result<(), Fail> {
+    let mut membership = start(alloc, row)?;
+    play_copied(rt, alloc, &mut membership, row.3)
 }
 
 #[test]

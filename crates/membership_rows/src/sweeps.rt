@@ -2,12 +2,12 @@
 //! event made again answers as if nothing had been refused.
 use crate::act::hear;
 use crate::named::{dice, name};
-use crate::play::{play, play_all, start};
+use crate::play::{compare_given, compare_shown, play, play_all, start};
 use crate::rows::{ROWS, Row, Turn};
-use crate::texts::{given, shown};
+use crate::texts::shown;
 use membership::{Membership, Moves};
 use refusing_allocator::RefusingAllocator;
-use std::alloc::{Allocator, Global};
+use std::alloc::{AllocError, Allocator, Global};
 use std::process::Abort;
 use std::test::Fail;
 
@@ -15,11 +15,11 @@ use std::test::Fail;
 const MANY: u64 = 100;
 
 /// Plays an event whose growth with this number is refused. Whether it had so many, and whether it was refused.
-fn try_event<'a>(
-    heap: &'a RefusingAllocator,
+fn try_event<A: Allocator + Copy>(
+    heap: &RefusingAllocator,
     texts: Global,
-    membership: &mut Membership<&'a RefusingAllocator>,
-    moves: &mut Moves<&'a RefusingAllocator>,
+    membership: &mut Membership<A>,
+    moves: &mut Moves<A>,
     turn: &Turn,
     n: u64,
 ) -> Result<(bool, bool), Fail> {
@@ -38,21 +38,20 @@ fn compare_refused<A: Allocator, B: Allocator + Copy>(
     membership: &Membership<A>,
     moves: &Moves<A>,
     stood: &str,
+    turn: &Turn,
 ) -> Result<(), Fail> {
-    let text = given(texts, moves)?;
-    assert_eq!(rt; text.as_str(), "c: JOIN; ");
-    let now = shown(texts, membership)?;
-    assert_eq!(rt; now.as_str(), stood);
-    Ok(())
+    compare_given(rt, texts, moves, "c: JOIN; ", &turn.0)?;
+    compare_shown(rt, texts, membership, stood, &turn.0)
 }
 
 /// Plays an event whose growth with this number is refused, and plays it again if it is refused. Whether it had so many.
-fn refuse_event<'a>(
+fn refuse_event<A: Allocator + Copy>(
     rt: &impl Abort,
-    heap: &'a RefusingAllocator,
+    heap: &RefusingAllocator,
+    alloc: A,
     texts: Global,
-    membership: &mut Membership<&'a RefusingAllocator>,
-    moves: &mut Moves<&'a RefusingAllocator>,
+    membership: &mut Membership<A>,
+    moves: &mut Moves<A>,
     turn: &Turn,
     n: u64,
 ) -> Result<bool, Fail> {
@@ -60,78 +59,124 @@ fn refuse_event<'a>(
     let (is_spent, is_refused) = try_event(heap, texts, membership, moves, turn, n)?;
     if is_refused {
         assert!(rt; is_spent);
-        compare_refused(rt, texts, membership, moves, stood.as_str())?;
-        play(rt, heap, texts, membership, turn)?;
+        compare_refused(rt, texts, membership, moves, stood.as_str(), turn)?;
+        play(rt, alloc, texts, membership, turn)?;
     }
-    let text = shown(texts, membership)?;
-    assert_eq!(rt; text.as_str(), turn.3);
+    compare_shown(rt, texts, membership, turn.3, &turn.0)?;
     Ok(is_spent)
 }
 
 /// The same after a message, which is to stay.
-fn refuse_alone<'a>(
+fn refuse_alone<A: Allocator + Copy>(
     rt: &impl Abort,
-    heap: &'a RefusingAllocator,
+    heap: &RefusingAllocator,
+    alloc: A,
     texts: Global,
-    membership: &mut Membership<&'a RefusingAllocator>,
+    membership: &mut Membership<A>,
     turn: &Turn,
     n: u64,
 ) -> Result<bool, Fail> {
-    let mut moves = Moves::new(heap);
+    let mut moves = Moves::new(alloc);
     membership.join(name("c")?, &mut moves)?;
-    refuse_event(rt, heap, texts, membership, &mut moves, turn, n)
+    refuse_event(rt, heap, alloc, texts, membership, &mut moves, turn, n)
 }
 
-/// Copies a membership while the growth with this number is refused. Whether the copy had so many.
-fn sweep_copy(
+/// Compares a copy with what it was made of.
+fn compare_copy<A: Allocator>(
     rt: &impl Abort,
-    heap: &RefusingAllocator,
     texts: Global,
-    membership: &Membership<&RefusingAllocator>,
-    n: u64,
-) -> Result<bool, Fail> {
-    heap.refuse(n);
+    membership: &Membership<A>,
+    copy: &Membership<A>,
+) -> Result<(), Fail> {
+    let text = shown(texts, copy)?;
     let stood = shown(texts, membership)?;
-    let copy = membership.copy();
-    let is_spent = heap.is_spent();
-    heap.refuse(0);
-    assert!(rt; copy.is_err() == is_spent);
-    if let Ok(copy) = copy {
-        let text = shown(texts, &copy)?;
-        assert_eq!(rt; text.as_str(), stood.as_str());
+    assert_eq!(rt; text.as_str(), stood.as_str());
+    Ok(())
+}
+
+/// Compares a copy that there is, if no growth was refused. Whether one was.
+fn compare_made<A: Allocator>(
+    rt: &impl Abort,
+    texts: Global,
+    membership: &Membership<A>,
+    made: &Result<Membership<A>, AllocError>,
+    is_spent: bool,
+) -> Result<bool, Fail> {
+    match made {
+        Ok(copy) => {
+            assert!(rt; !is_spent);
+            compare_copy(rt, texts, membership, copy)?;
+        }
+        Err(_) => assert!(rt; is_spent),
     }
     Ok(is_spent)
 }
 
-/// Plays the events of a row up to one, and refuses its growth with this number. Behind the last event, a copy stands in
-/// its place. Whether it had so many.
-fn sweep_event(
+/// Copies a membership while the growth with this number is refused. Whether the copy had so many.
+fn sweep_copy<A: Allocator + Copy>(
     rt: &impl Abort,
     heap: &RefusingAllocator,
+    texts: Global,
+    membership: &Membership<A>,
+    n: u64,
+) -> Result<bool, Fail> {
+    heap.refuse(n);
+    let made = membership.copy();
+    let is_spent = heap.is_spent();
+    heap.refuse(0);
+    compare_made(rt, texts, membership, &made, is_spent)
+}
+
+/// The events of a row before a place, and those from there.
+fn parts(row: &Row, at: usize) -> (&'static [Turn], &'static [Turn]) {
+    let turns = row.3;
+    turns.split_at(at.min(turns.len()))
+}
+
+/// Plays the events before a place, and refuses the growth with this number of the event there. Behind the last event, a
+/// copy stands in its place. Whether it had so many.
+fn sweep_at<A: Allocator + Copy>(
+    rt: &impl Abort,
+    heap: &RefusingAllocator,
+    alloc: A,
+    texts: Global,
+    membership: &mut Membership<A>,
+    turns: (&[Turn], &[Turn]),
+    n: u64,
+) -> Result<bool, Fail> {
+    play_all(rt, alloc, texts, membership, turns.0)?;
+    match turns.1.first() {
+        Some(turn) => refuse_alone(rt, heap, alloc, texts, membership, turn, n),
+        None => sweep_copy(rt, heap, texts, membership, n),
+    }
+}
+
+/// The same from the start of a row, whose membership grows on `alloc`, which is the refusing heap.
+fn sweep_event<A: Allocator + Copy>(
+    rt: &impl Abort,
+    heap: &RefusingAllocator,
+    alloc: A,
     texts: Global,
     row: &Row,
     at: usize,
     n: u64,
 ) -> Result<bool, Fail> {
-    let mut membership = start(heap, row)?;
-    let (before, from) = row.3.split_at(at.min(row.3.len()));
-    play_all(rt, heap, texts, &mut membership, before)?;
-    match from.first() {
-        Some(turn) => refuse_alone(rt, heap, texts, &mut membership, turn, n),
-        None => sweep_copy(rt, heap, texts, &membership, n),
-    }
+    let turns = parts(row, at);
+    let mut membership = start(alloc, row)?;
+    sweep_at(rt, heap, alloc, texts, &mut membership, turns, n)
 }
 
 /// Refuses each growth of one event in turn. How many it has.
-fn sweep(
+fn sweep<A: Allocator + Copy>(
     rt: &impl Abort,
     heap: &RefusingAllocator,
+    alloc: A,
     texts: Global,
     row: &Row,
     at: usize,
 ) -> Result<u64, Fail> {
     for n in 1..MANY {
-        if !sweep_event(rt, heap, texts, row, at, n)? {
+        if !sweep_event(rt, heap, alloc, texts, row, at, n)? {
             return Ok(n - 1);
         }
     }
@@ -140,15 +185,16 @@ fn sweep(
 }
 
 /// Refuses each growth of each event of a row, and of the copy of what the row leaves, in turn. How many they have.
-fn sweep_row(
+fn sweep_row<A: Allocator + Copy>(
     rt: &impl Abort,
     heap: &RefusingAllocator,
+    alloc: A,
     texts: Global,
     row: &Row,
 ) -> Result<u64, Fail> {
     let mut refused = 0u64;
     for at in 0..=row.3.len() {
-        refused = refused.saturating_add(sweep(rt, heap, texts, row, at)?);
+        refused = refused.saturating_add(sweep(rt, heap, alloc, texts, row, at)?);
     }
     Ok(refused)
 }
@@ -157,7 +203,7 @@ fn sweep_row(
 fn each_growth_of_each_event(rt: HostRuntime) -> Result<(), Fail> {
     let heap = RefusingAllocator::new(rt.alloc());
     for row in &ROWS {
-        let refused = sweep_row(&rt, &heap, rt.alloc(), row)?;
+        let refused = sweep_row(&rt, &heap, &heap, rt.alloc(), row)?;
         assert!(rt; refused > 5, "few growths were refused: {refused}");
     }
     Ok(())

@@ -3,7 +3,7 @@ use crate::named::{Words, dice, limits, name, names};
 use crate::texts::{push_names, views_text};
 use node_names::{Dice, Limits, NodeName};
 use refusing_allocator::RefusingAllocator;
-use std::alloc::{AllocError, Allocator};
+use std::alloc::{AllocError, Allocator, Global};
 use std::fmt::Write;
 use std::process::Abort;
 use std::test::Fail;
@@ -144,6 +144,24 @@ fn call<A: Allocator + Copy, B: Allocator + Copy>(
     }
 }
 
+/// Compares a text with the one that is wanted at this call.
+fn compare(rt: &impl Abort, text: &str, wanted: &str, act: &Act) {
+    assert_eq!(rt; text, wanted, "{act:?}");
+}
+
+/// Compares what the readers answer after a call.
+fn compare_views<A: Allocator, B: Allocator>(
+    rt: &impl Abort,
+    texts: B,
+    views: &Views<A>,
+    wanted: &str,
+    act: &Act,
+) -> Result<(), Fail> {
+    let text = views_text(texts, views)?;
+    compare(rt, text.as_str(), wanted, act);
+    Ok(())
+}
+
 /// Makes a call over ample memory, and compares what it gives and leaves.
 fn play<A: Allocator + Copy, B: Allocator + Copy>(
     rt: &impl Abort,
@@ -153,9 +171,8 @@ fn play<A: Allocator + Copy, B: Allocator + Copy>(
 ) -> Result<(), Fail> {
     let mut given = String::new(texts);
     call(texts, &mut given, views, &turn.0, &dice(turn.1))??;
-    assert_eq!(rt; given.as_str(), turn.2, "{:?}", turn.0);
-    assert_eq!(rt; views_text(texts, views)?.as_str(), turn.3, "{:?}", turn.0);
-    Ok(())
+    compare(rt, given.as_str(), turn.2, &turn.0);
+    compare_views(rt, texts, views, turn.3, &turn.0)
 }
 
 /// Makes calls over ample memory.
@@ -171,86 +188,148 @@ fn play_all<A: Allocator + Copy, B: Allocator + Copy>(
     Ok(())
 }
 
+/// Makes calls of new views.
+fn play_anew<A: Allocator + Copy>(rt: &impl Abort, alloc: A, turns: &[Turn]) -> Result<(), Fail> {
+    let mut views = start(alloc)?;
+    play_all(rt, alloc, &mut views, turns)
+}
+
 #[test]
 fn plays_calls(rt: HostRuntime) -> Result<(), Fail> {
-    let mut views = start(rt.alloc())?;
-    play_all(&rt, rt.alloc(), &mut views, &TURNS)
+    play_anew(&rt, rt.alloc(), &TURNS)
+}
+
+/// Makes a call whose growth with this number is refused. Whether it had so many, and whether it was refused.
+fn try_call<A: Allocator + Copy>(
+    heap: &RefusingAllocator,
+    texts: Global,
+    views: &mut Views<A>,
+    turn: &Turn,
+    n: u64,
+) -> Result<(bool, bool), Fail> {
+    let dice = dice(turn.1);
+    let mut given = String::new(texts);
+    heap.refuse(n);
+    let answer = call(texts, &mut given, views, &turn.0, &dice);
+    let is_spent = heap.is_spent();
+    heap.refuse(0);
+    Ok((is_spent, answer?.is_err()))
 }
 
 /// Makes a call whose growth with this number is refused, and makes it again if it is refused. Whether it had so many.
 fn refuse_call<A: Allocator + Copy>(
     rt: &impl Abort,
-    heap: &RefusingAllocator<A>,
-    texts: A,
-    views: &mut Views<&RefusingAllocator<A>>,
+    heap: &RefusingAllocator,
+    texts: Global,
+    views: &mut Views<A>,
     turn: &Turn,
     n: u64,
 ) -> Result<bool, Fail> {
     heap.refuse(n);
     let stood = views_text(texts, views)?;
+    // To read takes no memory.
     assert!(rt; !heap.is_spent());
-    let mut given = String::new(texts);
-    let answer = call(texts, &mut given, views, &turn.0, &dice(turn.1));
-    let is_spent = heap.is_spent();
-    heap.refuse(0);
-    if answer?.is_err() {
+    let (is_spent, is_refused) = try_call(heap, texts, views, turn, n)?;
+    if is_refused {
         assert!(rt; is_spent);
         // To forget a name takes no memory.
         assert!(rt; !matches!(turn.0, Act::Forget(_)));
-        assert_eq!(rt; views_text(texts, views)?.as_str(), stood.as_str());
+        compare_views(rt, texts, views, stood.as_str(), &turn.0)?;
         play(rt, texts, views, turn)?;
     }
-    assert_eq!(rt; views_text(texts, views)?.as_str(), turn.3);
+    compare_views(rt, texts, views, turn.3, &turn.0)?;
+    Ok(is_spent)
+}
+
+/// Compares a copy with what it was made of.
+fn compare_copy<A: Allocator>(
+    rt: &impl Abort,
+    texts: Global,
+    views: &Views<A>,
+    copy: &Views<A>,
+) -> Result<(), Fail> {
+    let text = views_text(texts, copy)?;
+    let stood = views_text(texts, views)?;
+    assert_eq!(rt; text.as_str(), stood.as_str());
+    Ok(())
+}
+
+/// Compares a copy that there is, if no growth was refused. Whether one was.
+fn compare_made<A: Allocator>(
+    rt: &impl Abort,
+    texts: Global,
+    views: &Views<A>,
+    made: &Result<Views<A>, AllocError>,
+    is_spent: bool,
+) -> Result<bool, Fail> {
+    match made {
+        Ok(copy) => {
+            assert!(rt; !is_spent);
+            compare_copy(rt, texts, views, copy)?;
+        }
+        Err(_) => assert!(rt; is_spent),
+    }
     Ok(is_spent)
 }
 
 /// Copies views while the growth with this number is refused. Whether the copy had so many.
 fn sweep_copy<A: Allocator + Copy>(
     rt: &impl Abort,
-    heap: &RefusingAllocator<A>,
-    texts: A,
-    views: &Views<&RefusingAllocator<A>>,
+    heap: &RefusingAllocator,
+    texts: Global,
+    views: &Views<A>,
     n: u64,
 ) -> Result<bool, Fail> {
-    let stood = views_text(texts, views)?;
     heap.refuse(n);
-    let copy = views.copy();
+    let made = views.copy();
     let is_spent = heap.is_spent();
     heap.refuse(0);
-    assert_eq!(rt; copy.is_err(), is_spent);
-    if let Ok(copy) = copy {
-        assert_eq!(rt; views_text(texts, &copy)?.as_str(), stood.as_str());
-    }
-    Ok(is_spent)
+    compare_made(rt, texts, views, &made, is_spent)
 }
 
-/// Plays the calls up to one, and refuses its growth with this number. Behind the last call, a copy stands in its place.
-/// Whether it had so many.
+/// Makes the calls before a place, and refuses the growth with this number of the call there. Behind the last call, a copy
+/// stands in its place. Whether it had so many.
+fn sweep_at<A: Allocator + Copy>(
+    rt: &impl Abort,
+    heap: &RefusingAllocator,
+    texts: Global,
+    views: &mut Views<A>,
+    turns: (&[Turn], &[Turn]),
+    n: u64,
+) -> Result<bool, Fail> {
+    play_all(rt, texts, views, turns.0)?;
+    match turns.1.first() {
+        Some(turn) => refuse_call(rt, heap, texts, views, turn, n),
+        None => sweep_copy(rt, heap, texts, views, n),
+    }
+}
+
+/// The same from the first call, of views that grow on `alloc`, which is the refusing heap.
 fn sweep_call<A: Allocator + Copy>(
     rt: &impl Abort,
-    heap: &RefusingAllocator<A>,
-    texts: A,
+    heap: &RefusingAllocator,
+    alloc: A,
+    texts: Global,
+    turns: &[Turn],
     at: usize,
     n: u64,
 ) -> Result<bool, Fail> {
-    let mut views = start(heap)?;
-    let (before, from) = TURNS.split_at(at.min(TURNS.len()));
-    play_all(rt, texts, &mut views, before)?;
-    match from.first() {
-        Some(turn) => refuse_call(rt, heap, texts, &mut views, turn, n),
-        None => sweep_copy(rt, heap, texts, &views, n),
-    }
+    let turns = turns.split_at(at.min(turns.len()));
+    let mut views = start(alloc)?;
+    sweep_at(rt, heap, texts, &mut views, turns, n)
 }
 
 /// Refuses each growth of one call in turn. How many it has.
 fn sweep<A: Allocator + Copy>(
     rt: &impl Abort,
-    heap: &RefusingAllocator<A>,
-    texts: A,
+    heap: &RefusingAllocator,
+    alloc: A,
+    texts: Global,
+    turns: &[Turn],
     at: usize,
 ) -> Result<u64, Fail> {
     for n in 1..MANY {
-        if !sweep_call(rt, heap, texts, at, n)? {
+        if !sweep_call(rt, heap, alloc, texts, turns, at, n)? {
             return Ok(n - 1);
         }
     }
@@ -258,13 +337,25 @@ fn sweep<A: Allocator + Copy>(
     Ok(MANY)
 }
 
+/// Refuses each growth of each call, and of the copy of what they leave, in turn. How many they have.
+fn sweep_all<A: Allocator + Copy>(
+    rt: &impl Abort,
+    heap: &RefusingAllocator,
+    alloc: A,
+    texts: Global,
+    turns: &[Turn],
+) -> Result<u64, Fail> {
+    let mut refused = 0u64;
+    for at in 0..=turns.len() {
+        refused = refused.saturating_add(sweep(rt, heap, alloc, texts, turns, at)?);
+    }
+    Ok(refused)
+}
+
 #[test]
 fn each_growth_of_each_call(rt: HostRuntime) -> Result<(), Fail> {
     let heap = RefusingAllocator::new(rt.alloc());
-    let mut refused = 0u64;
-    for at in 0..=TURNS.len() {
-        refused = refused.saturating_add(sweep(&rt, &heap, rt.alloc(), at)?);
-    }
+    let refused = sweep_all(&rt, &heap, &heap, rt.alloc(), &TURNS)?;
     assert!(rt; refused > 5, "few growths were refused: {refused}");
     Ok(())
 }
