@@ -1,4 +1,4 @@
-//! Frames and links where memory runs out: each growth of each call is refused in turn, as tests.
+//! Frames and links as tests, and where memory runs out: each growth of each call is refused in turn.
 #![tactic(auto)]
 
 #[cfg(test)]
@@ -7,6 +7,10 @@ mod calm;
 mod codec;
 #[cfg(test)]
 mod cutting;
+#[cfg(test)]
+mod ends;
+#[cfg(test)]
+mod kinds;
 #[cfg(test)]
 mod linking;
 #[cfg(test)]

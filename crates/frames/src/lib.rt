@@ -13,8 +13,6 @@ mod laws;
 mod list;
 mod put;
 mod rows;
-#[cfg(test)]
-mod tests;
 
 pub use body::{Body, BodyOf};
 pub use cutter::Cutter;

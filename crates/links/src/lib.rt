@@ -8,8 +8,6 @@ mod pumping;
 mod sink;
 mod tape_reader;
 mod tape_writer;
-#[cfg(test)]
-mod tests;
 
 pub use draining::drain;
 pub use ends::LinkEnd;

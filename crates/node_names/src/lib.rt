@@ -12,6 +12,3 @@ pub use ids::{Incarnation, MsgId, Origin};
 pub use limits::{Limits, LimitsFault};
 pub use listed::Listed;
 pub use name::{NameFault, NodeName};
-
-#[cfg(test)]
-mod tests;

@@ -109,6 +109,3 @@ fn write_fault<F: Write, D: Display + Drop>(faults: &mut F, fault: D) -> io::Res
     writeln!(faults, "plumtree: {fault}")?;
     faults.flush()
 }
-
-#[cfg(test)]
-mod tests;

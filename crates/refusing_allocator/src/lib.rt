@@ -30,7 +30,5 @@
 
 mod allocator;
 mod countdown;
-#[cfg(test)]
-mod tests;
 
 pub use allocator::RefusingAllocator;

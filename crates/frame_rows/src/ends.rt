@@ -1,8 +1,9 @@
+//! How pumps and drains end.
 ghost use Rattle.std.specs.Prelude.{◌≤◌, length};
 
-use super::*;
 use bytes::Bytes;
 use frames::{Cutter, Frame, FrameFault};
+use links::{LinkEnd, Sink, Source, TapeReader, TapeWriter, drain, pump};
 use std::alloc::{AllocError, Allocator, Global};
 use std::process::Abort;
 use std::test::Fail;

@@ -1,4 +1,5 @@
-use super::RefusingAllocator;
+//! Which growths the refusing allocator refuses.
+use refusing_allocator::RefusingAllocator;
 use std::alloc::{AllocError, Allocator};
 use std::process::Abort;
 use std::test::Fail;

@@ -1,5 +1,6 @@
-use super::*;
+//! Each kind of frame as bytes and back, and each fault of bytes that are no frame.
 use bytes::Bytes;
+use frames::{Body, Cutter, Frame, FrameFault, decode, encode};
 use node_names::{Incarnation, Listed, MsgId, NodeName, Origin};
 use std::alloc::{AllocError, Global};
 use std::process::Abort;

@@ -1,0 +1,7 @@
+//! Names and ids, and the refusing allocator, as tests.
+#![tactic(auto)]
+
+#[cfg(test)]
+mod growths;
+#[cfg(test)]
+mod names;
