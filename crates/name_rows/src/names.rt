@@ -3,7 +3,9 @@ ghost use Rattle.std.specs.Prelude.{◌≡◌, ◌↔◌, IsTrue};
 ghost use Rattle.node_names.specs.Same.{same_id};
 ghost use Rattle.node_names.specs.Order.{id_cmp};
 
-use node_names::{Dice, Incarnation, Limits, LimitsFault, Listed, MsgId, NameFault, NodeName, Origin};
+use node_names::{
+    Dice, Incarnation, Limits, LimitsFault, Listed, MsgId, NameFault, NodeName, Origin,
+};
 use std::alloc::{AllocError, Global};
 use std::cmp::Ordering;
 use std::collections::HashSet;

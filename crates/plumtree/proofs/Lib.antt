@@ -5,5 +5,6 @@ pub mod Numbers
 pub mod Oks
 pub mod Plays
 pub mod Steps
+pub mod Telling
 pub mod Texts
 pub mod Zips

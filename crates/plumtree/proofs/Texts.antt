@@ -3,7 +3,9 @@ use Rattle.std.proofs.Common.{◌≡◌, ℕ, ◌+◌, ◌<◌, ◌∙◌, List,
 use Rattle.std.specs.Io.KnownBytes.{Appends}
 use Rattle.std.proofs.lemmas.List.{take_more}
 use Rattle.world.specs.Delivery.{Delivery}
+use Rattle.at_rest.specs.declared.branch.Branch.{Branch}
 use Rattle.plumtree.specs.Lines.{hexadecimal, line_of, lines_of}
+use Rattle.plumtree.specs.Trees.{branch_line, branch_lines}
 
 hexadecimal-append : (bs cs : List ℕ) → hexadecimal (bs ++ cs) ≡ hexadecimal bs ++ hexadecimal cs
 hexadecimal-append [] cs = refl
@@ -30,3 +32,11 @@ written None mid new part step whole a b w = tt
 written (Some xs) None new part step whole a b w = absurd a
 written (Some xs) (Some ys) None part step whole a b w = absurd b
 written (Some xs) (Some ys) (Some zs) part step whole a b w = joined zs ys xs part step whole b a w
+
+branch_lines-push : (bs : List Branch) (b : Branch) → branch_lines (bs ++ b ∷ []) ≡ branch_lines bs ++ branch_line b
+branch_lines-push [] b = simp append-nil
+branch_lines-push (e ∷ bs) b = ap (λ (rest : List ℕ). branch_line e ++ rest) (branch_lines-push bs b) ∙ sym (append_assoc (branch_line e) (branch_lines bs) (branch_line b))
+
+-- one branch more
+pub branch_lines-more : (bs : List Branch) (i : ℕ) (b : Branch) → i < length bs → b ≡ get_or bs i b → branch_lines (take (i + 1) bs) ≡ branch_lines (take i bs) ++ branch_line b
+branch_lines-more bs i b h e = ap branch_lines (take_more bs i b h) ∙ ap (λ (x : Branch). branch_lines (take i bs ++ x ∷ [])) (sym e) ∙ branch_lines-push (take i bs) b

@@ -6,3 +6,4 @@ pub mod Play
 pub mod Reading
 pub mod Rolls
 pub mod Scenario
+pub mod Trees

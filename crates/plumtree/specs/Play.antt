@@ -1,14 +1,17 @@
 -- How the actions of a scenario are played in a group.
-use Rattle.std.specs.Prelude.{◌≡◌, ◌≢◌, ◌<◌, ◌≤◌, ℕ, zero, suc, List, [], ◌∷◌, Option, Some, None, MatchOption, reverse, slice_get, take, IsPermutation, IsSorted}
+use Rattle.std.specs.Prelude.{◌≡◌, ◌≢◌, ◌<◌, ◌≤◌, ℕ, zero, suc, List, [], ◌∷◌, ◌++◌, Option, Some, None, MatchOption, reverse, slice_get, take, IsPermutation, IsSorted}
 use Rattle.std.specs.Io.KnownBytes.{Appends}
 use Rattle.node_names.specs.NodeName.{Name}
 use Rattle.node_names.specs.Limits.{Limits}
+use Rattle.node_names.specs.Order.{id_cmp}
+use Rattle.node_names.specs.declared.ids.MsgId.{MsgId}
 use Rattle.node_names.specs.declared.ids.Origin.{Origin}
+use Rattle.world.specs.Content.{Content}
 use Rattle.world.specs.CoreState.{CoreState}
 use Rattle.world.specs.Delivery.{Delivery}
 use Rattle.world.specs.Event.{Event}
 use Rattle.world.specs.Group.{Logged}
-use Rattle.world.specs.History.{deliveries}
+use Rattle.world.specs.History as history
 use Rattle.world.specs.Refusals.{IsRefusal}
 use Rattle.world.specs.Run.{Applied}
 use Rattle.world.specs.Stimulus.{Stimulus}
@@ -19,6 +22,7 @@ use Rattle.rand_core.specs.Stream.{Stream}
 use Rattle.node_names.specs.declared.dice.Dice.{Dice}
 use Rattle.plumtree.specs.Rolls.{after_roll, rolled, rolls_of}
 use Rattle.plumtree.specs.Lines.{line_cmp, lines_of}
+use Rattle.plumtree.specs.Trees.{broadcasts_of, TellsTrees}
 use Rattle.plumtree.specs.declared.scenario.action.Action.{Action}
 use Rattle.plumtree.specs.declared.scenario.action.Action.TheVariants.{Start, Broadcast, Arrive, Lose, Again, Fire, Flush, Shuffle, Down, Stop, ArriveAll}
 use Rattle.plumtree.specs.declared.play.Halt.{Halt}
@@ -66,7 +70,7 @@ fault_of number halt.NoEnd = fault.NoEnd number
 
 -- all deliveries of a group, in the order in which they were given
 abbrev pub delivered : {C N : Type 0} → Logged C N → List Delivery
-delivered group = deliveries (reverse group.log)
+delivered group = history.deliveries (reverse group.log)
 
 -- a group without nodes
 abbrev pub empty_group : {C N : Type 0} → Limits → Logged C N
@@ -134,10 +138,24 @@ module _
       abbrev pub IsHalted : ℕ → List Action → PlayFault → Standing C N → Logged C N → Type 0
       IsHalted most actions stopped old new = (number : ℕ) × (stop : Halt) × (stopped ≡ fault_of number stop) × HaltsAt most actions number stop old new
 
--- What the output gains are the lines of all that was delivered, sorted, in a group that played these actions.
+-- What the output gains is what is printed of a group and its deliveries: the lines of these, sorted, and then those of each
+-- message that was broadcast, in the order of their ids.
+pub record PrintsGroup {C N : Type 0} (state : C → CoreState) (content : N → Content) (group : Logged C N) (deliveries : List Delivery) (before after : Option (List ℕ)) : Type 0 where
+  pub lines : List Delivery
+  pub messages : List MsgId
+  pub trees : List ℕ
+  pub complete : IsPermutation deliveries lines
+  pub sorted : IsSorted line_cmp lines
+  pub all_messages : IsPermutation (broadcasts_of lines) messages
+  pub in_order : IsSorted id_cmp messages
+  pub told : TellsTrees state content group messages trees
+  pub written : Appends before after (lines_of lines ++ trees)
+
+-- What the output gains is what is printed of a group that played these actions.
 pub record Prints
     {C N : Type 0}
     (state : C → CoreState)
+    (content : N → Content)
     (starts : Origin → Limits → List Name → Option Name → List (Name × N) → C → Type 0)
     (steps : C → Stimulus N → List (Name × N) → List Delivery → C → Type 0)
     (most : ℕ)
@@ -148,8 +166,5 @@ pub record Prints
     : Type 0 where
   pub group : Logged C N
   pub rolls : Option Stream
-  pub lines : List Delivery
   pub played : PlaysActions state starts steps most actions (record { rolls = rolls_of seed; group = empty_group limits }) (record { rolls = rolls; group = group })
-  pub complete : IsPermutation (delivered group) lines
-  pub sorted : IsSorted line_cmp lines
-  pub written : Appends before after (lines_of lines)
+  pub printed : PrintsGroup state content group (delivered group) before after

@@ -10,6 +10,7 @@ mod read;
 mod rolls;
 mod scenario;
 mod simulate;
+mod trees;
 
 use std::process::ExitCode;
 

@@ -79,12 +79,17 @@ impl<C: Core<A>, A: Allocator + Copy> Player<C, A> {
         })
     }
 
-    /// What was delivered.
-    pub fn into_deliveries(self) -> Vec<Delivery<A>, A>
-        ensures { result ≡ self.deliveries }
+    /// The group as it stands, and what was delivered in it.
+    pub fn into_parts(self) -> (World<C, A>, Vec<Delivery<A>, A>)
+        ensures group { result.0 ≡ self.group }
+        ensures deliveries { result.1 ≡ self.deliveries }
     {
-        let Player { deliveries, .. } = self;
-        deliveries
+        let Player {
+            group,
+            deliveries,
+            ..
+        } = self;
+        (group, deliveries)
     }
 
     /// Plays actions in order.

@@ -1,17 +1,17 @@
 //! The program `plumtree sim`, over any reader and writers.
-ghost use Rattle.std.specs.Prelude.{◌≡◌, ◌⊎◌, ◌≤◌, ℕ, List, Option, IfOk, IfErr, IfSome, IsOk};
+ghost use Rattle.std.specs.Prelude.{◌≡◌, ◌⊎◌, ◌≤◌, ℕ, List, Option, IfOk, IfErr, IfSome, IsOk, OnOk};
 ghost use Rattle.node_names.specs.Limits.{Limits as Sizes};
 ghost use Rattle.plumtree.specs.declared.scenario.action.Action.{Action};
 ghost use Rattle.plumtree.specs.Fault.{IsTextFault};
 ghost use Rattle.plumtree.specs.Scenario.{IsScenario};
-ghost use Rattle.plumtree.specs.Play.{Prints};
-ghost use Rattle.world.specs.FloodCore.{flood_state, FloodStarts, FloodSteps};
+ghost use Rattle.plumtree.specs.Play.{Prints, PrintsGroup};
+ghost use Rattle.world.specs.FloodCore.{flood_state, note_content, FloodStarts, FloodSteps};
 
-use crate::output;
 use crate::output::OutputFault;
 use crate::play::{MOST_ARRIVALS, PlayFault, Player};
 use crate::read::{LONGEST, read_document};
 use crate::scenario::{MOST_EVENTS, Scenario, ScenarioFault};
+use crate::{output, trees};
 use std::alloc::{Allocator, Global};
 use std::fmt::Display;
 use std::io;
@@ -35,7 +35,7 @@ pub fn simulate<R: Read, W: Write, F: Write>(
     ensures unplayed { result ≡ 2 → out.new ≡ out.old }
     ensures printed { result ≡ 0 → (seed : Option ℕ) × (sizes : Sizes) × (actions : List Action)
         × IfSome (R.remaining input.old) (λ text. IsScenario LONGEST MOST_EVENTS text seed sizes actions)
-        × Prints flood_state FloodStarts FloodSteps MOST_ARRIVALS seed sizes actions (W.contents out.old) (W.contents out.new) }
+        × Prints flood_state note_content FloodStarts FloodSteps MOST_ARRIVALS seed sizes actions (W.contents out.old) (W.contents out.new) }
 {
     match read_scenario(alloc, input) {
         Ok(scenario) => play_and_print::<FloodCore, Global, W, F>(alloc, &scenario, out, faults),
@@ -64,7 +64,7 @@ fn play_and_print<C: Core<A>, A: Allocator + Copy, W: Write, F: Write>(
 ) -> u8
     ensures status { result ≤ 1 }
     ensures quiet { result ≡ 0 → faults.new ≡ faults.old }
-    ensures printed { result ≡ 0 → Prints C.state C.starts C.steps MOST_ARRIVALS scenario.now.seed scenario.now.limits scenario.now.actions.items (W.contents out.old) (W.contents out.new) }
+    ensures printed { result ≡ 0 → Prints C.state C.Note.content C.starts C.steps MOST_ARRIVALS scenario.now.seed scenario.now.limits scenario.now.actions.items (W.contents out.old) (W.contents out.new) }
 {
     let Ok(mut text) = String::with_capacity(alloc, LINE_ROOM) else {
         return report(faults, PlayFault::OutOfMemory, 1);
@@ -73,13 +73,28 @@ fn play_and_print<C: Core<A>, A: Allocator + Copy, W: Write, F: Write>(
         return report(faults, PlayFault::OutOfMemory, 1);
     };
     let played = player.play(alloc, scenario.actions.as_slice());
-    let mut deliveries = player.into_deliveries();
-    output::sort(&mut deliveries);
-    match output::write_lines(&mut text, deliveries.as_slice(), out) {
+    match print(alloc, &mut text, player, out) {
         Ok(()) => report_played(faults, played, 0),
         Err(OutputFault::Unwritten) => report_played(faults, played, 1),
         Err(OutputFault::OutOfMemory) => report(faults, PlayFault::OutOfMemory, 1),
     }
+}
+
+/// Prints what was delivered, and then each message's tree. `text` is room for that.
+fn print<C: Core<A>, A: Allocator + Copy, W: Write>(
+    alloc: A,
+    text: &mut String<A>,
+    player: Player<C, A>,
+    out: &mut W,
+) -> Result<(), OutputFault>
+    ensures { OnOk result (PrintsGroup C.state C.Note.content player.group player.deliveries.items (W.contents out.old) (W.contents out.new)) }
+{
+    let (group, mut deliveries) = player.into_parts();
+    output::sort(&mut deliveries);
+    let messages = trees::broadcasts(alloc, deliveries.as_slice())?;
+    output::write_lines(text, deliveries.as_slice(), out)?;
+    trees::write_trees(alloc, text, &group, messages.as_slice(), out)?;
+    Ok(())
 }
 
 /// Writes why a run ended early, if it did; else the program ends with this status.

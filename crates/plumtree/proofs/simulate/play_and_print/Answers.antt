@@ -1,11 +1,8 @@
--- What the player delivered is sorted and written.
-use Rattle.std.proofs.Common.{◌≡◌, ◌∙◌, ap, subst, List, Option}
-use Rattle.std.specs.Prelude.{IsPermutation}
-use Rattle.std.specs.Io.KnownBytes.{Appends}
+-- What the player delivered, and its group, are printed.
+use Rattle.std.proofs.Common.{subst, List, Option}
 use Rattle.world.specs.Delivery.{Delivery}
 use Rattle.world.specs.Group.{Logged}
-use Rattle.plumtree.specs.Lines.{lines_of}
-use Rattle.plumtree.specs.Play.{PlaysActions, Standing, delivered}
+use Rattle.plumtree.specs.Play.{PlaysActions, PrintsGroup, Standing}
 use Rattle.plumtree.specs.Rolls.{rolls_in, rolls_of}
 use Rattle.rand_core.specs.Stream.{Stream}
 use Rattle.plumtree.specs.declared.play.PlayFault.TheVariants.{OutOfMemory}
@@ -13,8 +10,8 @@ use Rattle.plumtree.specs.declared.play.TheConstants.{MOST_ARRIVALS}
 use Rattle.plumtree.proofs.Oks.{fact_of_ok, ok_is_no_error}
 use Rattle.plumtree.proofs.simulate.play_and_print.Goals as goal
 
-pub returns-in-Ok-write_lines-clause-printed : goal.returns-in-Ok-write_lines-clause-printed
-returns-in-Ok-write_lines-clause-printed g c ended =
+pub returns-in-Ok-print-clause-printed : goal.returns-in-Ok-print-clause-printed
+returns-in-Ok-print-clause-printed g c ended =
     let is_ok = (c.report_played.ensures.played ended).0 in
     let after : Standing g.row.C.Denot g.row.C-Note.Denot = record { rolls = rolls_in c.play-played.new.self.rolls; group = c.play-played.new.self.group } in
     let FromRolls : Option Stream → Type 0 = λ rolls. PlaysActions g.C.Core.state g.C.Core.starts g.C.Core.steps MOST_ARRIVALS c.as_slice.result.now (record { rolls = rolls; group = c.in-Ok-new.player.group }) after in
@@ -22,15 +19,10 @@ returns-in-Ok-write_lines-clause-printed g c ended =
     let from_rolls = subst FromRolls c.in-Ok-new.ensures.rolls (fact_of_ok c.play-played.result _ is_ok c.play-played.ensures.ok) in
     let from_empty = subst FromGroup c.in-Ok-new.ensures.group from_rolls in
     let whole = c.play-played.ensures.whole (ok_is_no_error c.play-played.result OutOfMemory is_ok) in
-    let gave : c.into_deliveries-deliveries.result.items ≡ delivered c.play-played.new.self.group = ap (λ v. v.items) c.into_deliveries-deliveries.ensures ∙ whole in
-    let Permutes : List Delivery → Type 0 = λ ds. IsPermutation ds c.sort.new.deliveries.items in
-    let Writes : List Delivery → Type 0 = λ ds. Appends (g.W.Write.contents c.args.out.now) (g.W.Write.contents c.write_lines.new.out) (lines_of ds) in
+    let Prints : List Delivery → Type 0 = λ ds. PrintsGroup g.C.Core.state g.C.Note.Wire.content c.play-played.new.self.group ds (g.W.Write.contents c.args.out.now) (g.W.Write.contents c.print.new.out) in
     record {
       group = c.play-played.new.self.group;
       rolls = rolls_in c.play-played.new.self.rolls;
-      lines = c.sort.new.deliveries.items;
       played = rw c.as_slice.ensures.value at from_empty;
-      complete = subst Permutes gave c.sort.ensures.permutation;
-      sorted = c.sort.ensures.sorted;
-      written = subst Writes c.as_slice-2.ensures.value c.in-Ok-write_lines.ensures;
+      printed = subst Prints whole c.in-Ok-print.ensures;
     }
