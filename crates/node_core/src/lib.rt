@@ -1,10 +1,12 @@
 //! One node: HyParView's membership and Plumtree's gossip, joined into one core.
 #![tactic(auto)]
 
+mod giving;
 mod gossiping;
 mod hearing;
 mod laws;
 mod moving;
+mod numbering;
 mod telling;
 mod turning;
 

@@ -1,0 +1,25 @@
+-- One more body is numbered.
+use Rattle.std.specs.Prelude.{◌≡◌, ◌+◌, ℕ, suc, List, [], ◌∷◌, ◌++◌, length, refl}
+use Rattle.std.proofs.Common.{sym, ◌∙◌, ap, subst, arith}
+use Rattle.node_names.specs.NodeName.{Name}
+use Rattle.node_names.specs.declared.ids.Origin.{Origin}
+use Rattle.frames.specs.Body.{Body}
+use Rattle.frames.specs.Frame.{Frame}
+use Rattle.node_core.specs.Fits.{AreFit, IsFit}
+use Rattle.node_core.specs.Steps.{numbered}
+
+-- one of those that fit fits
+pub middle_fits : (xs zs : List (Name × Body)) (x : Name × Body) (all : List (Name × Body)) → xs ++ x ∷ zs ≡ all → AreFit all → IsFit x.1
+middle_fits xs zs x all e fit = go xs (subst AreFit (sym e) fit)
+  where
+    go : (ys : List (Name × Body)) → AreFit (ys ++ x ∷ zs) → IsFit x.1
+    go [] h = h.0
+    go (y ∷ ys) h = go ys h.1
+
+-- the body that comes last has the next number
+pub numbered-push : (me : Origin) (framed : ℕ) (sends : List (Name × Body)) (send : Name × Body) (number : ℕ) → number ≡ framed + length sends → numbered me framed (sends ++ send ∷ []) ≡ numbered me framed sends ++ (send.0, record { sender = me; number = number + 1; body = send.1 }) ∷ []
+numbered-push me framed [] send number e = ap (λ n. (send.0, record { sender = me; number = n + 1; body = send.1 }) ∷ []) (omega (arith, e))
+numbered-push me framed (first ∷ sends) send number e = ap (λ rest. (first.0, record { sender = me; number = framed + 1; body = first.1 }) ∷ rest) (numbered-push me (framed + 1) sends send number (e ∙ shift framed (length sends)))
+  where
+    shift : (a b : ℕ) → a + suc b ≡ (a + 1) + b
+    shift a b = omega arith
