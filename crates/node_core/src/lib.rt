@@ -7,6 +7,7 @@ mod hearing;
 mod laws;
 mod moving;
 mod numbering;
+mod stepping;
 mod telling;
 mod turning;
 
