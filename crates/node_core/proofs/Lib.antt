@@ -1,3 +1,4 @@
 pub mod Fitting
 pub mod Frames
+pub mod Openings
 pub mod Told

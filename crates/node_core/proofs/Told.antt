@@ -1,8 +1,9 @@
 -- What the two parts do together.
-use Rattle.std.specs.Prelude.{◌≡◌, ◌+◌, ◌++◌, ℕ, List, [], None, length, refl, IfOk, OnOk}
+use Rattle.std.specs.Prelude.{◌≡◌, ◌+◌, ◌++◌, ℕ, List, [], None, length, refl, IfOk, OnOk, IsErrAnd, is_ok}
 use Rattle.std.specs.declared.result.Result.{Result}
 use Rattle.std.specs.declared.result.Result.TheVariants.{Ok, Err}
 use Rattle.std.proofs.Common.{◌∙◌, ap, subst}
+use Rattle.std.proofs.lemmas.Bool.{true≢false}
 use Rattle.node_names.specs.declared.dice.Dice.{Dice}
 use Rattle.membership.specs.Event.{Event}
 use Rattle.membership.specs.Membership.{Membership, Moves, Ends, still}
@@ -51,3 +52,12 @@ stepped_is me framed m g stimulus allowed new_m new_g effects parts before after
       delivered = ap (λ (out : Output Frame). out.deliveries) is_after;
     }
 stepped_is me framed m g stimulus allowed new_m new_g effects parts before after (Err e) is_last is_after = is_last
+
+-- the error that a refusal passes on is the one that it returns
+pub error_is : {T E : Type 0} (result : Result T E) (e x : E) → IsErrAnd result (λ passed. passed ≡ e) → result ≡ Err x → e ≡ x
+error_is (Ok v) e x is returned = absurd is
+error_is (Err passed) e x is returned = cc
+
+-- what went well is no error
+pub no_error : {T E : Type 0} (v : T) (e : E) → Ok v ≡ Err e → ⊥
+no_error v e returned = true≢false (ap is_ok returned)

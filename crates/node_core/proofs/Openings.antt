@@ -1,0 +1,81 @@
+-- What a core starts with.
+use Rattle.std.specs.Prelude.{◌≡◌, ◌+◌, ◌++◌, ◌⊎◌, ◌<◌, ◌≤◌, ◌^◌, ◌-◌, ℕ, List, [], ◌∷◌, Option, None, Some, IsSome, is_some, length, refl, IfErr, IsErrAnd}
+use Rattle.std.specs.FinSet as set
+use Rattle.std.specs.declared.result.Result.{Result}
+use Rattle.std.specs.declared.result.Result.TheVariants.{Ok, Err}
+use Rattle.std.proofs.Common.{◌∙◌, ap, arith, inl, inr, subst, sym}
+use Rattle.std.proofs.lemmas.Bool.{false≢true}
+use Rattle.std.proofs.lemmas.List.{append-nil}
+use Rattle.node_names.specs.NodeName.{Name}
+use Rattle.node_names.specs.Limits.{Limits, IsAllowed as AreAllowed}
+use Rattle.node_names.specs.declared.dice.Dice.{Dice}
+use Rattle.node_names.specs.declared.ids.Origin.{Origin}
+use Rattle.frames.specs.Body.{Body}
+use Rattle.frames.specs.Frame.{Frame}
+use Rattle.world.specs.Output.{Output}
+use Rattle.world.specs.declared.protocol.CoreError.{CoreError}
+use Rattle.world.specs.declared.protocol.CoreError.TheVariants.{PayloadTooLong, SeqSpent, OutOfMemory}
+use Rattle.views.specs.Views.{fresh}
+use Rattle.membership.specs.Event.{Event as on}
+use Rattle.membership.specs.Membership.{Membership, Moves, Ends, still}
+use Rattle.membership.specs.Table.{table}
+use Rattle.peer_sets.specs.Members.{all_eager}
+use Rattle.gossip_core.specs.Effects.{Effects}
+use Rattle.gossip_core.specs.State.{GossipState}
+use Rattle.node_core.specs.Fits.{FitsFrames, AreFit}
+use Rattle.node_core.specs.Steps.{PlumStartsCounted, newcomer, numbered, delivered_at, opening}
+
+-- the packets of a start fit frames
+pub opening_fits : (contact : Option Name) → AreFit (opening contact)
+opening_fits None = tt
+opening_fits (Some contact) = ((refl, refl), tt)
+
+-- and so does a gossip that holds nothing
+pub newcomer_fits : (me : Origin) (limits : Limits) (peers : List Name) (spent framed : ℕ) → FitsFrames (newcomer me limits peers spent framed).gossip
+newcomer_fits me limits peers spent framed = record { held = λ id p found. absurd (false≢true (ap is_some found)); queued = tt; wants = tt }
+
+-- the contact is sent JOIN, and the membership stays as it was
+pub greets : (m : Membership) (o : Option Name) (contact : Name) → o ≡ Some contact → (none moves : Moves) (new : Membership) → none ≡ record { sends = []; downs = []; ups = [] } → ((dice : Dice) → Ends (table (on.Joins contact) dice (still m)) none new moves) → (sends : List (Name × Body)) → sends ≡ moves.sends → (new ≡ m) × (sends ≡ opening o)
+greets m o contact is none moves new is_none ends sends are_sent =
+    let end : Ends (table (on.Joins contact) (record { 0 = [] }) (still m)) none new moves = ends (record { 0 = [] }) in
+    (end.node, are_sent ∙ end.sends ∙ ap (λ (n : Moves). n.sends ++ (table (on.Joins contact) (record { 0 = [] }) (still m)).sends) is_none ∙ ap opening (sym is))
+
+-- the parts are those of a newcomer, and what was opened with is given
+pub started_is : (me : Origin) (limits : Limits) (peers : List Name) (contact : Option Name) (spent framed : ℕ) → AreAllowed limits → (m : Membership) → m ≡ (newcomer me limits peers spent framed).membership → (g : GossipState) → g ≡ (newcomer me limits peers spent framed).gossip → (effects : Effects) → effects ≡ record { sends = opening contact; delivered = None } → (before after : Output Frame) → after ≡ record { sends = before.sends ++ numbered me framed effects.sends; deliveries = before.deliveries ++ delivered_at me effects.delivered } → (last : ℕ) → last ≡ framed + length effects.sends → (sends : List (Name × Frame)) × PlumStartsCounted spent framed me limits peers contact sends (record { me = me; membership = m; gossip = g; framed = last }) × (after ≡ record before { sends = before.sends ++ sends })
+started_is me limits peers contact spent framed allowed m is_m g is_g effects is_effects before after is_after last is_last = (
+  numbered me framed effects.sends,
+  record {
+    allowed = allowed;
+    leaves = λ i. record { me = me; membership = is_m i; gossip = is_g i; framed = (is_last ∙ ap (λ (e : Effects). framed + length e.sends) is_effects) i };
+    sent = ap (λ (e : Effects). numbered me framed e.sends) is_effects;
+  },
+  is_after ∙ ap (λ (e : Effects). record { sends = before.sends ++ numbered me framed effects.sends; deliveries = before.deliveries ++ delivered_at me e.delivered }) is_effects ∙ ap (λ deliveries. record { sends = before.sends ++ numbered me framed effects.sends; deliveries = deliveries }) (append-nil before.deliveries),
+)
+
+-- Why a start is refused.
+abbrev pub IsRefusal : Option Name → ℕ → CoreError → Type 0
+IsRefusal contact framed e = (e ≡ OutOfMemory) ⊎ ((e ≡ SeqSpent) × IsSome contact × (framed ≡ 2 ^ 64 - 1))
+
+-- more numbers are needed than are left: those of the JOIN
+join_needs_one : (contact : Option Name) (framed : ℕ) → framed ≤ 2 ^ 64 - 1 → 2 ^ 64 - 1 < framed + length (opening contact) → IsSome contact × (framed ≡ 2 ^ 64 - 1)
+join_needs_one None framed fits more = absurd (omega (arith, fits, more))
+join_needs_one (Some contact) framed fits more = (refl, omega (arith, fits, more))
+
+pub refused_for : (contact : Option Name) (framed : ℕ) → framed ≤ 2 ^ 64 - 1 → (effects : Effects) → effects ≡ record { sends = opening contact; delivered = None } → (e : CoreError) → (e ≡ PayloadTooLong → ⊥) → (e ≡ SeqSpent → 2 ^ 64 - 1 < framed + length effects.sends) → IsRefusal contact framed e
+refused_for contact framed fits effects is_effects PayloadTooLong no_payload spent = absurd (no_payload refl)
+refused_for contact framed fits effects is_effects SeqSpent no_payload spent =
+    let more : 2 ^ 64 - 1 < framed + length (opening contact) = subst (λ (e : Effects). 2 ^ 64 - 1 < framed + length e.sends) is_effects (spent refl) in
+    let needed : IsSome contact × (framed ≡ 2 ^ 64 - 1) = join_needs_one contact framed fits more in
+    inr (refl, needed.0, needed.1)
+refused_for contact framed fits effects is_effects OutOfMemory no_payload spent = inl refl
+
+-- where no number is spent, one is left
+pub only_memory : {T : Type 0} (result : Result T CoreError) (contact : Option Name) → IfErr result (IsRefusal contact 0) → IfErr result (λ e. e ≡ OutOfMemory)
+only_memory (Ok x) contact refused = tt
+only_memory (Err e) contact (inl memory) = memory
+only_memory (Err e) contact (inr spent) = absurd (omega (arith, spent.2))
+
+-- what holds of an error holds of what a refusal passes on
+pub passed_on : {T : Type 0} (result : Result T CoreError) (P : CoreError → Type 0) (e : CoreError) → IsErrAnd result (λ passed. passed ≡ e) → P e → IfErr result P
+passed_on (Ok x) P e is p = tt
+passed_on (Err passed) P e is p = subst P (sym is) p

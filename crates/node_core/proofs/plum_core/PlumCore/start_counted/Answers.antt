@@ -1,0 +1,19 @@
+-- A start has the parts of a newcomer, and only the JOIN needs a number.
+use Rattle.std.specs.Prelude.{◌≡◌}
+use Rattle.std.specs.declared.result.Result.TheVariants.{Err}
+use Rattle.std.proofs.Common.{◌∙◌, ap, arith}
+use Rattle.node_core.specs.Starting.{fit_views}
+use Rattle.node_core.proofs.Openings.{IsRefusal, passed_on, refused_for, started_is}
+use Rattle.node_core.proofs.plum_core.PlumCore.start_counted.Goals as goal
+
+pub new-requires : goal.new-requires
+new-requires g c = fit_views c.args.limits c.args.me.name c.args.peers.now c.args.contact c.requires
+
+pub returns-in_err-framed-clause-refused : goal.returns-in_err-framed-clause-refused
+returns-in_err-framed-clause-refused g c =
+    passed_on c.from_residual-in_err-framed.result (IsRefusal c.args.contact c.args.frames_spent) c.in_err-framed.field-0.0 c.from_residual-in_err-framed.ensures.1
+    (refused_for c.args.contact c.args.frames_spent (omega (arith, c.ranges.frames_spent.fits)) c.in_ok-effects.effects c.in_ok-effects.ensures.opening c.in_err-framed.field-0.0 (λ is. c.in_err-framed.ensures.no_payload (ap Err is)) (λ is. c.in_err-framed.ensures.spent (ap Err is)))
+
+pub returns-clause-started : goal.returns-clause-started
+returns-clause-started g c =
+    started_is c.args.me c.args.limits c.args.peers.now c.args.contact c.args.seq_spent c.args.frames_spent c.active-allowed.ensures.allowed c.greet.new.membership (c.in_ok-effects.ensures.same ∙ c.in_ok-membership.ensures) c.in_ok-gossip.gossip c.in_ok-gossip.ensures c.in_ok-effects.effects c.in_ok-effects.ensures.opening c.args.out.now c.give.new.out c.in_ok-framed.ensures.ok c.in_ok-framed.framed c.in_ok-framed.ensures.last

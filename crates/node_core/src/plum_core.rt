@@ -1,0 +1,214 @@
+//! A node's core: the state machine that joins HyParView's membership and Plumtree's gossip.
+ghost use Rattle.std.specs.Prelude.{◌≡◌, ◌⊎◌, ◌↔◌, ◌++◌, None, List, IsSome, IsTrue, IfOk, IfErr, OnOk, OnErr, IsErrOf};
+ghost use Rattle.node_names.specs.NodeName.{Name};
+ghost use Rattle.frames.specs.Frame.{Frame as Plain};
+ghost use Rattle.world.specs.IdentityLaw.{IsTooLong};
+ghost use Rattle.world.specs.Output.{Stepped};
+ghost use Rattle.world.specs.Peers.{are_peers};
+ghost use Rattle.node_core.specs.Steps.{PlumStartsCounted, PlumSteps, PlumIsSpent, opening};
+
+use crate::giving::give;
+use crate::stepping::{judge, take};
+use bytes::Bytes;
+use frames::Frame;
+use gossip_core::{Effects, Gossip};
+use membership::{Membership, Moves};
+use node_names::{Limits, MsgId, NodeName, Origin};
+use std::alloc::{AllocError, Allocator, Global};
+use std::marker::Model;
+use world::{Core, CoreError, NameSet, Out, Stimulus};
+
+/// One run of one node.
+///
+/// A step works on a copy of both parts, so it costs as much as copying what the node holds. Nothing outside sees that.
+#[derive(Drop)]
+pub struct PlumCore<A: Allocator = Global> {
+    me: Origin,
+    membership: Membership<A>,
+    gossip: Gossip<A>,
+    framed: u64,
+}
+
+impl<A: Allocator> Model for PlumCore<A> {
+    ghost use Rattle.std.specs.FinSet as set;
+    ghost use Rattle.node_core.specs.Fits.{FitsFrames};
+    ghost use Rattle.node_core.specs.Plum.{Plum};
+
+    ghost Value = { Plum };
+
+    ghost use Rattle.std.specs.Coded.{codes};
+    ghost use Rattle.node_names.specs.Order.{id_cmp};
+    ghost use Rattle.node_names.specs.contracts.ids.MsgId as id;
+
+    ghost coded = { Prim.hlevel (codes, set.code {R = id_cmp} id.the_row.coded) };
+
+    ghost view = { λ core. record { me = core.me; membership = core.membership; gossip = core.gossip; framed = core.framed } };
+
+    ghost invariant = { λ core. FitsFrames core.gossip };
+}
+
+/// JOIN to the contact, if there is one.
+fn greet<A: Allocator + Copy>(
+    alloc: A,
+    membership: &mut Membership<A>,
+    contact: Option<NodeName>,
+) -> Result<Effects<A>, AllocError>
+    ensures same { OnOk result (membership.new ≡ membership.old) }
+    ensures opening { IfOk result (λ effects. effects ≡ record { sends = opening contact; delivered = None }) }
+{
+    let Some(contact) = contact else {
+        return Ok(Effects::new(alloc));
+    };
+    let mut moves = Moves::new(alloc);
+    membership.join(contact, &mut moves)?;
+    let Moves { sends, .. } = moves;
+    Ok(Effects {
+        sends,
+        delivered: None,
+    })
+}
+
+impl<A: Allocator + Copy> PlumCore<A> {
+    /// A node that has spent so many numbers of messages and of frames. `SeqSpent`: it has a contact, and no frame number is
+    /// left for the JOIN.
+    pub fn start_counted(
+        alloc: A,
+        me: Origin,
+        limits: Limits,
+        peers: &[NodeName],
+        contact: Option<NodeName>,
+        seq_spent: u64,
+        frames_spent: u64,
+        out: &mut Out<Frame<A>, A>,
+    ) -> Result<PlumCore<A>, CoreError>
+        requires { IsTrue (are_peers limits me.name peers.now contact) }
+        ensures started { IfOk result (λ core. (sends : List (Name × Plain)) × PlumStartsCounted seq_spent frames_spent me limits peers.now contact sends core × (out.new ≡ record out.old { sends = out.old.sends ++ sends })) }
+        ensures refused { IfErr result (λ e. (e ≡ CoreError.OutOfMemory) ⊎ ((e ≡ CoreError.SeqSpent) × IsSome contact × (frames_spent ≡ u64.MAX))) }
+        ensures err { OnErr result (out.new ≡ out.old) }
+    {
+        let _allowed = limits.active();
+        let mut membership = Membership::new(alloc, me.name, limits, peers)?;
+        let gossip = Gossip::new(alloc, me, peers, seq_spent)?;
+        let effects = greet(alloc, &mut membership, contact)?;
+        let framed = give(&me, frames_spent, effects, out)?;
+        Ok(PlumCore {
+            me,
+            membership,
+            gossip,
+            framed,
+        })
+    }
+
+    /// The core after the step. This one stays as it is.
+    fn stepped(
+        &self,
+        stimulus: &Stimulus<Frame<A>, A>,
+        out: &mut Out<Frame<A>, A>,
+    ) -> Result<PlumCore<A>, CoreError>
+        ensures stepped { IfOk result (λ core. Stepped PlumSteps self.now stimulus.now out.old core out.new) }
+        ensures too_long { IsErrOf result CoreError.PayloadTooLong ↔ IsTooLong stimulus.now }
+        ensures spent { IsErrOf result CoreError.SeqSpent → PlumIsSpent self.now stimulus.now }
+        ensures err { OnErr result (out.new ≡ out.old) }
+    {
+        judge(&self.gossip, stimulus)?;
+        let mut membership = self.membership.copy()?;
+        let mut gossip = self.gossip.copy()?;
+        let framed = take(
+            &self.me,
+            self.framed,
+            &mut membership,
+            &mut gossip,
+            stimulus,
+            out,
+        )?;
+        Ok(PlumCore {
+            me: self.me,
+            membership,
+            gossip,
+            framed,
+        })
+    }
+}
+
+impl<A: Allocator + Copy> Core<A> for PlumCore<A> {
+    ghost use Rattle.node_core.specs.Plum.{IsSoundPlum, plum_state};
+    ghost use Rattle.node_core.specs.PlumLaws.{plum_lawful};
+    ghost use Rattle.node_core.specs.Steps.{PlumStarts, PlumSteps, PlumIsSpent};
+
+    type Note = Frame<A>;
+
+    ghost state = { plum_state };
+
+    ghost is_sound = { IsSoundPlum };
+
+    ghost starts = { PlumStarts };
+
+    ghost steps = { PlumSteps };
+
+    ghost is_spent = { PlumIsSpent };
+
+    ghost lawful = { plum_lawful };
+
+    fn start(
+        alloc: A,
+        me: Origin,
+        limits: Limits,
+        peers: &[NodeName],
+        contact: Option<NodeName>,
+        out: &mut Out<Frame<A>, A>,
+    ) -> Result<PlumCore<A>, CoreError> {
+        PlumCore::start_counted(alloc, me, limits, peers, contact, 0, 0, out)
+    }
+
+    fn step(
+        &mut self,
+        stimulus: &Stimulus<Frame<A>, A>,
+        out: &mut Out<Frame<A>, A>,
+    ) -> Result<(), CoreError> {
+        *self = self.stepped(stimulus, out)?;
+        Ok(())
+    }
+
+    fn copy(&self) -> Result<PlumCore<A>, AllocError> {
+        let membership = self.membership.copy()?;
+        let gossip = self.gossip.copy()?;
+        Ok(PlumCore {
+            me: self.me,
+            membership,
+            gossip,
+            framed: self.framed,
+        })
+    }
+
+    fn me(&self) -> Origin {
+        self.gossip.me()
+    }
+
+    fn has(&self, id: &MsgId) -> bool {
+        self.gossip.knows(id)
+    }
+
+    fn payload(&self, id: &MsgId) -> Option<&Bytes<A>> {
+        self.gossip.payload(id)
+    }
+
+    fn active(&self) -> &NameSet<A> {
+        self.membership.views().active()
+    }
+
+    fn passive(&self) -> &NameSet<A> {
+        self.membership.views().passive()
+    }
+
+    fn queued(&self) -> &[(NodeName, MsgId, u32)] {
+        self.gossip.peers().queued()
+    }
+
+    fn wants(&self) -> &[(MsgId, NodeName, u32)] {
+        self.gossip.missing().wants()
+    }
+
+    fn timers(&self) -> &[MsgId] {
+        self.gossip.missing().timers()
+    }
+}
