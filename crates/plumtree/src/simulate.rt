@@ -5,18 +5,21 @@ ghost use Rattle.plumtree.specs.declared.scenario.action.Action.{Action};
 ghost use Rattle.plumtree.specs.Fault.{IsTextFault};
 ghost use Rattle.plumtree.specs.Scenario.{IsScenario};
 ghost use Rattle.plumtree.specs.Play.{Prints, PrintsGroup};
-ghost use Rattle.world.specs.FloodCore.{flood_state, note_content, FloodStarts, FloodSteps};
+ghost use Rattle.frames.specs.Content.{frame_content};
+ghost use Rattle.node_core.specs.Plum.{plum_state};
+ghost use Rattle.node_core.specs.Steps.{PlumStarts, PlumSteps};
 
 use crate::output::OutputFault;
 use crate::play::{MOST_ARRIVALS, PlayFault, Player};
 use crate::read::{LONGEST, read_document};
 use crate::scenario::{MOST_EVENTS, Scenario, ScenarioFault};
 use crate::{output, trees};
+use node_core::PlumCore;
 use std::alloc::{Allocator, Global};
 use std::fmt::Display;
 use std::io;
 use std::io::{Read, Write};
-use world::{Core, FloodCore};
+use world::Core;
 
 /// The room for a line: the longest payload in hexadecimal, and what stands before it.
 const LINE_ROOM: usize = 66_000;
@@ -35,10 +38,10 @@ pub fn simulate<R: Read, W: Write, F: Write>(
     ensures unplayed { result ≡ 2 → out.new ≡ out.old }
     ensures printed { result ≡ 0 → (seed : Option ℕ) × (sizes : Sizes) × (actions : List Action)
         × IfSome (R.remaining input.old) (λ text. IsScenario LONGEST MOST_EVENTS text seed sizes actions)
-        × Prints flood_state note_content FloodStarts FloodSteps MOST_ARRIVALS seed sizes actions (W.contents out.old) (W.contents out.new) }
+        × Prints plum_state frame_content PlumStarts PlumSteps MOST_ARRIVALS seed sizes actions (W.contents out.old) (W.contents out.new) }
 {
     match read_scenario(alloc, input) {
-        Ok(scenario) => play_and_print::<FloodCore, Global, W, F>(alloc, &scenario, out, faults),
+        Ok(scenario) => play_and_print::<PlumCore, Global, W, F>(alloc, &scenario, out, faults),
         Err(ScenarioFault::OutOfMemory) => report(faults, ScenarioFault::OutOfMemory, 1),
         Err(fault) => report(faults, fault, 2),
     }
