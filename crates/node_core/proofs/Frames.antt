@@ -1,10 +1,9 @@
 -- One more body is numbered.
-use Rattle.std.specs.Prelude.{◌≡◌, ◌+◌, ℕ, suc, List, [], ◌∷◌, ◌++◌, length, refl}
+use Rattle.std.specs.Prelude.{◌≡◌, ◌+◌, ℕ, suc, List, [], ◌∷◌, ◌++◌, length}
 use Rattle.std.proofs.Common.{sym, ◌∙◌, ap, subst, arith}
 use Rattle.node_names.specs.NodeName.{Name}
 use Rattle.node_names.specs.declared.ids.Origin.{Origin}
 use Rattle.frames.specs.Body.{Body}
-use Rattle.frames.specs.Frame.{Frame}
 use Rattle.node_core.specs.Fits.{AreFit, IsFit}
 use Rattle.node_core.specs.Steps.{numbered}
 

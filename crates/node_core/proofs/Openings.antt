@@ -1,6 +1,5 @@
 -- What a core starts with.
-use Rattle.std.specs.Prelude.{◌≡◌, ◌+◌, ◌++◌, ◌⊎◌, ◌<◌, ◌≤◌, ◌^◌, ◌-◌, ℕ, List, [], ◌∷◌, Option, None, Some, IsSome, is_some, length, refl, IfErr, IsErrAnd}
-use Rattle.std.specs.FinSet as set
+use Rattle.std.specs.Prelude.{◌≡◌, ◌+◌, ◌++◌, ◌⊎◌, ◌<◌, ◌≤◌, ◌^◌, ◌-◌, ℕ, List, [], Option, None, Some, IsSome, is_some, length, refl, IfErr, IsErrAnd}
 use Rattle.std.specs.declared.result.Result.{Result}
 use Rattle.std.specs.declared.result.Result.TheVariants.{Ok, Err}
 use Rattle.std.proofs.Common.{◌∙◌, ap, arith, inl, inr, subst, sym}
@@ -15,11 +14,9 @@ use Rattle.frames.specs.Frame.{Frame}
 use Rattle.world.specs.Output.{Output}
 use Rattle.world.specs.declared.protocol.CoreError.{CoreError}
 use Rattle.world.specs.declared.protocol.CoreError.TheVariants.{PayloadTooLong, SeqSpent, OutOfMemory}
-use Rattle.views.specs.Views.{fresh}
 use Rattle.membership.specs.Event.{Event as on}
 use Rattle.membership.specs.Membership.{Membership, Moves, Ends, still}
 use Rattle.membership.specs.Table.{table}
-use Rattle.peer_sets.specs.Members.{all_eager}
 use Rattle.gossip_core.specs.Effects.{Effects}
 use Rattle.gossip_core.specs.State.{GossipState}
 use Rattle.node_core.specs.Fits.{FitsFrames, AreFit}

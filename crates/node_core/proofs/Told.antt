@@ -1,5 +1,5 @@
 -- What the two parts do together.
-use Rattle.std.specs.Prelude.{◌≡◌, ◌+◌, ◌++◌, ℕ, List, [], None, length, refl, IfOk, OnOk, IsErrAnd, is_ok}
+use Rattle.std.specs.Prelude.{◌≡◌, ◌+◌, ◌++◌, ℕ, [], None, length, IfOk, OnOk, IsErrAnd, is_ok}
 use Rattle.std.specs.declared.result.Result.{Result}
 use Rattle.std.specs.declared.result.Result.TheVariants.{Ok, Err}
 use Rattle.std.proofs.Common.{◌∙◌, ap, subst}

@@ -1,5 +1,4 @@
-use Rattle.std.proofs.Common.{◌≡◌, ◌+◌, ◌++◌, ◌∷◌, [], length, sym, ap, ◌∙◌, append_assoc, arith, length-append}
-use Rattle.node_core.specs.Steps.{numbered}
+use Rattle.std.proofs.Common.{◌+◌, ◌++◌, ◌∷◌, [], sym, ap, ◌∙◌, append_assoc, arith, length-append}
 use Rattle.node_core.proofs.Frames.{middle_fits, numbered-push}
 use Rattle.node_core.proofs.numbering.number_all.Goals as goal
 

@@ -1,11 +1,9 @@
 -- The contact is sent JOIN.
-use Rattle.std.specs.Prelude.{◌≡◌, List, None}
+use Rattle.std.specs.Prelude.{List, None}
 use Rattle.std.proofs.Common.{ap}
 use Rattle.node_names.specs.NodeName.{Name}
 use Rattle.frames.specs.Body.{Body}
 use Rattle.membership.specs.Membership.{Moves}
-use Rattle.gossip_core.specs.Effects.{Effects}
-use Rattle.node_core.specs.Steps.{opening}
 use Rattle.node_core.proofs.Openings.{greets}
 use Rattle.node_core.proofs.plum_core.greet.Goals as goal
 

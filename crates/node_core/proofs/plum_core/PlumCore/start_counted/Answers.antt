@@ -1,5 +1,4 @@
 -- A start has the parts of a newcomer, and only the JOIN needs a number.
-use Rattle.std.specs.Prelude.{◌≡◌}
 use Rattle.std.specs.declared.result.Result.TheVariants.{Err}
 use Rattle.std.proofs.Common.{◌∙◌, ap, arith}
 use Rattle.node_core.specs.Starting.{fit_views}
