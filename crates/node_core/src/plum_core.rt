@@ -1,5 +1,5 @@
 //! A node's core: the state machine that joins HyParView's membership and Plumtree's gossip.
-ghost use Rattle.std.specs.Prelude.{◌≡◌, ◌⊎◌, ◌↔◌, ◌++◌, None, List, IsSome, IsTrue, IfOk, IfErr, OnOk, OnErr, IsErrOf};
+ghost use Rattle.std.specs.Prelude.{◌≡◌, ◌+◌, ◌≤◌, ◌⊎◌, ◌↔◌, ◌++◌, None, List, length, IsSome, IsTrue, IfOk, IfErr, OnOk, OnErr, IsErrOf};
 ghost use Rattle.node_names.specs.NodeName.{Name};
 ghost use Rattle.frames.specs.Frame.{Frame as Plain};
 ghost use Rattle.world.specs.IdentityLaw.{IsTooLong};
@@ -83,6 +83,7 @@ impl<A: Allocator + Copy> PlumCore<A> {
     ) -> Result<PlumCore<A>, CoreError>
         requires { IsTrue (are_peers limits me.name peers.now contact) }
         ensures started { IfOk result (λ core. (sends : List (Name × Plain)) × PlumStartsCounted seq_spent frames_spent me limits peers.now contact sends core × (out.new ≡ record out.old { sends = out.old.sends ++ sends })) }
+        ensures numbered { OnOk result (frames_spent + length (opening contact) ≤ u64.MAX) }
         ensures refused { IfErr result (λ e. (e ≡ CoreError.OutOfMemory) ⊎ ((e ≡ CoreError.SeqSpent) × IsSome contact × (frames_spent ≡ u64.MAX))) }
         ensures err { OnErr result (out.new ≡ out.old) }
     {
