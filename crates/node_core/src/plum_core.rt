@@ -14,6 +14,7 @@ use frames::Frame;
 use gossip_core::{Effects, Gossip};
 use membership::{Membership, Moves};
 use node_names::{Limits, MsgId, NodeName, Origin};
+use peer_sets::PeerSets;
 use std::alloc::{AllocError, Allocator, Global};
 use std::marker::Model;
 use world::{Core, CoreError, NameSet, Out, Stimulus};
@@ -211,5 +212,14 @@ impl<A: Allocator + Copy> Core<A> for PlumCore<A> {
 
     fn timers(&self) -> &[MsgId] {
         self.gossip.missing().timers()
+    }
+}
+
+impl<A: Allocator> PlumCore<A> {
+    /// The peers of its gossip: the eager ones, the lazy ones, and what waits to be announced to them.
+    pub fn peers(&self) -> &PeerSets<A>
+        ensures { result.now ≡ self.now.gossip.peers }
+    {
+        self.gossip.peers()
     }
 }

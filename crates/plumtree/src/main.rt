@@ -3,6 +3,7 @@
 
 mod arguments;
 mod code;
+mod graph;
 mod output;
 mod play;
 mod program;

@@ -2,12 +2,13 @@
 ghost use Rattle.std.specs.Prelude.{◌≡◌, ◌⊎◌, ◌≤◌};
 
 use crate::arguments;
-use crate::arguments::Request;
+use crate::arguments::{Form, Request};
 use crate::scenario::ScenarioFault;
-use crate::simulate::{report, simulate};
+use crate::simulate::{draw, report, simulate};
 use clap::error::ErrorKind;
+use std::alloc::Global;
 use std::env::Env;
-use std::io::{Input, Write};
+use std::io::{Input, Read, Write};
 use std::rt::Files;
 use std::{env, fs, io};
 
@@ -44,14 +45,35 @@ where
     ensures { result ≤ 2 }
 {
     match arguments::parse(rt.alloc(), words) {
-        Ok(Request::Simulate { file: None }) => {
-            simulate(rt.alloc(), &mut rt.reader(), out, faults)
+        Ok(Request::Simulate { file: None, form }) => {
+            play(rt.alloc(), form, &mut rt.reader(), out, faults)
         }
-        Ok(Request::Simulate { file: Some(path) }) => match fs::open(rt, path) {
-            Ok(mut file) => simulate(rt.alloc(), &mut file, out, faults),
+        Ok(
+            Request::Simulate {
+                file: Some(path),
+                form,
+            },
+        ) => match fs::open(rt, path) {
+            Ok(mut file) => play(rt.alloc(), form, &mut file, out, faults),
             Err(_) => report(faults, ScenarioFault::Unreadable, 2),
         },
         Err(error) => explain(error, out, faults),
+    }
+}
+
+/// Plays the scenario and writes its outcome in this form.
+fn play<R: Read, W: Write, F: Write>(
+    alloc: Global,
+    form: Form,
+    input: &mut R,
+    out: &mut W,
+    faults: &mut F,
+) -> u8
+    ensures { result ≤ 2 }
+{
+    match form {
+        Form::Lines => simulate(alloc, input, out, faults),
+        Form::Graph => draw(alloc, input, out, faults),
     }
 }
 

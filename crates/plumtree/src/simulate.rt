@@ -13,7 +13,7 @@ use crate::output::OutputFault;
 use crate::play::{MOST_ARRIVALS, PlayFault, Player};
 use crate::read::{LONGEST, read_document};
 use crate::scenario::{MOST_EVENTS, Scenario, ScenarioFault};
-use crate::{output, trees};
+use crate::{graph, output, trees};
 use node_core::PlumCore;
 use std::alloc::{Allocator, Global};
 use std::fmt::Display;
@@ -42,6 +42,27 @@ pub fn simulate<R: Read, W: Write, F: Write>(
 {
     match read_scenario(alloc, input) {
         Ok(scenario) => play_and_print::<PlumCore, Global, W, F>(alloc, &scenario, out, faults),
+        Err(ScenarioFault::OutOfMemory) => report(faults, ScenarioFault::OutOfMemory, 1),
+        Err(fault) => report(faults, fault, 2),
+    }
+}
+
+/// Reads a scenario, plays it, and writes the group as it stands then to `out`, as a Graphviz document, and why it ended
+/// early to `faults`.
+///
+/// The number is the status that the program ends with.
+pub fn draw<R: Read, W: Write, F: Write>(
+    alloc: Global,
+    input: &mut R,
+    out: &mut W,
+    faults: &mut F,
+) -> u8
+    ensures status { result ≤ 2 }
+    ensures quiet { result ≡ 0 → faults.new ≡ faults.old }
+    ensures unplayed { result ≡ 2 → out.new ≡ out.old }
+{
+    match read_scenario(alloc, input) {
+        Ok(scenario) => play_and_draw(alloc, &scenario, out, faults),
         Err(ScenarioFault::OutOfMemory) => report(faults, ScenarioFault::OutOfMemory, 1),
         Err(fault) => report(faults, fault, 2),
     }
@@ -81,6 +102,38 @@ fn play_and_print<C: Core<A>, A: Allocator + Copy, W: Write, F: Write>(
         Err(OutputFault::Unwritten) => report_played(faults, played, 1),
         Err(OutputFault::OutOfMemory) => report(faults, PlayFault::OutOfMemory, 1),
     }
+}
+
+/// Plays a scenario and draws what came of it.
+fn play_and_draw<A: Allocator + Copy, W: Write, F: Write>(
+    alloc: A,
+    scenario: &Scenario,
+    out: &mut W,
+    faults: &mut F,
+) -> u8
+    ensures status { result ≤ 1 }
+    ensures quiet { result ≡ 0 → faults.new ≡ faults.old }
+{
+    let Ok(mut player) = Player::<PlumCore<A>, A>::new(alloc, scenario.seed, scenario.limits) else {
+        return report(faults, PlayFault::OutOfMemory, 1);
+    };
+    let played = player.play(alloc, scenario.actions.as_slice());
+    match draw_group(alloc, player, out) {
+        Ok(()) => report_played(faults, played, 0),
+        Err(OutputFault::Unwritten) => report_played(faults, played, 1),
+        Err(OutputFault::OutOfMemory) => report(faults, PlayFault::OutOfMemory, 1),
+    }
+}
+
+/// Draws the group, with the tree of each message.
+fn draw_group<A: Allocator + Copy, W: Write>(
+    alloc: A,
+    player: Player<PlumCore<A>, A>,
+    out: &mut W,
+) -> Result<(), OutputFault> {
+    let (group, deliveries) = player.into_parts();
+    let messages = trees::broadcasts(alloc, deliveries.as_slice())?;
+    graph::write_graph(alloc, &group, messages.as_slice(), out)
 }
 
 /// Prints what was delivered, and then each message's tree. `text` is room for that.
