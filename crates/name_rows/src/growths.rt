@@ -1,7 +1,5 @@
 //! Which growths the refusing allocator refuses.
 use refusing_allocator::RefusingAllocator;
-use std::alloc::{AllocError, Allocator};
-use std::process::Abort;
 use std::test::Fail;
 
 type Heap<'a> = &'a RefusingAllocator;
@@ -72,57 +70,13 @@ fn shrinking_and_freeing_are_not_counted(rt: HostRuntime) -> Result<(), Fail> {
     let heap = RefusingAllocator::new(rt.alloc());
     let mut list = Vec::with_capacity(&heap, 64)?;
     list.push(7u8)?;
-    let other = String::from_str(&heap, "ada")?;
     heap.refuse(1);
     list.shrink_to_fit();
     assert!(rt; list.capacity() < 64);
     assert_eq!(rt; list.as_slice(), [7].as_slice());
-    drop(other);
     drop(list);
     assert!(rt; !heap.is_spent());
     assert!(rt; !is_granted(&heap));
-    Ok(())
-}
-
-fn register<A: Allocator>(
-    alloc: A,
-    names: &mut Vec<String<A>, A>,
-    name: &str,
-) -> Result<(), AllocError> {
-    names.push(String::from_str(alloc, name)?)?;
-    Ok(())
-}
-
-// The number of growths that were refused until one try was not.
-fn sweep<'a>(
-    rt: &impl Abort,
-    heap: Heap<'a>,
-    names: &mut Vec<String<Heap<'a>>, Heap<'a>>,
-) -> Result<u64, AllocError> {
-    for n in 1..100 {
-        let before = names.clone()?;
-        heap.refuse(n);
-        let outcome = register(heap, names, "ada");
-        if !heap.is_spent() {
-            heap.refuse(0);
-            outcome?;
-            return Ok(n - 1);
-        }
-        assert!(rt; outcome.is_err(), "growth {n}");
-        assert_eq!(rt; *names, before, "growth {n}");
-    }
-    Err(AllocError)
-}
-
-#[test]
-fn a_sweep_ends_once_no_growth_is_refused(rt: HostRuntime) -> Result<(), Fail> {
-    let heap = RefusingAllocator::new(rt.alloc());
-    let mut names = Vec::new(&heap);
-    assert_eq!(rt; sweep(&rt, &heap, &mut names)?, 2, "the text and the list");
-    assert_eq!(rt; names.len(), 1);
-    names.reserve(1)?;
-    assert_eq!(rt; sweep(&rt, &heap, &mut names)?, 1, "the text");
-    assert_eq!(rt; names.len(), 2);
     Ok(())
 }
 

@@ -176,23 +176,52 @@ fn prints(rt: HostRuntime) -> Result<(), Fail> {
     Ok(())
 }
 
-#[test]
-fn lists(rt: HostRuntime) -> Result<(), Fail> {
-    let mut list = Listed::new(rt.alloc());
-    assert!(rt; list.is_empty());
+/// The list of 1, 2 and 3.
+fn words(alloc: Global) -> Result<Listed<u8>, AllocError> {
+    let mut list = Listed::new(alloc);
     for word in 1..4 {
         list.push(word)?;
     }
+    Ok(list)
+}
+
+#[test]
+fn lists_are_cut(rt: HostRuntime) -> Result<(), Fail> {
+    let mut list = words(rt.alloc())?;
     assert_eq!(rt; list.len(), 3);
     assert_eq!(rt; list.pop(), Some(3));
-    let copied = list.copy()?;
-    assert_eq!(rt; copied, list);
     list.truncate(1);
     assert_eq!(rt; list.as_slice(), [1].as_slice());
-    assert_ne!(rt; copied, list);
-    assert_eq!(rt; debugged(rt.alloc(), &copied)?.as_str(), "[1, 2]");
-    let items = copied.into_vec();
-    assert_eq!(rt; Listed::from_vec(items).len(), 2);
+    assert!(rt; !list.is_empty());
+    Ok(())
+}
+
+/// Whether a copy equals its list, and no longer once its last is taken out.
+fn is_copied(list: &Listed<u8>) -> Result<(bool, bool), AllocError> {
+    let mut copy = list.copy()?;
+    let is_equal = copy == *list;
+    copy.pop();
+    Ok((is_equal, copy == *list))
+}
+
+#[test]
+fn lists_are_copied(rt: HostRuntime) -> Result<(), Fail> {
+    let list = words(rt.alloc())?;
+    assert_eq!(rt; is_copied(&list)?, (true, false));
+    Ok(())
+}
+
+#[test]
+fn lists_print(rt: HostRuntime) -> Result<(), Fail> {
+    let list = words(rt.alloc())?;
+    assert_eq!(rt; debugged(rt.alloc(), &list)?.as_str(), "[1, 2, 3]");
+    Ok(())
+}
+
+#[test]
+fn lists_are_vectors(rt: HostRuntime) -> Result<(), Fail> {
+    let list = Listed::from_vec(words(rt.alloc())?.into_vec());
+    assert_eq!(rt; list.len(), 3);
     assert_eq!(rt; Dice::default().0, [0; 16]);
     Ok(())
 }
