@@ -1,0 +1,106 @@
+//! What packets say, as texts.
+use bytes::Bytes;
+use frames::{Body, BodyOf, Frame};
+use node_names::{MsgId, NodeName};
+use std::alloc::Allocator;
+use std::fmt::Write;
+use std::test::Fail;
+use world::Packet;
+
+/// Appends the letters of a payload.
+pub(crate) fn push_payload<A: Allocator, B: Allocator>(
+    text: &mut String<B>,
+    payload: &Bytes<A>,
+) -> Result<(), Fail> {
+    for byte in payload.as_slice() {
+        text.push(char::from(*byte))?;
+    }
+    Ok(())
+}
+
+/// Appends ids with their rounds.
+fn push_entries<B: Allocator>(text: &mut String<B>, entries: &[(MsgId, u32)]) -> Result<(), Fail> {
+    for (id, round) in entries {
+        write!(text, " {id} {round}")?;
+    }
+    Ok(())
+}
+
+/// Appends names.
+fn push_names<B: Allocator>(text: &mut String<B>, names: &[NodeName]) -> Result<(), Fail> {
+    for name in names {
+        write!(text, " {name}")?;
+    }
+    Ok(())
+}
+
+/// Appends what a packet about membership says.
+fn push_membership<A: Allocator, B: Allocator>(
+    text: &mut String<B>,
+    body: &Body<A>,
+) -> Result<(), Fail> {
+    match body {
+        BodyOf::Join => Ok(write!(text, "JOIN")?),
+        BodyOf::Neighbor { high } => Ok(write!(text, "NEIGHBOR {high}")?),
+        BodyOf::NeighborReply { accepted } => Ok(write!(text, "NEIGHBORREPLY {accepted}")?),
+        BodyOf::Shuffle { origin, ttl, names } => {
+            write!(text, "SHUFFLE {origin} {ttl}")?;
+            push_names(text, names.as_slice())
+        }
+        BodyOf::ShuffleReply { names } => {
+            write!(text, "SHUFFLEREPLY")?;
+            push_names(text, names.as_slice())
+        }
+        _ => Ok(write!(text, "OTHER")?),
+    }
+}
+
+/// Appends what a packet says.
+fn push_body<A: Allocator, B: Allocator>(text: &mut String<B>, body: &Body<A>) -> Result<(), Fail> {
+    match body {
+        BodyOf::Gossip { id, round, .. } => Ok(write!(text, "GOSSIP {id} {round}")?),
+        BodyOf::IHave { entries } => {
+            write!(text, "IHAVE")?;
+            push_entries(text, entries.as_slice())
+        }
+        BodyOf::Graft { id, round } => Ok(write!(text, "GRAFT {id} {round}")?),
+        BodyOf::Prune => Ok(write!(text, "PRUNE")?),
+        _ => push_membership(text, body),
+    }
+}
+
+/// Appends a packet: its number, who sent it to whom, and what it says.
+fn push_packet<A: Allocator, B: Allocator>(
+    text: &mut String<B>,
+    number: usize,
+    packet: &Packet<Frame<A>>,
+) -> Result<(), Fail> {
+    write!(text, "#{number} {} to {} ", packet.sender.name, packet.to)?;
+    push_body(text, packet.note.body())?;
+    Ok(write!(text, "; ")?)
+}
+
+/// Appends the packets from the first of these on.
+pub(crate) fn push_packets<A: Allocator, B: Allocator>(
+    text: &mut String<B>,
+    packets: &[Packet<Frame<A>>],
+    first: usize,
+) -> Result<(), Fail> {
+    for number in first..packets.len() {
+        push_packet(text, number, &packets[number])?;
+    }
+    Ok(())
+}
+
+/// Appends frames with their receivers and numbers.
+pub(crate) fn push_sends<A: Allocator, B: Allocator>(
+    text: &mut String<B>,
+    sends: &[(NodeName, Frame<A>)],
+) -> Result<(), Fail> {
+    for (to, frame) in sends {
+        write!(text, "{} to {to} ", frame.number())?;
+        push_body(text, frame.body())?;
+        write!(text, "; ")?;
+    }
+    Ok(())
+}
