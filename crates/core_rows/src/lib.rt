@@ -12,6 +12,8 @@ mod play;
 #[cfg(test)]
 mod rows;
 #[cfg(test)]
+mod spent;
+#[cfg(test)]
 mod sweeps;
 #[cfg(test)]
 mod texts;
