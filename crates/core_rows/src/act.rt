@@ -7,7 +7,7 @@ use std::test::Fail;
 use world::{Event, EventOf};
 
 /// An event in plain texts and numbers. Nodes start under incarnation 1, and all dice are zeros.
-#[derive(Clone, Copy, Debug)]
+#[derive(Clone, Copy)]
 pub(crate) enum Act {
     /// A node starts with these peers.
     Start(&'static str, &'static [&'static str]),

@@ -1,8 +1,8 @@
 //! Playing the rows event by event.
 use crate::act::{Act, event};
-use crate::named::{Id, id};
+use crate::named::id;
 use crate::rows::{ROWS, Row, Turn};
-use crate::texts::{Group, given, standing, told, views};
+use crate::texts::{Group, push_given, push_standing, push_told, push_views, push_whole};
 use node_names::{Limits, MsgId};
 use std::alloc::Allocator;
 use std::process::Abort;
@@ -18,155 +18,155 @@ pub(crate) fn apply<A: Allocator + Copy>(
     Ok(())
 }
 
-/// Compares a text with what it should be after an event.
-fn compare_text(rt: &impl Abort, act: &Act, text: &str, wanted: &str) {
-    assert_eq!(rt; text, wanted, "after {act:?}");
-}
-
 fn compare_given<A: Allocator + Copy, B: Allocator>(
     rt: &impl Abort,
-    texts: B,
+    text: &mut String<B>,
     world: &Group<A>,
-    turn: &Turn,
+    wanted: &str,
 ) -> Result<(), Fail> {
-    let text = given(texts, world)?;
-    compare_text(rt, &turn.0, text.as_str(), turn.1);
+    text.clear();
+    push_given(text, world)?;
+    assert_eq!(rt; text.as_str(), wanted);
     Ok(())
 }
 
 fn compare_views<A: Allocator + Copy, B: Allocator>(
     rt: &impl Abort,
-    texts: B,
+    text: &mut String<B>,
     world: &Group<A>,
-    turn: &Turn,
+    wanted: &str,
 ) -> Result<(), Fail> {
-    let text = views(texts, world)?;
-    compare_text(rt, &turn.0, text.as_str(), turn.2);
+    text.clear();
+    push_views(text, world.nodes())?;
+    assert_eq!(rt; text.as_str(), wanted);
     Ok(())
 }
 
 fn compare_standing<A: Allocator + Copy, B: Allocator>(
     rt: &impl Abort,
-    texts: B,
+    text: &mut String<B>,
     world: &Group<A>,
     ids: &[MsgId],
-    turn: &Turn,
+    wanted: &str,
 ) -> Result<(), Fail> {
-    let text = standing(texts, world, ids)?;
-    compare_text(rt, &turn.0, text.as_str(), turn.3);
+    text.clear();
+    push_standing(text, world, ids)?;
+    assert_eq!(rt; text.as_str(), wanted);
     Ok(())
 }
 
 /// Compares what an event gave and left.
-pub(crate) fn compare<A: Allocator + Copy, B: Allocator + Copy>(
+pub(crate) fn compare<A: Allocator + Copy, B: Allocator>(
     rt: &impl Abort,
-    texts: B,
+    text: &mut String<B>,
     world: &Group<A>,
     ids: &[MsgId],
     turn: &Turn,
 ) -> Result<(), Fail> {
-    compare_given(rt, texts, world, turn)?;
-    compare_views(rt, texts, world, turn)?;
-    compare_standing(rt, texts, world, ids, turn)
+    compare_given(rt, text, world, turn.1)?;
+    compare_views(rt, text, world, turn.2)?;
+    compare_standing(rt, text, world, ids, turn.3)
 }
 
-/// Plays an event over ample memory, and compares what it gives and leaves.
-fn play<A: Allocator + Copy, B: Allocator + Copy>(
+/// Compares what all readers answer.
+pub(crate) fn compare_whole<A: Allocator + Copy, B: Allocator>(
     rt: &impl Abort,
-    alloc: A,
-    texts: B,
-    world: &mut Group<A>,
+    text: &mut String<B>,
+    world: &Group<A>,
     ids: &[MsgId],
-    turn: &Turn,
+    wanted: &str,
 ) -> Result<(), Fail> {
-    apply(world, event(alloc, &turn.0)?)?;
-    compare(rt, texts, world, ids, turn)
+    text.clear();
+    push_whole(text, world, ids)?;
+    assert_eq!(rt; text.as_str(), wanted);
+    Ok(())
 }
 
-/// Plays events over ample memory.
-pub(crate) fn play_all<A: Allocator + Copy, B: Allocator + Copy>(
+/// Plays an event over ample memory.
+fn happen<A: Allocator + Copy>(world: &mut Group<A>, alloc: A, act: &Act) -> Result<(), Fail> {
+    let event = event(alloc, act)?;
+    Ok(apply(world, event)?)
+}
+
+/// Plays events over ample memory, and compares what each gives and leaves.
+pub(crate) fn play<A: Allocator + Copy, B: Allocator>(
     rt: &impl Abort,
     alloc: A,
-    texts: B,
+    text: &mut String<B>,
     world: &mut Group<A>,
     ids: &[MsgId],
     turns: &[Turn],
 ) -> Result<(), Fail> {
     for turn in turns {
-        play(rt, alloc, texts, world, ids, turn)?;
+        happen(world, alloc, &turn.0)?;
+        compare(rt, text, world, ids, turn)?;
     }
     Ok(())
 }
 
-/// The ids of messages of which something is told.
-pub(crate) fn asked<A: Allocator>(
-    alloc: A,
-    told: &[(Id, &'static str)],
-) -> Result<Vec<MsgId, A>, Fail> {
-    let mut ids = Vec::new(alloc);
-    for (message, _) in told {
-        ids.push(id(*message)?)?;
-    }
-    Ok(ids)
+/// The ids of the two messages that a row asks about.
+pub(crate) fn asked(row: &Row) -> Result<[MsgId; 2], Fail> {
+    let first = id(row.told[0].0)?;
+    let second = id(row.told[1].0)?;
+    Ok([first, second])
 }
 
 /// Compares what is told of a message with what should be.
-fn compare_told<A: Allocator + Copy, B: Allocator + Copy>(
+fn compare_told<A: Allocator + Copy, B: Allocator>(
     rt: &impl Abort,
     alloc: A,
-    texts: B,
+    text: &mut String<B>,
     world: &Group<A>,
-    message: Id,
+    id: &MsgId,
     wanted: &str,
 ) -> Result<(), Fail> {
-    let text = told(alloc, texts, world, &id(message)?)?;
+    text.clear();
+    push_told(text, alloc, world, id)?;
     assert_eq!(rt; text.as_str(), wanted);
     Ok(())
 }
 
-/// Compares the end of a row with what it should be.
-fn compare_end<A: Allocator + Copy, B: Allocator + Copy>(
+/// Plays a row in a fresh group, and compares its end with what it should be.
+fn play_group<A: Allocator + Copy, B: Allocator>(
     rt: &impl Abort,
     alloc: A,
-    texts: B,
-    world: &Group<A>,
+    text: &mut String<B>,
+    world: &mut Group<A>,
+    ids: &[MsgId; 2],
     row: &Row,
 ) -> Result<(), Fail> {
+    play(rt, alloc, text, world, ids, row.before)?;
+    play(rt, alloc, text, world, ids, row.turns)?;
     assert_eq!(rt; world.sent().len(), row.sent);
-    for (message, wanted) in row.told {
-        compare_told(rt, alloc, texts, world, *message, wanted)?;
+    compare_told(rt, alloc, text, world, &ids[0], row.told[0].1)?;
+    compare_told(rt, alloc, text, world, &ids[1], row.told[1].1)
+}
+
+fn play_row<A: Allocator + Copy, B: Allocator>(
+    rt: &impl Abort,
+    alloc: A,
+    text: &mut String<B>,
+    row: &Row,
+) -> Result<(), Fail> {
+    let ids = asked(row)?;
+    let mut world = Group::<A>::new(alloc, Limits::STANDARD);
+    play_group(rt, alloc, text, &mut world, &ids, row)
+}
+
+fn play_rows<A: Allocator + Copy, B: Allocator>(
+    rt: &impl Abort,
+    alloc: A,
+    text: &mut String<B>,
+    rows: &[Row],
+) -> Result<(), Fail> {
+    for row in rows {
+        play_row(rt, alloc, text, row)?;
     }
     Ok(())
-}
-
-/// Plays a row in a fresh group.
-fn play_group<A: Allocator + Copy, B: Allocator + Copy>(
-    rt: &impl Abort,
-    alloc: A,
-    texts: B,
-    ids: &[MsgId],
-    row: &Row,
-) -> Result<(), Fail> {
-    let mut world = Group::<A>::new(alloc, Limits::STANDARD);
-    play_all(rt, alloc, texts, &mut world, ids, row.before)?;
-    play_all(rt, alloc, texts, &mut world, ids, row.turns)?;
-    compare_end(rt, alloc, texts, &world, row)
-}
-
-fn play_row<A: Allocator + Copy, B: Allocator + Copy>(
-    rt: &impl Abort,
-    alloc: A,
-    texts: B,
-    row: &Row,
-) -> Result<(), Fail> {
-    let ids = asked(texts, row.told)?;
-    play_group(rt, alloc, texts, ids.as_slice(), row)
 }
 
 #[test]
 fn plays_rows(rt: HostRuntime) -> Result<(), Fail> {
-    for row in &ROWS {
-        play_row(&rt, rt.alloc(), rt.alloc(), row)?;
-    }
-    Ok(())
+    let mut text = String::new(rt.alloc());
+    play_rows(&rt, rt.alloc(), &mut text, &ROWS)
 }

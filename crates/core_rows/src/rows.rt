@@ -8,8 +8,8 @@ pub(crate) type Turn = (Act, &'static str, &'static str, &'static str);
 /// A run of a group under the standard limits.
 #[derive(Clone, Copy)]
 pub(crate) struct Row {
-    /// The messages that are asked about, and what is told of each at the end: its tree, and who holds it.
-    pub(crate) told: &'static [(Id, &'static str)],
+    /// Two messages that are asked about, and what is told of each at the end: its tree, and who holds it.
+    pub(crate) told: [(Id, &'static str); 2],
     /// What happens first, which another row compares.
     pub(crate) before: &'static [Turn],
     /// What happens then.
@@ -35,7 +35,7 @@ const PAIR: &str = "a: b /; b: a /; ";
 
 /// Three nodes know each other. What one gets twice prunes a link, and the next message is announced over that.
 const TRIANGLE: Row = Row {
-    told: &[
+    told: [
         (A1, "a <- -; b <- a; c <- b; | a=m b=m c=m "),
         (A2, "a <- -; b <- a; c <- b; | a=n b=n c=n "),
     ],
@@ -177,7 +177,7 @@ const ASKING: &[Turn] = &[
 ];
 
 const LAZY: Row = Row {
-    told: &[
+    told: [
         (A1, "a <- -; b <- a; c <- b; | a=m b=m c=m "),
         (A2, "a <- -; b <- a; | a=n b=n "),
     ],
@@ -188,7 +188,7 @@ const LAZY: Row = Row {
 
 /// The message comes, after a timer that found nobody else to ask.
 const LAZY_REPAIR: Row = Row {
-    told: &[
+    told: [
         (A1, "a <- -; b <- a; c <- b; | a=m b=m c=m "),
         (A2, "a <- -; b <- a; c <- b; | a=n b=n c=n "),
     ],
@@ -208,7 +208,7 @@ const LAZY_REPAIR: Row = Row {
 
 /// The announcement comes once more after its timer was dropped, and arms it again.
 const REPEATED_ANNOUNCEMENT: Row = Row {
-    told: &[
+    told: [
         (A1, "a <- -; b <- a; c <- b; | a=m b=m c=m "),
         (A2, "a <- -; b <- a; c <- b; | a=n b=n c=n "),
     ],
@@ -236,7 +236,7 @@ const REPEATED_ANNOUNCEMENT: Row = Row {
 
 /// A node joins at another, they exchange messages and names, and their link fails.
 const JOIN: Row = Row {
-    told: &[(B1, "b <- -; a <- b; | a=x b=x ")],
+    told: [(B1, "b <- -; a <- b; | a=x b=x "), (A1, "| ")],
     before: &[],
     turns: &[
         (Act::Start("a", &[]), "", "a: /; ", "| | "),
@@ -281,7 +281,7 @@ const JOIN: Row = Row {
 
 /// A loss on the only way keeps the message from b for good, and nobody waits for it.
 const ONE_PEER: Row = Row {
-    told: &[(A1, "a <- -; | a=m ")],
+    told: [(A1, "a <- -; | a=m "), (A2, "| ")],
     before: &[],
     turns: &[
         (Act::Start("a", &["b"]), "", "a: b /; ", "| | "),
@@ -299,7 +299,7 @@ const ONE_PEER: Row = Row {
 
 /// Two nodes say hello.
 const HELLO: Row = Row {
-    told: &[(A1, "a <- -; b <- a; | a=hello b=hello ")],
+    told: [(A1, "a <- -; b <- a; | a=hello b=hello "), (A2, "| ")],
     before: &[],
     turns: &[
         (Act::Start("a", &["b"]), "", "a: b /; ", "| | "),

@@ -1,15 +1,15 @@
 //! A node that has no number left for a packet.
-ghost use Rattle.std.specs.Prelude.{IsTrue, IfOk, not};
+ghost use Rattle.std.specs.Prelude.{IfOk, IsTrue, not};
 ghost use Rattle.node_names.specs.Same.{same_name};
 
 use crate::named::{Id, id, name, origin};
-use crate::texts::core_text;
+use crate::texts::{push_core, push_out};
 use bytes::Bytes;
 use frames::Frame;
 use node_core::PlumCore;
 use node_names::{Limits, MsgId, NodeName, Origin};
 use refusing_allocator::RefusingAllocator;
-use std::alloc::{Allocator, Global};
+use std::alloc::Allocator;
 use std::process::Abort;
 use std::test::Fail;
 use world::{Core, CoreError, Out, Stimulus, StimulusOf};
@@ -17,46 +17,47 @@ use world::{Core, CoreError, Out, Stimulus, StimulusOf};
 /// More growths than any step has.
 const MANY: u64 = 200;
 
-/// A node that has spent so many frame numbers accepts so many broadcasts, and refuses the one of the message that comes next.
-/// Then this stands.
-type Start = (u64, usize, Id, &'static str);
+/// A node `a` that has spent frame numbers.
+#[derive(Clone, Copy)]
+struct Case {
+    /// How many it has spent.
+    spent: u64,
+    /// Whether it starts at `b` as a contact, which is refused, or else with `b` as its peer.
+    is_joining: bool,
+    /// How many broadcasts it accepts.
+    accepted: u64,
+    /// The message that its next broadcast would make, which is refused.
+    refused: Id,
+    /// What stands then.
+    wanted: &'static str,
+}
 
-const STARTS: [Start; 2] = [
-    (u64::MAX, 0, ("a", 1), "a: b /; "),
-    (
-        u64::MAX - 1,
-        1,
-        ("a", 2),
-        "a: b /; 18446744073709551615 to b GOSSIP a/1/1 0; a delivers a/1/1 x; ",
-    ),
+const CASES: [Case; 3] = [
+    Case {
+        spent: u64::MAX,
+        is_joining: true,
+        accepted: 0,
+        refused: ("a", 1),
+        wanted: "",
+    },
+    Case {
+        spent: u64::MAX,
+        is_joining: false,
+        accepted: 0,
+        refused: ("a", 1),
+        wanted: "a: b /; ",
+    },
+    Case {
+        spent: u64::MAX - 1,
+        is_joining: false,
+        accepted: 1,
+        refused: ("a", 2),
+        wanted: "a: b /; 18446744073709551615 to b GOSSIP a/1/1 0; a delivers a/1/1 x; ",
+    },
 ];
 
-/// A node with one peer that has spent so many frame numbers.
-fn start<A: Allocator + Copy>(
-    alloc: A,
-    me: Origin,
-    peer: NodeName,
-    frames_spent: u64,
-    out: &mut Out<Frame<A>, A>,
-) -> Result<PlumCore<A>, CoreError>
-    requires { IsTrue (not (same_name me.name peer)) }
-{
-    let limits = Limits::STANDARD;
-    PlumCore::start_counted(alloc, me, limits, &[peer], None, 0, frames_spent, out)
-}
-
-/// A node without peers that has spent all frame numbers and starts at a contact.
-fn join<A: Allocator + Copy>(
-    alloc: A,
-    me: Origin,
-    contact: NodeName,
-    out: &mut Out<Frame<A>, A>,
-) -> Result<PlumCore<A>, CoreError>
-    requires { IsTrue (not (same_name me.name contact)) }
-{
-    let limits = Limits::STANDARD;
-    PlumCore::start_counted(alloc, me, limits, &[], Some(contact), 0, u64::MAX, out)
-}
+/// The packets and deliveries of nodes over a heap that refuses growths.
+type Given<'a> = Out<Frame<&'a RefusingAllocator>, &'a RefusingAllocator>;
 
 /// Two names that differ, the first in its first incarnation.
 fn pair(rt: &impl Abort) -> Result<(Origin, NodeName), Fail>
@@ -68,22 +69,52 @@ fn pair(rt: &impl Abort) -> Result<(Origin, NodeName), Fail>
     Ok((me, other))
 }
 
+/// Starts the node of a case.
+fn start<A: Allocator + Copy>(
+    alloc: A,
+    me: Origin,
+    other: NodeName,
+    case: &Case,
+    out: &mut Out<Frame<A>, A>,
+) -> Result<PlumCore<A>, CoreError>
+    requires { IsTrue (not (same_name me.name other)) }
+{
+    let limits = Limits::STANDARD;
+    let spent = case.spent;
+    if case.is_joining {
+        PlumCore::start_counted(alloc, me, limits, &[], Some(other), 0, spent, out)
+    } else {
+        PlumCore::start_counted(alloc, me, limits, &[other], None, 0, spent, out)
+    }
+}
+
 fn broadcast<A: Allocator + Copy>(alloc: A) -> Result<Stimulus<Frame<A>, A>, Fail> {
     Ok(StimulusOf::Broadcast(Bytes::copy_from_slice(alloc, b"x")?))
 }
 
 /// Compares what a core and its output show.
-fn compare_core<A: Allocator + Copy, B: Allocator>(
+fn compare<A: Allocator + Copy, B: Allocator>(
     rt: &impl Abort,
-    texts: B,
+    text: &mut String<B>,
     core: &PlumCore<A>,
     refused: &MsgId,
     out: &Out<Frame<A>, A>,
     wanted: &str,
 ) -> Result<(), Fail> {
-    let text = core_text(texts, core, refused, out)?;
+    text.clear();
+    push_core(text, core, refused)?;
+    push_out(text, out)?;
     assert_eq!(rt; text.as_str(), wanted);
     Ok(())
+}
+
+/// Compares a refusal.
+fn compare_refusal(rt: &impl Abort, answer: Result<(), CoreError>, is_spent: bool) {
+    match answer {
+        Err(CoreError::SeqSpent) => {}
+        Err(CoreError::OutOfMemory) => assert!(rt; is_spent),
+        _ => assert!(rt; false, "not refused for this"),
+    }
 }
 
 /// Takes a step whose growth with this number is refused, and which is refused in any case. Whether it had so many.
@@ -92,36 +123,31 @@ fn refuse_step<'a>(
     heap: &'a RefusingAllocator,
     core: &mut PlumCore<&'a RefusingAllocator>,
     stimulus: &Stimulus<Frame<&'a RefusingAllocator>, &'a RefusingAllocator>,
-    out: &mut Out<Frame<&'a RefusingAllocator>, &'a RefusingAllocator>,
+    out: &mut Given<'a>,
     n: u64,
 ) -> bool {
     heap.refuse(n);
     let answer = core.step(stimulus, out);
     let is_spent = heap.is_spent();
     heap.refuse(0);
-    match answer {
-        Ok(()) => assert!(rt; false, "accepted"),
-        Err(why) => assert!(rt;
-            why == CoreError::SeqSpent || is_spent && why == CoreError::OutOfMemory
-        ),
-    }
+    compare_refusal(rt, answer, is_spent);
     is_spent
 }
 
 /// Refuses each growth of a step in turn, and then the step itself.
-fn sweep_step<'a>(
+fn sweep<'a>(
     rt: &impl Abort,
     heap: &'a RefusingAllocator,
-    texts: Global,
+    text: &mut String,
     core: &mut PlumCore<&'a RefusingAllocator>,
     stimulus: &Stimulus<Frame<&'a RefusingAllocator>, &'a RefusingAllocator>,
-    out: &mut Out<Frame<&'a RefusingAllocator>, &'a RefusingAllocator>,
-    start: &Start,
+    out: &mut Given<'a>,
+    case: &Case,
 ) -> Result<(), Fail> {
-    let refused = id(start.2)?;
+    let refused = id(case.refused)?;
     for n in 1..MANY {
         let is_spent = refuse_step(rt, heap, core, stimulus, out, n);
-        compare_core(rt, texts, core, &refused, out, start.3)?;
+        compare(rt, text, core, &refused, out, case.wanted)?;
         if !is_spent {
             return Ok(());
         }
@@ -130,71 +156,88 @@ fn sweep_step<'a>(
     Ok(())
 }
 
+/// Takes a step so many times.
+fn accept<A: Allocator + Copy>(
+    core: &mut PlumCore<A>,
+    stimulus: &Stimulus<Frame<A>, A>,
+    out: &mut Out<Frame<A>, A>,
+    times: u64,
+) -> Result<(), CoreError> {
+    for _ in 0..times {
+        core.step(stimulus, out)?;
+    }
+    Ok(())
+}
+
 /// Broadcasts as often as that is accepted, and once more.
 fn sweep_core<'a>(
     rt: &impl Abort,
     heap: &'a RefusingAllocator,
-    texts: Global,
+    text: &mut String,
     core: &mut PlumCore<&'a RefusingAllocator>,
-    out: &mut Out<Frame<&'a RefusingAllocator>, &'a RefusingAllocator>,
-    start: &Start,
+    stimulus: &Stimulus<Frame<&'a RefusingAllocator>, &'a RefusingAllocator>,
+    out: &mut Given<'a>,
+    case: &Case,
 ) -> Result<(), Fail> {
-    let stimulus = broadcast(heap)?;
-    for _ in 0..start.1 {
-        core.step(&stimulus, out)?;
-    }
-    sweep_step(rt, heap, texts, core, &stimulus, out, start)
+    accept(core, stimulus, out, case.accepted)?;
+    sweep(rt, heap, text, core, stimulus, out, case)
 }
 
-fn sweep_out<'a>(
+/// Compares a start that was refused.
+fn compare_start<A: Allocator>(
     rt: &impl Abort,
-    heap: &'a RefusingAllocator,
-    texts: Global,
-    out: &mut Out<Frame<&'a RefusingAllocator>, &'a RefusingAllocator>,
-    case: &Start,
+    why: CoreError,
+    out: &Out<Frame<A>, A>,
+    case: &Case,
 ) -> Result<(), Fail> {
-    let (me, peer) = pair(rt)?;
-    let mut core = start(heap, me, peer, case.0, out)?;
-    sweep_core(rt, heap, texts, &mut core, out, case)
-}
-
-fn sweep(
-    rt: &impl Abort,
-    heap: &RefusingAllocator,
-    texts: Global,
-    start: &Start,
-) -> Result<(), Fail> {
-    let mut out = Out::new(heap);
-    sweep_out(rt, heap, texts, &mut out, start)
-}
-
-#[test]
-fn refuses_broadcasts(rt: HostRuntime) -> Result<(), Fail> {
-    let heap = RefusingAllocator::new(rt.alloc());
-    for start in &STARTS {
-        sweep(&rt, &heap, rt.alloc(), start)?;
-    }
-    Ok(())
-}
-
-/// The answer of a start at a contact.
-fn join_answer<A: Allocator + Copy>(
-    rt: &impl Abort,
-    alloc: A,
-    out: &mut Out<Frame<A>, A>,
-) -> Result<Result<(), CoreError>, Fail> {
-    let (me, contact) = pair(rt)?;
-    Ok(match join(alloc, me, contact, out) {
-        Ok(_) => Ok(()),
-        Err(why) => Err(why),
-    })
-}
-
-#[test]
-fn refuses_a_start_at_a_contact(rt: HostRuntime) -> Result<(), Fail> {
-    let mut out = Out::new(rt.alloc());
-    let answer = join_answer(&rt, rt.alloc(), &mut out)?;
-    assert_eq!(rt; answer, Err(CoreError::SeqSpent));
+    assert!(rt; case.is_joining);
+    assert_eq!(rt; why, CoreError::SeqSpent);
     assert!(rt; out.sends.is_empty());
     Ok(())
+}
+
+fn sweep_start<'a>(
+    rt: &impl Abort,
+    heap: &'a RefusingAllocator,
+    text: &mut String,
+    stimulus: &Stimulus<Frame<&'a RefusingAllocator>, &'a RefusingAllocator>,
+    out: &mut Given<'a>,
+    case: &Case,
+) -> Result<(), Fail> {
+    let (me, other) = pair(rt)?;
+    match start(heap, me, other, case, out) {
+        Ok(mut core) => sweep_core(rt, heap, text, &mut core, stimulus, out, case),
+        Err(why) => compare_start(rt, why, out, case),
+    }
+}
+
+fn sweep_case<'a>(
+    rt: &impl Abort,
+    heap: &'a RefusingAllocator,
+    text: &mut String,
+    stimulus: &Stimulus<Frame<&'a RefusingAllocator>, &'a RefusingAllocator>,
+    case: &Case,
+) -> Result<(), Fail> {
+    let mut out = Out::new(heap);
+    sweep_start(rt, heap, text, stimulus, &mut out, case)
+}
+
+fn sweep_cases(
+    rt: &impl Abort,
+    heap: &RefusingAllocator,
+    text: &mut String,
+    cases: &[Case],
+) -> Result<(), Fail> {
+    let stimulus = broadcast(heap)?;
+    for case in cases {
+        sweep_case(rt, heap, text, &stimulus, case)?;
+    }
+    Ok(())
+}
+
+#[test]
+fn refuses_what_needs_a_spent_number(rt: HostRuntime) -> Result<(), Fail> {
+    let heap = RefusingAllocator::new(rt.alloc());
+    let mut text = String::new(rt.alloc());
+    sweep_cases(&rt, &heap, &mut text, &CASES)
 }

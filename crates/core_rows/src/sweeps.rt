@@ -1,12 +1,11 @@
 //! Rows in which each growth is refused in turn: the refusal is for want of memory, all readers answer as before the refused
 //! event, and the event made again answers as if nothing had been refused.
 use crate::act::{Act, event};
-use crate::play::{apply, asked, compare, play_all};
+use crate::play::{apply, asked, compare, compare_whole, play};
 use crate::rows::{Row, SWEPT, Turn};
-use crate::texts::{Group, whole};
+use crate::texts::{Group, push_whole};
 use node_names::{Limits, MsgId};
 use refusing_allocator::RefusingAllocator;
-use std::alloc::Global;
 use std::process::Abort;
 use std::test::Fail;
 use world::WorldError;
@@ -36,83 +35,91 @@ fn try_event<'a>(
     Ok((is_spent, answer.is_err()))
 }
 
-/// Compares what all readers answer with what they did.
-fn compare_whole(
-    rt: &impl Abort,
-    texts: Global,
-    world: &Swept<'_>,
-    ids: &[MsgId],
-    stood: &str,
-) -> Result<(), Fail> {
-    let text = whole(texts, world, ids)?;
-    assert_eq!(rt; text.as_str(), stood);
-    Ok(())
-}
-
 /// Plays an event whose growth with this number is refused, and makes it again if it is refused. Whether it had so many.
-fn refuse_from<'a>(
-    rt: &impl Abort,
-    heap: &'a RefusingAllocator,
-    texts: Global,
-    world: &mut Swept<'a>,
-    ids: &[MsgId],
-    turn: &Turn,
-    stood: &str,
-    n: u64,
-) -> Result<bool, Fail> {
-    let (is_spent, is_refused) = try_event(rt, heap, world, &turn.0, n)?;
-    if is_refused {
-        assert!(rt; is_spent);
-        compare_whole(rt, texts, world, ids, stood)?;
-        let _ = try_event(rt, heap, world, &turn.0, 0)?;
-    }
-    compare(rt, texts, world, ids, turn)?;
-    Ok(is_spent)
-}
-
 fn refuse_event<'a>(
     rt: &impl Abort,
     heap: &'a RefusingAllocator,
-    texts: Global,
+    text: &mut String,
+    stood: &str,
+    world: &mut Swept<'a>,
+    ids: &[MsgId],
+    act: &Act,
+    n: u64,
+) -> Result<bool, Fail> {
+    let (is_spent, is_refused) = try_event(rt, heap, world, act, n)?;
+    if is_refused {
+        assert!(rt; is_spent);
+        compare_whole(rt, text, world, ids, stood)?;
+        let _ = try_event(rt, heap, world, act, 0)?;
+    }
+    Ok(is_spent)
+}
+
+/// Does so, and compares what the event gives and leaves.
+fn sweep_turn<'a>(
+    rt: &impl Abort,
+    heap: &'a RefusingAllocator,
+    text: &mut String,
+    stood: &mut String,
     world: &mut Swept<'a>,
     ids: &[MsgId],
     turn: &Turn,
     n: u64,
 ) -> Result<bool, Fail> {
-    let stood = whole(texts, world, ids)?;
-    refuse_from(rt, heap, texts, world, ids, turn, stood.as_str(), n)
+    stood.clear();
+    push_whole(stood, world, ids)?;
+    let is_spent = refuse_event(rt, heap, text, stood.as_str(), world, ids, &turn.0, n)?;
+    compare(rt, text, world, ids, turn)?;
+    Ok(is_spent)
 }
 
-/// Plays a row up to one of its own events, and refuses that event's growth with this number. Whether it had so many.
+/// Plays turns up to one, and refuses its event's growth with this number. Whether it had so many.
+fn sweep_world<'a>(
+    rt: &impl Abort,
+    heap: &'a RefusingAllocator,
+    text: &mut String,
+    stood: &mut String,
+    world: &mut Swept<'a>,
+    ids: &[MsgId],
+    before: &[Turn],
+    turns: (&[Turn], &[Turn]),
+    n: u64,
+) -> Result<bool, Fail> {
+    play(rt, heap, text, world, ids, before)?;
+    play(rt, heap, text, world, ids, turns.0)?;
+    match turns.1.first() {
+        Some(turn) => sweep_turn(rt, heap, text, stood, world, ids, turn, n),
+        None => Ok(false),
+    }
+}
+
+/// Does so in a fresh group.
 fn sweep_event(
     rt: &impl Abort,
     heap: &RefusingAllocator,
-    texts: Global,
+    text: &mut String,
+    stood: &mut String,
     ids: &[MsgId],
     before: &[Turn],
     turns: (&[Turn], &[Turn]),
     n: u64,
 ) -> Result<bool, Fail> {
     let mut world = Swept::new(heap, Limits::STANDARD);
-    play_all(rt, heap, texts, &mut world, ids, before)?;
-    play_all(rt, heap, texts, &mut world, ids, turns.0)?;
-    match turns.1.first() {
-        Some(turn) => refuse_event(rt, heap, texts, &mut world, ids, turn, n),
-        None => Ok(false),
-    }
+    sweep_world(rt, heap, text, stood, &mut world, ids, before, turns, n)
 }
 
 /// Refuses each growth of one event in turn. How many it has.
 fn sweep(
     rt: &impl Abort,
     heap: &RefusingAllocator,
-    texts: Global,
+    text: &mut String,
+    stood: &mut String,
     ids: &[MsgId],
     before: &[Turn],
     turns: (&[Turn], &[Turn]),
 ) -> Result<u64, Fail> {
     for n in 1..MANY {
-        if !sweep_event(rt, heap, texts, ids, before, turns, n)? {
+        if !sweep_event(rt, heap, text, stood, ids, before, turns, n)? {
             return Ok(n - 1);
         }
     }
@@ -121,37 +128,40 @@ fn sweep(
 }
 
 /// Refuses each growth of each of a row's own events in turn. How many they have.
-fn sweep_turns(
+fn sweep_row(
     rt: &impl Abort,
     heap: &RefusingAllocator,
-    texts: Global,
-    ids: &[MsgId],
+    text: &mut String,
+    stood: &mut String,
     row: &Row,
 ) -> Result<u64, Fail> {
+    let ids = asked(row)?;
     let mut refused = 0u64;
     for at in 0..row.turns.len() {
         let turns = row.turns.split_at(at.min(row.turns.len()));
-        refused = refused.saturating_add(sweep(rt, heap, texts, ids, row.before, turns)?);
+        refused = refused.saturating_add(sweep(rt, heap, text, stood, &ids, row.before, turns)?);
     }
     Ok(refused)
 }
 
-fn sweep_row(
+fn sweep_rows(
     rt: &impl Abort,
     heap: &RefusingAllocator,
-    texts: Global,
-    row: &Row,
-) -> Result<u64, Fail> {
-    let ids = asked(texts, row.told)?;
-    sweep_turns(rt, heap, texts, ids.as_slice(), row)
+    text: &mut String,
+    stood: &mut String,
+    rows: &[Row],
+) -> Result<(), Fail> {
+    for row in rows {
+        let refused = sweep_row(rt, heap, text, stood, row)?;
+        assert!(rt; refused > 20);
+    }
+    Ok(())
 }
 
 #[test]
 fn each_growth_of_each_event(rt: HostRuntime) -> Result<(), Fail> {
     let heap = RefusingAllocator::new(rt.alloc());
-    for row in &SWEPT {
-        let refused = sweep_row(&rt, &heap, rt.alloc(), row)?;
-        assert!(rt; refused > 20, "few growths were refused: {refused}");
-    }
-    Ok(())
+    let mut text = String::new(rt.alloc());
+    let mut stood = String::new(rt.alloc());
+    sweep_rows(&rt, &heap, &mut text, &mut stood, &SWEPT)
 }

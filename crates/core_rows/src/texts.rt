@@ -25,8 +25,8 @@ fn push_deliveries<A: Allocator, B: Allocator>(
     Ok(())
 }
 
-/// Appends what the last event gave.
-fn push_last<A: Allocator + Copy, B: Allocator>(
+/// Appends what the last event gave: its deliveries, and the packets that it sent.
+pub(crate) fn push_given<A: Allocator + Copy, B: Allocator>(
     text: &mut String<B>,
     world: &Group<A>,
 ) -> Result<(), Fail> {
@@ -35,16 +35,6 @@ fn push_last<A: Allocator + Copy, B: Allocator>(
     };
     push_deliveries(text, entry.given.as_slice())?;
     push_packets(text, world.sent(), entry.first_sent)
-}
-
-/// What the last event gave: its deliveries, and the packets that it sent.
-pub(crate) fn given<A: Allocator + Copy, B: Allocator>(
-    texts: B,
-    world: &Group<A>,
-) -> Result<String<B>, Fail> {
-    let mut text = String::new(texts);
-    push_last(&mut text, world)?;
-    Ok(text)
 }
 
 /// Appends the names of a set.
@@ -70,8 +60,8 @@ fn push_views_of<A: Allocator + Copy, B: Allocator>(
     Ok(write!(text, "; ")?)
 }
 
-/// Appends the views of the nodes that run.
-fn push_views<A: Allocator + Copy, B: Allocator>(
+/// Appends the views of the nodes that run: the active one, and, behind a stroke, the passive one.
+pub(crate) fn push_views<A: Allocator + Copy, B: Allocator>(
     text: &mut String<B>,
     nodes: &[NodeState<PlumCore<A>>],
 ) -> Result<(), Fail> {
@@ -81,16 +71,6 @@ fn push_views<A: Allocator + Copy, B: Allocator>(
         }
     }
     Ok(())
-}
-
-/// Each node's active view, and, behind a stroke, its passive one.
-pub(crate) fn views<A: Allocator + Copy, B: Allocator>(
-    texts: B,
-    world: &Group<A>,
-) -> Result<String<B>, Fail> {
-    let mut text = String::new(texts);
-    push_views(&mut text, world.nodes())?;
-    Ok(text)
 }
 
 /// Appends the numbers of packets.
@@ -175,20 +155,18 @@ fn push_restless<A: Allocator + Copy, B: Allocator>(
     Ok(())
 }
 
-/// What stands between events: the numbers of the packets in flight, what waits at the nodes, and those of these messages that
-/// the group is not at rest for.
-pub(crate) fn standing<A: Allocator + Copy, B: Allocator>(
-    texts: B,
+/// Appends what stands between events: the numbers of the packets in flight, what waits at the nodes, and those of these
+/// messages that the group is not at rest for.
+pub(crate) fn push_standing<A: Allocator + Copy, B: Allocator>(
+    text: &mut String<B>,
     world: &Group<A>,
     ids: &[MsgId],
-) -> Result<String<B>, Fail> {
-    let mut text = String::new(texts);
-    push_numbers(&mut text, world.flight())?;
+) -> Result<(), Fail> {
+    push_numbers(text, world.flight())?;
     write!(text, "| ")?;
-    push_waiting(&mut text, world.nodes())?;
+    push_waiting(text, world.nodes())?;
     write!(text, "| ")?;
-    push_restless(&mut text, world, ids)?;
-    Ok(text)
+    push_restless(text, world, ids)
 }
 
 /// Appends the payload that a node holds of a message that it has delivered.
@@ -239,7 +217,7 @@ fn push_branches<B: Allocator>(text: &mut String<B>, branches: &[Branch]) -> Res
 }
 
 /// Appends the tree of a message.
-fn push_tree<A: Allocator + Copy, B: Allocator + Copy>(
+fn push_tree<A: Allocator + Copy, B: Allocator>(
     text: &mut String<B>,
     alloc: A,
     world: &Group<A>,
@@ -249,18 +227,16 @@ fn push_tree<A: Allocator + Copy, B: Allocator + Copy>(
     push_branches(text, branches.as_slice())
 }
 
-/// The tree of a message, and who holds it.
-pub(crate) fn told<A: Allocator + Copy, B: Allocator + Copy>(
+/// Appends the tree of a message, and who holds it.
+pub(crate) fn push_told<A: Allocator + Copy, B: Allocator>(
+    text: &mut String<B>,
     alloc: A,
-    texts: B,
     world: &Group<A>,
     id: &MsgId,
-) -> Result<String<B>, Fail> {
-    let mut text = String::new(texts);
-    push_tree(&mut text, alloc, world, id)?;
+) -> Result<(), Fail> {
+    push_tree(text, alloc, world, id)?;
     write!(text, "| ")?;
-    push_held(&mut text, world.nodes(), id)?;
-    Ok(text)
+    push_held(text, world.nodes(), id)
 }
 
 /// Appends who holds each of these messages.
@@ -288,20 +264,24 @@ fn push_nodes<A: Allocator + Copy, B: Allocator>(
     push_waiting(text, nodes)
 }
 
-/// All that a core's readers answer, and what it gave so far.
-pub(crate) fn core_text<A: Allocator + Copy, B: Allocator>(
-    texts: B,
+/// Appends all that a core's readers answer, of the messages of this one.
+pub(crate) fn push_core<A: Allocator + Copy, B: Allocator>(
+    text: &mut String<B>,
     core: &PlumCore<A>,
     id: &MsgId,
+) -> Result<(), Fail> {
+    push_views_of(text, core)?;
+    push_waiting_at(text, core)?;
+    push_held_at(text, core, id)
+}
+
+/// Appends what cores gave.
+pub(crate) fn push_out<A: Allocator, B: Allocator>(
+    text: &mut String<B>,
     out: &Out<Frame<A>, A>,
-) -> Result<String<B>, Fail> {
-    let mut text = String::new(texts);
-    push_views_of(&mut text, core)?;
-    push_waiting_at(&mut text, core)?;
-    push_held_at(&mut text, core, id)?;
-    push_sends(&mut text, out.sends.as_slice())?;
-    push_deliveries(&mut text, out.deliveries.as_slice())?;
-    Ok(text)
+) -> Result<(), Fail> {
+    push_sends(text, out.sends.as_slice())?;
+    push_deliveries(text, out.deliveries.as_slice())
 }
 
 /// Appends the log, without its events.
@@ -320,17 +300,15 @@ fn push_log<A: Allocator, B: Allocator>(
     Ok(())
 }
 
-/// All that the readers of a group answer, those of its cores for these messages.
-pub(crate) fn whole<A: Allocator + Copy, B: Allocator>(
-    texts: B,
+/// Appends all that the readers of a group answer, those of its cores for these messages.
+pub(crate) fn push_whole<A: Allocator + Copy, B: Allocator>(
+    text: &mut String<B>,
     world: &Group<A>,
     ids: &[MsgId],
-) -> Result<String<B>, Fail> {
-    let mut text = String::new(texts);
-    push_nodes(&mut text, world.nodes())?;
-    push_all_held(&mut text, world.nodes(), ids)?;
-    push_packets(&mut text, world.sent(), 0)?;
-    push_numbers(&mut text, world.flight())?;
-    push_log(&mut text, world.log())?;
-    Ok(text)
+) -> Result<(), Fail> {
+    push_nodes(text, world.nodes())?;
+    push_all_held(text, world.nodes(), ids)?;
+    push_packets(text, world.sent(), 0)?;
+    push_numbers(text, world.flight())?;
+    push_log(text, world.log())
 }
