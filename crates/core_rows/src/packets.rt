@@ -2,16 +2,15 @@
 use bytes::Bytes;
 use frames::{Body, BodyOf, Frame};
 use node_names::{MsgId, NodeName};
-use std::alloc::Allocator;
+use std::alloc::{AllocError, Allocator};
 use std::fmt::Write;
-use std::test::Fail;
 use world::Packet;
 
 /// Appends the letters of a payload.
 pub(crate) fn push_payload<A: Allocator, B: Allocator>(
     text: &mut String<B>,
     payload: &Bytes<A>,
-) -> Result<(), Fail> {
+) -> Result<(), AllocError> {
     for byte in payload.as_slice() {
         text.push(char::from(*byte))?;
     }
@@ -19,7 +18,10 @@ pub(crate) fn push_payload<A: Allocator, B: Allocator>(
 }
 
 /// Appends ids with their rounds.
-fn push_entries<B: Allocator>(text: &mut String<B>, entries: &[(MsgId, u32)]) -> Result<(), Fail> {
+fn push_entries<B: Allocator>(
+    text: &mut String<B>,
+    entries: &[(MsgId, u32)],
+) -> Result<(), AllocError> {
     for (id, round) in entries {
         write!(text, " {id} {round}")?;
     }
@@ -27,7 +29,7 @@ fn push_entries<B: Allocator>(text: &mut String<B>, entries: &[(MsgId, u32)]) ->
 }
 
 /// Appends names.
-fn push_names<B: Allocator>(text: &mut String<B>, names: &[NodeName]) -> Result<(), Fail> {
+fn push_names<B: Allocator>(text: &mut String<B>, names: &[NodeName]) -> Result<(), AllocError> {
     for name in names {
         write!(text, " {name}")?;
     }
@@ -38,11 +40,11 @@ fn push_names<B: Allocator>(text: &mut String<B>, names: &[NodeName]) -> Result<
 fn push_membership<A: Allocator, B: Allocator>(
     text: &mut String<B>,
     body: &Body<A>,
-) -> Result<(), Fail> {
+) -> Result<(), AllocError> {
     match body {
-        BodyOf::Join => Ok(write!(text, "JOIN")?),
-        BodyOf::Neighbor { high } => Ok(write!(text, "NEIGHBOR {high}")?),
-        BodyOf::NeighborReply { accepted } => Ok(write!(text, "NEIGHBORREPLY {accepted}")?),
+        BodyOf::Join => write!(text, "JOIN"),
+        BodyOf::Neighbor { high } => write!(text, "NEIGHBOR {high}"),
+        BodyOf::NeighborReply { accepted } => write!(text, "NEIGHBORREPLY {accepted}"),
         BodyOf::Shuffle { origin, ttl, names } => {
             write!(text, "SHUFFLE {origin} {ttl}")?;
             push_names(text, names.as_slice())
@@ -51,20 +53,23 @@ fn push_membership<A: Allocator, B: Allocator>(
             write!(text, "SHUFFLEREPLY")?;
             push_names(text, names.as_slice())
         }
-        _ => Ok(write!(text, "OTHER")?),
+        _ => write!(text, "OTHER"),
     }
 }
 
 /// Appends what a packet says.
-fn push_body<A: Allocator, B: Allocator>(text: &mut String<B>, body: &Body<A>) -> Result<(), Fail> {
+fn push_body<A: Allocator, B: Allocator>(
+    text: &mut String<B>,
+    body: &Body<A>,
+) -> Result<(), AllocError> {
     match body {
-        BodyOf::Gossip { id, round, .. } => Ok(write!(text, "GOSSIP {id} {round}")?),
+        BodyOf::Gossip { id, round, .. } => write!(text, "GOSSIP {id} {round}"),
         BodyOf::IHave { entries } => {
             write!(text, "IHAVE")?;
             push_entries(text, entries.as_slice())
         }
-        BodyOf::Graft { id, round } => Ok(write!(text, "GRAFT {id} {round}")?),
-        BodyOf::Prune => Ok(write!(text, "PRUNE")?),
+        BodyOf::Graft { id, round } => write!(text, "GRAFT {id} {round}"),
+        BodyOf::Prune => write!(text, "PRUNE"),
         _ => push_membership(text, body),
     }
 }
@@ -74,10 +79,10 @@ fn push_packet<A: Allocator, B: Allocator>(
     text: &mut String<B>,
     number: usize,
     packet: &Packet<Frame<A>>,
-) -> Result<(), Fail> {
+) -> Result<(), AllocError> {
     write!(text, "#{number} {} to {} ", packet.sender.name, packet.to)?;
     push_body(text, packet.note.body())?;
-    Ok(write!(text, "; ")?)
+    write!(text, "; ")
 }
 
 /// Appends the packets from the first of these on.
@@ -85,7 +90,7 @@ pub(crate) fn push_packets<A: Allocator, B: Allocator>(
     text: &mut String<B>,
     packets: &[Packet<Frame<A>>],
     first: usize,
-) -> Result<(), Fail> {
+) -> Result<(), AllocError> {
     for number in first..packets.len() {
         push_packet(text, number, &packets[number])?;
     }
@@ -96,7 +101,7 @@ pub(crate) fn push_packets<A: Allocator, B: Allocator>(
 pub(crate) fn push_sends<A: Allocator, B: Allocator>(
     text: &mut String<B>,
     sends: &[(NodeName, Frame<A>)],
-) -> Result<(), Fail> {
+) -> Result<(), AllocError> {
     for (to, frame) in sends {
         write!(text, "{} to {to} ", frame.number())?;
         push_body(text, frame.body())?;

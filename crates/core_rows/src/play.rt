@@ -1,10 +1,10 @@
 //! Playing the rows event by event.
 use crate::act::{Act, event};
 use crate::named::id;
-use crate::rows::{ROWS, Row, Turn};
+use crate::rows::{Row, Turn, rows};
 use crate::texts::{Group, push_given, push_standing, push_told, push_views, push_whole};
 use node_names::{Limits, MsgId};
-use std::alloc::Allocator;
+use std::alloc::{AllocError, Allocator};
 use std::process::Abort;
 use std::test::Fail;
 use world::{Event, WorldError};
@@ -23,7 +23,7 @@ fn compare_given<A: Allocator + Copy, B: Allocator>(
     text: &mut String<B>,
     world: &Group<A>,
     wanted: &str,
-) -> Result<(), Fail> {
+) -> Result<(), AllocError> {
     text.clear();
     push_given(text, world)?;
     assert_eq!(rt; text.as_str(), wanted);
@@ -35,7 +35,7 @@ fn compare_views<A: Allocator + Copy, B: Allocator>(
     text: &mut String<B>,
     world: &Group<A>,
     wanted: &str,
-) -> Result<(), Fail> {
+) -> Result<(), AllocError> {
     text.clear();
     push_views(text, world.nodes())?;
     assert_eq!(rt; text.as_str(), wanted);
@@ -48,7 +48,7 @@ fn compare_standing<A: Allocator + Copy, B: Allocator>(
     world: &Group<A>,
     ids: &[MsgId],
     wanted: &str,
-) -> Result<(), Fail> {
+) -> Result<(), AllocError> {
     text.clear();
     push_standing(text, world, ids)?;
     assert_eq!(rt; text.as_str(), wanted);
@@ -62,7 +62,7 @@ pub(crate) fn compare<A: Allocator + Copy, B: Allocator>(
     world: &Group<A>,
     ids: &[MsgId],
     turn: &Turn,
-) -> Result<(), Fail> {
+) -> Result<(), AllocError> {
     compare_given(rt, text, world, turn.1)?;
     compare_views(rt, text, world, turn.2)?;
     compare_standing(rt, text, world, ids, turn.3)
@@ -75,7 +75,7 @@ pub(crate) fn compare_whole<A: Allocator + Copy, B: Allocator>(
     world: &Group<A>,
     ids: &[MsgId],
     wanted: &str,
-) -> Result<(), Fail> {
+) -> Result<(), AllocError> {
     text.clear();
     push_whole(text, world, ids)?;
     assert_eq!(rt; text.as_str(), wanted);
@@ -119,14 +119,28 @@ fn compare_told<A: Allocator + Copy, B: Allocator>(
     world: &Group<A>,
     id: &MsgId,
     wanted: &str,
-) -> Result<(), Fail> {
+) -> Result<(), AllocError> {
     text.clear();
     push_told(text, alloc, world, id)?;
     assert_eq!(rt; text.as_str(), wanted);
     Ok(())
 }
 
-/// Plays a row in a fresh group, and compares its end with what it should be.
+/// Compares the end of a row with what it should be.
+fn compare_end<A: Allocator + Copy, B: Allocator>(
+    rt: &impl Abort,
+    alloc: A,
+    text: &mut String<B>,
+    world: &Group<A>,
+    ids: &[MsgId; 2],
+    row: &Row,
+) -> Result<(), AllocError> {
+    assert_eq!(rt; world.sent().len(), row.sent);
+    compare_told(rt, alloc, text, world, &ids[0], row.told[0].1)?;
+    compare_told(rt, alloc, text, world, &ids[1], row.told[1].1)
+}
+
+/// Plays a row, and compares its end with what it should be.
 fn play_group<A: Allocator + Copy, B: Allocator>(
     rt: &impl Abort,
     alloc: A,
@@ -137,20 +151,19 @@ fn play_group<A: Allocator + Copy, B: Allocator>(
 ) -> Result<(), Fail> {
     play(rt, alloc, text, world, ids, row.before)?;
     play(rt, alloc, text, world, ids, row.turns)?;
-    assert_eq!(rt; world.sent().len(), row.sent);
-    compare_told(rt, alloc, text, world, &ids[0], row.told[0].1)?;
-    compare_told(rt, alloc, text, world, &ids[1], row.told[1].1)
+    Ok(compare_end(rt, alloc, text, world, ids, row)?)
 }
 
+/// Plays a row in a fresh group.
 fn play_row<A: Allocator + Copy, B: Allocator>(
     rt: &impl Abort,
     alloc: A,
     text: &mut String<B>,
+    ids: &[MsgId; 2],
     row: &Row,
 ) -> Result<(), Fail> {
-    let ids = asked(row)?;
     let mut world = Group::<A>::new(alloc, Limits::STANDARD);
-    play_group(rt, alloc, text, &mut world, &ids, row)
+    play_group(rt, alloc, text, &mut world, ids, row)
 }
 
 fn play_rows<A: Allocator + Copy, B: Allocator>(
@@ -160,7 +173,8 @@ fn play_rows<A: Allocator + Copy, B: Allocator>(
     rows: &[Row],
 ) -> Result<(), Fail> {
     for row in rows {
-        play_row(rt, alloc, text, row)?;
+        let ids = asked(row)?;
+        play_row(rt, alloc, text, &ids, row)?;
     }
     Ok(())
 }
@@ -168,5 +182,5 @@ fn play_rows<A: Allocator + Copy, B: Allocator>(
 #[test]
 fn plays_rows(rt: HostRuntime) -> Result<(), Fail> {
     let mut text = String::new(rt.alloc());
-    play_rows(&rt, rt.alloc(), &mut text, &ROWS)
+    play_rows(&rt, rt.alloc(), &mut text, rows())
 }

@@ -16,6 +16,8 @@ pub(crate) struct Row {
     pub(crate) turns: &'static [Turn],
     /// How many packets were sent in all.
     pub(crate) sent: usize,
+    /// Whether each growth is refused in turn.
+    pub(crate) is_swept: bool,
 }
 
 const A1: Id = ("a", 1);
@@ -116,6 +118,7 @@ const TRIANGLE: Row = Row {
         (Act::Arrive(0), "", CORNERS, "| | "),
     ],
     sent: 10,
+    is_swept: true,
 };
 
 /// In a line a repeated packet makes c lazy to b, so that c hears of the next message, waits, and asks for it.
@@ -184,6 +187,7 @@ const LAZY: Row = Row {
     before: &[],
     turns: ASKING,
     sent: 6,
+    is_swept: true,
 };
 
 /// The message comes, after a timer that found nobody else to ask.
@@ -204,6 +208,7 @@ const LAZY_REPAIR: Row = Row {
         (Act::Arrive(0), "c delivers a/1/2 n; ", LINE, "| | "),
     ],
     sent: 7,
+    is_swept: true,
 };
 
 /// The announcement comes once more after its timer was dropped, and arms it again.
@@ -232,6 +237,7 @@ const REPEATED_ANNOUNCEMENT: Row = Row {
         (Act::Fire("c", A2), "", LINE, "| | "),
     ],
     sent: 7,
+    is_swept: false,
 };
 
 /// A node joins at another, they exchange messages and names, and their link fails.
@@ -277,6 +283,7 @@ const JOIN: Row = Row {
         (Act::Down("b", "a"), "", "a: b /; b: /; ", "| | "),
     ],
     sent: 6,
+    is_swept: true,
 };
 
 /// A loss on the only way keeps the message from b for good, and nobody waits for it.
@@ -295,6 +302,7 @@ const ONE_PEER: Row = Row {
         (Act::Lose(0), "", PAIR, "| | "),
     ],
     sent: 1,
+    is_swept: false,
 };
 
 /// Two nodes say hello.
@@ -313,10 +321,10 @@ const HELLO: Row = Row {
         (Act::Arrive(0), "b delivers a/1/1 hello; ", PAIR, "| | "),
     ],
     sent: 1,
+    is_swept: false,
 };
 
-/// All rows.
-pub(crate) const ROWS: [Row; 7] = [
+const ROWS: &[Row] = &[
     TRIANGLE,
     LAZY,
     LAZY_REPAIR,
@@ -326,5 +334,7 @@ pub(crate) const ROWS: [Row; 7] = [
     HELLO,
 ];
 
-/// The rows whose growths are refused.
-pub(crate) const SWEPT: [Row; 4] = [TRIANGLE, LAZY, LAZY_REPAIR, JOIN];
+/// All rows.
+pub(crate) fn rows() -> &'static [Row] {
+    ROWS
+}

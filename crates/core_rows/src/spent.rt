@@ -9,7 +9,7 @@ use frames::Frame;
 use node_core::PlumCore;
 use node_names::{Limits, MsgId, NodeName, Origin};
 use refusing_allocator::RefusingAllocator;
-use std::alloc::Allocator;
+use std::alloc::{AllocError, Allocator};
 use std::process::Abort;
 use std::test::Fail;
 use world::{Core, CoreError, Out, Stimulus, StimulusOf};
@@ -56,9 +56,6 @@ const CASES: [Case; 3] = [
     },
 ];
 
-/// The packets and deliveries of nodes over a heap that refuses growths.
-type Given<'a> = Out<Frame<&'a RefusingAllocator>, &'a RefusingAllocator>;
-
 /// Two names that differ, the first in its first incarnation.
 fn pair(rt: &impl Abort) -> Result<(Origin, NodeName), Fail>
     ensures { IfOk result (λ pair. IsTrue (not (same_name pair.0.name pair.1))) }
@@ -100,7 +97,7 @@ fn compare<A: Allocator + Copy, B: Allocator>(
     refused: &MsgId,
     out: &Out<Frame<A>, A>,
     wanted: &str,
-) -> Result<(), Fail> {
+) -> Result<(), AllocError> {
     text.clear();
     push_core(text, core, refused)?;
     push_out(text, out)?;
@@ -118,12 +115,12 @@ fn compare_refusal(rt: &impl Abort, answer: Result<(), CoreError>, is_spent: boo
 }
 
 /// Takes a step whose growth with this number is refused, and which is refused in any case. Whether it had so many.
-fn refuse_step<'a>(
+fn refuse_step<A: Allocator + Copy>(
     rt: &impl Abort,
-    heap: &'a RefusingAllocator,
-    core: &mut PlumCore<&'a RefusingAllocator>,
-    stimulus: &Stimulus<Frame<&'a RefusingAllocator>, &'a RefusingAllocator>,
-    out: &mut Given<'a>,
+    heap: &RefusingAllocator,
+    core: &mut PlumCore<A>,
+    stimulus: &Stimulus<Frame<A>, A>,
+    out: &mut Out<Frame<A>, A>,
     n: u64,
 ) -> bool {
     heap.refuse(n);
@@ -135,13 +132,13 @@ fn refuse_step<'a>(
 }
 
 /// Refuses each growth of a step in turn, and then the step itself.
-fn sweep<'a>(
+fn sweep<A: Allocator + Copy, B: Allocator>(
     rt: &impl Abort,
-    heap: &'a RefusingAllocator,
-    text: &mut String,
-    core: &mut PlumCore<&'a RefusingAllocator>,
-    stimulus: &Stimulus<Frame<&'a RefusingAllocator>, &'a RefusingAllocator>,
-    out: &mut Given<'a>,
+    heap: &RefusingAllocator,
+    text: &mut String<B>,
+    core: &mut PlumCore<A>,
+    stimulus: &Stimulus<Frame<A>, A>,
+    out: &mut Out<Frame<A>, A>,
     case: &Case,
 ) -> Result<(), Fail> {
     let refused = id(case.refused)?;
@@ -170,13 +167,13 @@ fn accept<A: Allocator + Copy>(
 }
 
 /// Broadcasts as often as that is accepted, and once more.
-fn sweep_core<'a>(
+fn sweep_core<A: Allocator + Copy, B: Allocator>(
     rt: &impl Abort,
-    heap: &'a RefusingAllocator,
-    text: &mut String,
-    core: &mut PlumCore<&'a RefusingAllocator>,
-    stimulus: &Stimulus<Frame<&'a RefusingAllocator>, &'a RefusingAllocator>,
-    out: &mut Given<'a>,
+    heap: &RefusingAllocator,
+    text: &mut String<B>,
+    core: &mut PlumCore<A>,
+    stimulus: &Stimulus<Frame<A>, A>,
+    out: &mut Out<Frame<A>, A>,
     case: &Case,
 ) -> Result<(), Fail> {
     accept(core, stimulus, out, case.accepted)?;
@@ -196,41 +193,54 @@ fn compare_start<A: Allocator>(
     Ok(())
 }
 
-fn sweep_start<'a>(
+fn sweep_start<A: Allocator + Copy, B: Allocator>(
     rt: &impl Abort,
-    heap: &'a RefusingAllocator,
-    text: &mut String,
-    stimulus: &Stimulus<Frame<&'a RefusingAllocator>, &'a RefusingAllocator>,
-    out: &mut Given<'a>,
+    heap: &RefusingAllocator,
+    alloc: A,
+    text: &mut String<B>,
+    stimulus: &Stimulus<Frame<A>, A>,
+    out: &mut Out<Frame<A>, A>,
     case: &Case,
 ) -> Result<(), Fail> {
     let (me, other) = pair(rt)?;
-    match start(heap, me, other, case, out) {
+    match start(alloc, me, other, case, out) {
         Ok(mut core) => sweep_core(rt, heap, text, &mut core, stimulus, out, case),
         Err(why) => compare_start(rt, why, out, case),
     }
 }
 
-fn sweep_case<'a>(
-    rt: &impl Abort,
-    heap: &'a RefusingAllocator,
-    text: &mut String,
-    stimulus: &Stimulus<Frame<&'a RefusingAllocator>, &'a RefusingAllocator>,
-    case: &Case,
-) -> Result<(), Fail> {
-    let mut out = Out::new(heap);
-    sweep_start(rt, heap, text, stimulus, &mut out, case)
-}
-
-fn sweep_cases(
+fn sweep_out<A: Allocator + Copy, B: Allocator>(
     rt: &impl Abort,
     heap: &RefusingAllocator,
-    text: &mut String,
+    alloc: A,
+    text: &mut String<B>,
+    stimulus: &Stimulus<Frame<A>, A>,
+    case: &Case,
+) -> Result<(), Fail> {
+    let mut out = Out::new(alloc);
+    sweep_start(rt, heap, alloc, text, stimulus, &mut out, case)
+}
+
+fn sweep_case<A: Allocator + Copy, B: Allocator>(
+    rt: &impl Abort,
+    heap: &RefusingAllocator,
+    alloc: A,
+    text: &mut String<B>,
+    case: &Case,
+) -> Result<(), Fail> {
+    let stimulus = broadcast(alloc)?;
+    sweep_out(rt, heap, alloc, text, &stimulus, case)
+}
+
+fn sweep_cases<A: Allocator + Copy, B: Allocator>(
+    rt: &impl Abort,
+    heap: &RefusingAllocator,
+    alloc: A,
+    text: &mut String<B>,
     cases: &[Case],
 ) -> Result<(), Fail> {
-    let stimulus = broadcast(heap)?;
     for case in cases {
-        sweep_case(rt, heap, text, &stimulus, case)?;
+        sweep_case(rt, heap, alloc, text, case)?;
     }
     Ok(())
 }
@@ -239,5 +249,5 @@ fn sweep_cases(
 fn refuses_what_needs_a_spent_number(rt: HostRuntime) -> Result<(), Fail> {
     let heap = RefusingAllocator::new(rt.alloc());
     let mut text = String::new(rt.alloc());
-    sweep_cases(&rt, &heap, &mut text, &CASES)
+    sweep_cases(&rt, &heap, &heap, &mut text, &CASES)
 }

@@ -4,9 +4,8 @@ use at_rest::{Branch, is_at_rest, tree};
 use frames::Frame;
 use node_core::PlumCore;
 use node_names::{MsgId, NodeName};
-use std::alloc::Allocator;
+use std::alloc::{AllocError, Allocator};
 use std::fmt::Write;
-use std::test::Fail;
 use world::{Core, Delivery, Entry, NameSet, NodeState, Out, World};
 
 /// A group of Plumtree nodes.
@@ -16,7 +15,7 @@ pub(crate) type Group<A> = World<PlumCore<A>, A>;
 fn push_deliveries<A: Allocator, B: Allocator>(
     text: &mut String<B>,
     deliveries: &[Delivery<A>],
-) -> Result<(), Fail> {
+) -> Result<(), AllocError> {
     for delivery in deliveries {
         write!(text, "{} delivers {} ", delivery.node.name, delivery.id)?;
         push_payload(text, &delivery.payload)?;
@@ -29,7 +28,7 @@ fn push_deliveries<A: Allocator, B: Allocator>(
 pub(crate) fn push_given<A: Allocator + Copy, B: Allocator>(
     text: &mut String<B>,
     world: &Group<A>,
-) -> Result<(), Fail> {
+) -> Result<(), AllocError> {
     let Some(entry) = world.log().last() else {
         return Ok(());
     };
@@ -41,7 +40,7 @@ pub(crate) fn push_given<A: Allocator + Copy, B: Allocator>(
 fn push_set<A: Allocator, B: Allocator>(
     text: &mut String<B>,
     names: &NameSet<A>,
-) -> Result<(), Fail> {
+) -> Result<(), AllocError> {
     for name in names.iter() {
         write!(text, " {name}")?;
     }
@@ -52,19 +51,19 @@ fn push_set<A: Allocator, B: Allocator>(
 fn push_views_of<A: Allocator + Copy, B: Allocator>(
     text: &mut String<B>,
     core: &PlumCore<A>,
-) -> Result<(), Fail> {
+) -> Result<(), AllocError> {
     write!(text, "{}:", core.me().name)?;
     push_set(text, core.active())?;
     write!(text, " /")?;
     push_set(text, core.passive())?;
-    Ok(write!(text, "; ")?)
+    write!(text, "; ")
 }
 
 /// Appends the views of the nodes that run: the active one, and, behind a stroke, the passive one.
 pub(crate) fn push_views<A: Allocator + Copy, B: Allocator>(
     text: &mut String<B>,
     nodes: &[NodeState<PlumCore<A>>],
-) -> Result<(), Fail> {
+) -> Result<(), AllocError> {
     for node in nodes {
         if let Some(core) = &node.core {
             push_views_of(text, core)?;
@@ -74,7 +73,7 @@ pub(crate) fn push_views<A: Allocator + Copy, B: Allocator>(
 }
 
 /// Appends the numbers of packets.
-fn push_numbers<B: Allocator>(text: &mut String<B>, numbers: &[usize]) -> Result<(), Fail> {
+fn push_numbers<B: Allocator>(text: &mut String<B>, numbers: &[usize]) -> Result<(), AllocError> {
     for number in numbers {
         write!(text, "{number} ")?;
     }
@@ -86,7 +85,7 @@ fn push_queued<B: Allocator>(
     text: &mut String<B>,
     node: &NodeName,
     queued: &[(NodeName, MsgId, u32)],
-) -> Result<(), Fail> {
+) -> Result<(), AllocError> {
     for (peer, id, round) in queued {
         write!(text, "{node} queues {id} {round} for {peer}; ")?;
     }
@@ -98,7 +97,7 @@ fn push_wants<B: Allocator>(
     text: &mut String<B>,
     node: &NodeName,
     wants: &[(MsgId, NodeName, u32)],
-) -> Result<(), Fail> {
+) -> Result<(), AllocError> {
     for (id, peer, round) in wants {
         write!(text, "{node} wants {id} {round} of {peer}; ")?;
     }
@@ -110,7 +109,7 @@ fn push_timers<B: Allocator>(
     text: &mut String<B>,
     node: &NodeName,
     timers: &[MsgId],
-) -> Result<(), Fail> {
+) -> Result<(), AllocError> {
     for id in timers {
         write!(text, "{node} times {id}; ")?;
     }
@@ -121,7 +120,7 @@ fn push_timers<B: Allocator>(
 fn push_waiting_at<A: Allocator + Copy, B: Allocator>(
     text: &mut String<B>,
     core: &PlumCore<A>,
-) -> Result<(), Fail> {
+) -> Result<(), AllocError> {
     let node = core.me().name;
     push_queued(text, &node, core.queued())?;
     push_wants(text, &node, core.wants())?;
@@ -132,7 +131,7 @@ fn push_waiting_at<A: Allocator + Copy, B: Allocator>(
 fn push_waiting<A: Allocator + Copy, B: Allocator>(
     text: &mut String<B>,
     nodes: &[NodeState<PlumCore<A>>],
-) -> Result<(), Fail> {
+) -> Result<(), AllocError> {
     for node in nodes {
         if let Some(core) = &node.core {
             push_waiting_at(text, core)?;
@@ -146,7 +145,7 @@ fn push_restless<A: Allocator + Copy, B: Allocator>(
     text: &mut String<B>,
     world: &Group<A>,
     ids: &[MsgId],
-) -> Result<(), Fail> {
+) -> Result<(), AllocError> {
     for id in ids {
         if !is_at_rest(world, id) {
             write!(text, "{id} ")?;
@@ -161,7 +160,7 @@ pub(crate) fn push_standing<A: Allocator + Copy, B: Allocator>(
     text: &mut String<B>,
     world: &Group<A>,
     ids: &[MsgId],
-) -> Result<(), Fail> {
+) -> Result<(), AllocError> {
     push_numbers(text, world.flight())?;
     write!(text, "| ")?;
     push_waiting(text, world.nodes())?;
@@ -174,7 +173,7 @@ fn push_held_at<A: Allocator + Copy, B: Allocator>(
     text: &mut String<B>,
     core: &PlumCore<A>,
     id: &MsgId,
-) -> Result<(), Fail> {
+) -> Result<(), AllocError> {
     if !core.has(id) {
         return Ok(());
     }
@@ -182,7 +181,7 @@ fn push_held_at<A: Allocator + Copy, B: Allocator>(
     if let Some(payload) = core.payload(id) {
         push_payload(text, payload)?;
     }
-    Ok(write!(text, " ")?)
+    write!(text, " ")
 }
 
 /// Appends who holds a message, and the payload that it holds.
@@ -190,7 +189,7 @@ fn push_held<A: Allocator + Copy, B: Allocator>(
     text: &mut String<B>,
     nodes: &[NodeState<PlumCore<A>>],
     id: &MsgId,
-) -> Result<(), Fail> {
+) -> Result<(), AllocError> {
     for node in nodes {
         if let Some(core) = &node.core {
             push_held_at(text, core, id)?;
@@ -200,16 +199,19 @@ fn push_held<A: Allocator + Copy, B: Allocator>(
 }
 
 /// Appends a branch of a tree.
-fn push_branch<B: Allocator>(text: &mut String<B>, branch: &Branch) -> Result<(), Fail> {
+fn push_branch<B: Allocator>(text: &mut String<B>, branch: &Branch) -> Result<(), AllocError> {
     let node = branch.node.name;
     match branch.parent {
-        Some(parent) => Ok(write!(text, "{node} <- {}; ", parent.name)?),
-        None => Ok(write!(text, "{node} <- -; ")?),
+        Some(parent) => write!(text, "{node} <- {}; ", parent.name),
+        None => write!(text, "{node} <- -; "),
     }
 }
 
 /// Appends the branches of a tree.
-fn push_branches<B: Allocator>(text: &mut String<B>, branches: &[Branch]) -> Result<(), Fail> {
+fn push_branches<B: Allocator>(
+    text: &mut String<B>,
+    branches: &[Branch],
+) -> Result<(), AllocError> {
     for branch in branches {
         push_branch(text, branch)?;
     }
@@ -222,7 +224,7 @@ fn push_tree<A: Allocator + Copy, B: Allocator>(
     alloc: A,
     world: &Group<A>,
     id: &MsgId,
-) -> Result<(), Fail> {
+) -> Result<(), AllocError> {
     let branches = tree(alloc, world, id)?;
     push_branches(text, branches.as_slice())
 }
@@ -233,7 +235,7 @@ pub(crate) fn push_told<A: Allocator + Copy, B: Allocator>(
     alloc: A,
     world: &Group<A>,
     id: &MsgId,
-) -> Result<(), Fail> {
+) -> Result<(), AllocError> {
     push_tree(text, alloc, world, id)?;
     write!(text, "| ")?;
     push_held(text, world.nodes(), id)
@@ -244,7 +246,7 @@ fn push_all_held<A: Allocator + Copy, B: Allocator>(
     text: &mut String<B>,
     nodes: &[NodeState<PlumCore<A>>],
     ids: &[MsgId],
-) -> Result<(), Fail> {
+) -> Result<(), AllocError> {
     for id in ids {
         write!(text, "{id}: ")?;
         push_held(text, nodes, id)?;
@@ -256,7 +258,7 @@ fn push_all_held<A: Allocator + Copy, B: Allocator>(
 fn push_nodes<A: Allocator + Copy, B: Allocator>(
     text: &mut String<B>,
     nodes: &[NodeState<PlumCore<A>>],
-) -> Result<(), Fail> {
+) -> Result<(), AllocError> {
     for node in nodes {
         write!(text, "{} {} ", node.name, node.highest)?;
     }
@@ -269,7 +271,7 @@ pub(crate) fn push_core<A: Allocator + Copy, B: Allocator>(
     text: &mut String<B>,
     core: &PlumCore<A>,
     id: &MsgId,
-) -> Result<(), Fail> {
+) -> Result<(), AllocError> {
     push_views_of(text, core)?;
     push_waiting_at(text, core)?;
     push_held_at(text, core, id)
@@ -279,7 +281,7 @@ pub(crate) fn push_core<A: Allocator + Copy, B: Allocator>(
 pub(crate) fn push_out<A: Allocator, B: Allocator>(
     text: &mut String<B>,
     out: &Out<Frame<A>, A>,
-) -> Result<(), Fail> {
+) -> Result<(), AllocError> {
     push_sends(text, out.sends.as_slice())?;
     push_deliveries(text, out.deliveries.as_slice())
 }
@@ -288,7 +290,7 @@ pub(crate) fn push_out<A: Allocator, B: Allocator>(
 fn push_log<A: Allocator, B: Allocator>(
     text: &mut String<B>,
     log: &[Entry<A>],
-) -> Result<(), Fail> {
+) -> Result<(), AllocError> {
     for entry in log {
         write!(
             text,
@@ -305,7 +307,7 @@ pub(crate) fn push_whole<A: Allocator + Copy, B: Allocator>(
     text: &mut String<B>,
     world: &Group<A>,
     ids: &[MsgId],
-) -> Result<(), Fail> {
+) -> Result<(), AllocError> {
     push_nodes(text, world.nodes())?;
     push_all_held(text, world.nodes(), ids)?;
     push_packets(text, world.sent(), 0)?;
