@@ -96,16 +96,3 @@ pub(crate) fn push_packets<A: Allocator, B: Allocator>(
     }
     Ok(())
 }
-
-/// Appends frames with their receivers and numbers.
-pub(crate) fn push_sends<A: Allocator, B: Allocator>(
-    text: &mut String<B>,
-    sends: &[(NodeName, Frame<A>)],
-) -> Result<(), AllocError> {
-    for (to, frame) in sends {
-        write!(text, "{} to {to} ", frame.number())?;
-        push_body(text, frame.body())?;
-        write!(text, "; ")?;
-    }
-    Ok(())
-}

@@ -18,41 +18,9 @@ pub(crate) fn apply<A: Allocator + Copy>(
     Ok(())
 }
 
-fn compare_given<A: Allocator + Copy, B: Allocator>(
-    rt: &impl Abort,
-    text: &mut String<B>,
-    world: &Group<A>,
-    wanted: &str,
-) -> Result<(), AllocError> {
-    text.clear();
-    push_given(text, world)?;
-    assert_eq!(rt; text.as_str(), wanted);
-    Ok(())
-}
-
-fn compare_views<A: Allocator + Copy, B: Allocator>(
-    rt: &impl Abort,
-    text: &mut String<B>,
-    world: &Group<A>,
-    wanted: &str,
-) -> Result<(), AllocError> {
-    text.clear();
-    push_views(text, world.nodes())?;
-    assert_eq!(rt; text.as_str(), wanted);
-    Ok(())
-}
-
-fn compare_standing<A: Allocator + Copy, B: Allocator>(
-    rt: &impl Abort,
-    text: &mut String<B>,
-    world: &Group<A>,
-    ids: &[MsgId],
-    wanted: &str,
-) -> Result<(), AllocError> {
-    text.clear();
-    push_standing(text, world, ids)?;
-    assert_eq!(rt; text.as_str(), wanted);
-    Ok(())
+/// Compares a text with what it should be.
+fn compare_text(rt: &impl Abort, text: &str, wanted: &str) {
+    assert_eq!(rt; text, wanted);
 }
 
 /// Compares what an event gave and left.
@@ -63,9 +31,16 @@ pub(crate) fn compare<A: Allocator + Copy, B: Allocator>(
     ids: &[MsgId],
     turn: &Turn,
 ) -> Result<(), AllocError> {
-    compare_given(rt, text, world, turn.1)?;
-    compare_views(rt, text, world, turn.2)?;
-    compare_standing(rt, text, world, ids, turn.3)
+    text.clear();
+    push_given(text, world)?;
+    compare_text(rt, text.as_str(), turn.1);
+    text.clear();
+    push_views(text, world.nodes())?;
+    compare_text(rt, text.as_str(), turn.2);
+    text.clear();
+    push_standing(text, world, ids)?;
+    compare_text(rt, text.as_str(), turn.3);
+    Ok(())
 }
 
 /// Compares what all readers answer.
@@ -73,12 +48,12 @@ pub(crate) fn compare_whole<A: Allocator + Copy, B: Allocator>(
     rt: &impl Abort,
     text: &mut String<B>,
     world: &Group<A>,
-    ids: &[MsgId],
+    ids: &[MsgId; 2],
     wanted: &str,
 ) -> Result<(), AllocError> {
     text.clear();
     push_whole(text, world, ids)?;
-    assert_eq!(rt; text.as_str(), wanted);
+    compare_text(rt, text.as_str(), wanted);
     Ok(())
 }
 
@@ -111,21 +86,6 @@ pub(crate) fn asked(row: &Row) -> Result<[MsgId; 2], Fail> {
     Ok([first, second])
 }
 
-/// Compares what is told of a message with what should be.
-fn compare_told<A: Allocator + Copy, B: Allocator>(
-    rt: &impl Abort,
-    alloc: A,
-    text: &mut String<B>,
-    world: &Group<A>,
-    id: &MsgId,
-    wanted: &str,
-) -> Result<(), AllocError> {
-    text.clear();
-    push_told(text, alloc, world, id)?;
-    assert_eq!(rt; text.as_str(), wanted);
-    Ok(())
-}
-
 /// Compares the end of a row with what it should be.
 fn compare_end<A: Allocator + Copy, B: Allocator>(
     rt: &impl Abort,
@@ -135,9 +95,14 @@ fn compare_end<A: Allocator + Copy, B: Allocator>(
     ids: &[MsgId; 2],
     row: &Row,
 ) -> Result<(), AllocError> {
-    assert_eq!(rt; world.sent().len(), row.sent);
-    compare_told(rt, alloc, text, world, &ids[0], row.told[0].1)?;
-    compare_told(rt, alloc, text, world, &ids[1], row.told[1].1)
+    assert!(rt; world.sent().len() == row.sent);
+    text.clear();
+    push_told(text, alloc, world, &ids[0])?;
+    compare_text(rt, text.as_str(), row.told[0].1);
+    text.clear();
+    push_told(text, alloc, world, &ids[1])?;
+    compare_text(rt, text.as_str(), row.told[1].1);
+    Ok(())
 }
 
 /// Plays a row, and compares its end with what it should be.

@@ -1,12 +1,11 @@
 //! What a group and its nodes show, as texts.
-use crate::packets::{push_packets, push_payload, push_sends};
+use crate::packets::{push_packets, push_payload};
 use at_rest::{Branch, is_at_rest, tree};
-use frames::Frame;
 use node_core::PlumCore;
 use node_names::{MsgId, NodeName};
 use std::alloc::{AllocError, Allocator};
 use std::fmt::Write;
-use world::{Core, Delivery, Entry, NameSet, NodeState, Out, World};
+use world::{Core, Delivery, NameSet, NodeState, World};
 
 /// A group of Plumtree nodes.
 pub(crate) type Group<A> = World<PlumCore<A>, A>;
@@ -241,76 +240,15 @@ pub(crate) fn push_told<A: Allocator + Copy, B: Allocator>(
     push_held(text, world.nodes(), id)
 }
 
-/// Appends who holds each of these messages.
-fn push_all_held<A: Allocator + Copy, B: Allocator>(
-    text: &mut String<B>,
-    nodes: &[NodeState<PlumCore<A>>],
-    ids: &[MsgId],
-) -> Result<(), AllocError> {
-    for id in ids {
-        write!(text, "{id}: ")?;
-        push_held(text, nodes, id)?;
-    }
-    Ok(())
-}
-
-/// Appends the nodes, whether they run or not.
-fn push_nodes<A: Allocator + Copy, B: Allocator>(
-    text: &mut String<B>,
-    nodes: &[NodeState<PlumCore<A>>],
-) -> Result<(), AllocError> {
-    for node in nodes {
-        write!(text, "{} {} ", node.name, node.highest)?;
-    }
-    push_views(text, nodes)?;
-    push_waiting(text, nodes)
-}
-
-/// Appends all that a core's readers answer, of the messages of this one.
-pub(crate) fn push_core<A: Allocator + Copy, B: Allocator>(
-    text: &mut String<B>,
-    core: &PlumCore<A>,
-    id: &MsgId,
-) -> Result<(), AllocError> {
-    push_views_of(text, core)?;
-    push_waiting_at(text, core)?;
-    push_held_at(text, core, id)
-}
-
-/// Appends what cores gave.
-pub(crate) fn push_out<A: Allocator, B: Allocator>(
-    text: &mut String<B>,
-    out: &Out<Frame<A>, A>,
-) -> Result<(), AllocError> {
-    push_sends(text, out.sends.as_slice())?;
-    push_deliveries(text, out.deliveries.as_slice())
-}
-
-/// Appends the log, without its events.
-fn push_log<A: Allocator, B: Allocator>(
-    text: &mut String<B>,
-    log: &[Entry<A>],
-) -> Result<(), AllocError> {
-    for entry in log {
-        write!(
-            text,
-            "{:?} {} {} ",
-            entry.packet, entry.first_sent, entry.moved
-        )?;
-        push_deliveries(text, entry.given.as_slice())?;
-    }
-    Ok(())
-}
-
-/// Appends all that the readers of a group answer, those of its cores for these messages.
+/// Appends all of these, and who holds each of two messages.
 pub(crate) fn push_whole<A: Allocator + Copy, B: Allocator>(
     text: &mut String<B>,
     world: &Group<A>,
-    ids: &[MsgId],
+    ids: &[MsgId; 2],
 ) -> Result<(), AllocError> {
-    push_nodes(text, world.nodes())?;
-    push_all_held(text, world.nodes(), ids)?;
-    push_packets(text, world.sent(), 0)?;
-    push_numbers(text, world.flight())?;
-    push_log(text, world.log())
+    push_given(text, world)?;
+    push_views(text, world.nodes())?;
+    push_standing(text, world, ids)?;
+    push_held(text, world.nodes(), &ids[0])?;
+    push_held(text, world.nodes(), &ids[1])
 }
