@@ -81,8 +81,8 @@ pub(crate) fn play<A: Allocator + Copy, B: Allocator>(
 
 /// The ids of the two messages that a row asks about.
 pub(crate) fn asked(row: &Row) -> Result<[MsgId; 2], Fail> {
-    let first = id(row.told[0].0)?;
-    let second = id(row.told[1].0)?;
+    let first = id(row.first.0)?;
+    let second = id(row.second.0)?;
     Ok([first, second])
 }
 
@@ -98,10 +98,10 @@ fn compare_end<A: Allocator + Copy, B: Allocator>(
     assert!(rt; world.sent().len() == row.sent);
     text.clear();
     push_told(text, alloc, world, &ids[0])?;
-    compare_text(rt, text.as_str(), row.told[0].1);
+    compare_text(rt, text.as_str(), row.first.1);
     text.clear();
     push_told(text, alloc, world, &ids[1])?;
-    compare_text(rt, text.as_str(), row.told[1].1);
+    compare_text(rt, text.as_str(), row.second.1);
     Ok(())
 }
 

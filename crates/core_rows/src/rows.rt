@@ -5,11 +5,15 @@ use crate::named::Id;
 /// An event, what it gives, the nodes' views after it, and what stands then.
 pub(crate) type Turn = (Act, &'static str, &'static str, &'static str);
 
+/// A message, and what is told of it at the end of a run: its tree, and who holds it.
+pub(crate) type Told = (Id, &'static str);
+
 /// A run of a group under the standard limits.
 #[derive(Clone, Copy)]
 pub(crate) struct Row {
-    /// Two messages that are asked about, and what is told of each at the end: its tree, and who holds it.
-    pub(crate) told: [(Id, &'static str); 2],
+    /// Two messages that are asked about at the end.
+    pub(crate) first: Told,
+    pub(crate) second: Told,
     /// What happens first, which another row compares.
     pub(crate) before: &'static [Turn],
     /// What happens then.
@@ -37,10 +41,8 @@ const PAIR: &str = "a: b /; b: a /; ";
 
 /// Three nodes know each other. What one gets twice prunes a link, and the next message is announced over that.
 const TRIANGLE: Row = Row {
-    told: [
-        (A1, "a <- -; b <- a; c <- b; | a=m b=m c=m "),
-        (A2, "a <- -; b <- a; c <- b; | a=n b=n c=n "),
-    ],
+    first: (A1, "a <- -; b <- a; c <- b; | a=m b=m c=m "),
+    second: (A2, "a <- -; b <- a; c <- b; | a=n b=n c=n "),
     before: &[],
     turns: &[
         (Act::Start("a", &["b", "c"]), "", "a: b c /; ", "| | "),
@@ -180,10 +182,8 @@ const ASKING: &[Turn] = &[
 ];
 
 const LAZY: Row = Row {
-    told: [
-        (A1, "a <- -; b <- a; c <- b; | a=m b=m c=m "),
-        (A2, "a <- -; b <- a; | a=n b=n "),
-    ],
+    first: (A1, "a <- -; b <- a; c <- b; | a=m b=m c=m "),
+    second: (A2, "a <- -; b <- a; | a=n b=n "),
     before: &[],
     turns: ASKING,
     sent: 6,
@@ -192,10 +192,8 @@ const LAZY: Row = Row {
 
 /// The message comes, after a timer that found nobody else to ask.
 const LAZY_REPAIR: Row = Row {
-    told: [
-        (A1, "a <- -; b <- a; c <- b; | a=m b=m c=m "),
-        (A2, "a <- -; b <- a; c <- b; | a=n b=n c=n "),
-    ],
+    first: (A1, "a <- -; b <- a; c <- b; | a=m b=m c=m "),
+    second: (A2, "a <- -; b <- a; c <- b; | a=n b=n c=n "),
     before: ASKING,
     turns: &[
         (
@@ -213,10 +211,8 @@ const LAZY_REPAIR: Row = Row {
 
 /// The announcement comes once more after its timer was dropped, and arms it again.
 const REPEATED_ANNOUNCEMENT: Row = Row {
-    told: [
-        (A1, "a <- -; b <- a; c <- b; | a=m b=m c=m "),
-        (A2, "a <- -; b <- a; c <- b; | a=n b=n c=n "),
-    ],
+    first: (A1, "a <- -; b <- a; c <- b; | a=m b=m c=m "),
+    second: (A2, "a <- -; b <- a; c <- b; | a=n b=n c=n "),
     before: ASKING,
     turns: &[
         (Act::Fire("c", A2), "", LINE, "5 | | a/1/2 "),
@@ -242,7 +238,8 @@ const REPEATED_ANNOUNCEMENT: Row = Row {
 
 /// A node joins at another, they exchange messages and names, and their link fails.
 const JOIN: Row = Row {
-    told: [(B1, "b <- -; a <- b; | a=x b=x "), (A1, "| ")],
+    first: (B1, "b <- -; a <- b; | a=x b=x "),
+    second: (A1, "| "),
     before: &[],
     turns: &[
         (Act::Start("a", &[]), "", "a: /; ", "| | "),
@@ -288,7 +285,8 @@ const JOIN: Row = Row {
 
 /// A loss on the only way keeps the message from b for good, and nobody waits for it.
 const ONE_PEER: Row = Row {
-    told: [(A1, "a <- -; | a=m "), (A2, "| ")],
+    first: (A1, "a <- -; | a=m "),
+    second: (A2, "| "),
     before: &[],
     turns: &[
         (Act::Start("a", &["b"]), "", "a: b /; ", "| | "),
@@ -307,7 +305,8 @@ const ONE_PEER: Row = Row {
 
 /// Two nodes say hello.
 const HELLO: Row = Row {
-    told: [(A1, "a <- -; b <- a; | a=hello b=hello "), (A2, "| ")],
+    first: (A1, "a <- -; b <- a; | a=hello b=hello "),
+    second: (A2, "| "),
     before: &[],
     turns: &[
         (Act::Start("a", &["b"]), "", "a: b /; ", "| | "),
