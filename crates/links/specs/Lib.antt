@@ -1,4 +1,5 @@
 pub mod EndText
+pub mod Counting
 pub mod Pumping
 pub mod Draining
 pub mod Tape

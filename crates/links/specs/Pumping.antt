@@ -1,16 +1,12 @@
 -- What a call that pumps a reader's bytes into a sink does.
-use Rattle.std.specs.Prelude.{◌≡◌, ℕ, ◌*◌, ◌≤◌, Bool, ◌||◌, ◌==◌, List, ◌++◌, length, Option, Some, None, Err, IfSome, nat_lt}
-use Rattle.std.specs.Io.KnownBytes.{Consumes, IsAtEnd}
+use Rattle.std.specs.Prelude.{◌≡◌, ℕ, ◌*◌, ◌≤◌, List, ◌++◌, length, Option, None, Err, IfSome}
+use Rattle.std.specs.Io.KnownBytes.{Consumes}
 use Rattle.frames.specs.declared.fault.FrameFault.TheVariants as fault
 use Rattle.frames.specs.Cutting.{Begins, Cuts}
 use Rattle.frames.specs.Frame.{Frame as Sent}
 use Rattle.frames.specs.Reading.{read}
 use Rattle.links.specs.declared.ends.LinkEnd.{LinkEnd}
 use Rattle.links.specs.declared.ends.LinkEnd.TheVariants.{ReadFault, WriteFault, Frame, Ended, TurnLimit, SinkClosed, OutOfMemory}
-
--- Whether a count of failures rose, or stands at the greatest that there is.
-abbrev pub has_risen : ℕ → ℕ → Bool
-has_risen old new = nat_lt old new || new == 18446744073709551615
 
 -- No whole frame begins the bytes: they end before it does.
 abbrev pub IsPartial : List ℕ → Type 0

@@ -1,6 +1,7 @@
 //! From a source of frames to a stream of bytes.
-ghost use Rattle.std.specs.Prelude.{◌≡◌, ◌≤◌, length, take};
+ghost use Rattle.std.specs.Prelude.{◌≡◌, ◌≢◌, ◌<◌, ◌≤◌, ◌||◌, ℕ, Err, IsTrue, length, take};
 ghost use Rattle.std.specs.Io.KnownBytes.{Appends};
+ghost use Rattle.links.specs.Counting.{has_risen};
 ghost use Rattle.links.specs.Draining.{Drains};
 
 use crate::ends::LinkEnd;
@@ -12,10 +13,12 @@ use std::alloc::Allocator;
 fn put<W: MeteredWrite>(writer: &mut W, bytes: &[u8]) -> usize
     ensures some { result ≤ length bytes.now }
     ensures written { Appends (W.contents writer.old) (W.contents writer.new) (take result bytes.now) }
+    ensures all { result ≡ length bytes.now → W.failed writer.new ≡ W.failed writer.old }
+    ensures part { result < length bytes.now → IsTrue (has_risen (W.failed writer.old) (W.failed writer.new) || W.took_none writer.new) }
 {
     let mut at = 0;
     while at < bytes.len() {
-        match writer.write(&bytes[at..]) {
+        match writer.write_counted(&bytes[at..]) {
             Ok(0) | Err(_) => return at,
             Ok(n) => at += n,
         }
@@ -33,8 +36,11 @@ pub fn drain<S: Source<A>, W: MeteredWrite, A: Allocator>(
     writer: &mut W,
     frames: u32,
 ) -> Result<u64, LinkEnd>
-    ensures { Drains result (S.is_spent source.new) frames (S.given source.old) (S.given source.new)
+    ensures items { Drains result (S.is_spent source.new) frames (S.given source.old) (S.given source.new)
         (W.contents writer.old) (W.contents writer.new) }
+    ensures write_fault { (n : ℕ) → result ≡ Err (LinkEnd.WriteFault n)
+        → IsTrue (has_risen (W.failed writer.old) (W.failed writer.new) || W.took_none writer.new) }
+    ensures no_fault { ((n : ℕ) → result ≢ Err (LinkEnd.WriteFault n)) → W.failed writer.new ≡ W.failed writer.old }
 {
     let mut bytes: u64 = 0;
     for _ in 0..frames {

@@ -1,16 +1,35 @@
-//! Readers and writers that count their failures.
-ghost use Rattle.std.specs.Prelude.{◌≡◌, ℕ};
+//! Readers and writers that count their calls and their failures.
+ghost use Rattle.std.specs.Prelude.{◌≡◌, ◌≤◌, ℕ, Bool, IsTrue, OnOk, OnErr};
+ghost use Rattle.std.specs.Io.{ReadsAtMost, WritesAtMost};
+ghost use Rattle.std.specs.Io.KnownBytes.{ReadConsumes, WriteAppends};
+ghost use Rattle.links.specs.Counting.{counted, has_risen, moves_none};
 
+use std::io;
 use std::io::{Read, Write};
 
-/// A reader that counts its failed calls. A count at the greatest u64 stays there.
+/// A reader that counts its calls and those of them that failed. A count at the greatest u64 stays there.
 pub trait MeteredRead: Read {
+    /// The number of its calls.
+    ghost reads: { Self → ℕ };
+
     /// The number of its failed calls.
     ghost failed: { Self → ℕ };
+
+    /// Whether its last call gave no byte, of a buffer that had room.
+    ghost gave_none: { Self → Bool };
 
     /// The number of its failed calls.
     fn failures(&self) -> u64
         ensures { result ≡ failed self.now };
+
+    /// Reads as `read` does, and counts the call. An interrupted call may answer an error and be no failed one.
+    fn read_counted(&mut self, buf: &mut [u8]) -> io::Result<usize>
+        ensures bound { ReadsAtMost result buf.new }
+        ensures bytes { ReadConsumes (Self.remaining self.old) (Self.remaining self.new) result buf.new }
+        ensures counts { reads self.new ≡ counted (reads self.old) 1 }
+        ensures last { gave_none self.new ≡ moves_none result buf.new }
+        ensures ok { OnOk result (failed self.new ≡ failed self.old) }
+        ensures err { OnErr result (failed self.old ≤ failed self.new) };
 }
 
 /// A writer that counts its failed calls. A count at the greatest u64 stays there.
@@ -18,7 +37,18 @@ pub trait MeteredWrite: Write {
     /// The number of its failed calls.
     ghost failed: { Self → ℕ };
 
+    /// Whether its last call took no byte, of a buffer that had some.
+    ghost took_none: { Self → Bool };
+
     /// The number of its failed calls.
     fn failures(&self) -> u64
         ensures { result ≡ failed self.now };
+
+    /// Writes as `write` does. A call that answers an error is a failed one, and is counted.
+    fn write_counted(&mut self, buf: &[u8]) -> io::Result<usize>
+        ensures bound { WritesAtMost result buf.now }
+        ensures bytes { WriteAppends (Self.contents self.old) (Self.contents self.new) result buf.now }
+        ensures last { took_none self.new ≡ moves_none result buf.now }
+        ensures ok { OnOk result (failed self.new ≡ failed self.old) }
+        ensures err { OnErr result (IsTrue (has_risen (failed self.old) (failed self.new))) };
 }

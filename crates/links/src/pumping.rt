@@ -1,7 +1,8 @@
 //! From a stream of bytes to a sink of frames.
-ghost use Rattle.std.specs.Prelude.{◌≡◌, ℕ, IsTrue};
+ghost use Rattle.std.specs.Prelude.{◌≡◌, ◌≢◌, ◌+◌, ◌≤◌, ℕ, IsTrue};
 ghost use Rattle.std.specs.Io.KnownBytes.{IsAtEnd};
-ghost use Rattle.links.specs.Pumping.{Gives, Pumps, has_risen};
+ghost use Rattle.links.specs.Counting.{counted, has_risen};
+ghost use Rattle.links.specs.Pumping.{Gives, Pumps};
 
 use crate::ends::LinkEnd;
 use crate::metered::MeteredRead;
@@ -36,9 +37,9 @@ fn give<S: Sink<Frame<A>>, A: Allocator + Copy>(
 /// Reads at most `turns` times, at most 4,096 bytes at once, and gives the sink the whole frames of what the cutter has and
 /// of what was read, in order.
 ///
-/// The frames that the cutter has are given before the first read. A failed call that the reader does not count was
-/// interrupted: it is a turn, and no more. After `TurnLimit` the call may be made again; after every other end the link is
-/// closed.
+/// The frames that the cutter has are given before the first read. A read that answers an error and that the reader does not
+/// count as failed was interrupted: it is a turn, and no more. After `TurnLimit` the call may be made again; after every
+/// other end the link is closed.
 pub fn pump<R: MeteredRead, S: Sink<Frame<A>>, A: Allocator + Copy>(
     reader: &mut R,
     cutter: &mut Cutter<A>,
@@ -48,7 +49,11 @@ pub fn pump<R: MeteredRead, S: Sink<Frame<A>>, A: Allocator + Copy>(
     ensures frames { Pumps result turns cutter.old cutter.new (S.taken sink.old) (S.taken sink.new)
         (R.remaining reader.old) (R.remaining reader.new) }
     ensures read_fault { result ≡ LinkEnd.ReadFault → IsTrue (has_risen (R.failed reader.old) (R.failed reader.new)) }
+    ensures no_fault { result ≢ LinkEnd.ReadFault → R.failed reader.new ≡ R.failed reader.old }
     ensures ended { (left : ℕ) → result ≡ LinkEnd.Ended left → IsAtEnd (R.remaining reader.new) }
+    ensures last_read { (left : ℕ) → result ≡ LinkEnd.Ended left → IsTrue (R.gave_none reader.new) }
+    ensures reads { R.reads reader.new ≤ R.reads reader.old + turns }
+    ensures turn_limit { result ≡ LinkEnd.TurnLimit → R.reads reader.new ≡ counted (R.reads reader.old) turns }
 {
     let before = reader.failures();
     if let Some(end) = give(cutter, sink) {
@@ -56,7 +61,7 @@ pub fn pump<R: MeteredRead, S: Sink<Frame<A>>, A: Allocator + Copy>(
     }
     let mut piece = [0; PIECE];
     for _ in 0..turns {
-        match reader.read(&mut piece) {
+        match reader.read_counted(&mut piece) {
             Ok(0) => {
                 return LinkEnd::Ended {
                     left: cutter.left(),

@@ -1,5 +1,8 @@
 //! A reader over memory.
-ghost use Rattle.std.specs.Prelude.{◌≡◌, Some};
+ghost use Rattle.std.specs.Prelude.{◌≡◌, Some, false};
+ghost use Rattle.std.specs.Io.{ReadsAtMost};
+ghost use Rattle.std.specs.Io.KnownBytes.{ReadConsumes};
+ghost use Rattle.links.specs.Counting.{counted, moves_none};
 
 use crate::metered::MeteredRead;
 use bytes::Bytes;
@@ -16,6 +19,7 @@ pub struct TapeReader<A: Allocator = Global> {
     fails: Option<usize>,
     calls: usize,
     failures: u64,
+    gave_none: bool,
 }
 
 impl<A: Allocator> Model for TapeReader<A> {
@@ -23,14 +27,14 @@ impl<A: Allocator> Model for TapeReader<A> {
 
     ghost Value = { Tape };
 
-    ghost view = { λ t. record { bytes = t.bytes; failures = t.failures } };
+    ghost view = { λ t. record { bytes = t.bytes; calls = t.calls; failures = t.failures; moved_none = t.gave_none } };
 }
 
 impl<A: Allocator> TapeReader<A> {
     /// A reader of these bytes. Call number k, from 0, gives at most as many as `pieces` has at k, but at least one, and as
     /// many as there are and fit where `pieces` has no k. The call of number `fails` fails and gives nothing.
     pub fn new(bytes: Bytes<A>, pieces: Vec<usize, A>, fails: Option<usize>) -> TapeReader<A>
-        ensures { result ≡ record { bytes = bytes; failures = 0 } }
+        ensures { result ≡ record { bytes = bytes; calls = 0; failures = 0; moved_none = false } }
     {
         TapeReader {
             bytes,
@@ -38,6 +42,7 @@ impl<A: Allocator> TapeReader<A> {
             fails,
             calls: 0,
             failures: 0,
+            gave_none: false,
         }
     }
 }
@@ -45,9 +50,32 @@ impl<A: Allocator> TapeReader<A> {
 impl<A: Allocator> Read for TapeReader<A> {
     ghost remaining = { λ t. Some t.bytes };
 
-    fn read(&mut self, buf: &mut [u8]) -> io::Result<usize> {
+    /// The same call as `read_counted`.
+    fn read(&mut self, buf: &mut [u8]) -> io::Result<usize>
+        ensures bound { ReadsAtMost result buf.new }
+        ensures bytes { ReadConsumes (Some self.old.bytes) (Some self.new.bytes) result buf.new }
+        ensures counts { self.new.calls ≡ counted self.old.calls 1 }
+        ensures last { self.new.moved_none ≡ moves_none result buf.new }
+    {
+        self.read_counted(buf)
+    }
+}
+
+impl<A: Allocator> MeteredRead for TapeReader<A> {
+    ghost reads = { λ t. t.calls };
+
+    ghost failed = { λ t. t.failures };
+
+    ghost gave_none = { λ t. t.moved_none };
+
+    fn failures(&self) -> u64 {
+        self.failures
+    }
+
+    fn read_counted(&mut self, buf: &mut [u8]) -> io::Result<usize> {
         let call = self.calls;
         self.calls = call.saturating_add(1);
+        self.gave_none = false;
         if self.fails == Some(call) {
             self.failures = self.failures.saturating_add(1);
             return Err(io::Error::from(ErrorKind::Other));
@@ -61,14 +89,7 @@ impl<A: Allocator> Read for TapeReader<A> {
         let n = most.max(1).min(buf.len()).min(self.bytes.len());
         buf[..n].copy_from_slice(&self.bytes.as_slice()[..n]);
         self.bytes.advance(n);
+        self.gave_none = n == 0 && !buf.is_empty();
         Ok(n)
-    }
-}
-
-impl<A: Allocator> MeteredRead for TapeReader<A> {
-    ghost failed = { λ t. t.failures };
-
-    fn failures(&self) -> u64 {
-        self.failures
     }
 }

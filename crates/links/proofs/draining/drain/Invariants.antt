@@ -7,3 +7,4 @@ abbrev pub invariant-loop : goal.invariant-loop
 invariant-loop g l =
     (items : List (List ℕ)) × (g.S.Source.given l.source ≡ g.S.Source.given l.fn.source ++ items) × (length items ≡ l.counter)
     × Appends (g.W.Write.contents l.fn.writer) (g.W.Write.contents l.writer) (joined items) × (l.bytes ≡ length (joined items)) × (l.bytes ≤ 32880 * l.counter)
+    × (g.W.MeteredWrite.failed l.writer ≡ g.W.MeteredWrite.failed l.fn.writer)

@@ -1,12 +1,11 @@
-use Rattle.std.proofs.Common.{◌≡◌, ℕ, ◌*◌, ◌≤◌, ◌++◌, List, length}
-use Rattle.std.specs.Io.KnownBytes.{Consumes}
-use Rattle.frames.specs.Cutting.{Begins}
-use Rattle.frames.specs.Frame.{Frame}
-use Rattle.links.specs.Pumping.{IsPartial}
+use Rattle.std.proofs.Common.{◌≡◌}
+use Rattle.links.specs.Counting.{counted}
+use Rattle.links.proofs.Giving.{IsPumped}
 use Rattle.links.proofs.pumping.pump.Given as goal
 
 abbrev pub invariant-loop : goal.invariant-loop
-invariant-loop g l =
-    (frames : List Frame) × (bytes : List ℕ) × (g.S.Sink.taken l.sink ≡ g.S.Sink.taken l.fn.sink ++ frames)
-    × Consumes (g.R.Read.remaining l.fn.reader) (g.R.Read.remaining l.reader) bytes
-    × Begins frames (l.fn.cutter ++ bytes) l.cutter × IsPartial l.cutter × (length bytes ≤ 4096 * l.counter)
+invariant-loop g l = record {
+  pumped : IsPumped l.counter l.fn.cutter l.cutter (g.S.Sink.taken l.fn.sink) (g.S.Sink.taken l.sink) (g.R.Read.remaining l.fn.reader) (g.R.Read.remaining l.reader);
+  reads : g.R.MeteredRead.reads l.reader ≡ counted (g.R.MeteredRead.reads l.fn.reader) l.counter;
+  failed : g.R.MeteredRead.failed l.reader ≡ g.R.MeteredRead.failed l.fn.reader;
+}
