@@ -1,11 +1,12 @@
 //! Readers and writers that count their calls and their failures.
-ghost use Rattle.std.specs.Prelude.{◌≡◌, ◌≤◌, ℕ, Bool, IsTrue, OnOk, OnErr};
+ghost use Rattle.std.specs.Prelude.{◌≡◌, ◌≢◌, ◌≤◌, ℕ, Bool, IsTrue, IfErr, OnOk, OnErr};
+ghost use Rattle.std.specs.IoError.{error_kind};
 ghost use Rattle.std.specs.Io.{ReadsAtMost, WritesAtMost};
 ghost use Rattle.std.specs.Io.KnownBytes.{ReadConsumes, WriteAppends};
 ghost use Rattle.links.specs.Counting.{counted, has_risen, moves_none};
 
 use std::io;
-use std::io::{Read, Write};
+use std::io::{ErrorKind, Read, Write};
 
 /// A reader that counts its calls and those of them that failed. A count at the greatest u64 stays there.
 pub trait MeteredRead: Read {
@@ -22,14 +23,15 @@ pub trait MeteredRead: Read {
     fn failures(&self) -> u64
         ensures { result ≡ failed self.now };
 
-    /// Reads as `read` does, and counts the call. An interrupted call may answer an error and be no failed one.
+    /// Reads as `read` does, and counts. A call that answers an error is a failed one, unless it was interrupted.
     fn read_counted(&mut self, buf: &mut [u8]) -> io::Result<usize>
         ensures bound { ReadsAtMost result buf.new }
         ensures bytes { ReadConsumes (Self.remaining self.old) (Self.remaining self.new) result buf.new }
         ensures counts { reads self.new ≡ counted (reads self.old) 1 }
         ensures last { gave_none self.new ≡ moves_none result buf.new }
         ensures ok { OnOk result (failed self.new ≡ failed self.old) }
-        ensures err { OnErr result (failed self.old ≤ failed self.new) };
+        ensures err { OnErr result (failed self.old ≤ failed self.new) }
+        ensures failure { IfErr result (λ e. error_kind e ≢ ErrorKind.Interrupted → IsTrue (has_risen (failed self.old) (failed self.new))) };
 }
 
 /// A writer that counts its failed calls. A count at the greatest u64 stays there.
@@ -44,7 +46,7 @@ pub trait MeteredWrite: Write {
     fn failures(&self) -> u64
         ensures { result ≡ failed self.now };
 
-    /// Writes as `write` does. A call that answers an error is a failed one, and is counted.
+    /// Writes as `write` does, and counts. A call that answers an error is a failed one.
     fn write_counted(&mut self, buf: &[u8]) -> io::Result<usize>
         ensures bound { WritesAtMost result buf.now }
         ensures bytes { WriteAppends (Self.contents self.old) (Self.contents self.new) result buf.now }
