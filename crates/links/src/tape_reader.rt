@@ -1,8 +1,9 @@
 //! A reader over memory.
-ghost use Rattle.std.specs.Prelude.{◌≡◌, Some, false};
+ghost use Rattle.std.specs.Prelude.{◌≡◌, ◌≢◌, ◌≤◌, Some, Ok, IsErr, IsTrue, OnOk, OnErr, false, length};
 ghost use Rattle.std.specs.Io.{ReadsAtMost};
 ghost use Rattle.std.specs.Io.KnownBytes.{ReadConsumes};
-ghost use Rattle.links.specs.Counting.{counted, moves_none};
+ghost use Rattle.links.specs.Counting.{counted, has_risen, moves_none};
+ghost use Rattle.links.specs.Tape.{piece_len};
 
 use crate::metered::MeteredRead;
 use bytes::Bytes;
@@ -23,18 +24,18 @@ pub struct TapeReader<A: Allocator = Global> {
 }
 
 impl<A: Allocator> Model for TapeReader<A> {
-    ghost use Rattle.links.specs.Tape.{Tape};
+    ghost use Rattle.links.specs.Tape.{ReadTape};
 
-    ghost Value = { Tape };
+    ghost Value = { ReadTape };
 
-    ghost view = { λ t. record { bytes = t.bytes; calls = t.calls; failures = t.failures; moved_none = t.gave_none } };
+    ghost view = { λ t. record { bytes = t.bytes; pieces = t.pieces.items; fails = t.fails; calls = t.calls; failures = t.failures; gave_none = t.gave_none } };
 }
 
 impl<A: Allocator> TapeReader<A> {
     /// A reader of these bytes. Call number k, from 0, gives at most as many as `pieces` has at k, but at least one, and as
     /// many as there are and fit where `pieces` has no k. The call of number `fails` fails and gives nothing.
     pub fn new(bytes: Bytes<A>, pieces: Vec<usize, A>, fails: Option<usize>) -> TapeReader<A>
-        ensures { result ≡ record { bytes = bytes; calls = 0; failures = 0; moved_none = false } }
+        ensures { result ≡ record { bytes = bytes; pieces = pieces.items; fails = fails; calls = 0; failures = 0; gave_none = false } }
     {
         TapeReader {
             bytes,
@@ -50,29 +51,19 @@ impl<A: Allocator> TapeReader<A> {
 impl<A: Allocator> Read for TapeReader<A> {
     ghost remaining = { λ t. Some t.bytes };
 
-    /// The same call as `read_counted`.
     fn read(&mut self, buf: &mut [u8]) -> io::Result<usize>
         ensures bound { ReadsAtMost result buf.new }
         ensures bytes { ReadConsumes (Some self.old.bytes) (Some self.new.bytes) result buf.new }
         ensures counts { self.new.calls ≡ counted self.old.calls 1 }
-        ensures last { self.new.moved_none ≡ moves_none result buf.new }
+        ensures last { self.new.gave_none ≡ moves_none result buf.new }
+        ensures ok { OnOk result (self.new.failures ≡ self.old.failures) }
+        ensures err { OnErr result (self.old.failures ≤ self.new.failures) }
+        ensures failure { OnErr result (IsTrue (has_risen self.old.failures self.new.failures)) }
+        ensures fails { self.old.fails ≡ Some self.old.calls → IsErr result }
+        ensures amount { self.old.fails ≢ Some self.old.calls → result ≡ Ok (piece_len self.old (length buf.old)) }
+        ensures pieces { self.new.pieces ≡ self.old.pieces }
+        ensures same_fails { self.new.fails ≡ self.old.fails }
     {
-        self.read_counted(buf)
-    }
-}
-
-impl<A: Allocator> MeteredRead for TapeReader<A> {
-    ghost reads = { λ t. t.calls };
-
-    ghost failed = { λ t. t.failures };
-
-    ghost gave_none = { λ t. t.moved_none };
-
-    fn failures(&self) -> u64 {
-        self.failures
-    }
-
-    fn read_counted(&mut self, buf: &mut [u8]) -> io::Result<usize> {
         let call = self.calls;
         self.calls = call.saturating_add(1);
         self.gave_none = false;
@@ -91,5 +82,21 @@ impl<A: Allocator> MeteredRead for TapeReader<A> {
         self.bytes.advance(n);
         self.gave_none = n == 0 && !buf.is_empty();
         Ok(n)
+    }
+}
+
+impl<A: Allocator> MeteredRead for TapeReader<A> {
+    ghost reads = { λ t. t.calls };
+
+    ghost failed = { λ t. t.failures };
+
+    ghost gave_none = { λ t. t.gave_none };
+
+    fn failures(&self) -> u64 {
+        self.failures
+    }
+
+    fn read_counted(&mut self, buf: &mut [u8]) -> io::Result<usize> {
+        self.read(buf)
     }
 }

@@ -1,8 +1,8 @@
 //! A writer over memory.
-ghost use Rattle.std.specs.Prelude.{◌≡◌, [], Some, IsTrue, OnErr, false};
+ghost use Rattle.std.specs.Prelude.{◌≡◌, [], Some, IsErr, IsOk, IsTrue, IfOk, OnOk, OnErr, false, length, min};
 ghost use Rattle.std.specs.Io.{WritesAtMost};
 ghost use Rattle.std.specs.Io.KnownBytes.{WriteAppends};
-ghost use Rattle.links.specs.Counting.{has_risen, moves_none};
+ghost use Rattle.links.specs.Counting.{counted, has_risen, moves_none};
 
 use crate::metered::MeteredWrite;
 use std::alloc::{Allocator, Global};
@@ -22,18 +22,18 @@ pub struct TapeWriter<A: Allocator = Global> {
 }
 
 impl<A: Allocator> Model for TapeWriter<A> {
-    ghost use Rattle.links.specs.Tape.{Tape};
+    ghost use Rattle.links.specs.Tape.{WriteTape};
 
-    ghost Value = { Tape };
+    ghost Value = { WriteTape };
 
-    ghost view = { λ t. record { bytes = t.bytes.items; calls = t.calls; failures = t.failures; moved_none = t.took_none } };
+    ghost view = { λ t. record { bytes = t.bytes.items; most = t.most; fails = t.fails; calls = t.calls; failures = t.failures; took_none = t.took_none } };
 }
 
 impl<A: Allocator> TapeWriter<A> {
     /// A writer that takes at most so many bytes a call. The call of number `fails`, from 0, fails and takes nothing, and so
     /// does one for which a growth was refused.
     pub fn new(alloc: A, most: usize, fails: Option<usize>) -> TapeWriter<A>
-        ensures { result ≡ record { bytes = []; calls = 0; failures = 0; moved_none = false } }
+        ensures { result ≡ record { bytes = []; most = most; fails = fails; calls = 0; failures = 0; took_none = false } }
     {
         TapeWriter {
             bytes: Vec::new(alloc),
@@ -54,9 +54,8 @@ impl<A: Allocator> TapeWriter<A> {
 
     /// Counts a failed call.
     fn fail(&mut self) -> io::Error
-        ensures bytes { self.new.bytes ≡ self.old.bytes }
-        ensures counted { IsTrue (has_risen self.old.failures self.new.failures) }
-        ensures last { self.new.moved_none ≡ self.old.moved_none }
+        ensures failure { IsTrue (has_risen self.old.failures self.new.failures) }
+        ensures rest { self.new ≡ record self.old { failures = self.new.failures } }
     {
         self.failures = self.failures.saturating_add(1);
         io::Error::from(ErrorKind::Other)
@@ -66,31 +65,18 @@ impl<A: Allocator> TapeWriter<A> {
 impl<A: Allocator> Write for TapeWriter<A> {
     ghost contents = { λ t. Some t.bytes };
 
-    /// The same call as `write_counted`.
     fn write(&mut self, buf: &[u8]) -> io::Result<usize>
         ensures bound { WritesAtMost result buf.now }
         ensures bytes { WriteAppends (Some self.old.bytes) (Some self.new.bytes) result buf.now }
-        ensures last { self.new.moved_none ≡ moves_none result buf.now }
+        ensures counts { self.new.calls ≡ counted self.old.calls 1 }
+        ensures last { self.new.took_none ≡ moves_none result buf.now }
+        ensures ok { OnOk result (self.new.failures ≡ self.old.failures) }
         ensures err { OnErr result (IsTrue (has_risen self.old.failures self.new.failures)) }
+        ensures fails { self.old.fails ≡ Some self.old.calls → IsErr result }
+        ensures amount { IfOk result (λ n. n ≡ min self.old.most (length buf.now)) }
+        ensures most { self.new.most ≡ self.old.most }
+        ensures same_fails { self.new.fails ≡ self.old.fails }
     {
-        self.write_counted(buf)
-    }
-
-    fn flush(&mut self) -> io::Result<()> {
-        Ok(())
-    }
-}
-
-impl<A: Allocator> MeteredWrite for TapeWriter<A> {
-    ghost failed = { λ t. t.failures };
-
-    ghost took_none = { λ t. t.moved_none };
-
-    fn failures(&self) -> u64 {
-        self.failures
-    }
-
-    fn write_counted(&mut self, buf: &[u8]) -> io::Result<usize> {
         let call = self.calls;
         self.calls = call.saturating_add(1);
         self.took_none = false;
@@ -103,5 +89,26 @@ impl<A: Allocator> MeteredWrite for TapeWriter<A> {
         }
         self.took_none = n == 0 && !buf.is_empty();
         Ok(n)
+    }
+
+    fn flush(&mut self) -> io::Result<()>
+        ensures same { self.new ≡ self.old }
+        ensures ok { IsOk result }
+    {
+        Ok(())
+    }
+}
+
+impl<A: Allocator> MeteredWrite for TapeWriter<A> {
+    ghost failed = { λ t. t.failures };
+
+    ghost took_none = { λ t. t.took_none };
+
+    fn failures(&self) -> u64 {
+        self.failures
+    }
+
+    fn write_counted(&mut self, buf: &[u8]) -> io::Result<usize> {
+        self.write(buf)
     }
 }
