@@ -51,7 +51,8 @@ pub fn pump<R: MeteredRead, S: Sink<Frame<A>>, A: Allocator + Copy>(
     ensures read_fault { result ≡ LinkEnd.ReadFault → IsTrue (has_risen (R.failed reader.old) (R.failed reader.new)) }
     ensures no_fault { result ≢ LinkEnd.ReadFault → R.failed reader.new ≡ R.failed reader.old }
     ensures ended { (left : ℕ) → result ≡ LinkEnd.Ended left → IsAtEnd (R.remaining reader.new) }
-    ensures last_read { (left : ℕ) → result ≡ LinkEnd.Ended left → IsTrue (R.gave_none reader.new) }
+    ensures last_read { (left : ℕ) → result ≡ LinkEnd.Ended left
+        → (counted (R.reads reader.old) 1 ≤ R.reads reader.new) × IsTrue (R.gave_none reader.new) }
     ensures reads { R.reads reader.new ≤ R.reads reader.old + turns }
     ensures turn_limit { result ≡ LinkEnd.TurnLimit → R.reads reader.new ≡ counted (R.reads reader.old) turns }
 {
