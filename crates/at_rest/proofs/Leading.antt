@@ -17,7 +17,7 @@ use Rattle.world.specs.Parents.{HasParent, HaveParents}
 use Rattle.world.specs.Rest.{GaveFrom, IsParent}
 use Rattle.world.specs.declared.event.EventOf.TheVariants.{Start, Broadcast, Arrive, Lose, Again, Fire, Flush, Down, Shuffle, Stop}
 use Rattle.world.specs.declared.packet.Packet.{Packet}
-use Rattle.at_rest.specs.Tree.{HasBranch, LeadToOrigin, LeadsOn, branches_from, branches_of, parent_by, sender_of, tree_of}
+use Rattle.at_rest.specs.Tree.{HasBranch, LeadToOrigin, LeadsOn, branches_from, branches_of, parent_by, tree_of}
 use Rattle.at_rest.specs.declared.branch.Branch.{Branch}
 use Rattle.at_rest.proofs.Lists.{each_one}
 

@@ -1,6 +1,6 @@
 -- The tests of silence tell what the definition of rest says.
-use Rattle.std.proofs.Common.{◌≡◌, ◌∙◌, ℕ, List, [], ◌∷◌, true, false, sym, ap, refl, subst, inl, inr}
-use Rattle.std.specs.List.{AllByRecursion as Each, list_all, list_any}
+use Rattle.std.proofs.Common.{◌≡◌, ◌∙◌, ℕ, List, true, sym, ap, refl, subst}
+use Rattle.std.specs.List.{AllByRecursion as Each}
 use Rattle.std.specs.Option.{IfSome, option_map_or}
 use Rattle.std.specs.Prelude.{◌≢◌, ◌↔◌, ◌&&◌, Bool, Option, Some, None, not, slice_get}
 use Rattle.std.proofs.lemmas.Bool.{false≢true}

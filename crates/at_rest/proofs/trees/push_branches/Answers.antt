@@ -1,6 +1,4 @@
 -- One delivery more.
-use Rattle.std.proofs.Common.{◌∙◌, ap, ◌++◌, List}
-use Rattle.at_rest.specs.declared.branch.Branch.{Branch}
 use Rattle.at_rest.proofs.Leading.{branches-more}
 use Rattle.at_rest.proofs.trees.push_branches.Goals as goal
 

@@ -1,9 +1,9 @@
 -- The branches are those of the log's history, whose deliveries all have their parents.
-use Rattle.std.proofs.Common.{sym, subst, ◌∙◌, ap, ◌≡◌, [], List}
+use Rattle.std.proofs.Common.{sym, subst, [], List}
 use Rattle.std.specs.List.{AllByRecursion as Each}
-use Rattle.std.specs.Prelude.{IfOk, reverse}
+use Rattle.std.specs.Prelude.{reverse}
 use Rattle.world.specs.Rest.{IsParent}
-use Rattle.at_rest.specs.Tree.{LeadToOrigin, tree_of}
+use Rattle.at_rest.specs.Tree.{LeadToOrigin}
 use Rattle.at_rest.specs.declared.branch.Branch.{Branch}
 use Rattle.at_rest.proofs.Leading.{parents_are, tree_leads}
 use Rattle.at_rest.proofs.Oks.{ok-weaken}
