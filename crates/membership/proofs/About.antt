@@ -1,6 +1,6 @@
 -- Every message of the table is about membership alone.
-use Rattle.std.proofs.Common.{◌≡◌, ◌-◌, ℕ, Bool, true, false, if◌then◌else◌, ◌||◌, ◌&&◌, ◌==◌, List, [], ◌∷◌, ◌++◌, length, refl, Option, None, Some, is_none, nat_lt, nat_le}
-use Rattle.std.specs.Option.{option_map_or, option_to_list}
+use Rattle.std.proofs.Common.{◌≡◌, ◌-◌, ℕ, Bool, true, false, ◌||◌, ◌&&◌, ◌==◌, List, [], ◌∷◌, length, refl, None, is_none, nat_lt, nat_le}
+use Rattle.std.specs.Option.{option_to_list}
 use Rattle.std.specs.List.{AllByRecursion as Each}
 use Rattle.node_names.specs.NodeName.{Name}
 use Rattle.node_names.specs.Same.{same_name, has_name}
@@ -14,7 +14,7 @@ use Rattle.membership.specs.Membership.{Membership, Turn, still}
 use Rattle.membership.specs.Event.{Event}
 use Rattle.membership.specs.Event.Event.{Joins, Join, ForwardJoin, Neighbor, Reply, Disconnect, Shuffle, ShuffleReply, Down, Tick}
 use Rattle.membership.specs.Blocks.{send, send_all, admit, step_down, lose, forget, is_asked, close_request, promote, welcome}
-use Rattle.membership.specs.Table.{on_join, walk_on, on_forward_join, on_neighbor, on_reply, on_disconnect, on_down, start_shuffle, on_tick, on_shuffle, table}
+use Rattle.membership.specs.Table.{walk_on, on_forward_join, on_neighbor, on_reply, on_disconnect, on_down, start_shuffle, on_tick, on_shuffle, table}
 use Rattle.membership.specs.Laws.{AreAboutMembership}
 use Rattle.membership.proofs.Lawful.{if_either, option_either, each-append, each-sent}
 

@@ -1,6 +1,6 @@
 -- Every message of the table fits a frame.
-use Rattle.std.proofs.Common.{◌≡◌, ◌≤◌, ◌+◌, ◌-◌, ℕ, Bool, true, false, if◌then◌else◌, ◌||◌, ◌&&◌, ◌==◌, List, [], ◌∷◌, ◌++◌, length, length-append, map, drop, take, refl, sym, ap, subst, ◌∙◌, arith, Option, None, Some, is_none, nat_lt, nat_le}
-use Rattle.std.specs.Option.{option_map_or, option_to_list}
+use Rattle.std.proofs.Common.{◌≡◌, ◌≤◌, ◌+◌, ◌-◌, ℕ, Bool, true, false, ◌||◌, ◌&&◌, ◌==◌, List, [], ◌∷◌, ◌++◌, length, length-append, drop, take, refl, arith, None, is_none, nat_lt, nat_le}
+use Rattle.std.specs.Option.{option_to_list}
 use Rattle.std.specs.List.{AllByRecursion as Each}
 use Rattle.std.proofs.lemmas.List.{length-take}
 use Rattle.std.proofs.lemmas.Bool.Decides.{nat_tests}
@@ -17,8 +17,8 @@ use Rattle.views.proofs.CallerLemmas.{length-sample}
 use Rattle.membership.specs.Membership.{Membership, Turn, still}
 use Rattle.membership.specs.Event.{Event}
 use Rattle.membership.specs.Event.Event.{Joins, Join, ForwardJoin, Neighbor, Reply, Disconnect, Shuffle, ShuffleReply, Down, Tick}
-use Rattle.membership.specs.Blocks.{send, send_all, admit, step_down, lose, forget, is_asked, close_request, ask, promote, welcome, words, shuffle_with, shuffled_active, shuffled_passive, accept_shuffle}
-use Rattle.membership.specs.Table.{on_join, walk_on, on_forward_join, on_neighbor, on_reply, on_disconnect, on_down, start_shuffle, on_tick, on_shuffle, on_shuffle_reply, table}
+use Rattle.membership.specs.Blocks.{send, send_all, admit, step_down, lose, forget, is_asked, close_request, promote, welcome, words, shuffled_active, shuffled_passive}
+use Rattle.membership.specs.Table.{walk_on, on_forward_join, on_neighbor, on_reply, on_disconnect, on_down, start_shuffle, on_tick, on_shuffle, table}
 use Rattle.membership.specs.Laws.{FitsFrame, FitFrames}
 use Rattle.membership.proofs.Lawful.{if_either, option_either, each-append, each-sent}
 

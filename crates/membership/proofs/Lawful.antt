@@ -1,22 +1,19 @@
 -- Every row of the table keeps the laws.
-use Rattle.std.proofs.Common.{◌≡◌, ◌≢◌, ◌≤◌, ◌<◌, ◌+◌, ◌-◌, ℕ, Bool, true, false, if◌then◌else◌, ◌||◌, ◌&&◌, ◌==◌, List, [], ◌∷◌, ◌++◌, length, map, refl, sym, ap, subst, ◌∙◌, true≢false, arith, Option, None, Some, is_none, nat_lt, nat_le}
+use Rattle.std.proofs.Common.{◌≡◌, ◌≢◌, ◌≤◌, Bool, true, false, if◌then◌else◌, ◌&&◌, List, [], ◌∷◌, ◌++◌, length, map, refl, sym, ap, subst, ◌∙◌, true≢false, arith, Option, None, Some, is_none}
 use Rattle.std.specs.Option.{option_map_or, option_to_list}
 use Rattle.std.specs.List.{AllByRecursion as Each}
 use Rattle.node_names.specs.NodeName.{Name}
-use Rattle.node_names.specs.Same.{same_name, has_name, same_name-laws, same_name-Decides}
+use Rattle.node_names.specs.Same.{same_name, has_name, same_name-laws}
 use Rattle.node_names.specs.declared.dice.Dice.{Dice}
 use Rattle.frames.specs.Body.{Body}
 use Rattle.frames.specs.declared.body.BodyOf.TheVariants as body
-use Rattle.views.specs.Names.{word, chosen, others, evicted, sample}
+use Rattle.views.specs.Names.{word, chosen, others, evicted}
 use Rattle.views.specs.Views as view
-use Rattle.views.proofs.CallerLemmas.{others-none, lacks-others, chosen_is_there, chosen_other_is_there, is_another, active-demote, active-forget, active-forget_absent, active-add_active, dropped_was_active, sound-add_passive, sound-demote, sound-add_active, sound-forget, sound-integrate, same-integrate, active-add_passive, owner-add_passive, limits-add_passive, owner-demote, limits-demote, owner-add_active, limits-add_active}
+use Rattle.views.proofs.CallerLemmas.{others-none, chosen_other_is_there, is_another, active-demote, active-forget, active-add_active, dropped_was_active, sound-demote, sound-add_active, sound-forget, owner-demote, limits-demote, owner-add_active, limits-add_active}
 use Rattle.views.proofs.CallerLemmas.{or_left, or_right}
-use Rattle.membership.specs.Membership.{Membership, Turn, still}
-use Rattle.membership.specs.Event.{Event}
-use Rattle.membership.specs.Event.Event.{Joins, Join, ForwardJoin, Neighbor, Reply, Disconnect, Shuffle, ShuffleReply, Down, Tick}
-use Rattle.membership.specs.Blocks.{send, send_all, admit, step_down, lose, forget, is_asked, close_request, ask, promote, welcome, shuffle_with, shuffled_passive, accept_shuffle, words}
-use Rattle.membership.specs.Table.{on_join, walk_on, on_forward_join, on_neighbor, on_reply, on_disconnect, on_down, start_shuffle, on_tick, on_shuffle, on_shuffle_reply, table}
-use Rattle.membership.specs.Laws.{IsFromAnother, Lawful}
+use Rattle.membership.specs.Membership.{Membership, Turn}
+use Rattle.membership.specs.Blocks.{send, admit, step_down, lose, is_asked, close_request, ask, promote}
+use Rattle.membership.specs.Laws.{Lawful}
 
 -- ---- choices
 

@@ -1,22 +1,19 @@
 -- Every row of the table is lawful.
-use Rattle.std.proofs.Common.{◌≡◌, ◌≢◌, ◌-◌, ℕ, Bool, true, false, if◌then◌else◌, ◌||◌, ◌&&◌, ◌==◌, List, [], ◌∷◌, ◌++◌, length, refl, sym, subst, ◌∙◌, Option, None, Some, nat_lt, nat_le}
-use Rattle.std.specs.Option.{option_map_or}
-use Rattle.std.specs.List.{AllByRecursion as Each}
+use Rattle.std.proofs.Common.{◌≡◌, ◌≢◌, ◌-◌, ℕ, Bool, true, false, if◌then◌else◌, ◌||◌, ◌&&◌, ◌==◌, List, [], ◌∷◌, length, refl, subst, Option, None, nat_lt, nat_le}
 use Rattle.node_names.specs.NodeName.{Name}
 use Rattle.node_names.specs.Same.{same_name, has_name}
 use Rattle.node_names.specs.declared.dice.Dice.{Dice}
-use Rattle.frames.specs.Body.{Body}
 use Rattle.frames.specs.declared.body.BodyOf.TheVariants as body
-use Rattle.views.specs.Names.{word, chosen, others, sample}
+use Rattle.views.specs.Names.{word, chosen, others}
 use Rattle.views.specs.Views as view
 use Rattle.views.proofs.CallerLemmas.{lacks-others, chosen_is_there, chosen_other_is_there, active-add_passive, active-forget_absent, owner-add_passive, limits-add_passive, same-integrate, sound-add_passive, sound-forget, sound-integrate}
 use Rattle.membership.specs.Membership.{Membership, Turn, still}
 use Rattle.membership.specs.Event.{Event}
 use Rattle.membership.specs.Event.Event.{Joins, Join, ForwardJoin, Neighbor, Reply, Disconnect, Shuffle, ShuffleReply, Down, Tick}
-use Rattle.membership.specs.Blocks.{send, send_all, admit, step_down, lose, forget, is_asked, close_request, promote, welcome, shuffle_with, shuffled_active, shuffled_passive, accept_shuffle, words}
+use Rattle.membership.specs.Blocks.{send, admit, step_down, lose, forget, is_asked, close_request, welcome, shuffled_passive, accept_shuffle}
 use Rattle.membership.specs.Table.{on_join, walk_on, on_forward_join, on_neighbor, on_reply, on_disconnect, on_down, start_shuffle, on_tick, on_shuffle, on_shuffle_reply, table}
 use Rattle.membership.specs.Laws.{IsFromAnother, Lawful}
-use Rattle.membership.proofs.Lawful.{if_either, option_either, differ, each-sent, each_another, Alike, ToOthers, quiet, lawful-quiet, active_another, lawful-admit, lawful-step_down, lawful-lose, lawful-sends, lawful-send, lawful-asked, lawful-close, lawful-promote}
+use Rattle.membership.proofs.Lawful.{if_either, option_either, differ, each-sent, each_another, Alike, quiet, lawful-quiet, active_another, lawful-admit, lawful-step_down, lawful-lose, lawful-sends, lawful-send, lawful-asked, lawful-close, lawful-promote}
 
 module _ (m : Membership) (sound : view.AreSound m.views) (dice : Dice) where
   -- the views before

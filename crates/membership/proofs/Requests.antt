@@ -1,20 +1,17 @@
 -- One request stands at a time.
-use Rattle.std.proofs.Common.{◌≡◌, ◌-◌, ◌⊎◌, inl, inr, ℕ, Bool, true, false, if◌then◌else◌, ◌||◌, ◌&&◌, ◌==◌, List, [], ◌∷◌, ◌++◌, length, map, refl, sym, ap, subst, ◌∙◌, true≢false, Option, None, Some, is_none, nat_lt, nat_le}
-use Rattle.std.specs.Option.{option_map_or}
+use Rattle.std.proofs.Common.{◌≡◌, ◌-◌, ◌⊎◌, inl, inr, ℕ, Bool, true, false, ◌||◌, ◌&&◌, ◌==◌, List, [], ◌∷◌, length, refl, sym, ap, subst, ◌∙◌, true≢false, None, Some, is_none, nat_lt, nat_le}
 use Rattle.node_names.specs.NodeName.{Name}
 use Rattle.node_names.specs.Same.{same_name, has_name, same_name-Decides}
 use Rattle.node_names.specs.declared.dice.Dice.{Dice}
-use Rattle.frames.specs.Body.{Body}
-use Rattle.frames.specs.declared.body.BodyOf.TheVariants as body
 use Rattle.views.specs.Names.{word, chosen, others}
 use Rattle.views.specs.Views as view
 use Rattle.views.proofs.CallerLemmas.{chosen_other_is_there}
 use Rattle.membership.specs.Membership.{Membership, Turn, still}
 use Rattle.membership.specs.Event.{Event}
 use Rattle.membership.specs.Event.Event.{Joins, Join, ForwardJoin, Neighbor, Reply, Disconnect, Shuffle, ShuffleReply, Down, Tick}
-use Rattle.membership.specs.Blocks.{send, admit, step_down, lose, forget, is_asked, close_request, ask, promote, welcome, shuffle_with, accept_shuffle}
-use Rattle.membership.specs.Table.{on_join, walk_on, on_forward_join, on_neighbor, on_reply, on_disconnect, on_down, start_shuffle, on_tick, on_shuffle, on_shuffle_reply, table}
-use Rattle.membership.specs.Laws.{Closes, IsAsking, OneRequest}
+use Rattle.membership.specs.Blocks.{admit, step_down, lose, forget, is_asked, close_request, ask, promote}
+use Rattle.membership.specs.Table.{walk_on, on_forward_join, on_neighbor, on_reply, on_disconnect, on_down, start_shuffle, on_tick, on_shuffle, table}
+use Rattle.membership.specs.Laws.{IsAsking, OneRequest}
 use Rattle.membership.proofs.Lawful.{if_either, option_either}
 
 and_right : (a b : Bool) → (a && b) ≡ true → b ≡ true

@@ -1,7 +1,6 @@
 -- How many walks a row starts or passes on.
-use Rattle.std.proofs.Common.{◌≡◌, ◌≢◌, ◌≤◌, ◌<◌, ◌-◌, ◌⊎◌, inl, inr, ℕ, zero, suc, Bool, true, false, if◌then◌else◌, ◌||◌, ◌==◌, List, [], ◌∷◌, ◌++◌, length, length-append, filter, map, refl, sym, ap, subst, ◌∙◌, true≢false, arith, Option, None, Some, nat_le}
-use Rattle.std.specs.Option.{option_map_or, option_to_list}
-use Rattle.std.specs.List.{list_any}
+use Rattle.std.proofs.Common.{◌≡◌, ◌≢◌, ◌≤◌, ◌<◌, ◌-◌, inl, inr, ℕ, zero, suc, Bool, true, false, if◌then◌else◌, ◌||◌, ◌==◌, List, [], ◌∷◌, ◌++◌, length, map, refl, sym, ap, subst, ◌∙◌, true≢false, arith, nat_le}
+use Rattle.std.specs.Option.{option_to_list}
 use Rattle.std.proofs.lemmas.List.Folds.{list_any-append}
 use Rattle.node_names.specs.NodeName.{Name}
 use Rattle.node_names.specs.Limits.{Limits}
@@ -13,10 +12,9 @@ use Rattle.views.specs.Names.{word, chosen, others, evicted}
 use Rattle.views.specs.Views as view
 use Rattle.views.proofs.CallerLemmas.{active-add_active, fewer-others}
 use Rattle.membership.specs.Membership.{Membership, Turn, still}
-use Rattle.membership.specs.Event.{Event}
-use Rattle.membership.specs.Blocks.{send, admit, welcome}
+use Rattle.membership.specs.Blocks.{admit, welcome}
 use Rattle.membership.specs.Table.{on_join, walk_on, on_forward_join}
-use Rattle.membership.specs.Laws.{Lawful, is_walk, walks, GoesOnOnce}
+use Rattle.membership.specs.Laws.{is_walk, walks, GoesOnOnce}
 use Rattle.membership.proofs.Lawful.{if_either, option_either}
 use Rattle.membership.proofs.LawfulRows.{lawful-join}
 

@@ -1,5 +1,5 @@
 -- The table of HyParView as this project has it: what a node does at each event. In each row the sends stand in order.
-use Rattle.std.specs.Prelude.{◌==◌, ◌-◌, ℕ, Bool, true, false, ◌&&◌, ◌||◌, List, [], ◌∷◌, Option, None, if◌then◌else◌, nat_lt, nat_le, length}
+use Rattle.std.specs.Prelude.{◌==◌, ◌-◌, ℕ, Bool, true, false, ◌&&◌, ◌||◌, List, [], ◌∷◌, None, if◌then◌else◌, nat_lt, nat_le, length}
 use Rattle.std.specs.Option.{option_map_or}
 use Rattle.node_names.specs.NodeName.{Name}
 use Rattle.node_names.specs.Same.{same_name, has_name}

@@ -1,5 +1,5 @@
 -- The limit is that of the views, and it is no more than the words that there are.
-use Rattle.std.proofs.Common.{◌≡◌, ◌≤◌, ◌∙◌, [], ◌∷◌, ap, arith, drop, take}
+use Rattle.std.proofs.Common.{◌≤◌, ◌∙◌, [], ◌∷◌, ap, arith, drop, take}
 use Rattle.std.proofs.lemmas.List.{take-take}
 use Rattle.std.proofs.lemmas.Result.{IfOk-weaker}
 use Rattle.node_names.specs.Limits.{Limits}

@@ -1,5 +1,5 @@
 -- Each list has what was appended to it.
-use Rattle.std.proofs.Common.{◌≡◌, ◌∙◌, ◌++◌, ap}
+use Rattle.std.proofs.Common.{◌∙◌, ◌++◌, ap}
 use Rattle.membership.proofs.moves.Moves.append.Goals as goal
 
 pub returns-clause-ok : goal.returns-clause-ok
