@@ -6,6 +6,8 @@ mod act;
 #[cfg(test)]
 mod play;
 #[cfg(test)]
+mod reach;
+#[cfg(test)]
 mod rest;
 #[cfg(test)]
 mod rows;

@@ -119,10 +119,13 @@ const CASES: [Case; 7] = [
     },
 ];
 
-/// Plays the acts of a case, all of which are accepted.
-fn played<A: Allocator + Copy>(alloc: A, case: &Case) -> Result<World<FloodCore<A>, A>, Fail> {
+/// Plays acts, all of which are accepted.
+pub(crate) fn played<A: Allocator + Copy>(
+    alloc: A,
+    acts: &[Act],
+) -> Result<World<FloodCore<A>, A>, Fail> {
     let mut world = World::<FloodCore<A>, A>::new(alloc, Limits::STANDARD);
-    for act in case.acts {
+    for act in acts {
         let _ = world.apply(event(alloc, act)?)?;
     }
     Ok(world)
@@ -140,7 +143,7 @@ fn push_line<A: Allocator + Copy>(text: &mut String<A>, branch: &Branch) -> Resu
 
 /// Compares what is told of a case with what should be.
 fn compare_case<A: Allocator + Copy>(rt: &impl Abort, alloc: A, case: &Case) -> Result<(), Fail> {
-    let world = played(alloc, case)?;
+    let world = played(alloc, case.acts)?;
     let (name, incarnation, seq) = case.id;
     let message = id(name, incarnation, seq)?;
     assert_eq!(rt; is_symmetric(&world), case.is_symmetric, "at {}", case.name);
@@ -171,7 +174,7 @@ fn trees_and_rest(rt: HostRuntime) -> Result<(), Fail> {
 fn each_growth_of_a_tree(rt: HostRuntime) -> Result<(), Fail> {
     let heap = RefusingAllocator::new(rt.alloc());
     let message = id("a", 1, 1)?;
-    let world = played(&heap, &CASES[4])?;
+    let world = played(&heap, CASES[4].acts)?;
     heap.refuse(1);
     let rests = is_at_rest(&world, &message);
     let is_both_ways = is_symmetric(&world);
