@@ -4,6 +4,8 @@
 #[cfg(test)]
 mod act;
 #[cfg(test)]
+mod alike;
+#[cfg(test)]
 mod play;
 #[cfg(test)]
 mod reach;

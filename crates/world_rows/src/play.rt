@@ -1,151 +1,131 @@
-//! Playing the rows event by event, and comparing groups.
+//! Playing the rows event by event.
 use crate::act::event;
-use crate::rows::{ROWS, Row};
-use bytes::Bytes;
+use crate::alike::{Group, holds_given};
+use crate::rows::{Row, Turn, rows};
 use node_names::Limits;
-use std::alloc::Allocator;
+use std::alloc::{AllocError, Allocator};
 use std::fmt::Write;
 use std::process::Abort;
 use std::test::Fail;
-use world::{Core, Delivery, FloodCore, NodeState, World, WorldError};
+use world::{Delivery, Event, WorldError};
 
-/// Compares deliveries with their texts.
-pub(crate) fn compare_given<A: Allocator + Copy, B: Allocator + Copy>(
-    rt: &impl Abort,
-    alloc: B,
+/// What an event gives.
+pub(crate) type Answer<A> = Result<Vec<Delivery<A>, A>, WorldError>;
+
+/// What it should: its deliveries, each as `NODE ID PAYLOAD`, or its refusal.
+pub(crate) type Wanted = Result<&'static [&'static str], WorldError>;
+
+/// Writes a delivery in place of what the text said.
+fn write_delivery<A: Allocator + Copy>(
+    text: &mut String<A>,
+    delivery: &Delivery<A>,
+) -> Result<(), AllocError> {
+    text.clear();
+    write!(text, "{} {} ", delivery.node, delivery.id)?;
+    for byte in delivery.payload.as_slice() {
+        text.push(char::from(*byte))?;
+    }
+    Ok(())
+}
+
+/// Whether deliveries have these texts, of which the last one compared is left.
+fn are_given<A: Allocator + Copy>(
+    text: &mut String<A>,
     given: &[Delivery<A>],
     wanted: &[&str],
-) -> Result<(), Fail> {
-    assert_eq!(rt; given.len(), wanted.len());
+) -> Result<bool, AllocError> {
     for (delivery, line) in given.iter().zip(wanted.iter()) {
-        let mut text = String::new(alloc);
-        write!(text, "{} {} ", delivery.node, delivery.id)?;
-        for byte in delivery.payload.as_slice() {
-            text.push(char::from(*byte))?;
+        write_delivery(text, delivery)?;
+        if text.as_str() != *line {
+            return Ok(false);
         }
-        assert_eq!(rt; text.as_str(), *line);
     }
-    Ok(())
+    Ok(given.len() == wanted.len())
 }
 
-/// Compares what an event gave with what it should.
-pub(crate) fn compare_answer<A: Allocator + Copy, B: Allocator + Copy>(
-    rt: &impl Abort,
-    alloc: B,
-    answer: &Result<Vec<Delivery<A>, A>, WorldError>,
-    wanted: &Result<&'static [&'static str], WorldError>,
-) -> Result<(), Fail> {
+/// Whether an event gave what it should.
+pub(crate) fn is_answer<A: Allocator + Copy>(
+    text: &mut String<A>,
+    answer: &Answer<A>,
+    wanted: &Wanted,
+) -> Result<bool, AllocError> {
     match (answer, wanted) {
-        (Ok(given), Ok(lines)) => compare_given(rt, alloc, given.as_slice(), lines),
-        (Err(why), Err(refusal)) => {
-            assert_eq!(rt; *why, *refusal);
-            Ok(())
-        }
-        (Ok(_), Err(refusal)) => {
-            assert!(rt; false, "accepted instead of refused: {refusal}");
-            Ok(())
-        }
-        (Err(why), Ok(_)) => {
-            assert!(rt; false, "refused: {why}");
-            Ok(())
-        }
+        (Ok(given), Ok(lines)) => are_given(text, given.as_slice(), lines),
+        (Err(why), Err(refusal)) => Ok(why == refusal),
+        _ => Ok(false),
     }
 }
 
-/// Compares how two groups know a node.
-fn compare_nodes<A: Allocator + Copy, B: Allocator + Copy>(
+/// Plays an event. Whether it gave what it should.
+fn happens<A: Allocator + Copy>(
+    text: &mut String<A>,
+    world: &mut Group<A>,
+    event: Event<A>,
+    wanted: &Wanted,
+) -> Result<bool, AllocError> {
+    let answer = world.apply(event);
+    is_answer(text, &answer, wanted)
+}
+
+/// Plays a turn. Whether it gave what it should, and stands in the log just if it was accepted.
+fn is_turn<A: Allocator + Copy>(
     rt: &impl Abort,
-    one: &NodeState<FloodCore<A>>,
-    other: &NodeState<FloodCore<B>>,
-) {
-    assert_eq!(rt; one.name, other.name);
-    assert_eq!(rt; one.highest, other.highest);
-    match (&one.core, &other.core) {
-        (Some(core), Some(wanted)) => {
-            assert_eq!(rt; core.me(), wanted.me());
-            assert_eq!(rt; core.active().len(), wanted.active().len());
-            for peer in wanted.active().iter() {
-                assert!(rt; core.active().contains(peer));
-            }
-            assert!(rt; core.passive().is_empty());
-            assert!(rt; core.queued().is_empty());
-            assert!(rt; core.wants().is_empty());
-            assert!(rt; core.timers().is_empty());
-        }
-        (None, None) => {}
-        _ => assert!(rt; false, "one of the two runs"),
-    }
+    alloc: A,
+    text: &mut String<A>,
+    world: &mut Group<A>,
+    turn: &Turn,
+) -> Result<bool, AllocError> {
+    let accepted = world.log().len();
+    let event = event(rt, alloc, &turn.0)?;
+    let is_right = happens(text, world, event, &turn.1)?;
+    let is_logged = world.log().len() != accepted;
+    Ok(is_right && is_logged == turn.1.is_ok())
 }
 
-/// Compares what the readers of two groups answer.
-pub(crate) fn compare<A: Allocator + Copy, B: Allocator + Copy>(
+/// Plays turns. Whether each of them did so.
+pub(crate) fn are_turns<A: Allocator + Copy>(
     rt: &impl Abort,
-    one: &World<FloodCore<A>, A>,
-    other: &World<FloodCore<B>, B>,
-) {
-    assert_eq!(rt; one.nodes().len(), other.nodes().len());
-    for (node, wanted) in one.nodes().iter().zip(other.nodes().iter()) {
-        compare_nodes(rt, node, wanted);
-    }
-    assert_eq!(rt; one.sent().len(), other.sent().len());
-    for (packet, wanted) in one.sent().iter().zip(other.sent().iter()) {
-        assert_eq!(rt; packet.sender, wanted.sender);
-        assert_eq!(rt; packet.to, wanted.to);
-        assert_eq!(rt; packet.note.id, wanted.note.id);
-        assert_eq!(rt;
-            packet.note.payload.as_slice(),
-            wanted.note.payload.as_slice()
-        );
-    }
-    assert_eq!(rt; one.flight(), other.flight());
-    assert_eq!(rt; one.log().len(), other.log().len());
-    for (entry, wanted) in one.log().iter().zip(other.log().iter()) {
-        assert_eq!(rt; entry.packet, wanted.packet);
-        assert_eq!(rt; entry.first_sent, wanted.first_sent);
-        assert_eq!(rt; entry.moved, wanted.moved);
-        assert_eq!(rt; entry.given.len(), wanted.given.len());
-    }
-}
-
-/// Whether the core of a name holds a payload under each id that the group's log delivered to it.
-pub(crate) fn compare_held<A: Allocator + Copy>(rt: &impl Abort, world: &World<FloodCore<A>, A>) {
-    for node in world.nodes() {
-        let Some(core) = &node.core else {
-            continue;
-        };
-        for entry in world.log() {
-            for delivery in entry.given.as_slice() {
-                let is_own = delivery.node == core.me();
-                let held = core.payload(&delivery.id).map(Bytes::as_slice);
-                if is_own {
-                    assert!(rt; core.has(&delivery.id));
-                    assert_eq!(rt; held, Some(delivery.payload.as_slice()));
-                }
-            }
+    alloc: A,
+    text: &mut String<A>,
+    world: &mut Group<A>,
+    turns: &[Turn],
+) -> Result<bool, AllocError> {
+    for turn in turns {
+        if !is_turn(rt, alloc, text, world, turn)? {
+            return Ok(false);
         }
     }
+    Ok(true)
 }
 
-/// Plays a row over ample memory.
-fn play<A: Allocator + Copy>(rt: &impl Abort, alloc: A, row: &Row) -> Result<(), Fail> {
-    let mut world = World::<FloodCore<A>, A>::new(alloc, Limits::STANDARD);
-    for (act, wanted) in row.turns {
-        let accepted = world.log().len();
-        let answer = world.apply(event(alloc, act)?);
-        compare_answer(rt, alloc, &answer, wanted)?;
-        let is_logged = world.log().len() != accepted;
-        assert_eq!(rt; is_logged, wanted.is_ok(), "at {}", row.name);
-    }
-    assert_eq!(rt; world.sent().len(), row.sent, "at {}", row.name);
-    assert_eq!(rt; world.flight().len(), row.in_flight, "at {}", row.name);
-    compare_held(rt, &world);
-    Ok(())
+/// Whether a group stands as it should at the end of a row.
+fn is_end<A: Allocator + Copy>(world: &Group<A>, row: &Row) -> bool {
+    world.sent().len() == row.sent && world.flight().len() == row.in_flight && holds_given(world)
+}
+
+/// Plays a row over ample memory. Whether it went as it should.
+fn is_row<A: Allocator + Copy>(
+    rt: &impl Abort,
+    alloc: A,
+    text: &mut String<A>,
+    row: &Row,
+) -> Result<bool, AllocError> {
+    let mut world = Group::new(alloc, Limits::STANDARD);
+    let is_right = are_turns(rt, alloc, text, &mut world, row.turns)?;
+    Ok(
+        is_right
+            && world.sent().len() == row.sent
+            && world.flight().len() == row.in_flight
+            && holds_given(&world),
+    )
 }
 
 #[test]
-fn rows(rt: HostRuntime) -> Result<(), Fail> {
-    for row in &ROWS {
-        play(&rt, rt.alloc(), row)?;
+fn plays_rows(rt: HostRuntime) -> Result<(), Fail> {
+    let mut text = String::new(rt.alloc());
+    for row in rows() {
+        let is_right = is_row(&rt, rt.alloc(), &mut text, row)?;
+        assert!(rt; is_right, "at {}: {text}", row.name);
     }
     Ok(())
 }

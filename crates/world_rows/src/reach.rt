@@ -1,19 +1,20 @@
 //! Who is in reach of a name: by the fewest links that lead there, and of those as near by name.
 use crate::act::{Act, name};
-use crate::rest::played;
+use crate::alike::Group;
+use crate::rest::play_acts;
 use at_rest::reach;
-use node_names::NodeName;
+use node_names::{Limits, NodeName};
 use refusing_allocator::RefusingAllocator;
 use std::alloc::{AllocError, Allocator};
 use std::process::Abort;
 use std::test::Fail;
-use world::{FloodCore, World};
+use world::WorldError;
 
 /// More growths than the call has.
-const MANY: u64 = 100;
+const MANY: u64 = 40;
 
-/// A name, and those in reach of it.
-type Asked = (&'static str, &'static [&'static str]);
+/// A name, and those in reach of it between blanks.
+type Asked = (&'static str, &'static str);
 
 /// A run, and who is in reach of whom at its end.
 #[derive(Clone, Copy)]
@@ -23,256 +24,244 @@ struct Case {
     asked: &'static [Asked],
 }
 
-const CASES: [Case; 15] = [
+const CASES: &[Case] = &[
     Case {
         name: "nobody was started",
         acts: &[],
-        asked: &[("a", &[])],
+        asked: &[("a", "")],
     },
     Case {
         name: "a lone node",
-        acts: &[Act::Start("a", 1, &[])],
-        asked: &[("a", &["a"]), ("b", &[])],
+        acts: &[Act::Start("a", 1, "")],
+        asked: &[("a", "a"), ("b", "")],
     },
     // Nothing leads from a stopped node or to one, though b has a in its view.
     Case {
         name: "a stopped node",
         acts: &[
-            Act::Start("a", 1, &["b"]),
-            Act::Start("b", 1, &["a"]),
+            Act::Start("a", 1, "b"),
+            Act::Start("b", 1, "a"),
             Act::Stop("a"),
         ],
-        asked: &[("a", &[]), ("b", &["b"])],
+        asked: &[("a", ""), ("b", "b")],
     },
     Case {
         name: "a line",
         acts: &[
-            Act::Start("a", 1, &["b"]),
-            Act::Start("b", 1, &["a", "c"]),
-            Act::Start("c", 1, &["b", "d"]),
-            Act::Start("d", 1, &["c"]),
+            Act::Start("a", 1, "b"),
+            Act::Start("b", 1, "a c"),
+            Act::Start("c", 1, "b d"),
+            Act::Start("d", 1, "c"),
         ],
-        asked: &[("a", &["a", "b", "c", "d"]), ("c", &["c", "b", "d", "a"])],
+        asked: &[("a", "a b c d"), ("c", "c b d a")],
     },
     Case {
         name: "a ring",
         acts: &[
-            Act::Start("a", 1, &["b", "e"]),
-            Act::Start("b", 1, &["a", "c"]),
-            Act::Start("c", 1, &["b", "d"]),
-            Act::Start("d", 1, &["c", "e"]),
-            Act::Start("e", 1, &["d", "a"]),
+            Act::Start("a", 1, "b e"),
+            Act::Start("b", 1, "a c"),
+            Act::Start("c", 1, "b d"),
+            Act::Start("d", 1, "c e"),
+            Act::Start("e", 1, "d a"),
         ],
-        asked: &[
-            ("a", &["a", "b", "e", "c", "d"]),
-            ("d", &["d", "c", "e", "a", "b"]),
-        ],
+        asked: &[("a", "a b e c d"), ("d", "d c e a b")],
     },
     Case {
         name: "names as near go by name, and not by their starts nor by their places in a view",
         acts: &[
-            Act::Start("q", 1, &["m"]),
-            Act::Start("m", 1, &["z", "b", "q", "a"]),
-            Act::Start("z", 1, &["m"]),
-            Act::Start("b", 1, &["m"]),
-            Act::Start("a", 1, &["m"]),
+            Act::Start("q", 1, "m"),
+            Act::Start("m", 1, "z b q a"),
+            Act::Start("z", 1, "m"),
+            Act::Start("b", 1, "m"),
+            Act::Start("a", 1, "m"),
         ],
-        asked: &[
-            ("m", &["m", "a", "b", "q", "z"]),
-            ("z", &["z", "m", "a", "b", "q"]),
-        ],
+        asked: &[("m", "m a b q z"), ("z", "z m a b q")],
     },
     Case {
         name: "names go by their bytes, a proper prefix first",
         acts: &[
-            Act::Start("b2", 1, &[]),
-            Act::Start("b10", 1, &[]),
-            Act::Start("b-", 1, &[]),
-            Act::Start("b", 1, &[]),
-            Act::Start("9", 1, &[]),
-            Act::Start("m", 1, &["b", "b2", "b10", "b-", "9"]),
+            Act::Start("b2", 1, ""),
+            Act::Start("b10", 1, ""),
+            Act::Start("b-", 1, ""),
+            Act::Start("b", 1, ""),
+            Act::Start("9", 1, ""),
+            Act::Start("m", 1, "b b2 b10 b- 9"),
         ],
-        asked: &[("m", &["m", "9", "b", "b-", "b10", "b2"])],
+        asked: &[("m", "m 9 b b- b10 b2")],
     },
     Case {
         name: "the nearer name goes before the lesser one",
         acts: &[
-            Act::Start("b", 1, &["z"]),
-            Act::Start("a", 1, &["z"]),
-            Act::Start("z", 1, &["a", "b"]),
+            Act::Start("b", 1, "z"),
+            Act::Start("a", 1, "z"),
+            Act::Start("z", 1, "a b"),
         ],
-        asked: &[("a", &["a", "z", "b"]), ("b", &["b", "z", "a"])],
+        asked: &[("a", "a z b"), ("b", "b z a")],
     },
     // d is one link from a, and three by way of b and c. So e is as near as c.
     Case {
         name: "of two paths the shorter one counts",
         acts: &[
-            Act::Start("a", 1, &["b", "d"]),
-            Act::Start("b", 1, &["c"]),
-            Act::Start("c", 1, &["d"]),
-            Act::Start("d", 1, &["e"]),
-            Act::Start("e", 1, &[]),
+            Act::Start("a", 1, "b d"),
+            Act::Start("b", 1, "c"),
+            Act::Start("c", 1, "d"),
+            Act::Start("d", 1, "e"),
+            Act::Start("e", 1, ""),
         ],
-        asked: &[("a", &["a", "b", "d", "c", "e"]), ("c", &["c", "d", "e"])],
+        asked: &[("a", "a b d c e"), ("c", "c d e")],
     },
     Case {
         name: "a link that goes one way",
-        acts: &[Act::Start("a", 1, &["b"]), Act::Start("b", 1, &[])],
-        asked: &[("a", &["a", "b"]), ("b", &["b"])],
+        acts: &[Act::Start("a", 1, "b"), Act::Start("b", 1, "")],
+        asked: &[("a", "a b"), ("b", "b")],
     },
     Case {
         name: "a stopped node cuts the path",
         acts: &[
-            Act::Start("a", 1, &["b"]),
-            Act::Start("b", 1, &["a", "c"]),
-            Act::Start("c", 1, &["b"]),
+            Act::Start("a", 1, "b"),
+            Act::Start("b", 1, "a c"),
+            Act::Start("c", 1, "b"),
             Act::Stop("b"),
         ],
-        asked: &[("a", &["a"]), ("b", &[]), ("c", &["c"])],
+        asked: &[("a", "a"), ("b", ""), ("c", "c")],
     },
     // Its view is that of its last start, so that nothing leads to c any more.
     Case {
         name: "a node that starts again joins the path anew",
         acts: &[
-            Act::Start("a", 1, &["b"]),
-            Act::Start("b", 1, &["a", "c"]),
-            Act::Start("c", 1, &["b"]),
+            Act::Start("a", 1, "b"),
+            Act::Start("b", 1, "a c"),
+            Act::Start("c", 1, "b"),
             Act::Stop("b"),
-            Act::Start("b", 2, &["a"]),
+            Act::Start("b", 2, "a"),
         ],
-        asked: &[("a", &["a", "b"]), ("c", &["c", "b", "a"])],
+        asked: &[("a", "a b"), ("c", "c b a")],
     },
     Case {
         name: "a member of a view that was never started",
-        acts: &[Act::Start("a", 1, &["b", "z"]), Act::Start("b", 1, &["z"])],
-        asked: &[("a", &["a", "b"]), ("b", &["b"]), ("z", &[])],
+        acts: &[Act::Start("a", 1, "b z"), Act::Start("b", 1, "z")],
+        asked: &[("a", "a b"), ("b", "b"), ("z", "")],
     },
     Case {
         name: "a link that failed",
         acts: &[
-            Act::Start("a", 1, &["b"]),
-            Act::Start("b", 1, &["a"]),
+            Act::Start("a", 1, "b"),
+            Act::Start("b", 1, "a"),
             Act::Down("a", "b"),
         ],
-        asked: &[("a", &["a"]), ("b", &["b", "a"])],
+        asked: &[("a", "a"), ("b", "b a")],
     },
     Case {
         name: "two groups that nothing links",
         acts: &[
-            Act::Start("a", 1, &["c"]),
-            Act::Start("b", 1, &["d"]),
-            Act::Start("c", 1, &["a"]),
-            Act::Start("d", 1, &["b"]),
+            Act::Start("a", 1, "c"),
+            Act::Start("b", 1, "d"),
+            Act::Start("c", 1, "a"),
+            Act::Start("d", 1, "b"),
         ],
-        asked: &[("a", &["a", "c"]), ("d", &["d", "b"])],
+        asked: &[("a", "a c"), ("d", "d b")],
     },
 ];
 
-/// Whether these are the names of the texts, in their order.
-fn are_named(names: &[NodeName], texts: &[&str]) -> bool {
-    names.len() == texts.len()
-        && names
-            .iter()
-            .zip(texts.iter())
-            .all(|(name, text)| name.as_str() == *text)
+/// All cases, which are a constant of this function alone, since each function that names them is proved about them.
+fn cases() -> &'static [Case] {
+    CASES
 }
 
-/// Whether those in reach of a name are these.
-fn is_reached<A: Allocator + Copy>(
-    alloc: A,
-    world: &World<FloodCore<A>, A>,
-    from: NodeName,
-    wanted: &[&str],
-) -> Result<bool, AllocError> {
-    let reached = reach(alloc, world, from)?;
-    Ok(are_named(reached.as_slice(), wanted))
-}
-
-/// Whether that holds of each name that is asked about.
-fn are_reached<A: Allocator + Copy>(
-    alloc: A,
-    world: &World<FloodCore<A>, A>,
-    asked: &[Asked],
-) -> Result<bool, Fail> {
-    for (from, wanted) in asked {
-        if !is_reached(alloc, world, name(from)?, wanted)? {
-            return Ok(false);
+/// Whether these are the names of a text, in its order.
+fn are_named(names: &[NodeName], text: &str) -> bool {
+    let mut words = text.split_whitespace();
+    for name in names {
+        match words.next() {
+            Some(word) if word == name.as_str() => {}
+            _ => return false,
         }
     }
-    Ok(true)
+    words.next().is_none()
 }
 
-/// Whether it holds at the end of a case.
-fn is_right<A: Allocator + Copy>(alloc: A, case: &Case) -> Result<bool, Fail> {
-    let world = played(alloc, case.acts)?;
-    are_reached(alloc, &world, case.asked)
-}
-
-#[test]
-fn names_in_reach(rt: HostRuntime) -> Result<(), Fail> {
-    for case in &CASES {
-        let is_right = is_right(rt.alloc(), case)?;
-        assert!(rt; is_right, "at {}", case.name);
+/// Whether the answer is the whole list, or want of memory if a growth was refused.
+fn is_answer<A: Allocator>(
+    answer: &Result<Vec<NodeName, A>, AllocError>,
+    is_refused: bool,
+    whole: &str,
+) -> bool {
+    match answer {
+        Ok(names) => !is_refused && are_named(names.as_slice(), whole),
+        Err(_) => is_refused,
     }
-    Ok(())
 }
 
-/// Asks while the growth with this number is refused: the answer is want of memory if there is one, and else whole.
-/// Answers whether there is one.
+/// Asks while the growth with this number is refused. Whether there is such a growth, or none if the answer is wrong.
 fn refuse_growth<A: Allocator + Copy>(
-    rt: &impl Abort,
     heap: &RefusingAllocator,
     alloc: A,
-    world: &World<FloodCore<A>, A>,
+    world: &Group<A>,
     from: NodeName,
-    wanted: &[&str],
+    whole: &str,
     n: u64,
-) -> bool {
+) -> Option<bool> {
     heap.refuse(n);
-    let answer = is_reached(alloc, world, from, wanted);
+    let answer = reach(alloc, world, from);
     let is_spent = heap.is_spent();
     heap.refuse(0);
-    match answer {
-        Ok(is_reached) => assert!(rt; is_reached && !is_spent),
-        Err(_) => assert!(rt; is_spent),
-    }
-    is_spent
+    is_answer(&answer, is_spent, whole).then_some(is_spent)
 }
 
-/// Refuses each growth in turn. How many there are.
+/// Asks while each growth is refused in turn, and at last while none is. How many there are, or none if an answer is wrong.
 fn sweep<A: Allocator + Copy>(
+    heap: &RefusingAllocator,
+    alloc: A,
+    world: &Group<A>,
+    from: NodeName,
+    whole: &str,
+) -> Option<u64> {
+    for n in 1..MANY {
+        if !refuse_growth(heap, alloc, world, from, whole, n)? {
+            return Some(n - 1);
+        }
+    }
+    None
+}
+
+/// Does so for each name that is asked about.
+fn sweep_asked<A: Allocator + Copy>(
     rt: &impl Abort,
     heap: &RefusingAllocator,
     alloc: A,
-    world: &World<FloodCore<A>, A>,
-    from: NodeName,
-    wanted: &[&str],
-) -> u64 {
-    for n in 1..MANY {
-        if !refuse_growth(rt, heap, alloc, world, from, wanted, n) {
-            return n - 1;
-        }
+    world: &Group<A>,
+    asked: &[Asked],
+) -> Option<u64> {
+    let mut refused = 0u64;
+    for (from, whole) in asked {
+        let growths = sweep(heap, alloc, world, name(rt, from), whole)?;
+        refused = refused.saturating_add(growths);
     }
-    MANY
+    Some(refused)
 }
 
+/// Does so at the end of a case.
 fn sweep_case<A: Allocator + Copy>(
     rt: &impl Abort,
     heap: &RefusingAllocator,
     alloc: A,
     case: &Case,
-) -> Result<(), Fail> {
-    let world = played(alloc, case.acts)?;
-    for (from, wanted) in case.asked {
-        let growths = sweep(rt, heap, alloc, &world, name(from)?, wanted);
-        assert!(rt; growths > 0 && growths < MANY);
-    }
-    Ok(())
+) -> Result<Option<u64>, WorldError> {
+    let mut world = Group::new(alloc, Limits::STANDARD);
+    play_acts(rt, alloc, &mut world, case.acts)?;
+    Ok(sweep_asked(rt, heap, alloc, &world, case.asked))
 }
 
-/// Each growth of the call is refused in turn, of which there is one at least where nodes were started.
+/// Who is in reach, each growth of the answer refused in turn.
 #[test]
-fn each_growth_of_a_reach(rt: HostRuntime) -> Result<(), Fail> {
+fn names_in_reach(rt: HostRuntime) -> Result<(), Fail> {
     let heap = RefusingAllocator::new(rt.alloc());
-    sweep_case(&rt, &heap, &heap, &CASES[4])
+    let mut refused = 0u64;
+    for case in cases() {
+        let growths = sweep_case(&rt, &heap, &heap, case)?;
+        assert!(rt; growths.is_some(), "at {}", case.name);
+        refused = refused.saturating_add(growths.unwrap_or(0));
+    }
+    assert!(rt; refused > 50);
+    Ok(())
 }

@@ -1,13 +1,17 @@
 //! What can be told of a group: whether it is at rest for a message, whether its links go both ways, and the message's tree.
-use crate::act::{Act, event, id, origin};
+use crate::act::{Act, event, id};
+use crate::alike::Group;
 use at_rest::{Branch, is_at_rest, is_symmetric, tree};
-use node_names::Limits;
+use node_names::{Limits, MsgId};
 use refusing_allocator::RefusingAllocator;
-use std::alloc::Allocator;
+use std::alloc::{AllocError, Allocator};
 use std::fmt::Write;
 use std::process::Abort;
 use std::test::Fail;
-use world::{FloodCore, World};
+use world::{Event, WorldError};
+
+/// More growths than a call has.
+const MANY: u64 = 20;
 
 /// A run, and what is told of its end.
 #[derive(Clone, Copy)]
@@ -22,10 +26,10 @@ struct Case {
     tree: &'static str,
 }
 
-const CASES: [Case; 7] = [
+const CASES: &[Case] = &[
     Case {
         name: "a lone node",
-        acts: &[Act::Start("a", 1, &[]), Act::Broadcast("a", "x")],
+        acts: &[Act::Start("a", 1, ""), Act::Broadcast("a", "x")],
         is_symmetric: true,
         id: ("a", 1, 1),
         is_at_rest: true,
@@ -34,8 +38,8 @@ const CASES: [Case; 7] = [
     Case {
         name: "a packet on its way",
         acts: &[
-            Act::Start("a", 1, &["b"]),
-            Act::Start("b", 1, &["a"]),
+            Act::Start("a", 1, "b"),
+            Act::Start("b", 1, "a"),
             Act::Broadcast("a", "x"),
         ],
         is_symmetric: true,
@@ -46,8 +50,8 @@ const CASES: [Case; 7] = [
     Case {
         name: "a packet that arrived",
         acts: &[
-            Act::Start("a", 1, &["b"]),
-            Act::Start("b", 1, &["a"]),
+            Act::Start("a", 1, "b"),
+            Act::Start("b", 1, "a"),
             Act::Broadcast("a", "x"),
             Act::Arrive(0),
         ],
@@ -60,8 +64,8 @@ const CASES: [Case; 7] = [
     Case {
         name: "a packet that was lost",
         acts: &[
-            Act::Start("a", 1, &["b"]),
-            Act::Start("b", 1, &["a"]),
+            Act::Start("a", 1, "b"),
+            Act::Start("b", 1, "a"),
             Act::Broadcast("a", "x"),
             Act::Lose(0),
         ],
@@ -74,9 +78,9 @@ const CASES: [Case; 7] = [
     Case {
         name: "a message that went a longer way",
         acts: &[
-            Act::Start("a", 1, &["b", "c"]),
-            Act::Start("b", 1, &["a", "c"]),
-            Act::Start("c", 1, &["a", "b"]),
+            Act::Start("a", 1, "b c"),
+            Act::Start("b", 1, "a c"),
+            Act::Start("c", 1, "a b"),
             Act::Broadcast("a", "x"),
             Act::Arrive(0),
             Act::Arrive(1),
@@ -89,11 +93,11 @@ const CASES: [Case; 7] = [
     Case {
         name: "two runs of one name, and two messages",
         acts: &[
-            Act::Start("a", 1, &["b"]),
-            Act::Start("b", 1, &["a"]),
+            Act::Start("a", 1, "b"),
+            Act::Start("b", 1, "a"),
             Act::Broadcast("b", "x"),
             Act::Arrive(0),
-            Act::Start("a", 2, &["b"]),
+            Act::Start("a", 2, "b"),
             Act::Broadcast("a", "y"),
             Act::Again(0),
             Act::Arrive(1),
@@ -107,8 +111,8 @@ const CASES: [Case; 7] = [
     Case {
         name: "a link that goes one way",
         acts: &[
-            Act::Start("a", 1, &["b"]),
-            Act::Start("b", 1, &[]),
+            Act::Start("a", 1, "b"),
+            Act::Start("b", 1, ""),
             Act::Broadcast("a", "x"),
             Act::Arrive(0),
         ],
@@ -119,87 +123,159 @@ const CASES: [Case; 7] = [
     },
 ];
 
+/// All cases, which are a constant of this function alone, since each function that names them is proved about them.
+fn cases() -> &'static [Case] {
+    CASES
+}
+
+/// Plays an event. What it gives stands in the log too.
+fn apply<A: Allocator + Copy>(world: &mut Group<A>, event: Event<A>) -> Result<(), WorldError> {
+    let _ = world.apply(event)?;
+    Ok(())
+}
+
 /// Plays acts, all of which are accepted.
-pub(crate) fn played<A: Allocator + Copy>(
+pub(crate) fn play_acts<A: Allocator + Copy>(
+    rt: &impl Abort,
     alloc: A,
+    world: &mut Group<A>,
     acts: &[Act],
-) -> Result<World<FloodCore<A>, A>, Fail> {
-    let mut world = World::<FloodCore<A>, A>::new(alloc, Limits::STANDARD);
+) -> Result<(), WorldError> {
     for act in acts {
-        let _ = world.apply(event(alloc, act)?)?;
+        let event = event(rt, alloc, act)?;
+        apply(world, event)?;
     }
-    Ok(world)
+    Ok(())
 }
 
 /// Appends a branch as a line.
-fn push_line<A: Allocator + Copy>(text: &mut String<A>, branch: &Branch) -> Result<(), Fail> {
-    let node = branch.node;
+fn push_line<A: Allocator>(text: &mut String<A>, branch: &Branch) -> Result<(), AllocError> {
+    write!(text, "{} <- ", branch.node)?;
     match branch.parent {
-        Some(parent) => writeln!(text, "{node} <- {parent}")?,
-        None => writeln!(text, "{node} <- -")?,
+        Some(parent) => writeln!(text, "{parent}"),
+        None => writeln!(text, "-"),
     }
-    Ok(())
 }
 
-/// Compares what is told of a case with what should be.
-fn compare_case<A: Allocator + Copy>(rt: &impl Abort, alloc: A, case: &Case) -> Result<(), Fail> {
-    let world = played(alloc, case.acts)?;
-    let (name, incarnation, seq) = case.id;
-    let message = id(name, incarnation, seq)?;
-    assert_eq!(rt; is_symmetric(&world), case.is_symmetric, "at {}", case.name);
-    assert_eq!(rt;
-        is_at_rest(&world, &message),
-        case.is_at_rest,
-        "at {}",
-        case.name
-    );
-    let mut text = String::new(alloc);
-    for branch in tree(alloc, &world, &message)?.as_slice() {
-        push_line(&mut text, branch)?;
+/// Whether branches have this text, in place of what the text said.
+fn is_drawn<A: Allocator>(
+    text: &mut String<A>,
+    branches: &[Branch],
+    wanted: &str,
+) -> Result<bool, AllocError> {
+    text.clear();
+    for branch in branches {
+        push_line(text, branch)?;
     }
-    assert_eq!(rt; text.as_str(), case.tree, "at {}", case.name);
-    Ok(())
+    Ok(text.as_str() == wanted)
 }
 
+/// Whether the answer is the whole tree, or want of memory if a growth was refused.
+fn is_answer<A: Allocator>(
+    answer: &Result<Vec<Branch, A>, AllocError>,
+    is_refused: bool,
+    whole: &[Branch],
+) -> bool {
+    match answer {
+        Ok(branches) => !is_refused && branches.as_slice() == whole,
+        Err(_) => is_refused,
+    }
+}
+
+/// Asks while the growth with this number is refused. Whether there is such a growth, or none if the answer is wrong.
+fn refuse_growth<A: Allocator + Copy>(
+    heap: &RefusingAllocator,
+    alloc: A,
+    world: &Group<A>,
+    message: &MsgId,
+    whole: &[Branch],
+    n: u64,
+) -> Option<bool> {
+    heap.refuse(n);
+    let answer = tree(alloc, world, message);
+    let is_spent = heap.is_spent();
+    heap.refuse(0);
+    is_answer(&answer, is_spent, whole).then_some(is_spent)
+}
+
+/// Asks while each growth is refused in turn. How many there are, or none if an answer is wrong.
+fn sweep<A: Allocator + Copy>(
+    heap: &RefusingAllocator,
+    alloc: A,
+    world: &Group<A>,
+    message: &MsgId,
+    whole: &[Branch],
+) -> Option<u64> {
+    for n in 1..MANY {
+        if !refuse_growth(heap, alloc, world, message, whole, n)? {
+            return Some(n - 1);
+        }
+    }
+    None
+}
+
+/// Compares a tree with its text, and then asks for it while each growth is refused in turn. How many growths there are, or
+/// none if an answer is wrong.
+fn sweep_tree<A: Allocator + Copy>(
+    heap: &RefusingAllocator,
+    alloc: A,
+    text: &mut String<A>,
+    world: &Group<A>,
+    message: &MsgId,
+    wanted: &str,
+) -> Result<Option<u64>, AllocError> {
+    let branches = tree(alloc, world, message)?;
+    if is_drawn(text, branches.as_slice(), wanted)? {
+        Ok(sweep(heap, alloc, world, message, branches.as_slice()))
+    } else {
+        Ok(None)
+    }
+}
+
+/// Whether two questions are answered as they should be, without a growth.
+fn is_told<A: Allocator + Copy>(
+    heap: &RefusingAllocator,
+    world: &Group<A>,
+    message: &MsgId,
+    case: &Case,
+) -> bool {
+    heap.refuse(1);
+    let is_rest_told = is_at_rest(world, message) == case.is_at_rest;
+    let is_symmetry_told = is_symmetric(world) == case.is_symmetric;
+    let is_spent = heap.is_spent();
+    heap.refuse(0);
+    is_rest_told && is_symmetry_told && !is_spent
+}
+
+/// Plays a case, and asks all three questions. How many growths the tree has, or none if an answer is wrong.
+fn sweep_case<A: Allocator + Copy>(
+    rt: &impl Abort,
+    heap: &RefusingAllocator,
+    alloc: A,
+    text: &mut String<A>,
+    case: &Case,
+) -> Result<Option<u64>, WorldError> {
+    let mut world = Group::new(alloc, Limits::STANDARD);
+    play_acts(rt, alloc, &mut world, case.acts)?;
+    let (node, incarnation, seq) = case.id;
+    let message = id(rt, node, incarnation, seq);
+    if !is_told(heap, &world, &message, case) {
+        return Ok(None);
+    }
+    Ok(sweep_tree(heap, alloc, text, &world, &message, case.tree)?)
+}
+
+/// Trees with each of their growths refused in turn, and two questions whose answers have none.
 #[test]
 fn trees_and_rest(rt: HostRuntime) -> Result<(), Fail> {
-    for case in &CASES {
-        compare_case(&rt, rt.alloc(), case)?;
-    }
-    Ok(())
-}
-
-/// A tree with each of its growths refused in turn, and two calls that have none.
-#[test]
-fn each_growth_of_a_tree(rt: HostRuntime) -> Result<(), Fail> {
     let heap = RefusingAllocator::new(rt.alloc());
-    let message = id("a", 1, 1)?;
-    let world = played(&heap, CASES[4].acts)?;
-    heap.refuse(1);
-    let rests = is_at_rest(&world, &message);
-    let is_both_ways = is_symmetric(&world);
-    assert!(&rt; !heap.is_spent());
-    assert!(&rt; !rests);
-    assert!(&rt; is_both_ways);
+    let mut text = String::new(&heap);
     let mut refused = 0u64;
-    for n in 1..20 {
-        heap.refuse(n);
-        let answer = tree(&heap, &world, &message);
-        let is_spent = heap.is_spent();
-        heap.refuse(0);
-        match answer {
-            Ok(branches) => assert_eq!(&rt; branches.len(), 3),
-            Err(_) => assert!(&rt; is_spent),
-        }
-        if !is_spent {
-            break;
-        }
-        refused = n;
+    for case in cases() {
+        let growths = sweep_case(&rt, &heap, &heap, &mut text, case)?;
+        assert!(rt; growths.is_some(), "at {}: {text}", case.name);
+        refused = refused.saturating_add(growths.unwrap_or(0));
     }
-    assert!(&rt; refused > 0);
-    assert!(&rt; refused < 19);
-    let first = tree(&heap, &world, &message)?;
-    assert_eq!(&rt; first.len(), 3);
-    assert_eq!(&rt; first[0].node, origin("a", 1)?);
+    assert!(rt; refused > 5);
     Ok(())
 }

@@ -1,10 +1,11 @@
 //! Runs of small groups, with what each event gives worked out by hand.
 use crate::act::Act;
+use crate::play::Wanted;
 use node_names::Incarnation;
 use world::WorldError;
 
-/// An event and what it gives: its deliveries, each as `NODE ID PAYLOAD`, or its refusal.
-pub(crate) type Turn = (Act, Result<&'static [&'static str], WorldError>);
+/// An event and what it gives.
+pub(crate) type Turn = (Act, Wanted);
 
 /// A run, and how many packets it sent and left in flight.
 #[derive(Clone, Copy)]
@@ -20,11 +21,11 @@ const STALE: WorldError = WorldError::StaleIncarnation {
     highest: Incarnation(1),
 };
 
-pub(crate) const ROWS: [Row; 8] = [
+const ROWS: &[Row] = &[
     Row {
         name: "a lone node delivers to itself and sends nothing",
         turns: &[
-            (Act::Start("a", 1, &[]), Ok(&[])),
+            (Act::Start("a", 1, ""), Ok(&[])),
             (Act::Broadcast("a", "x"), Ok(&["a/1 a/1/1 x"])),
         ],
         sent: 0,
@@ -33,8 +34,8 @@ pub(crate) const ROWS: [Row; 8] = [
     Row {
         name: "two nodes say hello",
         turns: &[
-            (Act::Start("a", 1, &["b"]), Ok(&[])),
-            (Act::Start("b", 1, &["a"]), Ok(&[])),
+            (Act::Start("a", 1, "b"), Ok(&[])),
+            (Act::Start("b", 1, "a"), Ok(&[])),
             (Act::Broadcast("a", "hello"), Ok(&["a/1 a/1/1 hello"])),
             (Act::Arrive(0), Ok(&["b/1 a/1/1 hello"])),
         ],
@@ -44,8 +45,8 @@ pub(crate) const ROWS: [Row; 8] = [
     Row {
         name: "a repeated packet is delivered once, and a stopped node broadcasts nothing",
         turns: &[
-            (Act::Start("a", 1, &["b"]), Ok(&[])),
-            (Act::Start("b", 1, &["a"]), Ok(&[])),
+            (Act::Start("a", 1, "b"), Ok(&[])),
+            (Act::Start("b", 1, "a"), Ok(&[])),
             (Act::Broadcast("a", "x"), Ok(&["a/1 a/1/1 x"])),
             (Act::Again(0), Ok(&[])),
             (Act::Arrive(0), Ok(&["b/1 a/1/1 x"])),
@@ -61,12 +62,12 @@ pub(crate) const ROWS: [Row; 8] = [
     Row {
         name: "a restarted node begins again with number 1, under another incarnation",
         turns: &[
-            (Act::Start("a", 1, &["b"]), Ok(&[])),
-            (Act::Start("b", 1, &["a"]), Ok(&[])),
+            (Act::Start("a", 1, "b"), Ok(&[])),
+            (Act::Start("b", 1, "a"), Ok(&[])),
             (Act::Broadcast("a", "x"), Ok(&["a/1 a/1/1 x"])),
             (Act::Stop("a"), Ok(&[])),
-            (Act::Start("a", 1, &["b"]), Err(STALE)),
-            (Act::Start("a", 2, &["b"]), Ok(&[])),
+            (Act::Start("a", 1, "b"), Err(STALE)),
+            (Act::Start("a", 2, "b"), Ok(&[])),
             (Act::Broadcast("a", "y"), Ok(&["a/2 a/2/1 y"])),
             (Act::Arrive(0), Ok(&["b/1 a/1/1 x"])),
             (Act::Arrive(0), Ok(&["b/1 a/2/1 y"])),
@@ -78,11 +79,11 @@ pub(crate) const ROWS: [Row; 8] = [
     Row {
         name: "each incarnation delivers a message of its own",
         turns: &[
-            (Act::Start("a", 1, &["b"]), Ok(&[])),
-            (Act::Start("b", 1, &["a"]), Ok(&[])),
+            (Act::Start("a", 1, "b"), Ok(&[])),
+            (Act::Start("b", 1, "a"), Ok(&[])),
             (Act::Broadcast("a", "x"), Ok(&["a/1 a/1/1 x"])),
             (Act::Arrive(0), Ok(&["b/1 a/1/1 x"])),
-            (Act::Start("b", 2, &["a"]), Ok(&[])),
+            (Act::Start("b", 2, "a"), Ok(&[])),
             (Act::Again(0), Ok(&[])),
             (Act::Arrive(0), Ok(&["b/2 a/1/1 x"])),
             (Act::Again(0), Ok(&[])),
@@ -94,20 +95,17 @@ pub(crate) const ROWS: [Row; 8] = [
     Row {
         name: "refused starts and calls leave no trace",
         turns: &[
-            (Act::Start("a", 1, &["a"]), Err(WorldError::BadPeers)),
-            (Act::Start("a", 1, &["b", "b"]), Err(WorldError::BadPeers)),
+            (Act::Start("a", 1, "a"), Err(WorldError::BadPeers)),
+            (Act::Start("a", 1, "b b"), Err(WorldError::BadPeers)),
             (Act::StartAt("a", 1, "a"), Err(WorldError::BadPeers)),
-            (
-                Act::Start("a", 1, &["b", "c", "d", "e", "f", "g"]),
-                Err(WorldError::BadPeers),
-            ),
+            (Act::Start("a", 1, "b c d e f g"), Err(WorldError::BadPeers)),
             (Act::Broadcast("z", "x"), Err(WorldError::UnknownNode)),
             (Act::Stop("z"), Err(WorldError::UnknownNode)),
             (Act::Arrive(0), Err(WorldError::NoPacket)),
-            (Act::Start("a", 1, &["b"]), Ok(&[])),
-            (Act::Start("a", 1, &["b"]), Err(STALE)),
+            (Act::Start("a", 1, "b"), Ok(&[])),
+            (Act::Start("a", 1, "b"), Err(STALE)),
             // A stale incarnation is told before peers that do not fit.
-            (Act::Start("a", 1, &["a"]), Err(STALE)),
+            (Act::Start("a", 1, "a"), Err(STALE)),
             (
                 Act::BroadcastZeros("a", 32_769),
                 Err(WorldError::PayloadTooLong),
@@ -132,9 +130,9 @@ pub(crate) const ROWS: [Row; 8] = [
     Row {
         name: "a loss keeps a packet from one node, and a repeat brings it after all",
         turns: &[
-            (Act::Start("a", 1, &["b", "c"]), Ok(&[])),
-            (Act::Start("b", 1, &["a", "c"]), Ok(&[])),
-            (Act::Start("c", 1, &["a"]), Ok(&[])),
+            (Act::Start("a", 1, "b c"), Ok(&[])),
+            (Act::Start("b", 1, "a c"), Ok(&[])),
+            (Act::Start("c", 1, "a"), Ok(&[])),
             (Act::Broadcast("a", "m"), Ok(&["a/1 a/1/1 m"])),
             (Act::Lose(1), Ok(&[])),
             (Act::Arrive(0), Ok(&["b/1 a/1/1 m"])),
@@ -153,8 +151,8 @@ pub(crate) const ROWS: [Row; 8] = [
     Row {
         name: "of the other events a flooding node heeds a failed link alone",
         turns: &[
-            (Act::Start("a", 1, &["b", "c"]), Ok(&[])),
-            (Act::Start("c", 1, &[]), Ok(&[])),
+            (Act::Start("a", 1, "b c"), Ok(&[])),
+            (Act::Start("c", 1, ""), Ok(&[])),
             (Act::Fire("a", "c"), Ok(&[])),
             (Act::Flush("a"), Ok(&[])),
             (Act::Shuffle("a"), Ok(&[])),
@@ -168,3 +166,8 @@ pub(crate) const ROWS: [Row; 8] = [
         in_flight: 0,
     },
 ];
+
+/// All rows, which are a constant of this function alone, since each function that names them is proved about them.
+pub(crate) fn rows() -> &'static [Row] {
+    ROWS
+}

@@ -1,158 +1,350 @@
 //! Rows in which each growth is refused in turn: the refusal is for want of memory, the group is as it was before the refused
 //! event, and the event made again answers as if nothing had been refused.
 use crate::act::event;
-use crate::play::{compare, compare_answer, compare_held};
-use crate::rows::{ROWS, Row, Turn};
+use crate::alike::{Group, are_alike, holds_given};
+use crate::play::{Answer, Wanted, are_turns, is_answer};
+use crate::rows::{Row, Turn, rows};
 use node_names::Limits;
 use refusing_allocator::RefusingAllocator;
-use std::alloc::Allocator;
+use std::alloc::{AllocError, Allocator};
 use std::process::Abort;
 use std::test::Fail;
-use world::{Event, FloodCore, World, WorldError};
+use world::{Event, Given, RunFault, WorldError};
 
 /// More growths than any event or row has.
 const MANY: u64 = 400;
 
-/// A group over a heap that refuses growths.
-type Swept<'a, A> = World<FloodCore<&'a RefusingAllocator<A>>, &'a RefusingAllocator<A>>;
+/// Turns before an event, and those from it on.
+type Parts<'a> = (&'a [Turn], &'a [Turn]);
 
 /// Plays turns, none of which is refused a growth.
-fn play_turns<A: Allocator + Copy, B: Allocator + Copy>(
+fn play_turns<A: Allocator + Copy>(
     rt: &impl Abort,
     alloc: A,
-    texts: B,
-    world: &mut World<FloodCore<A>, A>,
+    text: &mut String<A>,
+    world: &mut Group<A>,
     turns: &[Turn],
-) -> Result<(), Fail> {
-    for (act, wanted) in turns {
-        let answer = world.apply(event(alloc, act)?);
-        compare_answer(rt, texts, &answer, wanted)?;
-    }
+) -> Result<(), AllocError> {
+    let are_right = are_turns(rt, alloc, text, world, turns)?;
+    assert!(rt; are_right);
     Ok(())
 }
 
-/// Plays a row, and refuses the growth with this number of the turn at this place. Answers whether it has so many.
-fn sweep_turn<'a, A: Allocator + Copy>(
+/// Whether an event was refused for want of memory. Otherwise it gave what it should.
+fn is_refused<A: Allocator + Copy>(
     rt: &impl Abort,
-    heap: &'a RefusingAllocator<A>,
-    alloc: A,
-    row: &Row,
-    at: usize,
+    text: &mut String<A>,
+    answer: &Answer<A>,
+    wanted: &Wanted,
+) -> Result<bool, AllocError> {
+    if let Err(WorldError::OutOfMemory) = answer {
+        return Ok(true);
+    }
+    let is_right = is_answer(text, answer, wanted)?;
+    assert!(rt; is_right);
+    Ok(false)
+}
+
+/// Plays an event while the growth with this number is refused. Whether there is such a growth, and whether it is refused.
+fn try_event<A: Allocator + Copy>(
+    rt: &impl Abort,
+    heap: &RefusingAllocator,
+    text: &mut String<A>,
+    world: &mut Group<A>,
+    event: Event<A>,
+    wanted: &Wanted,
     n: u64,
-) -> Result<bool, Fail> {
-    let mut world = Swept::<'a, A>::new(heap, Limits::STANDARD);
-    let mut twin = World::<FloodCore<A>, A>::new(alloc, Limits::STANDARD);
-    assert!(rt; at <= row.turns.len());
-    let (before, from) = row.turns.split_at(at);
-    play_turns(rt, heap, alloc, &mut world, before)?;
-    play_turns(rt, alloc, alloc, &mut twin, before)?;
-    let Some(((act, _), _)) = from.split_first() else {
-        return Ok(false);
-    };
-    let made = event(heap, act)?;
+) -> Result<(bool, bool), AllocError> {
     heap.refuse(n);
-    let answer = world.apply(made);
+    let answer = world.apply(event);
     let is_spent = heap.is_spent();
     heap.refuse(0);
-    match answer {
-        Err(WorldError::OutOfMemory) => {
-            assert!(rt; is_spent);
-            compare(rt, &world, &twin);
-            play_turns(rt, heap, alloc, &mut world, from)?;
-        }
-        answer => {
-            if let Some(((_, wanted), rest)) = from.split_first() {
-                compare_answer(rt, alloc, &answer, wanted)?;
-                play_turns(rt, heap, alloc, &mut world, rest)?;
-            }
+    let is_refused = is_refused(rt, text, &answer, wanted)?;
+    Ok((is_spent, is_refused))
+}
+
+/// Plays a turn while the growth with this number is refused, and again if it is refused. Whether there is such a growth.
+fn refuse_turn<A: Allocator + Copy>(
+    rt: &impl Abort,
+    heap: &RefusingAllocator,
+    alloc: A,
+    text: &mut String<A>,
+    world: &mut Group<A>,
+    twin: &Group<A>,
+    turn: &Turn,
+    n: u64,
+) -> Result<bool, AllocError> {
+    let event = event(rt, alloc, &turn.0)?;
+    let (is_spent, is_refused) = try_event(rt, heap, text, world, event, &turn.1, n)?;
+    if is_refused {
+        assert!(rt; is_spent);
+        assert!(rt; are_alike(world, twin));
+        play_turns(rt, alloc, text, world, &[*turn])?;
+    }
+    Ok(is_spent)
+}
+
+/// Goes on in two groups, the growth with this number of the first event refused in the one. Whether there is such a growth.
+fn go_on<A: Allocator + Copy>(
+    rt: &impl Abort,
+    heap: &RefusingAllocator,
+    alloc: A,
+    text: &mut String<A>,
+    world: &mut Group<A>,
+    twin: &mut Group<A>,
+    turns: &[Turn],
+    n: u64,
+) -> Result<bool, AllocError> {
+    let Some((turn, rest)) = turns.split_first() else {
+        return Ok(false);
+    };
+    let is_spent = refuse_turn(rt, heap, alloc, text, world, twin, turn, n)?;
+    play_turns(rt, alloc, text, world, rest)?;
+    play_turns(rt, alloc, text, twin, turns)?;
+    Ok(is_spent)
+}
+
+/// Plays turns in two groups, the growth with this number of one event refused in the one. Whether there is such a growth.
+fn sweep_groups<A: Allocator + Copy>(
+    rt: &impl Abort,
+    heap: &RefusingAllocator,
+    alloc: A,
+    text: &mut String<A>,
+    world: &mut Group<A>,
+    twin: &mut Group<A>,
+    parts: Parts<'_>,
+    n: u64,
+) -> Result<bool, AllocError> {
+    play_turns(rt, alloc, text, world, parts.0)?;
+    play_turns(rt, alloc, text, twin, parts.0)?;
+    let is_spent = go_on(rt, heap, alloc, text, world, twin, parts.1, n)?;
+    assert!(rt; are_alike(world, twin));
+    assert!(rt; holds_given(world));
+    Ok(is_spent)
+}
+
+/// Does so beside a fresh group.
+fn sweep_beside<A: Allocator + Copy>(
+    rt: &impl Abort,
+    heap: &RefusingAllocator,
+    alloc: A,
+    text: &mut String<A>,
+    world: &mut Group<A>,
+    parts: Parts<'_>,
+    n: u64,
+) -> Result<bool, AllocError> {
+    let mut twin = Group::new(alloc, Limits::STANDARD);
+    sweep_groups(rt, heap, alloc, text, world, &mut twin, parts, n)
+}
+
+/// Does so in a fresh group too.
+fn sweep_turn<A: Allocator + Copy>(
+    rt: &impl Abort,
+    heap: &RefusingAllocator,
+    alloc: A,
+    text: &mut String<A>,
+    parts: Parts<'_>,
+    n: u64,
+) -> Result<bool, AllocError> {
+    let mut world = Group::new(alloc, Limits::STANDARD);
+    sweep_beside(rt, heap, alloc, text, &mut world, parts, n)
+}
+
+/// Refuses each growth of an event in turn. How many there are.
+fn sweep_event<A: Allocator + Copy>(
+    rt: &impl Abort,
+    heap: &RefusingAllocator,
+    alloc: A,
+    text: &mut String<A>,
+    parts: Parts<'_>,
+) -> Result<u64, AllocError> {
+    for n in 1..MANY {
+        if !sweep_turn(rt, heap, alloc, text, parts, n)? {
+            return Ok(n - 1);
         }
     }
-    play_turns(rt, alloc, alloc, &mut twin, from)?;
-    compare(rt, &world, &twin);
-    compare_held(rt, &world);
-    Ok(is_spent)
+    assert!(rt; false, "the sweep did not end");
+    Ok(MANY)
+}
+
+/// Does so for each event of a row.
+fn sweep_row<A: Allocator + Copy>(
+    rt: &impl Abort,
+    heap: &RefusingAllocator,
+    alloc: A,
+    text: &mut String<A>,
+    row: &Row,
+) -> Result<u64, AllocError> {
+    let mut refused = 0u64;
+    for at in 0..row.turns.len() {
+        let parts = row.turns.split_at(at);
+        let growths = sweep_event(rt, heap, alloc, text, parts)?;
+        refused = refused.saturating_add(growths);
+    }
+    Ok(refused)
 }
 
 /// Every event of every row, each of its growths refused in turn.
 #[test]
 fn each_growth_of_each_event(rt: HostRuntime) -> Result<(), Fail> {
-    let alloc = rt.alloc();
-    let heap = RefusingAllocator::new(alloc);
+    let heap = RefusingAllocator::new(rt.alloc());
+    let mut text = String::new(&heap);
     let mut refused = 0u64;
-    for row in &ROWS {
-        for at in 0..row.turns.len() {
-            for n in 1..MANY {
-                if !sweep_turn(&rt, &heap, alloc, row, at, n)? {
-                    break;
-                }
-                refused = refused.saturating_add(1);
-                assert!(rt; n < MANY - 1, "the sweep did not end");
-            }
-        }
+    for row in rows() {
+        let growths = sweep_row(&rt, &heap, &heap, &mut text, row)?;
+        refused = refused.saturating_add(growths);
     }
     assert!(rt; refused > 100, "few growths were refused: {refused}");
     Ok(())
 }
 
-/// The events of a row that are accepted.
-fn accepted<A: Allocator + Copy>(alloc: A, row: &Row) -> Result<Vec<Event<A>, A>, Fail> {
-    let mut events = Vec::new(alloc);
-    for (act, wanted) in row.turns {
-        if wanted.is_ok() {
-            events.push(event(alloc, act)?)?;
+/// Appends the events of turns that are accepted.
+fn push_accepted<A: Allocator + Copy>(
+    rt: &impl Abort,
+    alloc: A,
+    events: &mut Vec<Event<A>, A>,
+    turns: &[Turn],
+) -> Result<(), AllocError> {
+    for turn in turns {
+        if turn.1.is_ok() {
+            let event = event(rt, alloc, &turn.0)?;
+            events.push(event)?;
         }
     }
-    Ok(events)
+    Ok(())
 }
 
-/// Plays events as one run, and refuses the growth with this number. Answers whether the run has so many.
-fn sweep_run<'a, A: Allocator + Copy>(
+/// Where a run stopped for want of memory, if it did.
+fn stop_of<A: Allocator + Copy>(
     rt: &impl Abort,
-    heap: &'a RefusingAllocator<A>,
-    events: &[Event<&'a RefusingAllocator<A>>],
-    alloc: A,
-    plain: &[Event<A>],
+    outcome: &Result<Vec<Given<A>, A>, RunFault<A>>,
+) -> Option<usize> {
+    match outcome {
+        Ok(_) => None,
+        Err(fault) => {
+            assert!(rt; fault.why == WorldError::OutOfMemory);
+            Some(fault.at)
+        }
+    }
+}
+
+/// Plays events while the growth with this number is refused. Whether there is such a growth, and where the run stopped.
+fn try_run<A: Allocator + Copy>(
+    rt: &impl Abort,
+    heap: &RefusingAllocator,
+    world: &mut Group<A>,
+    events: &[Event<A>],
     n: u64,
-) -> bool {
-    let mut world = Swept::<'a, A>::new(heap, Limits::STANDARD);
-    let mut twin = World::<FloodCore<A>, A>::new(alloc, Limits::STANDARD);
+) -> (bool, Option<usize>) {
     heap.refuse(n);
     let outcome = world.run(events);
     let is_spent = heap.is_spent();
     heap.refuse(0);
-    if let Err(fault) = outcome {
-        assert!(rt; is_spent);
-        assert_eq!(rt; fault.why, WorldError::OutOfMemory);
-        assert!(rt; fault.at < plain.len());
-        assert!(rt; fault.at < events.len());
-        assert!(rt; twin.run(&plain[..fault.at]).is_ok());
-        compare(rt, &world, &twin);
-        assert!(rt; world.run(&events[fault.at..]).is_ok());
-        assert!(rt; twin.run(&plain[fault.at..]).is_ok());
-    } else {
-        assert!(rt; twin.run(plain).is_ok());
+    (is_spent, stop_of(rt, &outcome))
+}
+
+/// Plays events, none of which is refused.
+fn run<A: Allocator + Copy>(rt: &impl Abort, world: &mut Group<A>, events: &[Event<A>]) {
+    assert!(rt; world.run(events).is_ok());
+}
+
+/// Goes on with a run from the event at which it stopped, and plays the run in another group.
+fn resume<A: Allocator + Copy>(
+    rt: &impl Abort,
+    world: &mut Group<A>,
+    twin: &mut Group<A>,
+    events: &[Event<A>],
+    at: usize,
+) {
+    assert!(rt; at < events.len());
+    let (before, from) = events.split_at(at);
+    run(rt, twin, before);
+    assert!(rt; are_alike(world, twin));
+    run(rt, world, from);
+    run(rt, twin, from);
+}
+
+/// Plays events in two groups, the growth with this number refused in the one. Whether there is such a growth.
+fn run_groups<A: Allocator + Copy>(
+    rt: &impl Abort,
+    heap: &RefusingAllocator,
+    world: &mut Group<A>,
+    twin: &mut Group<A>,
+    events: &[Event<A>],
+    n: u64,
+) -> bool {
+    let (is_spent, stop) = try_run(rt, heap, world, events, n);
+    match stop {
+        Some(at) => {
+            assert!(rt; is_spent);
+            resume(rt, world, twin, events, at);
+        }
+        None => run(rt, twin, events),
     }
-    compare(rt, &world, &twin);
+    assert!(rt; are_alike(world, twin));
     is_spent
+}
+
+/// Does so beside a fresh group.
+fn run_beside<A: Allocator + Copy>(
+    rt: &impl Abort,
+    heap: &RefusingAllocator,
+    alloc: A,
+    world: &mut Group<A>,
+    events: &[Event<A>],
+    n: u64,
+) -> bool {
+    let mut twin = Group::new(alloc, Limits::STANDARD);
+    run_groups(rt, heap, world, &mut twin, events, n)
+}
+
+/// Does so in a fresh group too.
+fn sweep_run<A: Allocator + Copy>(
+    rt: &impl Abort,
+    heap: &RefusingAllocator,
+    alloc: A,
+    events: &[Event<A>],
+    n: u64,
+) -> bool {
+    let mut world = Group::new(alloc, Limits::STANDARD);
+    run_beside(rt, heap, alloc, &mut world, events, n)
+}
+
+/// Refuses each growth of a run in turn. How many there are.
+fn sweep_events<A: Allocator + Copy>(
+    rt: &impl Abort,
+    heap: &RefusingAllocator,
+    alloc: A,
+    events: &[Event<A>],
+) -> u64 {
+    for n in 1..MANY {
+        if !sweep_run(rt, heap, alloc, events, n) {
+            return n - 1;
+        }
+    }
+    assert!(rt; false, "the sweep did not end");
+    MANY
+}
+
+/// Does so for the events of a row that are accepted.
+fn sweep_accepted<A: Allocator + Copy>(
+    rt: &impl Abort,
+    heap: &RefusingAllocator,
+    alloc: A,
+    row: &Row,
+) -> Result<u64, AllocError> {
+    let mut events = Vec::new(alloc);
+    push_accepted(rt, alloc, &mut events, row.turns)?;
+    Ok(sweep_events(rt, heap, alloc, events.as_slice()))
 }
 
 /// Every row as one run, each of its growths refused in turn.
 #[test]
 fn each_growth_of_each_run(rt: HostRuntime) -> Result<(), Fail> {
-    let alloc = rt.alloc();
-    let heap = RefusingAllocator::new(alloc);
-    for row in &ROWS {
-        let mut refused = 0u64;
-        for n in 1..MANY {
-            let events = accepted(&heap, row)?;
-            let plain = accepted(alloc, row)?;
-            if !sweep_run(&rt, &heap, events.as_slice(), alloc, plain.as_slice(), n) {
-                break;
-            }
-            refused = refused.saturating_add(1);
-        }
+    let heap = RefusingAllocator::new(rt.alloc());
+    for row in rows() {
+        let refused = sweep_accepted(&rt, &heap, &heap, row)?;
         assert!(rt; refused > 5, "few growths were refused: {refused}");
-        assert!(rt; refused < MANY - 1, "the sweep did not end");
     }
     Ok(())
 }
