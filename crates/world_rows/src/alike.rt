@@ -118,14 +118,16 @@ fn is_log_held<A: Allocator + Copy>(core: &FloodCore<A>, log: &[Entry<A>]) -> bo
         .all(|entry| are_held(core, entry.given.as_slice()))
 }
 
+/// Whether a node's core, if it runs, does so for the deliveries of the whole log.
+fn is_node_held<A: Allocator + Copy>(node: &NodeState<FloodCore<A>>, log: &[Entry<A>]) -> bool {
+    match &node.core {
+        Some(core) => is_log_held(core, log),
+        None => true,
+    }
+}
+
 /// Whether each core holds the payloads under the ids that the group's log delivered to it.
 pub(crate) fn holds_given<A: Allocator + Copy>(world: &Group<A>) -> bool {
-    for node in world.nodes() {
-        if let Some(core) = &node.core
-            && !is_log_held(core, world.log())
-        {
-            return false;
-        }
-    }
-    true
+    let log = world.log();
+    world.nodes().iter().all(|node| is_node_held(node, log))
 }

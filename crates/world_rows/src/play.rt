@@ -112,12 +112,7 @@ fn is_row<A: Allocator + Copy>(
 ) -> Result<bool, AllocError> {
     let mut world = Group::new(alloc, Limits::STANDARD);
     let is_right = are_turns(rt, alloc, text, &mut world, row.turns)?;
-    Ok(
-        is_right
-            && world.sent().len() == row.sent
-            && world.flight().len() == row.in_flight
-            && holds_given(&world),
-    )
+    Ok(is_right && is_end(&world, row))
 }
 
 #[test]

@@ -163,7 +163,7 @@ const CASES: &[Case] = &[
     },
 ];
 
-/// All cases, which are a constant of this function alone, since each function that names them is proved about them.
+/// All cases. The table is named here alone, since a function that names it is proved over the whole of it.
 fn cases() -> &'static [Case] {
     CASES
 }

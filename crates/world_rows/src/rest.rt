@@ -123,7 +123,7 @@ const CASES: &[Case] = &[
     },
 ];
 
-/// All cases, which are a constant of this function alone, since each function that names them is proved about them.
+/// All cases. The table is named here alone, since a function that names it is proved over the whole of it.
 fn cases() -> &'static [Case] {
     CASES
 }
@@ -247,7 +247,25 @@ fn is_told<A: Allocator + Copy>(
     is_rest_told && is_symmetry_told && !is_spent
 }
 
-/// Plays a case, and asks all three questions. How many growths the tree has, or none if an answer is wrong.
+/// Asks all three questions. How many growths the tree has, or none if an answer is wrong.
+fn sweep_told<A: Allocator + Copy>(
+    rt: &impl Abort,
+    heap: &RefusingAllocator,
+    alloc: A,
+    text: &mut String<A>,
+    world: &Group<A>,
+    case: &Case,
+) -> Result<Option<u64>, AllocError> {
+    let (node, incarnation, seq) = case.id;
+    let message = id(rt, node, incarnation, seq);
+    if is_told(heap, world, &message, case) {
+        sweep_tree(heap, alloc, text, world, &message, case.tree)
+    } else {
+        Ok(None)
+    }
+}
+
+/// Does so at the end of a case.
 fn sweep_case<A: Allocator + Copy>(
     rt: &impl Abort,
     heap: &RefusingAllocator,
@@ -257,12 +275,7 @@ fn sweep_case<A: Allocator + Copy>(
 ) -> Result<Option<u64>, WorldError> {
     let mut world = Group::new(alloc, Limits::STANDARD);
     play_acts(rt, alloc, &mut world, case.acts)?;
-    let (node, incarnation, seq) = case.id;
-    let message = id(rt, node, incarnation, seq);
-    if !is_told(heap, &world, &message, case) {
-        return Ok(None);
-    }
-    Ok(sweep_tree(heap, alloc, text, &world, &message, case.tree)?)
+    Ok(sweep_told(rt, heap, alloc, text, &world, case)?)
 }
 
 /// Trees with each of their growths refused in turn, and two questions whose answers have none.

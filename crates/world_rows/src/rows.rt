@@ -167,7 +167,7 @@ const ROWS: &[Row] = &[
     },
 ];
 
-/// All rows, which are a constant of this function alone, since each function that names them is proved about them.
+/// All rows. The table is named here alone, since a function that names it is proved over the whole of it.
 pub(crate) fn rows() -> &'static [Row] {
     ROWS
 }
