@@ -1,21 +1,25 @@
 //! Names and dice written as texts and numbers.
 use node_names::{Dice, Limits, NodeName};
-use std::alloc::Allocator;
-use std::test::Fail;
+use std::alloc::{AllocError, Allocator};
+use std::process::Abort;
 
 /// The words of dice that are not 0, each after its place.
 pub(crate) type Words = &'static [(usize, u64)];
 
 /// The name of this text.
-pub(crate) fn name(text: &str) -> Result<NodeName, Fail> {
-    Ok(NodeName::parse(text.as_bytes())?)
+pub(crate) fn name(rt: &impl Abort, text: &str) -> NodeName {
+    NodeName::parse(text.as_bytes()).expect(rt, "a name")
 }
 
-/// The names of these texts.
-pub(crate) fn names<A: Allocator>(alloc: A, texts: &[&str]) -> Result<Vec<NodeName, A>, Fail> {
+/// The names of a text.
+pub(crate) fn names<A: Allocator>(
+    rt: &impl Abort,
+    alloc: A,
+    text: &str,
+) -> Result<Vec<NodeName, A>, AllocError> {
     let mut names = Vec::new(alloc);
-    for text in texts {
-        names.push(name(text)?)?;
+    for word in text.split_whitespace() {
+        names.push(name(rt, word))?;
     }
     Ok(names)
 }
@@ -32,6 +36,6 @@ pub(crate) fn dice(words: &[(usize, u64)]) -> Dice {
 }
 
 /// So many active and passive names, walks of three steps, PRWL 1, and shuffles of one active and two passive names.
-pub(crate) fn limits(active: u8, passive: u8) -> Result<Limits, Fail> {
-    Ok(Limits::new(active, passive, 3, 1, 1, 2)?)
+pub(crate) fn limits(rt: &impl Abort, active: u8, passive: u8) -> Limits {
+    Limits::new(active, passive, 3, 1, 1, 2).expect(rt, "limits")
 }

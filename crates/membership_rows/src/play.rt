@@ -1,8 +1,8 @@
 //! Playing the rows event by event.
-use crate::act::{Act, hear};
+use crate::act::hear;
 use crate::named::{dice, limits, name};
-use crate::rows::{ROWS, Row, Turn};
-use crate::texts::{given, shown};
+use crate::rows::{Row, Turn, rows};
+use crate::texts::{write_given, write_shown};
 use membership::{Membership, Moves};
 use node_names::{Dice, Limits, NodeName};
 use std::alloc::{AllocError, Allocator};
@@ -20,119 +20,136 @@ fn lone<A: Allocator + Copy>(
 
 /// Makes the peers active one by one.
 fn admit<A: Allocator + Copy>(
+    rt: &impl Abort,
     alloc: A,
     membership: &mut Membership<A>,
-    peers: &[&str],
-) -> Result<(), Fail> {
+    peers: &str,
+) -> Result<(), AllocError> {
     let mut moves = Moves::new(alloc);
-    for peer in peers {
-        membership.on_neighbor(name(peer)?, true, &Dice::ZEROS, &mut moves)?;
+    for peer in peers.split_whitespace() {
+        membership.on_neighbor(name(rt, peer), true, &Dice::ZEROS, &mut moves)?;
     }
     Ok(())
 }
 
 /// The membership of `x` at the start of a row.
-pub(crate) fn start<A: Allocator + Copy>(alloc: A, row: &Row) -> Result<Membership<A>, Fail> {
-    let mut membership = lone(alloc, name("x")?, limits(row.0, row.1)?)?;
-    admit(alloc, &mut membership, row.2)?;
+pub(crate) fn start<A: Allocator + Copy>(
+    rt: &impl Abort,
+    alloc: A,
+    row: &Row,
+) -> Result<Membership<A>, AllocError> {
+    let mut membership = lone(alloc, name(rt, "x"), limits(rt, row.0, row.1))?;
+    admit(rt, alloc, &mut membership, row.2)?;
     Ok(membership)
 }
 
-/// Compares a text with the one that is wanted at this event.
-fn compare(rt: &impl Abort, text: &str, wanted: &str, act: &Act) {
-    assert_eq!(rt; text, wanted, "{act:?}");
-}
-
-/// Compares what an event gave.
-pub(crate) fn compare_given<A: Allocator, B: Allocator>(
-    rt: &impl Abort,
-    texts: B,
+/// Whether an event gave this. What it gave is left in the text.
+pub(crate) fn is_given<A: Allocator, B: Allocator>(
+    text: &mut String<B>,
     moves: &Moves<A>,
     wanted: &str,
-    act: &Act,
-) -> Result<(), Fail> {
-    let text = given(texts, moves)?;
-    compare(rt, text.as_str(), wanted, act);
-    Ok(())
+) -> Result<bool, AllocError> {
+    write_given(text, moves)?;
+    Ok(text.as_str() == wanted)
 }
 
-/// Compares what the readers answer after an event.
-pub(crate) fn compare_shown<A: Allocator, B: Allocator>(
-    rt: &impl Abort,
-    texts: B,
+/// Whether the readers answer this. What they answer is left in the text.
+pub(crate) fn is_shown<A: Allocator, B: Allocator>(
+    text: &mut String<B>,
     membership: &Membership<A>,
     wanted: &str,
-    act: &Act,
-) -> Result<(), Fail> {
-    let text = shown(texts, membership)?;
-    compare(rt, text.as_str(), wanted, act);
-    Ok(())
+) -> Result<bool, AllocError> {
+    write_shown(text, membership)?;
+    Ok(text.as_str() == wanted)
 }
 
-/// Plays an event over ample memory, and compares what it gives and leaves.
-pub(crate) fn play<A: Allocator + Copy, B: Allocator + Copy>(
+/// Whether an event gave and left what it should. What differs is left in the text.
+fn is_answered<A: Allocator, B: Allocator>(
+    text: &mut String<B>,
+    membership: &Membership<A>,
+    moves: &Moves<A>,
+    turn: &Turn,
+) -> Result<bool, AllocError> {
+    if !is_given(text, moves, turn.2)? {
+        return Ok(false);
+    }
+    is_shown(text, membership, turn.3)
+}
+
+/// Plays an event over ample memory. Whether it gave and left what it should.
+pub(crate) fn is_turn<A: Allocator + Copy, B: Allocator + Copy>(
     rt: &impl Abort,
     alloc: A,
-    texts: B,
+    text: &mut String<B>,
     membership: &mut Membership<A>,
     turn: &Turn,
-) -> Result<(), Fail> {
+) -> Result<bool, AllocError> {
     let mut moves = Moves::new(alloc);
-    let dice = dice(turn.1);
-    hear(texts, membership, &mut moves, &turn.0, &dice)??;
-    compare_given(rt, texts, &moves, turn.2, &turn.0)?;
-    compare_shown(rt, texts, membership, turn.3, &turn.0)
+    let texts = *text.allocator();
+    hear(rt, texts, membership, &mut moves, &turn.0, &dice(turn.1))?;
+    is_answered(text, membership, &moves, turn)
 }
 
-/// Plays events over ample memory.
-pub(crate) fn play_all<A: Allocator + Copy, B: Allocator + Copy>(
+/// Plays events over ample memory. Whether each of them did so.
+pub(crate) fn are_turns<A: Allocator + Copy, B: Allocator + Copy>(
     rt: &impl Abort,
     alloc: A,
-    texts: B,
+    text: &mut String<B>,
     membership: &mut Membership<A>,
     turns: &[Turn],
-) -> Result<(), Fail> {
+) -> Result<bool, AllocError> {
     for turn in turns {
-        play(rt, alloc, texts, membership, turn)?;
+        if !is_turn(rt, alloc, text, membership, turn)? {
+            return Ok(false);
+        }
     }
-    Ok(())
+    Ok(true)
 }
 
-/// Compares a copy with what an event left.
-fn compare_copy<A: Allocator + Copy>(
-    rt: &impl Abort,
-    alloc: A,
+/// Whether a copy answers what an event left.
+fn is_copied<A: Allocator + Copy>(
+    text: &mut String<A>,
     membership: &Membership<A>,
     turn: &Turn,
-) -> Result<(), Fail> {
+) -> Result<bool, AllocError> {
     let copy = membership.copy()?;
-    compare_shown(rt, alloc, &copy, turn.3, &turn.0)
+    is_shown(text, &copy, turn.3)
 }
 
-/// Plays events, and compares a copy with what each leaves.
-fn play_copied<A: Allocator + Copy>(
+/// Plays events. Whether each gave and left what it should, and a copy of what it left is the same.
+fn are_copied<A: Allocator + Copy>(
     rt: &impl Abort,
     alloc: A,
+    text: &mut String<A>,
     membership: &mut Membership<A>,
     turns: &[Turn],
-) -> Result<(), Fail> {
+) -> Result<bool, AllocError> {
     for turn in turns {
-        play(rt, alloc, alloc, membership, turn)?;
-        compare_copy(rt, alloc, membership, turn)?;
+        let is_right = is_turn(rt, alloc, text, membership, turn)?;
+        if !is_right || !is_copied(text, membership, turn)? {
+            return Ok(false);
+        }
     }
-    Ok(())
+    Ok(true)
 }
 
-/// Plays a row.
-fn play_row<A: Allocator + Copy>(rt: &impl Abort, alloc: A, row: &Row) -> Result<(), Fail> {
-    let mut membership = start(alloc, row)?;
-    play_copied(rt, alloc, &mut membership, row.3)
+/// Plays a row. Whether it went as it should.
+fn is_row<A: Allocator + Copy>(
+    rt: &impl Abort,
+    alloc: A,
+    text: &mut String<A>,
+    row: &Row,
+) -> Result<bool, AllocError> {
+    let mut membership = start(rt, alloc, row)?;
+    are_copied(rt, alloc, text, &mut membership, row.3)
 }
 
 #[test]
 fn plays_rows(rt: HostRuntime) -> Result<(), Fail> {
-    for row in &ROWS {
-        play_row(&rt, rt.alloc(), row)?;
+    let mut text = String::new(rt.alloc());
+    for row in rows() {
+        let is_right = is_row(&rt, rt.alloc(), &mut text, row)?;
+        assert!(rt; is_right, "found {text}");
     }
     Ok(())
 }

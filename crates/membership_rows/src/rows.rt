@@ -6,7 +6,7 @@ use crate::named::Words;
 pub(crate) type Turn = (Act, Words, &'static str, &'static str);
 
 /// A run of `x`: how many active and passive names it may have, its active names at the start, and the events.
-pub(crate) type Row = (u8, u8, &'static [&'static str], &'static [Turn]);
+pub(crate) type Row = (u8, u8, &'static str, &'static [Turn]);
 
 /// Words 0 to 3 are the greatest one.
 const GREATEST: Words = &[(0, u64::MAX), (1, u64::MAX), (2, u64::MAX), (3, u64::MAX)];
@@ -40,7 +40,7 @@ const CONTACT: &[Turn] = &[
 /// A walk goes on between two active names; with PRWL steps left an unknown name is noted.
 const WALK: &[Turn] = &[
     (Act::ForwardJoin("a", "x", 0), &[], "", "a b | |"),
-    (Act::ShuffleReply("a", &["n"]), &[], "", "a b | n |"),
+    (Act::ShuffleReply("a", "n"), &[], "", "a b | n |"),
     (
         Act::ForwardJoin("a", "n", 1),
         GREATEST,
@@ -73,26 +73,26 @@ const WALK_ENDS: &[Turn] = &[
 
 /// A shuffle's names come in for those that its answer names.
 const SHUFFLE: &[Turn] = &[
-    (Act::ShuffleReply("a", &["p", "q"]), &[], "", "a | p q |"),
+    (Act::ShuffleReply("a", "p q"), &[], "", "a | p q |"),
     (
-        Act::Shuffle("a", "o", 1, &["o", "r", "s", "t"]),
+        Act::Shuffle("a", "o", 1, "o r s t"),
         RISING,
         "o: SHUFFLEREPLY: p q ; ",
         "a | r t |",
     ),
-    (Act::Shuffle("a", "x", 1, &["u"]), &[], "", "a | r t |"),
+    (Act::Shuffle("a", "x", 1, "u"), &[], "", "a | r t |"),
 ];
 
 /// A shuffle with steps left goes on.
 const SHUFFLE_GOES_ON: &[Turn] = &[
     (
-        Act::Shuffle("a", "o", 2, &["o", "r"]),
+        Act::Shuffle("a", "o", 2, "o r"),
         &[],
         "b: SHUFFLE o 1: o r ; ",
         "a b | |",
     ),
     (
-        Act::Shuffle("a", "b", 2, &["b"]),
+        Act::Shuffle("a", "b", 2, "b"),
         &[],
         "b: SHUFFLEREPLY: ; ",
         "a b | |",
@@ -101,7 +101,7 @@ const SHUFFLE_GOES_ON: &[Turn] = &[
 
 /// Passive names are promoted in place of lost neighbours.
 const PROMOTION: &[Turn] = &[
-    (Act::ShuffleReply("a", &["p", "q"]), &[], "", "a | p q |"),
+    (Act::ShuffleReply("a", "p q"), &[], "", "a | p q |"),
     (
         Act::Down("a"),
         &[],
@@ -140,22 +140,21 @@ const PROMOTION: &[Turn] = &[
         "q: NEIGHBOR high: false; down n; ",
         "m | q p n | q",
     ),
-    (
-        Act::ShuffleReply("m", &["r", "p"]),
-        &[],
-        "",
-        "m | q p n r | q",
-    ),
+    (Act::ShuffleReply("m", "r p"), &[], "", "m | q p n r | q"),
     (Act::Reply("q", false), &[], "", "m | q p n r |"),
 ];
 
-/// All of them.
-pub(crate) const ROWS: [Row; 7] = [
-    (2, 4, &["a", "b"], FULL),
-    (2, 4, &["a"], CONTACT),
-    (2, 4, &["a", "b"], WALK),
-    (2, 4, &["a"], WALK_ENDS),
-    (2, 2, &["a"], SHUFFLE),
-    (3, 2, &["a", "b"], SHUFFLE_GOES_ON),
-    (2, 4, &["a"], PROMOTION),
+const ROWS: &[Row] = &[
+    (2, 4, "a b", FULL),
+    (2, 4, "a", CONTACT),
+    (2, 4, "a b", WALK),
+    (2, 4, "a", WALK_ENDS),
+    (2, 2, "a", SHUFFLE),
+    (3, 2, "a b", SHUFFLE_GOES_ON),
+    (2, 4, "a", PROMOTION),
 ];
+
+/// All of them.
+pub(crate) fn rows() -> &'static [Row] {
+    ROWS
+}

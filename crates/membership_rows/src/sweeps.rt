@@ -2,9 +2,9 @@
 //! event made again answers as if nothing had been refused.
 use crate::act::hear;
 use crate::named::{dice, name};
-use crate::play::{compare_given, compare_shown, play, play_all, start};
-use crate::rows::{ROWS, Row, Turn};
-use crate::texts::shown;
+use crate::play::{are_turns, is_given, is_shown, is_turn, start};
+use crate::rows::{Row, Turn, rows};
+use crate::texts::write_shown;
 use membership::{Membership, Moves};
 use refusing_allocator::RefusingAllocator;
 use std::alloc::{AllocError, Allocator, Global};
@@ -14,55 +14,66 @@ use std::test::Fail;
 /// More growths than any event has.
 const MANY: u64 = 100;
 
-/// Plays an event whose growth with this number is refused. Whether it had so many, and whether it was refused.
+/// Two texts, in which what was shown before and after an event is written.
+#[derive(Drop)]
+struct Texts {
+    before: String,
+    after: String,
+}
+
+/// Plays an event while the growth with this number is refused. Whether it has so many, and whether it is refused.
 fn try_event<A: Allocator + Copy>(
+    rt: &impl Abort,
     heap: &RefusingAllocator,
     texts: Global,
     membership: &mut Membership<A>,
     moves: &mut Moves<A>,
     turn: &Turn,
     n: u64,
-) -> Result<(bool, bool), Fail> {
+) -> (bool, bool) {
     let dice = dice(turn.1);
     heap.refuse(n);
-    let answer = hear(texts, membership, moves, &turn.0, &dice);
+    let is_refused = hear(rt, texts, membership, moves, &turn.0, &dice).is_err();
     let is_spent = heap.is_spent();
     heap.refuse(0);
-    Ok((is_spent, answer?.is_err()))
+    (is_spent, is_refused)
 }
 
-/// Compares what a refused event gave and left with what stood before.
-fn compare_refused<A: Allocator, B: Allocator + Copy>(
-    rt: &impl Abort,
-    texts: B,
+/// Whether a refused event gave nothing after the message that stood, and left what was shown before.
+fn is_unchanged<A: Allocator>(
+    texts: &mut Texts,
     membership: &Membership<A>,
     moves: &Moves<A>,
-    stood: &str,
-    turn: &Turn,
-) -> Result<(), Fail> {
-    compare_given(rt, texts, moves, "c: JOIN; ", &turn.0)?;
-    compare_shown(rt, texts, membership, stood, &turn.0)
+) -> Result<bool, AllocError> {
+    if !is_given(&mut texts.after, moves, "c: JOIN; ")? {
+        return Ok(false);
+    }
+    is_shown(&mut texts.after, membership, texts.before.as_str())
 }
 
-/// Plays an event whose growth with this number is refused, and plays it again if it is refused. Whether it had so many.
+/// Plays an event whose growth with this number is refused, and plays it again if it is refused. Whether it has so many.
 fn refuse_event<A: Allocator + Copy>(
     rt: &impl Abort,
     heap: &RefusingAllocator,
     alloc: A,
-    texts: Global,
+    texts: &mut Texts,
     membership: &mut Membership<A>,
     moves: &mut Moves<A>,
     turn: &Turn,
     n: u64,
-) -> Result<bool, Fail> {
-    let stood = shown(texts, membership)?;
-    let (is_spent, is_refused) = try_event(heap, texts, membership, moves, turn, n)?;
+) -> Result<bool, AllocError> {
+    write_shown(&mut texts.before, membership)?;
+    let ample = *texts.before.allocator();
+    let (is_spent, is_refused) = try_event(rt, heap, ample, membership, moves, turn, n);
     if is_refused {
         assert!(rt; is_spent);
-        compare_refused(rt, texts, membership, moves, stood.as_str(), turn)?;
-        play(rt, alloc, texts, membership, turn)?;
+        let is_unchanged = is_unchanged(texts, membership, moves)?;
+        assert!(rt; is_unchanged);
+        let is_right = is_turn(rt, alloc, &mut texts.after, membership, turn)?;
+        assert!(rt; is_right);
     }
-    compare_shown(rt, texts, membership, turn.3, &turn.0)?;
+    let is_left = is_shown(&mut texts.after, membership, turn.3)?;
+    assert!(rt; is_left);
     Ok(is_spent)
 }
 
@@ -71,60 +82,47 @@ fn refuse_alone<A: Allocator + Copy>(
     rt: &impl Abort,
     heap: &RefusingAllocator,
     alloc: A,
-    texts: Global,
+    texts: &mut Texts,
     membership: &mut Membership<A>,
     turn: &Turn,
     n: u64,
-) -> Result<bool, Fail> {
+) -> Result<bool, AllocError> {
     let mut moves = Moves::new(alloc);
-    membership.join(name("c")?, &mut moves)?;
+    membership.join(name(rt, "c"), &mut moves)?;
     refuse_event(rt, heap, alloc, texts, membership, &mut moves, turn, n)
 }
 
-/// Compares a copy with what it was made of.
-fn compare_copy<A: Allocator>(
-    rt: &impl Abort,
-    texts: Global,
-    membership: &Membership<A>,
-    copy: &Membership<A>,
-) -> Result<(), Fail> {
-    let text = shown(texts, copy)?;
-    let stood = shown(texts, membership)?;
-    assert_eq!(rt; text.as_str(), stood.as_str());
-    Ok(())
-}
-
-/// Compares a copy that there is, if no growth was refused. Whether one was.
-fn compare_made<A: Allocator>(
-    rt: &impl Abort,
-    texts: Global,
-    membership: &Membership<A>,
+/// Whether a copy that there is shows what was copied, and there is one just if no growth was refused.
+fn is_made<A: Allocator>(
+    texts: &mut Texts,
     made: &Result<Membership<A>, AllocError>,
     is_spent: bool,
-) -> Result<bool, Fail> {
+) -> Result<bool, AllocError> {
     match made {
         Ok(copy) => {
-            assert!(rt; !is_spent);
-            compare_copy(rt, texts, membership, copy)?;
+            let is_same = is_shown(&mut texts.after, copy, texts.before.as_str())?;
+            Ok(is_same && !is_spent)
         }
-        Err(_) => assert!(rt; is_spent),
+        Err(_) => Ok(is_spent),
     }
-    Ok(is_spent)
 }
 
-/// Copies a membership while the growth with this number is refused. Whether the copy had so many.
+/// Copies a membership while the growth with this number is refused. Whether the copy has so many.
 fn sweep_copy<A: Allocator + Copy>(
     rt: &impl Abort,
     heap: &RefusingAllocator,
-    texts: Global,
+    texts: &mut Texts,
     membership: &Membership<A>,
     n: u64,
-) -> Result<bool, Fail> {
+) -> Result<bool, AllocError> {
+    write_shown(&mut texts.before, membership)?;
     heap.refuse(n);
     let made = membership.copy();
     let is_spent = heap.is_spent();
     heap.refuse(0);
-    compare_made(rt, texts, membership, &made, is_spent)
+    let is_right = is_made(texts, &made, is_spent)?;
+    assert!(rt; is_right);
+    Ok(is_spent)
 }
 
 /// The events of a row before a place, and those from there.
@@ -134,17 +132,18 @@ fn parts(row: &Row, at: usize) -> (&'static [Turn], &'static [Turn]) {
 }
 
 /// Plays the events before a place, and refuses the growth with this number of the event there. Behind the last event, a
-/// copy stands in its place. Whether it had so many.
+/// copy stands in its place. Whether it has so many.
 fn sweep_at<A: Allocator + Copy>(
     rt: &impl Abort,
     heap: &RefusingAllocator,
     alloc: A,
-    texts: Global,
+    texts: &mut Texts,
     membership: &mut Membership<A>,
     turns: (&[Turn], &[Turn]),
     n: u64,
-) -> Result<bool, Fail> {
-    play_all(rt, alloc, texts, membership, turns.0)?;
+) -> Result<bool, AllocError> {
+    let are_right = are_turns(rt, alloc, &mut texts.after, membership, turns.0)?;
+    assert!(rt; are_right);
     match turns.1.first() {
         Some(turn) => refuse_alone(rt, heap, alloc, texts, membership, turn, n),
         None => sweep_copy(rt, heap, texts, membership, n),
@@ -156,14 +155,13 @@ fn sweep_event<A: Allocator + Copy>(
     rt: &impl Abort,
     heap: &RefusingAllocator,
     alloc: A,
-    texts: Global,
+    texts: &mut Texts,
     row: &Row,
     at: usize,
     n: u64,
-) -> Result<bool, Fail> {
-    let turns = parts(row, at);
-    let mut membership = start(alloc, row)?;
-    sweep_at(rt, heap, alloc, texts, &mut membership, turns, n)
+) -> Result<bool, AllocError> {
+    let mut membership = start(rt, alloc, row)?;
+    sweep_at(rt, heap, alloc, texts, &mut membership, parts(row, at), n)
 }
 
 /// Refuses each growth of one event in turn. How many it has.
@@ -171,10 +169,10 @@ fn sweep<A: Allocator + Copy>(
     rt: &impl Abort,
     heap: &RefusingAllocator,
     alloc: A,
-    texts: Global,
+    texts: &mut Texts,
     row: &Row,
     at: usize,
-) -> Result<u64, Fail> {
+) -> Result<u64, AllocError> {
     for n in 1..MANY {
         if !sweep_event(rt, heap, alloc, texts, row, at, n)? {
             return Ok(n - 1);
@@ -189,9 +187,9 @@ fn sweep_row<A: Allocator + Copy>(
     rt: &impl Abort,
     heap: &RefusingAllocator,
     alloc: A,
-    texts: Global,
+    texts: &mut Texts,
     row: &Row,
-) -> Result<u64, Fail> {
+) -> Result<u64, AllocError> {
     let mut refused = 0u64;
     for at in 0..=row.3.len() {
         refused = refused.saturating_add(sweep(rt, heap, alloc, texts, row, at)?);
@@ -199,12 +197,28 @@ fn sweep_row<A: Allocator + Copy>(
     Ok(refused)
 }
 
+/// Sweeps each row. How many growths the row with the fewest has.
+fn sweep_rows<A: Allocator + Copy>(
+    rt: &impl Abort,
+    heap: &RefusingAllocator,
+    alloc: A,
+    texts: &mut Texts,
+) -> Result<u64, AllocError> {
+    let mut fewest = u64::MAX;
+    for row in rows() {
+        fewest = fewest.min(sweep_row(rt, heap, alloc, texts, row)?);
+    }
+    Ok(fewest)
+}
+
 #[test]
 fn each_growth_of_each_event(rt: HostRuntime) -> Result<(), Fail> {
     let heap = RefusingAllocator::new(rt.alloc());
-    for row in &ROWS {
-        let refused = sweep_row(&rt, &heap, &heap, rt.alloc(), row)?;
-        assert!(rt; refused > 5, "few growths were refused: {refused}");
-    }
+    let mut texts = Texts {
+        before: String::new(rt.alloc()),
+        after: String::new(rt.alloc()),
+    };
+    let fewest = sweep_rows(&rt, &heap, &heap, &mut texts)?;
+    assert!(rt; fewest > 5, "few growths were refused: {fewest}");
     Ok(())
 }

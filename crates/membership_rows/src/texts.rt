@@ -2,16 +2,15 @@
 use frames::{Body, BodyOf};
 use membership::{Membership, Moves};
 use node_names::NodeName;
-use std::alloc::Allocator;
+use std::alloc::{AllocError, Allocator};
 use std::fmt::Write;
-use std::test::Fail;
 use views::Views;
 
 /// Appends names.
 pub(crate) fn push_names<B: Allocator>(
     text: &mut String<B>,
     names: &[NodeName],
-) -> Result<(), Fail> {
+) -> Result<(), AllocError> {
     for name in names {
         write!(text, "{name} ")?;
     }
@@ -23,7 +22,7 @@ fn push_told<B: Allocator>(
     text: &mut String<B>,
     what: &str,
     names: &[NodeName],
-) -> Result<(), Fail> {
+) -> Result<(), AllocError> {
     for name in names {
         write!(text, "{what} {name}; ")?;
     }
@@ -31,44 +30,42 @@ fn push_told<B: Allocator>(
 }
 
 /// Appends what readers of views answer: the active names, and the passive ones.
-pub(crate) fn push_views<A: Allocator, B: Allocator>(
+fn push_views<A: Allocator, B: Allocator>(
     text: &mut String<B>,
     views: &Views<A>,
-) -> Result<(), Fail> {
+) -> Result<(), AllocError> {
     push_names(text, views.active().as_slice())?;
     write!(text, "| ")?;
     push_names(text, views.passive().as_slice())
 }
 
-/// What the readers of views answer.
-pub(crate) fn views_text<A: Allocator, B: Allocator>(
-    texts: B,
+/// Writes what the readers of views answer in place of what the text said.
+pub(crate) fn write_views<A: Allocator, B: Allocator>(
+    text: &mut String<B>,
     views: &Views<A>,
-) -> Result<String<B>, Fail> {
-    let mut text = String::new(texts);
-    push_views(&mut text, views)?;
-    Ok(text)
+) -> Result<(), AllocError> {
+    text.clear();
+    push_views(text, views)
 }
 
-/// What the readers of a membership answer: the views, and who is asked.
-pub(crate) fn shown<A: Allocator, B: Allocator>(
-    texts: B,
+/// Writes what the readers of a membership answer, the views and who is asked, in place of what the text said.
+pub(crate) fn write_shown<A: Allocator, B: Allocator>(
+    text: &mut String<B>,
     membership: &Membership<A>,
-) -> Result<String<B>, Fail> {
-    let mut text = String::new(texts);
-    push_views(&mut text, membership.views())?;
+) -> Result<(), AllocError> {
+    write_views(text, membership.views())?;
     write!(text, "|")?;
     if let Some(asked) = membership.asked() {
         write!(text, " {asked}")?;
     }
-    Ok(text)
+    Ok(())
 }
 
 /// Appends a shuffle, or the answer to one.
 fn push_shuffle<A: Allocator, B: Allocator>(
     text: &mut String<B>,
     body: &Body<A>,
-) -> Result<(), Fail> {
+) -> Result<(), AllocError> {
     match body {
         BodyOf::Shuffle { origin, ttl, names } => {
             write!(text, "SHUFFLE {origin} {ttl}: ")?;
@@ -83,7 +80,10 @@ fn push_shuffle<A: Allocator, B: Allocator>(
 }
 
 /// Appends what a message says.
-fn push_body<A: Allocator, B: Allocator>(text: &mut String<B>, body: &Body<A>) -> Result<(), Fail> {
+fn push_body<A: Allocator, B: Allocator>(
+    text: &mut String<B>,
+    body: &Body<A>,
+) -> Result<(), AllocError> {
     match body {
         BodyOf::Join => Ok(write!(text, "JOIN")?),
         BodyOf::ForwardJoin { new, ttl } => Ok(write!(text, "FORWARDJOIN {new} {ttl}")?),
@@ -101,7 +101,7 @@ fn push_body<A: Allocator, B: Allocator>(text: &mut String<B>, body: &Body<A>) -
 fn push_sends<A: Allocator, B: Allocator>(
     text: &mut String<B>,
     sends: &[(NodeName, Body<A>)],
-) -> Result<(), Fail> {
+) -> Result<(), AllocError> {
     for (to, body) in sends {
         write!(text, "{to}: ")?;
         push_body(text, body)?;
@@ -110,14 +110,13 @@ fn push_sends<A: Allocator, B: Allocator>(
     Ok(())
 }
 
-/// What an event gave: the messages, then the downs, then the ups.
-pub(crate) fn given<A: Allocator, B: Allocator>(
-    texts: B,
+/// Writes what an event gave, the messages, then the downs, then the ups, in place of what the text said.
+pub(crate) fn write_given<A: Allocator, B: Allocator>(
+    text: &mut String<B>,
     moves: &Moves<A>,
-) -> Result<String<B>, Fail> {
-    let mut text = String::new(texts);
-    push_sends(&mut text, moves.sends.as_slice())?;
-    push_told(&mut text, "down", moves.downs.as_slice())?;
-    push_told(&mut text, "up", moves.ups.as_slice())?;
-    Ok(text)
+) -> Result<(), AllocError> {
+    text.clear();
+    push_sends(text, moves.sends.as_slice())?;
+    push_told(text, "down", moves.downs.as_slice())?;
+    push_told(text, "up", moves.ups.as_slice())
 }

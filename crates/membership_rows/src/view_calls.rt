@@ -1,6 +1,6 @@
 //! Calls of the views of `x`, worked out by hand, and each of their growths refused in turn.
 use crate::named::{Words, dice, limits, name, names};
-use crate::texts::{push_names, views_text};
+use crate::texts::{push_names, write_views};
 use node_names::{Dice, Limits, NodeName};
 use refusing_allocator::RefusingAllocator;
 use std::alloc::{AllocError, Allocator, Global};
@@ -9,8 +9,8 @@ use std::process::Abort;
 use std::test::Fail;
 use views::Views;
 
-/// A call in plain texts and numbers.
-#[derive(Clone, Copy, Debug)]
+/// A call in plain texts and numbers. Names of lists stand between blanks.
+#[derive(Clone, Copy)]
 enum Act {
     AddActive(&'static str),
     AddPassive(&'static str),
@@ -19,14 +19,14 @@ enum Act {
     Forget(&'static str),
     SampleActive(usize, &'static str, &'static [u64]),
     SamplePassive(usize, &'static [u64]),
-    Integrate(&'static [&'static str], &'static [&'static str]),
+    Integrate(&'static str, &'static str),
 }
 
 /// A call, the words of its dice that are not 0, what it gives, and the two views after it.
 type Turn = (Act, Words, &'static str, &'static str);
 
 /// Calls of views of at most two active and two passive names.
-const TURNS: [Turn; 16] = [
+const TURNS: &[Turn] = &[
     (Act::AddPassive("p"), &[], "", "| p "),
     (Act::AddPassive("q"), &[], "", "| p q "),
     (Act::AddPassive("r"), &[(3, 1)], "q ", "| p r "),
@@ -36,7 +36,7 @@ const TURNS: [Turn; 16] = [
     (Act::SampleActive(2, "p", &[0, 0]), &[], "", "p | r "),
     (Act::DropActive, &[], "p ", "| r p "),
     (Act::SamplePassive(2, &[1, 0]), &[], "p r ", "| r p "),
-    (Act::Integrate(&["s"], &["r"]), &[], "", "| p s "),
+    (Act::Integrate("s", "r"), &[], "", "| p s "),
     (Act::Demote("z"), &[], "false", "| p s "),
     (Act::AddActive("a"), &[], "", "a | p s "),
     (Act::AddActive("b"), &[], "", "a b | p s "),
@@ -45,8 +45,21 @@ const TURNS: [Turn; 16] = [
     (Act::Forget("b"), &[], "true", "c | a "),
 ];
 
+/// All of them.
+fn turns() -> &'static [Turn] {
+    TURNS
+}
+
 /// More growths than any call has.
 const MANY: u64 = 50;
+
+/// Three texts: what a call gives, and what the views show before and after it.
+#[derive(Drop)]
+struct Texts {
+    given: String,
+    before: String,
+    after: String,
+}
 
 /// The views of a node that knows nobody.
 fn lone<A: Allocator + Copy>(
@@ -58,246 +71,246 @@ fn lone<A: Allocator + Copy>(
 }
 
 /// The views of `x` before the first call.
-fn start<A: Allocator + Copy>(alloc: A) -> Result<Views<A>, Fail> {
-    Ok(lone(alloc, name("x")?, limits(2, 2)?)?)
+fn start<A: Allocator + Copy>(rt: &impl Abort, alloc: A) -> Result<Views<A>, AllocError> {
+    lone(alloc, name(rt, "x"), limits(rt, 2, 2))
 }
 
 /// Appends a name that a call gives, if it gives one.
-fn found<B: Allocator>(
-    text: &mut String<B>,
+fn found(
+    text: &mut String,
     answer: Result<Option<NodeName>, AllocError>,
-) -> Result<Result<(), AllocError>, Fail> {
-    match answer {
-        Ok(Some(name)) => {
-            write!(text, "{name} ")?;
-            Ok(Ok(()))
-        }
-        Ok(None) => Ok(Ok(())),
-        Err(refused) => Ok(Err(refused)),
+) -> Result<(), AllocError> {
+    if let Some(name) = answer? {
+        write!(text, "{name} ")?;
     }
+    Ok(())
 }
 
 /// Appends a flag that a call gives.
-fn flag<B: Allocator>(
-    text: &mut String<B>,
-    answer: Result<bool, AllocError>,
-) -> Result<Result<(), AllocError>, Fail> {
-    match answer {
-        Ok(flag) => {
-            write!(text, "{flag}")?;
-            Ok(Ok(()))
-        }
-        Err(refused) => Ok(Err(refused)),
-    }
+fn flag(text: &mut String, answer: Result<bool, AllocError>) -> Result<(), AllocError> {
+    let flag = answer?;
+    Ok(write!(text, "{flag}")?)
 }
 
 /// Appends the names of a sample.
-fn drawn<A: Allocator, B: Allocator>(
-    text: &mut String<B>,
+fn drawn<A: Allocator>(
+    text: &mut String,
     answer: Result<Vec<NodeName, A>, AllocError>,
-) -> Result<Result<(), AllocError>, Fail> {
-    match answer {
-        Ok(names) => {
-            push_names(text, names.as_slice())?;
-            Ok(Ok(()))
-        }
-        Err(refused) => Ok(Err(refused)),
-    }
+) -> Result<(), AllocError> {
+    let names = answer?;
+    push_names(text, names.as_slice())
 }
 
 /// Integrates names, which stand on `texts`.
-fn integrate<A: Allocator + Copy, B: Allocator + Copy>(
-    texts: B,
+fn integrate<A: Allocator + Copy>(
+    rt: &impl Abort,
+    texts: Global,
     views: &mut Views<A>,
-    given: &[&str],
-    sent: &[&str],
+    given: &str,
+    sent: &str,
     dice: &Dice,
-) -> Result<Result<(), AllocError>, Fail> {
-    let given = names(texts, given)?;
-    let sent = names(texts, sent)?;
-    Ok(views.integrate(given.as_slice(), sent.as_slice(), dice))
+) -> Result<(), AllocError> {
+    let given = names(rt, texts, given)?;
+    let sent = names(rt, texts, sent)?;
+    views.integrate(given.as_slice(), sent.as_slice(), dice)
 }
 
-/// Makes the call, and appends what it gives.
-fn call<A: Allocator + Copy, B: Allocator + Copy>(
-    texts: B,
-    text: &mut String<B>,
-    views: &mut Views<A>,
+/// Draws a sample, and appends it.
+fn sample<A: Allocator + Copy>(
+    rt: &impl Abort,
+    text: &mut String,
+    views: &Views<A>,
     act: &Act,
-    dice: &Dice,
-) -> Result<Result<(), AllocError>, Fail> {
+) -> Result<(), AllocError> {
     match *act {
-        Act::AddActive(new) => found(text, views.add_active(name(new)?, dice)),
-        Act::AddPassive(new) => found(text, views.add_passive(name(new)?, dice)),
-        Act::DropActive => found(text, views.drop_active(dice)),
-        Act::Demote(old) => flag(text, views.demote(name(old)?, dice)),
-        Act::Forget(old) => flag(text, Ok(views.forget(name(old)?))),
         Act::SampleActive(count, except, words) => {
             let count = count.min(words.len());
-            drawn(text, views.sample_active(count, name(except)?, words))
+            drawn(text, views.sample_active(count, name(rt, except), words))
         }
         Act::SamplePassive(count, words) => {
             let count = count.min(words.len());
             drawn(text, views.sample_passive(count, words))
         }
-        Act::Integrate(given, sent) => integrate(texts, views, given, sent, dice),
+        _ => Ok(()),
     }
 }
 
-/// Compares a text with the one that is wanted at this call.
-fn compare(rt: &impl Abort, text: &str, wanted: &str, act: &Act) {
-    assert_eq!(rt; text, wanted, "{act:?}");
+/// Makes the call, and writes what it gives in place of what the text said.
+fn call<A: Allocator + Copy>(
+    rt: &impl Abort,
+    text: &mut String,
+    views: &mut Views<A>,
+    act: &Act,
+    dice: &Dice,
+) -> Result<(), AllocError> {
+    text.clear();
+    match *act {
+        Act::AddActive(new) => found(text, views.add_active(name(rt, new), dice)),
+        Act::AddPassive(new) => found(text, views.add_passive(name(rt, new), dice)),
+        Act::DropActive => found(text, views.drop_active(dice)),
+        Act::Demote(old) => flag(text, views.demote(name(rt, old), dice)),
+        Act::Forget(old) => flag(text, Ok(views.forget(name(rt, old)))),
+        Act::Integrate(given, sent) => {
+            integrate(rt, *text.allocator(), views, given, sent, dice)
+        }
+        _ => sample(rt, text, views, act),
+    }
 }
 
-/// Compares what the readers answer after a call.
-fn compare_views<A: Allocator, B: Allocator>(
-    rt: &impl Abort,
-    texts: B,
+/// Whether the readers answer this. What they answer is left in the text.
+fn is_shown<A: Allocator>(
+    text: &mut String,
     views: &Views<A>,
     wanted: &str,
-    act: &Act,
-) -> Result<(), Fail> {
-    let text = views_text(texts, views)?;
-    compare(rt, text.as_str(), wanted, act);
-    Ok(())
+) -> Result<bool, AllocError> {
+    write_views(text, views)?;
+    Ok(text.as_str() == wanted)
 }
 
-/// Makes a call over ample memory, and compares what it gives and leaves.
-fn play<A: Allocator + Copy, B: Allocator + Copy>(
+/// Whether the text is this.
+fn is_text(text: &str, wanted: &str) -> bool {
+    text == wanted
+}
+
+/// Makes a call over ample memory. Whether it gives what it should, which is left in the text.
+fn is_given<A: Allocator + Copy>(
     rt: &impl Abort,
-    texts: B,
+    text: &mut String,
     views: &mut Views<A>,
     turn: &Turn,
-) -> Result<(), Fail> {
-    let mut given = String::new(texts);
-    call(texts, &mut given, views, &turn.0, &dice(turn.1))??;
-    compare(rt, given.as_str(), turn.2, &turn.0);
-    compare_views(rt, texts, views, turn.3, &turn.0)
+) -> Result<bool, AllocError> {
+    let dice = dice(turn.1);
+    call(rt, text, views, &turn.0, &dice)?;
+    Ok(is_text(text.as_str(), turn.2))
 }
 
-/// Makes calls over ample memory.
-fn play_all<A: Allocator + Copy, B: Allocator + Copy>(
+/// Makes a call over ample memory. Whether it gives and leaves what it should.
+fn is_turn<A: Allocator + Copy>(
     rt: &impl Abort,
-    texts: B,
+    texts: &mut Texts,
+    views: &mut Views<A>,
+    turn: &Turn,
+) -> Result<bool, AllocError> {
+    let is_given = is_given(rt, &mut texts.given, views, turn)?;
+    let is_left = is_shown(&mut texts.after, views, turn.3)?;
+    Ok(is_given && is_left)
+}
+
+/// Makes calls over ample memory. Whether each of them does so.
+fn are_turns<A: Allocator + Copy>(
+    rt: &impl Abort,
+    texts: &mut Texts,
     views: &mut Views<A>,
     turns: &[Turn],
-) -> Result<(), Fail> {
+) -> Result<bool, AllocError> {
     for turn in turns {
-        play(rt, texts, views, turn)?;
+        if !is_turn(rt, texts, views, turn)? {
+            return Ok(false);
+        }
     }
-    Ok(())
+    Ok(true)
 }
 
-/// Makes calls of new views.
-fn play_anew<A: Allocator + Copy>(rt: &impl Abort, alloc: A, turns: &[Turn]) -> Result<(), Fail> {
-    let mut views = start(alloc)?;
-    play_all(rt, alloc, &mut views, turns)
-}
-
-#[test]
-fn plays_calls(rt: HostRuntime) -> Result<(), Fail> {
-    play_anew(&rt, rt.alloc(), &TURNS)
-}
-
-/// Makes a call whose growth with this number is refused. Whether it had so many, and whether it was refused.
+/// Makes a call while the growth with this number is refused. Whether it has so many, and whether it is refused.
 fn try_call<A: Allocator + Copy>(
+    rt: &impl Abort,
     heap: &RefusingAllocator,
-    texts: Global,
+    text: &mut String,
     views: &mut Views<A>,
     turn: &Turn,
     n: u64,
-) -> Result<(bool, bool), Fail> {
+) -> (bool, bool) {
     let dice = dice(turn.1);
-    let mut given = String::new(texts);
     heap.refuse(n);
-    let answer = call(texts, &mut given, views, &turn.0, &dice);
+    let is_refused = call(rt, text, views, &turn.0, &dice).is_err();
     let is_spent = heap.is_spent();
     heap.refuse(0);
-    Ok((is_spent, answer?.is_err()))
+    (is_spent, is_refused)
 }
 
-/// Makes a call whose growth with this number is refused, and makes it again if it is refused. Whether it had so many.
+/// Writes what the views show before a call, which takes no memory.
+fn look<A: Allocator>(
+    rt: &impl Abort,
+    heap: &RefusingAllocator,
+    text: &mut String,
+    views: &Views<A>,
+) -> Result<(), AllocError> {
+    heap.refuse(1);
+    let written = write_views(text, views);
+    assert!(rt; !heap.is_spent());
+    heap.refuse(0);
+    written
+}
+
+/// Makes a call while the growth with this number is refused, and makes it again if it is refused. Whether it has so many.
 fn refuse_call<A: Allocator + Copy>(
     rt: &impl Abort,
     heap: &RefusingAllocator,
-    texts: Global,
+    texts: &mut Texts,
     views: &mut Views<A>,
     turn: &Turn,
     n: u64,
-) -> Result<bool, Fail> {
-    heap.refuse(n);
-    let stood = views_text(texts, views)?;
-    // To read takes no memory.
-    assert!(rt; !heap.is_spent());
-    let (is_spent, is_refused) = try_call(heap, texts, views, turn, n)?;
+) -> Result<bool, AllocError> {
+    look(rt, heap, &mut texts.before, views)?;
+    let (is_spent, is_refused) = try_call(rt, heap, &mut texts.given, views, turn, n);
     if is_refused {
-        assert!(rt; is_spent);
         // To forget a name takes no memory.
-        assert!(rt; !matches!(turn.0, Act::Forget(_)));
-        compare_views(rt, texts, views, stood.as_str(), &turn.0)?;
-        play(rt, texts, views, turn)?;
+        assert!(rt; is_spent && !matches!(turn.0, Act::Forget(_)));
+        let is_unchanged = is_shown(&mut texts.after, views, texts.before.as_str())?;
+        assert!(rt; is_unchanged);
+        let is_right = is_turn(rt, texts, views, turn)?;
+        assert!(rt; is_right);
     }
-    compare_views(rt, texts, views, turn.3, &turn.0)?;
+    let is_left = is_shown(&mut texts.after, views, turn.3)?;
+    assert!(rt; is_left);
     Ok(is_spent)
 }
 
-/// Compares a copy with what it was made of.
-fn compare_copy<A: Allocator>(
-    rt: &impl Abort,
-    texts: Global,
-    views: &Views<A>,
-    copy: &Views<A>,
-) -> Result<(), Fail> {
-    let text = views_text(texts, copy)?;
-    let stood = views_text(texts, views)?;
-    assert_eq!(rt; text.as_str(), stood.as_str());
-    Ok(())
-}
-
-/// Compares a copy that there is, if no growth was refused. Whether one was.
-fn compare_made<A: Allocator>(
-    rt: &impl Abort,
-    texts: Global,
-    views: &Views<A>,
+/// Whether a copy that there is shows what was copied, and there is one just if no growth was refused.
+fn is_made<A: Allocator>(
+    texts: &mut Texts,
     made: &Result<Views<A>, AllocError>,
     is_spent: bool,
-) -> Result<bool, Fail> {
+) -> Result<bool, AllocError> {
     match made {
         Ok(copy) => {
-            assert!(rt; !is_spent);
-            compare_copy(rt, texts, views, copy)?;
+            let is_same = is_shown(&mut texts.after, copy, texts.before.as_str())?;
+            Ok(is_same && !is_spent)
         }
-        Err(_) => assert!(rt; is_spent),
+        Err(_) => Ok(is_spent),
     }
-    Ok(is_spent)
 }
 
-/// Copies views while the growth with this number is refused. Whether the copy had so many.
+/// Copies views while the growth with this number is refused. Whether the copy has so many.
 fn sweep_copy<A: Allocator + Copy>(
     rt: &impl Abort,
     heap: &RefusingAllocator,
-    texts: Global,
+    texts: &mut Texts,
     views: &Views<A>,
     n: u64,
-) -> Result<bool, Fail> {
+) -> Result<bool, AllocError> {
+    look(rt, heap, &mut texts.before, views)?;
     heap.refuse(n);
     let made = views.copy();
     let is_spent = heap.is_spent();
     heap.refuse(0);
-    compare_made(rt, texts, views, &made, is_spent)
+    let is_right = is_made(texts, &made, is_spent)?;
+    assert!(rt; is_right);
+    Ok(is_spent)
 }
 
 /// Makes the calls before a place, and refuses the growth with this number of the call there. Behind the last call, a copy
-/// stands in its place. Whether it had so many.
+/// stands in its place. Whether it has so many.
 fn sweep_at<A: Allocator + Copy>(
     rt: &impl Abort,
     heap: &RefusingAllocator,
-    texts: Global,
+    texts: &mut Texts,
     views: &mut Views<A>,
     turns: (&[Turn], &[Turn]),
     n: u64,
-) -> Result<bool, Fail> {
-    play_all(rt, texts, views, turns.0)?;
+) -> Result<bool, AllocError> {
+    let are_right = are_turns(rt, texts, views, turns.0)?;
+    assert!(rt; are_right);
     match turns.1.first() {
         Some(turn) => refuse_call(rt, heap, texts, views, turn, n),
         None => sweep_copy(rt, heap, texts, views, n),
@@ -309,14 +322,20 @@ fn sweep_call<A: Allocator + Copy>(
     rt: &impl Abort,
     heap: &RefusingAllocator,
     alloc: A,
-    texts: Global,
-    turns: &[Turn],
+    texts: &mut Texts,
     at: usize,
     n: u64,
-) -> Result<bool, Fail> {
-    let turns = turns.split_at(at.min(turns.len()));
-    let mut views = start(alloc)?;
-    sweep_at(rt, heap, texts, &mut views, turns, n)
+) -> Result<bool, AllocError> {
+    let turns = turns();
+    let mut views = start(rt, alloc)?;
+    sweep_at(
+        rt,
+        heap,
+        texts,
+        &mut views,
+        turns.split_at(at.min(turns.len())),
+        n,
+    )
 }
 
 /// Refuses each growth of one call in turn. How many it has.
@@ -324,12 +343,11 @@ fn sweep<A: Allocator + Copy>(
     rt: &impl Abort,
     heap: &RefusingAllocator,
     alloc: A,
-    texts: Global,
-    turns: &[Turn],
+    texts: &mut Texts,
     at: usize,
-) -> Result<u64, Fail> {
+) -> Result<u64, AllocError> {
     for n in 1..MANY {
-        if !sweep_call(rt, heap, alloc, texts, turns, at, n)? {
+        if !sweep_call(rt, heap, alloc, texts, at, n)? {
             return Ok(n - 1);
         }
     }
@@ -342,20 +360,37 @@ fn sweep_all<A: Allocator + Copy>(
     rt: &impl Abort,
     heap: &RefusingAllocator,
     alloc: A,
-    texts: Global,
-    turns: &[Turn],
-) -> Result<u64, Fail> {
+    texts: &mut Texts,
+) -> Result<u64, AllocError> {
     let mut refused = 0u64;
-    for at in 0..=turns.len() {
-        refused = refused.saturating_add(sweep(rt, heap, alloc, texts, turns, at)?);
+    for at in 0..=turns().len() {
+        refused = refused.saturating_add(sweep(rt, heap, alloc, texts, at)?);
     }
     Ok(refused)
 }
 
+/// Makes the calls of new views. Whether each gives and leaves what it should.
+fn is_played<A: Allocator + Copy>(
+    rt: &impl Abort,
+    alloc: A,
+    texts: &mut Texts,
+) -> Result<bool, AllocError> {
+    let mut views = start(rt, alloc)?;
+    are_turns(rt, texts, &mut views, turns())
+}
+
+/// All calls over ample memory, and then each of their growths refused in turn.
 #[test]
-fn each_growth_of_each_call(rt: HostRuntime) -> Result<(), Fail> {
+fn calls_and_each_of_their_growths(rt: HostRuntime) -> Result<(), Fail> {
     let heap = RefusingAllocator::new(rt.alloc());
-    let refused = sweep_all(&rt, &heap, &heap, rt.alloc(), &TURNS)?;
+    let mut texts = Texts {
+        given: String::new(rt.alloc()),
+        before: String::new(rt.alloc()),
+        after: String::new(rt.alloc()),
+    };
+    let is_right = is_played(&rt, &heap, &mut texts)?;
+    assert!(rt; is_right, "found {} and {}", texts.given, texts.after);
+    let refused = sweep_all(&rt, &heap, &heap, &mut texts)?;
     assert!(rt; refused > 5, "few growths were refused: {refused}");
     Ok(())
 }
