@@ -1,71 +1,126 @@
 //! Calls that take no memory: they succeed where the next growth is refused, and leave the refusal unspent.
 use bytes::Bytes;
-use frames::{Body, Cutter, Frame};
+use frames::{Body, Cutter, Frame, FrameFault};
 use node_names::{Incarnation, Listed, MsgId, NodeName, Origin};
 use refusing_allocator::RefusingAllocator;
-use std::alloc::Allocator;
+use std::alloc::{AllocError, Allocator};
 use std::process::Abort;
 use std::test::Fail;
 use world::Wire;
 
-/// Makes a frame and reads it, while the next growth is refused.
-fn check_frame<A: Allocator + Copy>(
-    rt: &impl Abort,
-    heap: &RefusingAllocator<A>,
-    sender: Origin,
-    body: Body<&RefusingAllocator<A>>,
-    is_membership: bool,
-) {
-    heap.refuse(1);
-    let made = Frame::new(sender, 7, body);
-    match &made {
-        Ok(frame) => {
-            assert!(rt; frame.sender() == sender);
-            assert_eq!(rt; frame.number(), 7);
-            assert_eq!(rt; frame.is_membership(), is_membership);
-            let is_about_messages = frame.carried().is_some()
-                || !frame.announced().is_empty()
-                || frame.asked().is_some();
-            assert_eq!(rt; is_about_messages, !is_membership);
-            assert!(rt; !heap.is_spent());
-        }
-        Err(_) => assert!(rt; false, "the frame was refused"),
+/// The run a/1.
+fn origin(rt: &impl Abort) -> Origin {
+    Origin {
+        name: NodeName::parse(b"a").expect(rt, "a name"),
+        incarnation: Incarnation(1),
     }
+}
+
+/// The id a/1/1.
+fn id(rt: &impl Abort) -> MsgId {
+    MsgId {
+        origin: origin(rt),
+        seq: 1,
+    }
+}
+
+/// Whether a frame is about messages.
+fn is_about_messages<A: Allocator + Copy>(frame: &Frame<A>) -> bool {
+    let is_carrier = frame.carried().is_some();
+    let is_announcement = !frame.announced().is_empty();
+    let is_request = frame.asked().is_some();
+    is_carrier || is_announcement || is_request
+}
+
+/// Whether a frame of a/1, number 7, was made, and tells what it is of.
+fn is_told<A: Allocator + Copy>(
+    rt: &impl Abort,
+    made: &Result<Frame<A>, FrameFault>,
+    is_membership: bool,
+) -> bool {
+    let Ok(frame) = made else {
+        return false;
+    };
+    let is_sender = frame.sender() == origin(rt);
+    let is_number = frame.number() == 7;
+    let is_kind = frame.is_membership() == is_membership;
+    let is_other = is_about_messages(frame) != is_membership;
+    is_sender && is_number && is_kind && is_other
+}
+
+/// Makes a frame, reads it, and takes it apart. Whether all of that went as it should while the next growth was refused.
+fn is_calm<A: Allocator + Copy>(
+    rt: &impl Abort,
+    heap: &RefusingAllocator,
+    body: Body<A>,
+    is_membership: bool,
+) -> bool {
+    heap.refuse(1);
+    let made = Frame::new(origin(rt), 7, body);
+    let is_told = is_told(rt, &made, is_membership);
     if let Ok(frame) = made {
         let _ = frame.into_body();
     }
-    assert!(rt; !heap.is_spent());
+    let is_spent = heap.is_spent();
     heap.refuse(0);
+    is_told && !is_spent
+}
+
+/// A SHUFFLEREPLY with two names.
+fn are_names_calm<A: Allocator + Copy>(
+    rt: &impl Abort,
+    heap: &RefusingAllocator,
+    alloc: A,
+) -> Result<bool, AllocError> {
+    let name = origin(rt).name;
+    let names = Listed::from_vec(Vec::from_slice(alloc, &[name, name])?);
+    Ok(is_calm(rt, heap, Body::ShuffleReply { names }, true))
+}
+
+/// An IHAVE with one announcement.
+fn are_entries_calm<A: Allocator + Copy>(
+    rt: &impl Abort,
+    heap: &RefusingAllocator,
+    alloc: A,
+) -> Result<bool, AllocError> {
+    let entries = Listed::from_vec(Vec::from_slice(alloc, &[(id(rt), 0)])?);
+    Ok(is_calm(rt, heap, Body::IHave { entries }, false))
+}
+
+/// A GOSSIP of two bytes.
+fn is_payload_calm<A: Allocator + Copy>(
+    rt: &impl Abort,
+    heap: &RefusingAllocator,
+    alloc: A,
+) -> Result<bool, AllocError> {
+    let payload = Bytes::copy_from_slice(alloc, b"hi")?;
+    let gossip = Body::Gossip {
+        id: id(rt),
+        round: 0,
+        payload,
+    };
+    Ok(is_calm(rt, heap, gossip, false))
+}
+
+/// Whether a cutter is made while the next growth is refused.
+fn is_cutter_calm<A: Allocator + Copy>(heap: &RefusingAllocator, alloc: A) -> bool {
+    heap.refuse(1);
+    let left = Cutter::new(alloc).left();
+    let is_spent = heap.is_spent();
+    heap.refuse(0);
+    left == 0 && !is_spent
 }
 
 #[test]
 fn calls_without_growths(rt: HostRuntime) -> Result<(), Fail> {
     let heap = RefusingAllocator::new(rt.alloc());
-    let name = NodeName::parse(b"a")?;
-    let sender = Origin {
-        name,
-        incarnation: Incarnation(1),
-    };
-    let id = MsgId {
-        origin: sender,
-        seq: 1,
-    };
-    let names = Listed::from_vec(Vec::from_slice(&heap, &[name, name])?);
-    let entries = Listed::from_vec(Vec::from_slice(&heap, &[(id, 0)])?);
-    let payload = Bytes::copy_from_slice(&heap, b"hi")?;
-    check_frame(&rt, &heap, sender, Body::ShuffleReply { names }, true);
-    check_frame(&rt, &heap, sender, Body::IHave { entries }, false);
-    let round = 0;
-    check_frame(
-        &rt,
-        &heap,
-        sender,
-        Body::Gossip { id, round, payload },
-        false,
-    );
-    heap.refuse(1);
-    let cutter = Cutter::new(&heap);
-    assert_eq!(&rt; cutter.left(), 0);
-    assert!(&rt; !heap.is_spent());
+    let are_names = are_names_calm(&rt, &heap, &heap)?;
+    let are_entries = are_entries_calm(&rt, &heap, &heap)?;
+    let is_payload = is_payload_calm(&rt, &heap, &heap)?;
+    let is_cutter = is_cutter_calm(&heap, &heap);
+    assert!(rt; are_names);
+    assert!(rt; are_entries);
+    assert!(rt; is_payload);
+    assert!(rt; is_cutter);
     Ok(())
 }

@@ -1,150 +1,173 @@
 //! Reading and writing a frame, each growth of a call refused in turn: the refusal is for want of memory, and the call made
 //! again answers as if nothing had been refused.
-use crate::rows::{ROWS, Row, first_of};
-use bytes::Bytes;
+use crate::compare::{is_written, read_as, write_gossip};
+use crate::rows::{first_of, rows};
 use frames::{Frame, FrameFault, decode, encode};
 use refusing_allocator::RefusingAllocator;
-use std::alloc::Allocator;
-use std::process::Abort;
+use std::alloc::{AllocError, Allocator};
 use std::test::Fail;
 use world::Wire;
 
 /// More growths than any call has.
 const MANY: u64 = 40;
 
-/// What was read, without the frame.
-fn length_of<A: Allocator>(
-    read: &Result<(Frame<A>, usize), FrameFault>,
-) -> Result<usize, FrameFault> {
-    match read {
-        Ok((_, len)) => Ok(*len),
-        Err(fault) => Err(*fault),
-    }
-}
-
-/// Reads bytes, and refuses the growth with this number. Answers whether there are so many.
+/// Reads bytes while the growth with this number is refused, and again. Whether there is such a growth, or none if an answer
+/// is wrong.
 ///
 /// Where the bytes have a fault, it is told, whatever was refused.
-fn sweep_decode<A: Allocator + Copy>(
-    rt: &impl Abort,
-    heap: &RefusingAllocator<A>,
+fn refuse_decode<A: Allocator + Copy>(
+    heap: &RefusingAllocator,
+    alloc: A,
     bytes: &[u8],
     wanted: Result<usize, FrameFault>,
     n: u64,
-) -> bool {
+) -> Option<bool> {
     heap.refuse(n);
-    let read = decode(heap, bytes);
+    let read = read_as(alloc, bytes);
     let is_spent = heap.is_spent();
     heap.refuse(0);
-    if is_spent && wanted.is_ok() {
-        assert_eq!(rt; length_of(&read), Err(FrameFault::OutOfMemory));
+    let first = if is_spent && wanted.is_ok() {
+        Err(FrameFault::OutOfMemory)
     } else {
-        assert_eq!(rt; length_of(&read), wanted);
-    }
-    let again = decode(heap, bytes);
-    assert_eq!(rt; length_of(&again), wanted);
-    is_spent
+        wanted
+    };
+    let is_right = read == first;
+    let is_again = read_as(alloc, bytes) == wanted;
+    (is_right && is_again).then_some(is_spent)
 }
 
-/// Writes a frame, and refuses the growth with this number. Answers whether there are so many.
-fn sweep_encode<A: Allocator + Copy>(
-    rt: &impl Abort,
-    heap: &RefusingAllocator<A>,
+/// Writes a frame while the growth with this number is refused, and again. Whether there is such a growth, or none if an
+/// answer is wrong.
+fn refuse_encode<A: Allocator + Copy>(
+    heap: &RefusingAllocator,
+    alloc: A,
+    frame: &Frame<A>,
     bytes: &[u8],
     n: u64,
-) -> Result<bool, Fail> {
-    let (frame, len) = decode(heap, bytes).ok().ok_or("a frame")?;
-    assert!(rt; len <= bytes.len());
+) -> Option<bool> {
     heap.refuse(n);
-    let written = encode(heap, &frame);
+    let is_refused = encode(alloc, frame).is_err();
     let is_spent = heap.is_spent();
     heap.refuse(0);
-    assert_eq!(rt; written.is_err(), is_spent);
-    assert_eq!(rt; encode(heap, &frame)?.as_slice(), &bytes[..len]);
-    Ok(is_spent)
+    let is_right = is_refused == is_spent;
+    let is_again = is_written(alloc, frame, bytes);
+    (is_right && is_again).then_some(is_spent)
 }
 
-/// Copies a frame, and refuses the growth with this number. Answers whether there are so many.
-fn sweep_copy<A: Allocator + Copy>(
-    rt: &impl Abort,
-    heap: &RefusingAllocator<A>,
-    bytes: &[u8],
+/// Copies a frame. Whether the copy is equal to it, or none if a growth was refused.
+fn is_copied<A: Allocator + Copy>(frame: &Frame<A>) -> Option<bool> {
+    match frame.copy() {
+        Ok(copy) => Some(copy == *frame),
+        Err(_) => None,
+    }
+}
+
+/// Copies a frame while the growth with this number is refused, and again. Whether there is such a growth, or none if an
+/// answer is wrong.
+fn refuse_copy<A: Allocator + Copy>(
+    heap: &RefusingAllocator,
+    frame: &Frame<A>,
     n: u64,
-) -> Result<bool, Fail> {
-    let (frame, _) = decode(heap, bytes).ok().ok_or("a frame")?;
+) -> Option<bool> {
     heap.refuse(n);
-    let copied = frame.copy();
+    let copied = is_copied(frame);
     let is_spent = heap.is_spent();
     heap.refuse(0);
-    match copied {
-        Ok(copy) => assert!(rt; copy == frame),
-        Err(_) => assert!(rt; is_spent),
-    }
-    assert!(rt; frame.copy()? == frame);
-    Ok(is_spent)
+    let is_right = copied.unwrap_or(is_spent);
+    let is_again = is_copied(frame) == Some(true);
+    (is_right && is_again).then_some(is_spent)
 }
 
-/// All three calls of one stream. Answers whether one of them has so many growths.
-fn sweep<A: Allocator + Copy>(
-    rt: &impl Abort,
-    heap: &RefusingAllocator<A>,
+/// Refuses each growth of reading in turn. How many there are, or none if an answer is wrong.
+fn sweep_decode<A: Allocator + Copy>(
+    heap: &RefusingAllocator,
+    alloc: A,
     bytes: &[u8],
     wanted: Result<usize, FrameFault>,
-    n: u64,
-) -> Result<bool, Fail> {
-    let mut has_more = sweep_decode(rt, heap, bytes, wanted, n);
-    if wanted.is_ok() {
-        has_more |= sweep_encode(rt, heap, bytes, n)?;
-        has_more |= sweep_copy(rt, heap, bytes, n)?;
-    }
-    Ok(has_more)
-}
-
-/// Refuses each growth in turn, and answers how many there are.
-fn sweep_all<A: Allocator + Copy>(
-    rt: &impl Abort,
-    heap: &RefusingAllocator<A>,
-    bytes: &[u8],
-    wanted: Result<usize, FrameFault>,
-) -> Result<u64, Fail> {
+) -> Option<u64> {
     for n in 1..MANY {
-        if !sweep(rt, heap, bytes, wanted, n)? {
-            return Ok(n - 1);
+        if !refuse_decode(heap, alloc, bytes, wanted, n)? {
+            return Some(n - 1);
         }
     }
-    assert!(rt; false, "the sweep did not end");
-    Ok(MANY)
+    None
 }
 
-/// A GOSSIP with a payload of so many bytes behind these counts.
-fn long_gossip<A: Allocator + Copy>(
+/// Refuses each growth of writing and copying in turn. How many the one has that has more, or none if an answer is wrong.
+fn sweep_frame<A: Allocator + Copy>(
+    heap: &RefusingAllocator,
     alloc: A,
-    word: &[u8],
-    count: &[u8],
-    len: usize,
-) -> Result<Bytes<A>, Fail> {
-    let mut bytes = Vec::new(alloc);
-    bytes.extend_from_slice(word)?;
-    bytes.extend_from_slice(b"\x01\x08\x01a\0\0\0\0\0\0\0\x01\0\0\0\0\0\0\0\x01")?;
-    bytes.extend_from_slice(b"\x01a\0\0\0\0\0\0\0\x01\0\0\0\0\0\0\0\x01\0\0\0\0")?;
-    bytes.extend_from_slice(count)?;
-    let whole = bytes.len().saturating_add(len);
-    bytes.resize(whole, b'x')?;
-    Ok(Bytes::from_vec(bytes)?)
+    frame: &Frame<A>,
+    bytes: &[u8],
+) -> Option<u64> {
+    for n in 1..MANY {
+        let is_written = refuse_encode(heap, alloc, frame, bytes, n)?;
+        let is_copied = refuse_copy(heap, frame, n)?;
+        if !is_written && !is_copied {
+            return Some(n - 1);
+        }
+    }
+    None
+}
+
+/// Does so with the frame that bytes begin with.
+fn sweep_first<A: Allocator + Copy>(
+    heap: &RefusingAllocator,
+    alloc: A,
+    bytes: &[u8],
+) -> Option<u64> {
+    match decode(alloc, bytes) {
+        Ok((frame, len)) => sweep_frame(heap, alloc, &frame, bytes.get(..len)?),
+        Err(_) => None,
+    }
+}
+
+/// All three calls of one stream. How many growths the one has that has most, or none if an answer is wrong.
+fn sweep<A: Allocator + Copy>(
+    heap: &RefusingAllocator,
+    alloc: A,
+    bytes: &[u8],
+    wanted: Result<usize, FrameFault>,
+) -> Option<u64> {
+    let of_reading = sweep_decode(heap, alloc, bytes, wanted)?;
+    if wanted.is_err() {
+        return Some(of_reading);
+    }
+    let of_frame = sweep_first(heap, alloc, bytes)?;
+    Some(of_reading.max(of_frame))
+}
+
+/// A GOSSIP with the longest payload, and one with a longer.
+fn sweep_longest<A: Allocator + Copy>(
+    heap: &RefusingAllocator,
+    alloc: A,
+    bytes: &mut Vec<u8, A>,
+) -> Result<Option<u64>, AllocError> {
+    write_gossip(bytes, b"\0\0\x80\x2f", b"\0\0\x80\x01", 32_769)?;
+    let longer = sweep(heap, alloc, bytes.as_slice(), Err(FrameFault::BadField));
+    write_gossip(bytes, b"\0\0\x80\x2e", b"\0\0\x80\0", 32_768)?;
+    let longest = sweep(heap, alloc, bytes.as_slice(), Ok(32_818));
+    Ok(longer.and(longest))
 }
 
 #[test]
 fn each_growth_of_the_codec(rt: HostRuntime) -> Result<(), Fail> {
-    let alloc = rt.alloc();
-    let heap = RefusingAllocator::new(alloc);
+    let heap = RefusingAllocator::new(rt.alloc());
     let mut refused = 0u64;
-    for row in &ROWS {
-        refused = refused.saturating_add(sweep_all(&rt, &heap, row.bytes, first_of(row))?);
+    for row in rows() {
+        let growths = sweep(&heap, &heap, row.bytes, first_of(row));
+        assert!(rt; growths.is_some(), "at {}", row.name);
+        refused = refused.saturating_add(growths.unwrap_or(0));
     }
-    let longest = long_gossip(alloc, b"\0\0\x80\x2e", b"\0\0\x80\0", 32_768)?;
-    assert!(&rt; sweep_all(&rt, &heap, longest.as_slice(), Ok(32_818))? > 0);
-    let longer = long_gossip(alloc, b"\0\0\x80\x2f", b"\0\0\x80\x01", 32_769)?;
-    let _ = sweep_all(&rt, &heap, longer.as_slice(), Err(FrameFault::BadField))?;
-    assert!(&rt; refused > 10, "few growths were refused: {refused}");
+    assert!(rt; refused > 10, "few growths were refused: {refused}");
+    Ok(())
+}
+
+#[test]
+fn each_growth_of_the_longest(rt: HostRuntime) -> Result<(), Fail> {
+    let heap = RefusingAllocator::new(rt.alloc());
+    let mut bytes = Vec::new(&heap);
+    let growths = sweep_longest(&heap, &heap, &mut bytes)?;
+    assert!(rt; growths.unwrap_or(0) > 0);
     Ok(())
 }

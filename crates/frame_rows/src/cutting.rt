@@ -1,67 +1,17 @@
 //! Cutting a stream into frames, each growth of each call refused in turn: the refusal is for want of memory, the cutter is as
 //! it was, and the call made again answers as if nothing had been refused.
-use crate::rows::{ROWS, Row};
-use frames::{Cutter, Frame, FrameFault, encode};
+use crate::compare::end_of_frame;
+use crate::rows::{Row, rows};
+use frames::{Cutter, Frame, FrameFault};
 use refusing_allocator::RefusingAllocator;
 use std::alloc::Allocator;
-use std::process::Abort;
 use std::test::Fail;
 
 /// More growths than any call has, and more pieces and frames than any row.
 const MANY: u64 = 120;
 
-/// A cutter over a heap that refuses growths.
-type Swept<'a, A> = Cutter<&'a RefusingAllocator<A>>;
-
-/// Feeds a piece, and refuses the growth with this number. Answers whether there are so many.
-fn feed_refused<A: Allocator + Copy>(
-    rt: &impl Abort,
-    heap: &RefusingAllocator<A>,
-    cutter: &mut Cutter<&RefusingAllocator<A>>,
-    piece: &[u8],
-    n: u64,
-) -> Result<bool, Fail> {
-    let left = cutter.left();
-    heap.refuse(n);
-    let fed = cutter.feed(piece);
-    let is_spent = heap.is_spent();
-    heap.refuse(0);
-    assert_eq!(rt; fed.is_err(), is_spent);
-    if is_spent {
-        assert_eq!(rt; cutter.left(), left);
-        cutter.feed(piece)?;
-    }
-    assert_eq!(rt; cutter.left(), left.saturating_add(piece.len()));
-    Ok(is_spent)
-}
-
-/// Asks for a frame, and refuses the growth with this number. Answers also whether there are so many.
-fn next_refused<'a, A: Allocator + Copy>(
-    rt: &impl Abort,
-    heap: &'a RefusingAllocator<A>,
-    cutter: &mut Swept<'a, A>,
-    n: u64,
-) -> (
-    Result<Option<Frame<&'a RefusingAllocator<A>>>, FrameFault>,
-    bool,
-) {
-    let left = cutter.left();
-    heap.refuse(n);
-    let next = cutter.next();
-    let is_spent = heap.is_spent();
-    heap.refuse(0);
-    match next {
-        Err(FrameFault::OutOfMemory) => {
-            assert!(rt; is_spent);
-            assert_eq!(rt; cutter.left(), left);
-            (cutter.next(), is_spent)
-        }
-        answer => (answer, is_spent),
-    }
-}
-
 /// How far a row was played.
-#[derive(Drop)]
+#[derive(Clone, Copy)]
 struct SoFar {
     /// How many frames were given.
     frames: usize,
@@ -73,67 +23,135 @@ struct SoFar {
     is_refused: bool,
 }
 
+/// Feeds a piece while the growth with this number is refused, and again if it is. Whether there is such a growth, or none if
+/// an answer is wrong.
+fn feed_refused<A: Allocator + Copy>(
+    heap: &RefusingAllocator,
+    cutter: &mut Cutter<A>,
+    piece: &[u8],
+    n: u64,
+) -> Option<bool> {
+    let left = cutter.left();
+    heap.refuse(n);
+    let is_refused = cutter.feed(piece).is_err();
+    let is_spent = heap.is_spent();
+    heap.refuse(0);
+    let mut is_right = is_refused == is_spent;
+    if is_spent {
+        let is_same = cutter.left() == left;
+        let is_fed = cutter.feed(piece).is_ok();
+        is_right = is_right && is_same && is_fed;
+    }
+    let is_longer = cutter.left() == left.saturating_add(piece.len());
+    (is_right && is_longer).then_some(is_spent)
+}
+
 /// Compares a frame with the next one of the row.
-fn compare_frame<A: Allocator + Copy>(
-    rt: &impl Abort,
+fn is_next<A: Allocator + Copy>(
     alloc: A,
     row: &Row,
     frame: &Frame<A>,
     so_far: &mut SoFar,
-) -> Result<(), Fail> {
-    let written = encode(alloc, frame)?;
-    assert_eq!(rt;
-        row.frames.get(so_far.frames).copied(),
-        Some(written.len()),
-        "at {}",
-        row.name
-    );
-    let end = so_far.bytes.saturating_add(written.len());
-    assert_eq!(rt;
-        row.bytes.get(so_far.bytes..end),
-        Some(written.as_slice()),
-        "at {}",
-        row.name
-    );
+) -> Option<bool> {
+    let end = end_of_frame(alloc, row.bytes, so_far.bytes, frame)?;
+    let len = *row.frames.get(so_far.frames)?;
+    let is_length = end == so_far.bytes.saturating_add(len);
     so_far.frames = so_far.frames.saturating_add(1);
     so_far.bytes = end;
-    Ok(())
+    is_length.then_some(true)
 }
 
-/// Takes the frames that are whole, each growth with this number refused.
-fn take_frames<'a, A: Allocator + Copy>(
-    rt: &impl Abort,
-    heap: &'a RefusingAllocator<A>,
-    cutter: &mut Swept<'a, A>,
+/// Compares what the cutter answered with the row. Whether it gave a frame, or none if that is a wrong one.
+fn is_given<A: Allocator + Copy>(
+    alloc: A,
+    row: &Row,
+    answer: &Result<Option<Frame<A>>, FrameFault>,
+    so_far: &mut SoFar,
+) -> Option<bool> {
+    match answer {
+        Ok(Some(frame)) => is_next(alloc, row, frame, so_far),
+        Ok(None) => Some(false),
+        Err(fault) => {
+            so_far.fault = Some(*fault);
+            Some(false)
+        }
+    }
+}
+
+/// Asks for a frame while the growth with this number is refused. Whether one is given, or none if that is a wrong one, and
+/// whether there is such a growth.
+fn next_refused<A: Allocator + Copy>(
+    heap: &RefusingAllocator,
+    alloc: A,
+    cutter: &mut Cutter<A>,
     row: &Row,
     so_far: &mut SoFar,
     n: u64,
-) -> Result<(), Fail> {
-    for _ in 0..MANY {
-        let (answer, is_refused) = next_refused(rt, heap, cutter, n);
-        so_far.is_refused |= is_refused;
-        match answer {
-            Ok(Some(frame)) => compare_frame(rt, heap, row, &frame, so_far)?,
-            Ok(None) => return Ok(()),
-            Err(fault) => {
-                so_far.fault = Some(fault);
-                return Ok(());
-            }
-        }
-    }
-    assert!(rt; false, "the frames did not end");
-    Ok(())
+) -> (Option<bool>, bool) {
+    heap.refuse(n);
+    let answer = cutter.next();
+    let is_spent = heap.is_spent();
+    heap.refuse(0);
+    (is_given(alloc, row, &answer, so_far), is_spent)
 }
 
-/// Feeds a row in pieces of this size, and refuses the growth with this number of each call. Answers whether there are so many.
-fn sweep_row<'a, A: Allocator + Copy>(
-    rt: &impl Abort,
-    heap: &'a RefusingAllocator<A>,
+/// Does so, and again if it is refused. Whether a frame is given, or none if an answer is wrong.
+fn take_frame<A: Allocator + Copy>(
+    heap: &RefusingAllocator,
+    alloc: A,
+    cutter: &mut Cutter<A>,
+    row: &Row,
+    so_far: &mut SoFar,
+    n: u64,
+) -> Option<bool> {
+    let left = cutter.left();
+    let (given, is_spent) = next_refused(heap, alloc, cutter, row, so_far, n);
+    so_far.is_refused |= is_spent;
+    if so_far.fault != Some(FrameFault::OutOfMemory) {
+        return given;
+    }
+    so_far.fault = None;
+    let is_same = cutter.left() == left;
+    if !is_spent || !is_same {
+        return None;
+    }
+    next_refused(heap, alloc, cutter, row, so_far, 0).0
+}
+
+/// Takes the frames that are whole. Whether they come to an end, or none if an answer is wrong.
+fn take_frames<A: Allocator + Copy>(
+    heap: &RefusingAllocator,
+    alloc: A,
+    cutter: &mut Cutter<A>,
+    row: &Row,
+    so_far: &mut SoFar,
+    n: u64,
+) -> Option<bool> {
+    for _ in 0..MANY {
+        if !take_frame(heap, alloc, cutter, row, so_far, n)? {
+            return Some(true);
+        }
+    }
+    None
+}
+
+/// Whether a row was played to its end.
+fn is_end(row: &Row, so_far: &SoFar, left: usize) -> bool {
+    let is_fault = so_far.fault == row.fault;
+    let rest = row.bytes.len().saturating_sub(so_far.bytes);
+    is_fault && so_far.frames == row.frames.len() && left == rest
+}
+
+/// Feeds a row in pieces of this size, and refuses the growth with this number of each call. Whether a call has so many, or
+/// none if an answer is wrong.
+fn play_pieces<A: Allocator + Copy>(
+    heap: &RefusingAllocator,
+    alloc: A,
+    cutter: &mut Cutter<A>,
     row: &Row,
     size: usize,
     n: u64,
-) -> Result<bool, Fail> {
-    let mut cutter = Swept::<'a, A>::new(heap);
+) -> Option<bool> {
     let mut so_far = SoFar {
         frames: 0,
         bytes: 0,
@@ -141,31 +159,57 @@ fn sweep_row<'a, A: Allocator + Copy>(
         is_refused: false,
     };
     for piece in row.bytes.chunks(size.max(1)) {
-        so_far.is_refused |= feed_refused(rt, heap, &mut cutter, piece, n)?;
-        take_frames(rt, heap, &mut cutter, row, &mut so_far, n)?;
+        let is_spent = feed_refused(heap, cutter, piece, n)?;
+        so_far.is_refused |= is_spent;
+        take_frames(heap, alloc, cutter, row, &mut so_far, n)?;
     }
-    assert_eq!(rt; so_far.frames, row.frames.len(), "at {}", row.name);
-    assert_eq!(rt; so_far.fault, row.fault, "at {}", row.name);
-    let left = row.bytes.len().saturating_sub(so_far.bytes);
-    assert_eq!(rt; cutter.left(), left, "at {}", row.name);
-    Ok(so_far.is_refused)
+    is_end(row, &so_far, cutter.left()).then_some(so_far.is_refused)
+}
+
+/// Does so with a fresh cutter.
+fn sweep_pieces<A: Allocator + Copy>(
+    heap: &RefusingAllocator,
+    alloc: A,
+    row: &Row,
+    size: usize,
+    n: u64,
+) -> Option<bool> {
+    let mut cutter = Cutter::new(alloc);
+    play_pieces(heap, alloc, &mut cutter, row, size, n)
+}
+
+/// Refuses each growth in turn. How many the call has that has most, or none if an answer is wrong.
+fn sweep_size<A: Allocator + Copy>(
+    heap: &RefusingAllocator,
+    alloc: A,
+    row: &Row,
+    size: usize,
+) -> Option<u64> {
+    for n in 1..MANY {
+        if !sweep_pieces(heap, alloc, row, size, n)? {
+            return Some(n - 1);
+        }
+    }
+    None
+}
+
+/// Does so with pieces of three sizes.
+fn sweep_row<A: Allocator + Copy>(heap: &RefusingAllocator, alloc: A, row: &Row) -> Option<u64> {
+    let of_bytes = sweep_size(heap, alloc, row, 1)?;
+    let of_fives = sweep_size(heap, alloc, row, 5)?;
+    let of_whole = sweep_size(heap, alloc, row, 1_000)?;
+    Some(of_bytes.saturating_add(of_fives).saturating_add(of_whole))
 }
 
 #[test]
 fn each_growth_of_a_cutter(rt: HostRuntime) -> Result<(), Fail> {
     let heap = RefusingAllocator::new(rt.alloc());
     let mut refused = 0u64;
-    for row in &ROWS {
-        for size in [1, 5, 1_000] {
-            for n in 1..MANY {
-                if !sweep_row(&rt, &heap, row, size, n)? {
-                    break;
-                }
-                refused = refused.saturating_add(1);
-                assert!(&rt; n < MANY - 1, "the sweep did not end");
-            }
-        }
+    for row in rows() {
+        let growths = sweep_row(&heap, &heap, row);
+        assert!(rt; growths.is_some(), "at {}", row.name);
+        refused = refused.saturating_add(growths.unwrap_or(0));
     }
-    assert!(&rt; refused > 40, "few growths were refused: {refused}");
+    assert!(rt; refused > 40, "few growths were refused: {refused}");
     Ok(())
 }

@@ -1,139 +1,161 @@
 //! How pumps and drains end.
-ghost use Rattle.std.specs.Prelude.{◌≤◌, length};
-
-use bytes::Bytes;
-use frames::{Cutter, Frame, FrameFault};
-use links::{LinkEnd, Sink, Source, TapeReader, TapeWriter, drain, pump};
-use std::alloc::{AllocError, Allocator, Global};
-use std::process::Abort;
+use crate::calls::{DrainCall, PumpCall, call_drain, call_pump};
+use crate::doubles::PRUNE;
+use frames::FrameFault;
+use links::LinkEnd;
+use refusing_allocator::RefusingAllocator;
+use std::alloc::{AllocError, Allocator};
 use std::test::Fail;
 
-/// PRUNE of a/1, number 2.
-const PRUNE: [u8; 24] = *b"\0\0\0\x14\x01\x0b\x01a\0\0\0\0\0\0\0\x01\0\0\0\0\0\0\0\x02";
-
-/// A sink that takes so many frames.
-#[derive(Drop)]
-struct Kept<A: Allocator> {
-    frames: Vec<Frame<A>, A>,
-    most: usize,
+/// A call of a pump, its end, and how many frames the sink took and bytes are left for one more read.
+#[derive(Clone, Copy)]
+struct PumpRow {
+    name: &'static str,
+    call: PumpCall<'static>,
+    end: LinkEnd,
+    frames: usize,
+    rest: usize,
 }
 
-impl<A: Allocator> Sink<Frame<A>> for Kept<A> {
-    ghost taken = { λ kept. kept.frames.items };
+/// A PRUNE in two pieces.
+const WHOLE: PumpCall<'static> = PumpCall {
+    bytes: &PRUNE,
+    pieces: &[5, 19],
+    fails: None,
+    most: 9,
+    turns: 10,
+};
 
-    fn frame(&mut self, frame: Frame<A>) -> bool {
-        self.frames.len() < self.most && self.frames.push(frame).is_ok()
-    }
-}
+const PUMPS: &[PumpRow] = &[
+    PumpRow {
+        name: "a whole frame",
+        call: WHOLE,
+        end: LinkEnd::Ended { left: 0 },
+        frames: 1,
+        rest: 0,
+    },
+    PumpRow {
+        name: "a frame without its last byte",
+        call: PumpCall {
+            bytes: b"\0\0\0\x14\x01\x0b\x01a\0\0\0\0\0\0\0\x01\0\0\0\0\0\0\0",
+            ..WHOLE
+        },
+        end: LinkEnd::Ended { left: 23 },
+        frames: 0,
+        rest: 0,
+    },
+    PumpRow {
+        name: "the second read fails",
+        call: PumpCall {
+            fails: Some(1),
+            ..WHOLE
+        },
+        end: LinkEnd::ReadFault,
+        frames: 0,
+        rest: 19,
+    },
+    PumpRow {
+        name: "one turn",
+        call: PumpCall { turns: 1, ..WHOLE },
+        end: LinkEnd::TurnLimit,
+        frames: 0,
+        rest: 19,
+    },
+    PumpRow {
+        name: "no turn",
+        call: PumpCall { turns: 0, ..WHOLE },
+        end: LinkEnd::TurnLimit,
+        frames: 0,
+        rest: 5,
+    },
+    PumpRow {
+        name: "seven turns of a byte each",
+        call: PumpCall {
+            pieces: &[1, 1, 1, 1, 1, 1, 1],
+            turns: 7,
+            ..WHOLE
+        },
+        end: LinkEnd::TurnLimit,
+        frames: 0,
+        rest: 17,
+    },
+    PumpRow {
+        name: "a sink that takes none",
+        call: PumpCall { most: 0, ..WHOLE },
+        end: LinkEnd::SinkClosed,
+        frames: 0,
+        rest: 0,
+    },
+    // The first piece has the version.
+    PumpRow {
+        name: "version 2",
+        call: PumpCall {
+            bytes: b"\0\0\0\x14\x02\x0b\x01a\0\0\0\0\0\0\0\x01\0\0\0\0\0\0\0\x02",
+            ..WHOLE
+        },
+        end: LinkEnd::Frame(FrameFault::BadVersion),
+        frames: 0,
+        rest: 0,
+    },
+];
 
-/// A source that gives an item so many times.
-#[derive(Drop)]
-struct Same {
-    item: Bytes,
-    left: usize,
-    gave: Vec<Bytes>,
-    ghost short: { length item ≤ 32880 },
-}
-
-impl Source<Global> for Same {
-    ghost given = { λ same. same.gave.items };
-
-    fn next(&mut self) -> Result<Option<Bytes>, AllocError> {
-        if self.left == 0 {
-            return Ok(None);
-        }
-        let item = self.item.clone()?;
-        self.gave.push(self.item.clone()?)?;
-        self.left -= 1;
-        Ok(Some(item))
-    }
-}
-
-/// What a pump of these bytes in these pieces answers, and how many frames the sink took.
-fn pumped(
-    alloc: Global,
-    bytes: &[u8],
-    pieces: &[usize],
-    fails: Option<usize>,
-    most: usize,
-    turns: u64,
-) -> Result<(LinkEnd, usize), AllocError> {
-    let tape = Bytes::copy_from_slice(alloc, bytes)?;
-    let mut reader = TapeReader::new(tape, Vec::from_slice(alloc, pieces)?, fails);
-    let mut cutter = Cutter::new(alloc);
-    let mut sink = Kept {
-        frames: Vec::new(alloc),
-        most,
-    };
-    let end = pump(&mut reader, &mut cutter, &mut sink, turns);
-    Ok((end, sink.frames.len()))
+/// Whether a call of a pump ends as it should.
+fn is_pumped<A: Allocator + Copy>(
+    heap: &RefusingAllocator,
+    alloc: A,
+    row: &PumpRow,
+) -> Result<bool, AllocError> {
+    let pumped = call_pump(heap, alloc, &row.call, 0)?;
+    let is_end = pumped.end == row.end;
+    let are_counts = pumped.frames == row.frames && pumped.rest == row.rest;
+    Ok(is_end && are_counts && pumped.is_front)
 }
 
 #[test]
 fn pumps(rt: HostRuntime) -> Result<(), Fail> {
-    let alloc = rt.alloc();
-    let mut other = PRUNE;
-    other[4] = 2;
-    let rows: [(&[u8], Option<usize>, usize, u64, LinkEnd, usize); 7] = [
-        (&PRUNE, None, 9, 10, LinkEnd::Ended { left: 0 }, 1),
-        (&PRUNE[..23], None, 9, 10, LinkEnd::Ended { left: 23 }, 0),
-        (&PRUNE, Some(1), 9, 10, LinkEnd::ReadFault, 0),
-        (&PRUNE, None, 9, 1, LinkEnd::TurnLimit, 0),
-        (&PRUNE, None, 9, 0, LinkEnd::TurnLimit, 0),
-        (&PRUNE, None, 0, 10, LinkEnd::SinkClosed, 0),
-        (
-            &other,
-            None,
-            9,
-            10,
-            LinkEnd::Frame(FrameFault::BadVersion),
-            0,
-        ),
-    ];
-    for (bytes, fails, most, turns, end, count) in rows {
-        assert_eq!(rt;
-            pumped(alloc, bytes, &[5, 19], fails, most, turns)?,
-            (end, count)
-        );
+    let heap = RefusingAllocator::new(rt.alloc());
+    for row in PUMPS {
+        let is_right = is_pumped(&heap, &heap, row)?;
+        assert!(rt; is_right, "at {}", row.name);
     }
     Ok(())
 }
 
-/// What a drain of two PRUNEs answers, and how many bytes the writer has then.
-fn drained(
-    rt: &impl Abort,
-    alloc: Global,
-    most: usize,
-    fails: Option<usize>,
-    frames: u32,
-) -> Result<(Result<u64, LinkEnd>, usize), AllocError> {
-    let item = Bytes::copy_from_slice(alloc, &PRUNE)?;
-    let mut source = Same {
-        item,
-        left: 2,
-        gave: Vec::new(alloc),
+/// How many bytes the writer takes a call, the call that fails, the frames, the answer, and how many bytes the writer has then.
+type DrainRow = (usize, Option<usize>, u32, Result<u64, LinkEnd>, usize);
+
+const DRAINS: &[DrainRow] = &[
+    (10, None, 10, Ok(48), 48),
+    (10, None, 1, Ok(24), 24),
+    (10, None, 0, Ok(0), 0),
+    (10, Some(2), 10, Err(LinkEnd::WriteFault { bytes: 20 }), 20),
+    (10, Some(3), 10, Err(LinkEnd::WriteFault { bytes: 24 }), 24),
+    (0, None, 10, Err(LinkEnd::WriteFault { bytes: 0 }), 0),
+];
+
+/// Whether a call of a drain of two PRUNEs ends as it should.
+fn is_drained<A: Allocator + Copy>(
+    heap: &RefusingAllocator,
+    alloc: A,
+    row: &DrainRow,
+) -> Result<bool, AllocError> {
+    let (most, fails, frames, answer, len) = *row;
+    let call = DrainCall {
+        most,
+        fails,
+        frames,
     };
-    let mut writer = TapeWriter::new(alloc, most, fails);
-    let answer = drain(&mut source, &mut writer, frames);
-    for item in writer.as_slice().chunks(24) {
-        assert_eq!(rt; item, &PRUNE[..item.len()]);
-    }
-    Ok((answer, writer.as_slice().len()))
+    let drained = call_drain(heap, alloc, alloc, &call, 0)?;
+    let is_answer = drained.answer == answer;
+    Ok(is_answer && drained.len == len && drained.is_front)
 }
 
 #[test]
 fn drains(rt: HostRuntime) -> Result<(), Fail> {
-    let alloc = rt.alloc();
-    let rows = [
-        (10, None, 10, Ok(48), 48),
-        (10, None, 1, Ok(24), 24),
-        (10, None, 0, Ok(0), 0),
-        (10, Some(2), 10, Err(LinkEnd::WriteFault { bytes: 20 }), 20),
-        (10, Some(3), 10, Err(LinkEnd::WriteFault { bytes: 24 }), 24),
-        (0, None, 10, Err(LinkEnd::WriteFault { bytes: 0 }), 0),
-    ];
-    for (most, fails, frames, answer, len) in rows {
-        assert_eq!(rt; drained(&rt, alloc, most, fails, frames)?, (answer, len));
+    let heap = RefusingAllocator::new(rt.alloc());
+    for row in DRAINS {
+        let is_right = is_drained(&heap, &heap, row)?;
+        assert!(rt; is_right, "with {} bytes", row.4);
     }
     Ok(())
 }

@@ -2,11 +2,17 @@
 #![tactic(auto)]
 
 #[cfg(test)]
+mod calls;
+#[cfg(test)]
 mod calm;
 #[cfg(test)]
 mod codec;
 #[cfg(test)]
+mod compare;
+#[cfg(test)]
 mod cutting;
+#[cfg(test)]
+mod doubles;
 #[cfg(test)]
 mod ends;
 #[cfg(test)]

@@ -1,35 +1,14 @@
 //! Reading frames from a stream and writing them to one, each growth refused in turn: the end is for want of memory, and what
 //! the sink took or the writer has is a front of the whole.
-ghost use Rattle.std.specs.Prelude.{◌≤◌, length};
-
-use crate::rows::{ROWS, Row};
-use bytes::Bytes;
-use frames::{Cutter, Frame, MAX_FRAME, encode};
-use links::{LinkEnd, Sink, Source, TapeReader, TapeWriter, drain, pump};
+use crate::calls::{DrainCall, Drained, PumpCall, Pumped, call_drain, call_pump};
+use crate::rows::{Row, rows};
+use links::LinkEnd;
 use refusing_allocator::RefusingAllocator;
 use std::alloc::{AllocError, Allocator};
-use std::process::Abort;
 use std::test::Fail;
-
-/// PRUNE of a/1, number 2.
-const PRUNE: &[u8] = b"\0\0\0\x14\x01\x0b\x01a\0\0\0\0\0\0\0\x01\0\0\0\0\0\0\0\x02";
 
 /// More growths than any call has.
 const MANY: u64 = 120;
-
-/// A sink that keeps all frames.
-#[derive(Drop)]
-struct Kept<A: Allocator, B: Allocator> {
-    frames: Vec<Frame<A>, B>,
-}
-
-impl<A: Allocator, B: Allocator> Sink<Frame<A>> for Kept<A, B> {
-    ghost taken = { λ kept. kept.frames.items };
-
-    fn frame(&mut self, frame: Frame<A>) -> bool {
-        self.frames.push(frame).is_ok()
-    }
-}
 
 /// The end of a row that is read in whole.
 fn end_of(row: &Row) -> LinkEnd {
@@ -45,181 +24,131 @@ fn end_of(row: &Row) -> LinkEnd {
     }
 }
 
-/// Pumps a row in these pieces, and refuses the cutter the growth with this number. Answers whether it has so many.
-fn sweep_pump<'a, A: Allocator + Copy>(
-    rt: &impl Abort,
-    heap: &'a RefusingAllocator<A>,
+/// Whether a row is pumped as it should be. Where it has a fault, that may be told although a growth was refused.
+fn is_pumped(row: &Row, pumped: &Pumped) -> bool {
+    let is_out = pumped.end == LinkEnd::OutOfMemory;
+    let is_lost = pumped.is_refused && (is_out || row.fault.is_none());
+    let is_whole = pumped.frames == row.frames.len() && pumped.end == end_of(row);
+    let is_end = if is_lost { is_out } else { is_whole };
+    is_end && pumped.is_front
+}
+
+/// Pumps a row while each growth of the cutter is refused in turn. How many there are, or none if an answer is wrong.
+fn sweep_pump<A: Allocator + Copy>(
+    heap: &RefusingAllocator,
     alloc: A,
     row: &Row,
-    pieces: &[usize],
-    n: u64,
-) -> Result<bool, Fail> {
-    let tape = Bytes::copy_from_slice(alloc, row.bytes)?;
-    let mut reader = TapeReader::new(tape, Vec::from_slice(alloc, pieces)?, None);
-    let mut cutter = Cutter::<&'a RefusingAllocator<A>>::new(heap);
-    let mut sink = Kept {
-        frames: Vec::new(alloc),
+) -> Result<Option<u64>, AllocError> {
+    let call = PumpCall {
+        bytes: row.bytes,
+        pieces: &[5, 19],
+        fails: None,
+        most: usize::MAX,
+        turns: 1_000,
     };
-    heap.refuse(n);
-    let end = pump(&mut reader, &mut cutter, &mut sink, 1_000);
-    let is_spent = heap.is_spent();
-    heap.refuse(0);
-    // Where the row has a fault, that may be told although a growth was refused.
-    let is_lost = is_spent && (row.fault.is_none() || end == LinkEnd::OutOfMemory);
-    let wanted = if is_lost {
-        LinkEnd::OutOfMemory
-    } else {
-        end_of(row)
-    };
-    assert_eq!(rt; end, wanted, "at {}", row.name);
-    let mut at = 0usize;
-    for frame in sink.frames.as_slice() {
-        let written = encode(heap, frame)?;
-        let next = at.saturating_add(written.len());
-        assert_eq!(rt;
-            row.bytes.get(at..next),
-            Some(written.as_slice()),
-            "at {}",
-            row.name
-        );
-        at = next;
+    for n in 1..MANY {
+        let pumped = call_pump(heap, alloc, &call, n)?;
+        if !is_pumped(row, &pumped) {
+            return Ok(None);
+        }
+        if !pumped.is_refused {
+            return Ok(Some(n - 1));
+        }
     }
-    if !is_lost {
-        assert_eq!(rt; sink.frames.len(), row.frames.len(), "at {}", row.name);
-    }
-    Ok(is_spent)
+    Ok(None)
 }
 
 #[test]
 fn each_growth_of_a_pump(rt: HostRuntime) -> Result<(), Fail> {
-    let alloc = rt.alloc();
-    let heap = RefusingAllocator::new(alloc);
+    let heap = RefusingAllocator::new(rt.alloc());
     let mut refused = 0u64;
-    for row in &ROWS {
-        for n in 1..MANY {
-            if !sweep_pump(&rt, &heap, alloc, row, &[5, 19], n)? {
-                break;
-            }
-            refused = refused.saturating_add(1);
-            assert!(&rt; n < MANY - 1, "the sweep did not end");
-        }
+    for row in rows() {
+        let growths = sweep_pump(&heap, &heap, row)?;
+        assert!(rt; growths.is_some(), "at {}", row.name);
+        refused = refused.saturating_add(growths.unwrap_or(0));
     }
-    assert!(&rt; refused > 20, "few growths were refused: {refused}");
+    assert!(rt; refused > 20, "few growths were refused: {refused}");
     Ok(())
 }
 
-/// A source that gives an item so many times, each time a copy of its own.
-#[derive(Drop)]
-struct Same<A: Allocator, B: Allocator> {
-    heap: A,
-    item: Bytes<B>,
-    left: usize,
-    gave: Vec<Bytes<B>, B>,
-    ghost short: { length item ≤ 32880 },
+/// A drain into a writer that takes ten bytes a call.
+const DRAIN: DrainCall = DrainCall {
+    most: 10,
+    fails: None,
+    frames: 10,
+};
+
+/// Whether two items are drained as they should be where the source is refused: all that it gave went out.
+fn is_source_drained(drained: &Drained) -> bool {
+    let (answer, len) = if drained.is_refused {
+        (Err(LinkEnd::OutOfMemory), drained.gave.saturating_mul(24))
+    } else {
+        (Ok(48), 48)
+    };
+    let is_answer = drained.answer == answer;
+    is_answer && drained.len == len && drained.is_front
 }
 
-impl<A: Allocator + Copy, B: Allocator + Copy> Source<A> for Same<A, B> {
-    ghost given = { λ same. same.gave.items };
+/// Whether they are where the writer is refused: its call fails, and the end says how many bytes went out.
+fn is_writer_drained(drained: &Drained) -> bool {
+    let bytes = drained.len as u64;
+    let answer = if drained.is_refused {
+        Err(LinkEnd::WriteFault { bytes })
+    } else {
+        Ok(48)
+    };
+    let is_answer = drained.answer == answer;
+    is_answer && drained.is_refused == (bytes < 48) && drained.is_front
+}
 
-    fn next(&mut self) -> Result<Option<Bytes<A>>, AllocError> {
-        if self.left == 0 {
+/// Drains two items while each growth of the source is refused in turn. How many there are, or none if an answer is wrong.
+fn sweep_source<A: Allocator + Copy, B: Allocator + Copy>(
+    heap: &RefusingAllocator,
+    sources: A,
+    writers: B,
+) -> Result<Option<u64>, AllocError> {
+    for n in 1..MANY {
+        let drained = call_drain(heap, sources, writers, &DRAIN, n)?;
+        if !is_source_drained(&drained) {
             return Ok(None);
         }
-        let item = Bytes::copy_from_slice(self.heap, self.item.as_slice())?;
-        self.gave.push(self.item.clone()?)?;
-        self.left -= 1;
-        Ok(Some(item))
+        if !drained.is_refused {
+            return Ok(Some(n - 1));
+        }
     }
+    Ok(None)
 }
 
-/// A source of two PRUNEs.
-fn prunes<A: Allocator + Copy, B: Allocator + Copy>(heap: A, alloc: B) -> Result<Same<A, B>, Fail> {
-    let item = Bytes::copy_from_slice(alloc, PRUNE)?;
-    if item.len() > MAX_FRAME {
-        return Err(Fail::from("a short item"));
+/// Does so with the growths of the writer.
+fn sweep_writer<A: Allocator + Copy, B: Allocator + Copy>(
+    heap: &RefusingAllocator,
+    sources: A,
+    writers: B,
+) -> Result<Option<u64>, AllocError> {
+    for n in 1..MANY {
+        let drained = call_drain(heap, sources, writers, &DRAIN, n)?;
+        if !is_writer_drained(&drained) {
+            return Ok(None);
+        }
+        if !drained.is_refused {
+            return Ok(Some(n - 1));
+        }
     }
-    Ok(Same {
-        heap,
-        item,
-        left: 2,
-        gave: Vec::new(alloc),
-    })
-}
-
-/// Compares what was written with a front of PRUNEs.
-fn compare_written(rt: &impl Abort, written: &[u8]) {
-    for item in written.chunks(24) {
-        assert_eq!(rt; PRUNE.get(..item.len()), Some(item));
-    }
-}
-
-/// Drains two items into a writer that takes ten bytes a call, and refuses the source the growth with this number. Answers
-/// whether there are so many.
-fn sweep_drain<A: Allocator + Copy>(
-    rt: &impl Abort,
-    heap: &RefusingAllocator<A>,
-    alloc: A,
-    n: u64,
-) -> Result<bool, Fail> {
-    let mut source = prunes(heap, alloc)?;
-    let mut writer = TapeWriter::new(alloc, 10, None);
-    heap.refuse(n);
-    let answer = drain(&mut source, &mut writer, 10);
-    let is_spent = heap.is_spent();
-    heap.refuse(0);
-    let has = if is_spent {
-        source.gave.len().saturating_mul(24)
-    } else {
-        48
-    };
-    assert_eq!(rt; writer.as_slice().len(), has);
-    if is_spent {
-        assert_eq!(rt; answer, Err(LinkEnd::OutOfMemory));
-    } else {
-        assert_eq!(rt; answer, Ok(48));
-    }
-    compare_written(rt, writer.as_slice());
-    Ok(is_spent)
-}
-
-/// The same where the writer is refused: its call fails, and the end says how many bytes went out.
-fn sweep_writer<A: Allocator + Copy>(
-    rt: &impl Abort,
-    heap: &RefusingAllocator<A>,
-    alloc: A,
-    n: u64,
-) -> Result<bool, Fail> {
-    let mut source = prunes(alloc, alloc)?;
-    let mut writer = TapeWriter::new(heap, 10, None);
-    heap.refuse(n);
-    let answer = drain(&mut source, &mut writer, 10);
-    let is_spent = heap.is_spent();
-    heap.refuse(0);
-    let bytes = writer.as_slice().len() as u64;
-    if is_spent {
-        assert!(rt; bytes < 48);
-        assert_eq!(rt; answer, Err(LinkEnd::WriteFault { bytes }));
-    } else {
-        assert_eq!(rt; answer, Ok(48));
-    }
-    compare_written(rt, writer.as_slice());
-    Ok(is_spent)
+    Ok(None)
 }
 
 #[test]
 fn each_growth_of_a_drain(rt: HostRuntime) -> Result<(), Fail> {
-    let alloc = rt.alloc();
-    let heap = RefusingAllocator::new(alloc);
-    let mut refused = 0u64;
-    for n in 1..MANY {
-        let of_source = sweep_drain(&rt, &heap, alloc, n)?;
-        let of_writer = sweep_writer(&rt, &heap, alloc, n)?;
-        if !of_source && !of_writer {
-            break;
-        }
-        refused = n;
-    }
-    assert!(&rt; refused > 1, "few growths were refused: {refused}");
-    assert!(&rt; refused < MANY - 1, "the sweep did not end");
+    let heap = RefusingAllocator::new(rt.alloc());
+    let of_source = sweep_source(&heap, &heap, rt.alloc())?.unwrap_or(0);
+    let of_writer = sweep_writer(&heap, rt.alloc(), &heap)?.unwrap_or(0);
+    assert!(rt;
+        of_source > 1,
+        "few growths, or a wrong answer: {of_source}"
+    );
+    assert!(rt;
+        of_writer > 0,
+        "few growths, or a wrong answer: {of_writer}"
+    );
     Ok(())
 }
