@@ -33,8 +33,8 @@ pub use names::NameSet;
 pub use node_state::NodeState;
 pub use out::Out;
 pub use packet::Packet;
-pub use protocol::{Core, CoreError};
-pub use stimulus::{Stimulus, StimulusOf};
+pub use protocol::{Core, CoreError, Prepared};
+pub use stimulus::{Stimulus, StimulusOf, StimulusRef};
 pub use wire::Wire;
 pub use world::World;
 
