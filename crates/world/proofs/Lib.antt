@@ -2,7 +2,8 @@ pub mod Carrying
 pub mod Delivering
 pub mod FindLemmas
 pub mod FloodMoves
-pub mod Flying
+pub mod Flights
+mod Flying
 pub mod GivenLemmas
 pub mod Kept
 pub mod NameLemmas

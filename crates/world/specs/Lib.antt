@@ -6,6 +6,7 @@ pub mod DeliveryLaw
 pub mod Entry
 pub mod ErrorText
 pub mod Event
+pub mod Flight
 pub mod FloodCore
 pub mod FloodLaws
 pub mod FloodLists

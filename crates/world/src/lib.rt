@@ -7,6 +7,7 @@ mod delivery;
 mod entry;
 mod error;
 mod event;
+mod flight;
 mod flood_core;
 mod flood_note;
 mod given;
