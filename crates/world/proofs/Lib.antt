@@ -1,4 +1,5 @@
 pub mod Carrying
+pub mod Changes
 pub mod Delivering
 pub mod FindLemmas
 pub mod FloodMoves
@@ -10,6 +11,7 @@ pub mod NameLemmas
 pub mod NameSets
 pub mod NodeLemmas
 pub mod Parenting
+pub mod Places
 pub mod PlanLemmas
 pub mod PlayLemmas
 pub mod RestKeeps

@@ -6,7 +6,7 @@ use Rattle.node_names.specs.Same.{same_name}
 use Rattle.node_names.specs.declared.dice.Dice.{Dice}
 use Rattle.world.specs.Entry.{Entry}
 use Rattle.world.specs.Event.{Event}
-use Rattle.world.specs.Group.{Group, put_node}
+use Rattle.world.specs.Group.{Group, node_of, put_node}
 use Rattle.world.specs.Lists.{places}
 use Rattle.world.specs.Refusals.{sent_under}
 use Rattle.world.specs.Stimulus.{Stimulus}
@@ -74,6 +74,17 @@ abbrev pub changed : {C N T : Type 0} → (C → Stimulus N → C) → List (Nod
 changed after nodes sent entry Nothing = None
 changed after nodes sent entry (Put node) = Some node
 changed after nodes sent entry (Step at turn) = stepped_node after (slice_get nodes at) (stimulus_by sent entry.event entry.packet)
+
+-- the group after the plan of this entry
+abbrev pub planned : {C N T : Type 0} → (C → Stimulus N → C) → Group C N → Entry → Change C T → List (Packet N) → Option ℕ → Option ℕ → Group C N
+planned after group entry change packets leaving again = group_after group (changed after group.nodes group.sent entry change) packets leaving again
+
+-- Under the name runs the node at this place, with this core.
+pub record RunsAt {C : Type 0} (name : Name) (nodes : List (NodeState C)) (at : ℕ) (node : NodeState C) (core : C) : Type 0 where
+  pub known : node_of name nodes ≡ Some node
+  pub there : slice_get nodes at ≡ Some node
+  pub first : position (λ other. same_name node.name other.name) nodes ≡ Some at
+  pub running : node.core ≡ Some core
 
 -- The node at this place runs and is the first of its name, and its core can make the step that was worked out for the entry.
 pub record CanStep {C N T : Type 0} (is_turn : C → Stimulus N → T → Type 0) (nodes : List (NodeState C)) (sent : List (Packet N)) (entry : Entry) (at : ℕ) (turn : T) : Type 0 where
