@@ -7,7 +7,7 @@ ghost use Rattle.world.specs.Plan.{IsReady, planned};
 ghost use Rattle.world.specs.Refusals.{IsRefusal, refusal};
 ghost use Rattle.world.specs.Run.{Applied, Happens};
 
-use crate::commit::{make_change, post, put_last};
+use crate::commit::{make_change, make_room, post, put_last};
 use crate::delivery::Delivery;
 use crate::error::WorldError;
 use crate::event::Event;
@@ -36,11 +36,14 @@ impl<C: Core<A>, A: Allocator + Copy> World<C, A> {
             again,
             entry,
         } = plan;
-        self.log.reserve(1)?;
-        self.names.reserve(1)?;
-        self.nodes.reserve(1)?;
-        self.sent.reserve(packets.len())?;
-        self.flight.reserve(packets.len().max(1))?;
+        make_room(
+            &mut self.log,
+            &mut self.names,
+            &mut self.nodes,
+            &mut self.sent,
+            &mut self.flight,
+            packets.len(),
+        )?;
         make_change(
             &mut self.names,
             &mut self.nodes,

@@ -18,6 +18,37 @@ use crate::protocol::Core;
 use node_names::NodeName;
 use std::alloc::{AllocError, Allocator};
 
+/// Makes room for one more entry and one more node, and for so many packets, one at least in flight.
+pub(crate) fn make_room<C, N, A: Allocator + Copy>(
+    log: &mut Vec<Entry<A>, A>,
+    names: &mut NameSet<A>,
+    nodes: &mut Vec<NodeState<C>, A>,
+    sent: &mut Vec<Packet<N>, A>,
+    flight: &mut Flight<A>,
+    packets: usize,
+) -> Result<(), AllocError>
+    requires { flight.old.gone ≤ vec_len flight.old.numbers }
+    ensures log { log.new.items ≡ log.old.items }
+    ensures names { names.new.keys ≡ names.old.keys }
+    ensures nodes { nodes.new.items ≡ nodes.old.items }
+    ensures sent { sent.new.items ≡ sent.old.items }
+    ensures flight { flying flight.new ≡ flying flight.old }
+    ensures whole { flight.new.gone ≤ vec_len flight.new.numbers }
+    ensures entry { OnOk result (vec_len log.new < vec_capacity log.new) }
+    ensures name { OnOk result (0 < spare names.new) }
+    ensures node { OnOk result (vec_len nodes.new < vec_capacity nodes.new) }
+    ensures packets { OnOk result (vec_len sent.new + packets ≤ vec_capacity sent.new) }
+    ensures places { OnOk result (vec_len flight.new.numbers + packets ≤ vec_capacity flight.new.numbers) }
+    ensures place { OnOk result (vec_len flight.new.numbers < vec_capacity flight.new.numbers) }
+{
+    log.reserve(1)?;
+    names.reserve(1)?;
+    nodes.reserve(1)?;
+    sent.reserve(packets)?;
+    flight.reserve(packets.max(1))?;
+    Ok(())
+}
+
 /// Puts an item last, in the room that there is.
 pub(crate) fn put_last<T: Drop, A: Allocator>(items: &mut Vec<T, A>, item: T)
     requires { vec_len items.old < vec_capacity items.old }

@@ -3,7 +3,7 @@ ghost use Rattle.std.specs.Prelude.{◌≡◌, ◌⊎◌, ◌<◌, [], false, So
 ghost use Rattle.std.specs.Option.{ForSome};
 ghost use Rattle.world.specs.Group.{node_of};
 ghost use Rattle.world.specs.IdentityLaw.{IsTooLong};
-ghost use Rattle.world.specs.Plan.{IsReady, RunsAt, names_of, planned, staying, stimulus_by};
+ghost use Rattle.world.specs.Plan.{IsReady, RunsAt, planned, staying, stimulus_by};
 ghost use Rattle.world.specs.Refusals.{IsRefusal, absent, refusal, stale};
 ghost use Rattle.world.specs.Run.{Acts, Tells};
 ghost use Rattle.world.specs.Stimulus.{lent};
@@ -13,7 +13,7 @@ use crate::entry::Entry;
 use crate::error::WorldError;
 use crate::event::{Event, EventOf};
 use crate::lookup::{Running, find_running, node_of, number_at, packet_at};
-use crate::names::{NameSet, are_peers};
+use crate::names::are_peers;
 use crate::node_state::NodeState;
 use crate::plan::{Change, Plan, copy_event, packets_of, prepare_step, start_core};
 use crate::protocol::Core;
@@ -48,6 +48,19 @@ impl<C: Core<A>, A: Allocator + Copy> World<C, A> {
             EventOf::Down { name, peer, dice } => self.plan_down(name, peer, dice, event),
             EventOf::Shuffle { name, dice } => self.plan_shuffle(name, dice, event),
             EventOf::Stop { name } => self.plan_stop(name, event),
+        }
+    }
+
+    /// Refuses an origin that is no fresh run of its node.
+    fn is_fresh(&self, me: &Origin) -> Result<(), WorldError>
+        ensures ok { OnOk result (stale (node_of me.now.name self.now.group.nodes) me.now.incarnation ≡ None) }
+        ensures stale { IfErr result (λ e. stale (node_of me.now.name self.now.group.nodes) me.now.incarnation ≡ Some e) }
+    {
+        match node_of(&self.names, &self.nodes, &me.name) {
+            Some(node) if node.highest >= me.incarnation => Err(WorldError::StaleIncarnation {
+                highest: node.highest,
+            }),
+            _ => Ok(()),
         }
     }
 
@@ -126,7 +139,7 @@ impl<C: Core<A>, A: Allocator + Copy> World<C, A> {
             incarnation: *incarnation,
         };
         let peers = peers.as_slice();
-        is_fresh(&self.names, &self.nodes, &me)?;
+        self.is_fresh(&me)?;
         if !are_peers(&self.limits(), name, peers, contact) {
             return Err(WorldError::BadPeers);
         }
@@ -358,23 +371,5 @@ impl<C: Core<A>, A: Allocator + Copy> World<C, A> {
             again: None,
             entry: self.quiet_entry(event, None)?,
         })
-    }
-}
-
-/// Refuses an origin that is no fresh run of its node.
-fn is_fresh<C, A: Allocator>(
-    names: &NameSet<A>,
-    nodes: &[NodeState<C>],
-    me: &Origin,
-) -> Result<(), WorldError>
-    requires { names.now.keys ≡ names_of nodes.now }
-    ensures ok { OnOk result (stale (node_of me.now.name nodes.now) me.now.incarnation ≡ None) }
-    ensures stale { IfErr result (λ e. stale (node_of me.now.name nodes.now) me.now.incarnation ≡ Some e) }
-{
-    match node_of(names, nodes, &me.name) {
-        Some(node) if node.highest >= me.incarnation => Err(WorldError::StaleIncarnation {
-            highest: node.highest,
-        }),
-        _ => Ok(()),
     }
 }
