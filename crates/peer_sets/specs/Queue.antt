@@ -29,6 +29,11 @@ with_entries peers id round queued = queued ++ map (λ peer. (peer, id, round)) 
 abbrev pub without_entries : Name → List (Name × MsgId × ℕ) → List (Name × MsgId × ℕ)
 without_entries peer queued = filter (λ entry. not (same_name peer entry.0)) queued
 
+-- the queue but the entries for these peers, taken out in turn
+abbrev pub without_all_entries : List Name → List (Name × MsgId × ℕ) → List (Name × MsgId × ℕ)
+without_all_entries [] queued = queued
+without_all_entries (peer ∷ peers) queued = without_all_entries peers (without_entries peer queued)
+
 -- what waits for the peer, in queue order
 abbrev pub waiting_for : Name → List (Name × MsgId × ℕ) → List (MsgId × ℕ)
 waiting_for peer queued = map (λ entry. (entry.1, entry.2)) (filter (λ entry. same_name peer entry.0) queued)

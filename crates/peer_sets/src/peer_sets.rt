@@ -4,7 +4,7 @@ ghost use Rattle.std.specs.List.{IsDistinct};
 ghost use Rattle.node_names.specs.Same.{same_name};
 ghost use Rattle.peer_sets.specs.Members.{is_member, is_eager, IsSplit, all_eager, with_member, without_member, with_kind, lazy_but};
 ghost use Rattle.peer_sets.specs.Queue.{with_entry, with_entries, without_entries, batches};
-ghost use Rattle.peer_sets.specs.PeerSets.{IsSound};
+ghost use Rattle.peer_sets.specs.PeerSets.{IsSound, relinked};
 ghost use Rattle.peer_sets.specs.declared.kind.PeerKind.TheVariants.{Eager, Lazy};
 
 use crate::kind::PeerKind;
@@ -65,6 +65,20 @@ impl<A: Allocator + Copy> PeerSets<A> {
     {
         members::remove(&mut self.members, name);
         queue::remove(&mut self.queued, &mut self.places, name);
+    }
+
+    /// Takes these members out, with the announcements that wait for them, and then adds eager members as `up` does.
+    /// Where memory is refused, nothing is changed.
+    pub fn relink(&mut self, downs: &[NodeName], ups: &[NodeName]) -> Result<(), AllocError>
+        ensures ok { OnOk result (self.new ≡ relinked downs.now ups.now self.old) }
+        ensures err { OnErr result (self.new ≡ self.old) }
+    {
+        let mut members = Vec::from_slice(*self.places.allocator(), &self.members)?;
+        members::remove_all(&mut members, downs);
+        members::add_all(&mut members, ups)?;
+        self.members = members;
+        queue::remove_all(&mut self.queued, &mut self.places, downs);
+        Ok(())
     }
 
     /// Makes a member eager. False: the name is no member, and nothing is changed.

@@ -7,7 +7,7 @@ ghost use Rattle.std.specs.List.{IsDistinct};
 ghost use Rattle.indexmap.specs.IndexSet.{spare};
 ghost use Rattle.node_names.specs.Same.{same_name};
 ghost use Rattle.peer_sets.specs.Members.{is_lazy, lazy_but, names, is_left_out};
-ghost use Rattle.peer_sets.specs.Queue.{place_of, is_queued, with_entry, with_entries, without_entries, waiting_for, receivers, batches};
+ghost use Rattle.peer_sets.specs.Queue.{place_of, is_queued, with_entry, with_entries, without_entries, without_all_entries, waiting_for, receivers, batches};
 
 use crate::members::Member;
 use indexmap::IndexSet;
@@ -126,6 +126,21 @@ pub(crate) fn remove<A: Allocator + Copy>(
 {
     queued.retain(|entry| *peer != entry.0);
     places.retain(|place| *peer != place.0);
+}
+
+/// Takes out the entries for these peers.
+pub(crate) fn remove_all<A: Allocator + Copy>(
+    queued: &mut Vec<Announcement, A>,
+    places: &mut Places<A>,
+    peers: &[NodeName],
+)
+    requires { places.old.keys ≡ map place_of queued.old.items }
+    ensures items { queued.new.items ≡ without_all_entries peers.now queued.old.items }
+    ensures matched { places.new.keys ≡ map place_of queued.new.items }
+{
+    for peer in peers {
+        remove(queued, places, peer);
+    }
 }
 
 /// What waits for the peer.
