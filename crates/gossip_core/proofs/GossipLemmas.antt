@@ -1,7 +1,6 @@
 -- The gossip of a node, by what it holds.
 use Rattle.std.proofs.Common.{◌≡◌, ◌≢◌, ◌⊎◌, inl, inr, ◌∙◌, ◌+◌, ◌<◌, ◌≤◌, ◌||◌, ℕ, Bool, true, false, List, [], ◌∷◌, ◌++◌, None, Some, sym, ap, subst, refl, arith}
 use Rattle.std.specs.FinSet as set
-use Rattle.std.specs.Map.{lookup}
 use Rattle.std.proofs.lemmas.Bool.{false≢true}
 use Rattle.std.proofs.lemmas.List.{map-append}
 use Rattle.std.proofs.lemmas.List.Folds.{list_any-append}
@@ -16,7 +15,7 @@ use Rattle.peer_sets.specs.PeerSets.{PeerSets, relinked}
 use Rattle.peer_sets.specs.Queue.{with_entries, without_all_entries}
 use Rattle.peer_sets.specs.declared.kind.PeerKind.TheVariants.{Eager}
 use Rattle.gossip_core.proofs.IdOrder.{contains-ids, id_antisymmetric, id_total}
-use Rattle.gossip_core.proofs.StoreLemmas.{is_some-lookup, lookup-absent}
+use Rattle.gossip_core.proofs.StoreLemmas.{is_some-lookup}
 use Rattle.gossip_core.specs.Links.{without_each}
 use Rattle.gossip_core.specs.State.{GossipState, IsSound}
 use Rattle.gossip_core.specs.Store.{ids, AreCounted}
@@ -35,8 +34,8 @@ sound_state me spent peers missing held are =
     }
 
 -- the node's next message is not there
-pub lacks_next : (held : List (MsgId × List ℕ)) (me : Origin) (spent : ℕ) → AreCounted me held spent → lookup (same_id (record { origin = me; seq = spent + 1 })) held ≡ None
-lacks_next held me spent are = lookup-absent (record { origin = me; seq = spent + 1 }) held (go (has_id (ids held) (record { origin = me; seq = spent + 1 })) refl)
+pub lacks_next : (held : List (MsgId × List ℕ)) (me : Origin) (spent : ℕ) → AreCounted me held spent → has_id (ids held) (record { origin = me; seq = spent + 1 }) ≡ false
+lacks_next held me spent are = go (has_id (ids held) (record { origin = me; seq = spent + 1 })) refl
   where
     go : (b : Bool) → has_id (ids held) (record { origin = me; seq = spent + 1 }) ≡ b → b ≡ false
     go false is = refl

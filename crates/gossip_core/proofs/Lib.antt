@@ -4,3 +4,4 @@ pub mod PacketLemmas
 pub mod StoreLemmas
 pub mod EffectLemmas
 pub mod LinkLemmas
+pub mod HeldLemmas

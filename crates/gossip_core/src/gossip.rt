@@ -43,7 +43,7 @@ pub struct Gossip<A: Allocator = Global> {
 impl<A: Allocator> Model for Gossip<A> {
     ghost use Rattle.std.specs.FinSet as set;
     ghost use Rattle.gossip_core.specs.State.{GossipState};
-    ghost use Rattle.gossip_core.specs.Store.{AreCounted, ids};
+    ghost use Rattle.gossip_core.specs.Store.{AreCounted, AreHeld, ids};
 
     ghost Value = { GossipState };
 
@@ -55,7 +55,7 @@ impl<A: Allocator> Model for Gossip<A> {
 
     ghost view = { λ g. record { me = g.me; spent = g.spent; peers = g.peers; missing = g.missing; known = set.from_list (ids g.held.entries); held = g.held.entries } };
 
-    ghost invariant = { λ g. AreCounted g.me g.held.entries g.spent };
+    ghost invariant = { λ g. AreCounted g.me g.held.entries g.spent × AreHeld g.held.entries g.peers.queued };
 }
 
 impl<A: Allocator + Copy> Gossip<A> {

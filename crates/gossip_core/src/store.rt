@@ -1,10 +1,10 @@
 //! The messages that a node holds, in order of delivery.
-ghost use Rattle.std.specs.Prelude.{◌≡◌, ◌++◌, ◌<◌, ◌∷◌, [], None, OnOk, OnErr};
+ghost use Rattle.std.specs.Prelude.{◌≡◌, ◌++◌, ◌<◌, ◌∷◌, [], None, false, OnOk, OnErr};
 ghost use Rattle.std.specs.Map.{lookup};
 ghost use Rattle.indexmap.specs.IndexMap.{spare};
 ghost use Rattle.node_names.specs.Same.{same_id};
 ghost use Rattle.peer_sets.specs.Members.{lazy_but};
-ghost use Rattle.peer_sets.specs.Queue.{with_entries};
+ghost use Rattle.peer_sets.specs.Queue.{has_entry_of, with_entries};
 
 use bytes::Bytes;
 use indexmap::IndexMap;
@@ -34,7 +34,8 @@ pub(crate) fn keep<A: Allocator + Copy>(
     round: u32,
     payload: &Bytes<A>,
 ) -> Result<(), AllocError>
-    requires { lookup (same_id id.now) held.old.entries ≡ None }
+    requires absent { lookup (same_id id.now) held.old.entries ≡ None }
+    requires unqueued { has_entry_of id.now peers.old.queued ≡ false }
     ensures held { OnOk result (held.new.entries ≡ held.old.entries ++ (id.now, payload.now) ∷ []) }
     ensures peers { OnOk result (peers.new ≡ record peers.old { queued = with_entries (lazy_but left_out.now peers.old.members) id.now round peers.old.queued }) }
     ensures err { OnErr result ((held.new.entries ≡ held.old.entries) × (peers.new ≡ peers.old)) }

@@ -72,7 +72,11 @@ module _ (members : List (Name × PeerKind)) (queued : List (Name × MsgId × �
         once = subst (IsDistinct same_place) (sym (places-without name queued)) (distinct-filter same_place (λ p. not (same_name name p.0)) (map place_of queued) sound.once);
       }
 
-  -- ---- the queue grows
+  -- ---- the queue changes
+
+  pub sound-cleared : IsSound (record { members = members; queued = [] })
+  unfolding IsDistinct
+  sound-cleared = record { distinct = sound.distinct; for_members = tt; once = tt }
 
   pub sound-with_entry : (peer : Name) (id : MsgId) (round : ℕ) → is_member members peer ≡ true → IsSound (record { members = members; queued = with_entry peer id round queued })
   sound-with_entry peer id round is = go (is_queued peer id queued) refl

@@ -17,6 +17,10 @@ same_place a b = same_name a.0 b.0 && same_id a.1 b.1
 abbrev pub is_queued : Name → MsgId → List (Name × MsgId × ℕ) → Bool
 is_queued peer id queued = list_any (same_place (peer, id)) (map place_of queued)
 
+-- whether an entry of the id waits for somebody
+abbrev pub has_entry_of : MsgId → List (Name × MsgId × ℕ) → Bool
+has_entry_of id queued = list_any (λ entry. same_id id entry.1) queued
+
 -- the queue and this entry, which goes last; there is one entry at most for a peer and an id
 abbrev pub with_entry : Name → MsgId → ℕ → List (Name × MsgId × ℕ) → List (Name × MsgId × ℕ)
 with_entry peer id round queued = if is_queued peer id queued then queued else queued ++ (peer, id, round) ∷ []
