@@ -1,5 +1,5 @@
 -- The gossip of a node, by what it holds.
-use Rattle.std.proofs.Common.{◌≡◌, ◌≢◌, ◌⊎◌, inl, inr, ◌∙◌, ◌+◌, ◌<◌, ◌≤◌, ◌||◌, ℕ, Bool, true, false, List, [], ◌∷◌, ◌++◌, None, Some, map, sym, ap, subst, refl, arith}
+use Rattle.std.proofs.Common.{◌≡◌, ◌≢◌, ◌⊎◌, inl, inr, ◌∙◌, ◌+◌, ◌<◌, ◌≤◌, ◌||◌, ℕ, Bool, true, false, List, [], ◌∷◌, ◌++◌, None, Some, sym, ap, subst, refl, arith}
 use Rattle.std.specs.FinSet as set
 use Rattle.std.proofs.lemmas.Bool.{false≢true}
 use Rattle.std.proofs.lemmas.List.{map-append}
@@ -10,17 +10,17 @@ use Rattle.node_names.specs.Same.{same_id, same_id-Decides, has_id}
 use Rattle.node_names.specs.declared.ids.Origin.{Origin}
 use Rattle.node_names.specs.declared.ids.MsgId.{MsgId}
 use Rattle.missing.specs.Missing.{Missing, got}
-use Rattle.peer_sets.specs.Members.{eager_but, lazy_but, with_kind}
-use Rattle.peer_sets.specs.PeerSets.{PeerSets}
-use Rattle.peer_sets.specs.Queue.{with_entries}
+use Rattle.peer_sets.specs.Members.{lazy_but, with_kind, with_members, without_members}
+use Rattle.peer_sets.specs.PeerSets.{PeerSets, relinked}
+use Rattle.peer_sets.specs.Queue.{with_entries, without_all_entries}
 use Rattle.peer_sets.specs.declared.kind.PeerKind.TheVariants.{Eager}
 use Rattle.gossip_core.proofs.IdOrder.{contains-ids, id_antisymmetric, id_total}
 use Rattle.gossip_core.proofs.StoreLemmas.{is_some-lookup}
-use Rattle.gossip_core.specs.Announcements.{announcements}
-use Rattle.gossip_core.specs.Effects.{Effects}
+use Rattle.gossip_core.specs.Links.{without_each}
 use Rattle.gossip_core.specs.State.{GossipState, IsSound}
 use Rattle.gossip_core.specs.Store.{ids, AreCounted}
-use Rattle.gossip_core.specs.Table.{Broadcast, Flush, Does, Gives, first_copy, gossip_to, next_round}
+use Rattle.gossip_core.specs.Table.{outcome, first_copy, next_round, after_downs, after_ups}
+use Rattle.gossip_core.specs.declared.call.CallOf.TheVariants.{Broadcast, Down, Up}
 
 -- what contracts see of these fields
 abbrev pub state_of : Origin → ℕ → PeerSets → Missing → List (MsgId × List ℕ) → GossipState
@@ -32,6 +32,17 @@ sound_state me spent peers missing held are =
       counted = λ id is. are.each id (sym (contains-ids (ids held) id) ∙ is);
       held_is_known = λ id is. contains-ids (ids held) id ∙ sym (is_some-lookup id held) ∙ is;
     }
+
+-- the node's next message is not there
+pub lacks_next : (held : List (MsgId × List ℕ)) (me : Origin) (spent : ℕ) → AreCounted me held spent → has_id (ids held) (record { origin = me; seq = spent + 1 }) ≡ false
+lacks_next held me spent are = go (has_id (ids held) (record { origin = me; seq = spent + 1 })) refl
+  where
+    go : (b : Bool) → has_id (ids held) (record { origin = me; seq = spent + 1 }) ≡ b → b ≡ false
+    go false is = refl
+    go true is = absurd (beyond ((are.each (record { origin = me; seq = spent + 1 }) is refl).1))
+      where
+        beyond : spent + 1 ≤ spent → ⊥
+        beyond h = omega (arith, h)
 
 -- ---- one more message
 
@@ -64,56 +75,50 @@ module _ (held : List (MsgId × List ℕ)) (id : MsgId) (payload : List ℕ) whe
 
 -- ---- the rows of the table
 
-module _ (me : Origin) (spent : ℕ) (peers : PeerSets) (missing : Missing) (held : List (MsgId × List ℕ)) (before : Effects) where
+module _ (me : Origin) (spent : ℕ) (peers : PeerSets) (missing : Missing) (held : List (MsgId × List ℕ)) where
   -- the message that is broadcast
   abbrev Broadcasts : ℕ → Type 0
   Broadcasts seq =
-      (payload : List ℕ) (peers' : PeerSets) (held' : List (MsgId × List ℕ)) (after : Effects)
+      (payload : List ℕ) (peers' : PeerSets) (held' : List (MsgId × List ℕ))
       → held' ≡ held ++ (record { origin = me; seq = seq }, payload) ∷ []
       → peers' ≡ record peers { queued = with_entries (lazy_but None peers.members) (record { origin = me; seq = seq }) 0 peers.queued }
-      → after ≡ record { sends = before.sends ++ map (gossip_to (record { origin = me; seq = seq }) 0 payload) (eager_but None peers.members); delivered = Some (record { origin = me; seq = seq }, payload) }
-      → Does (Broadcast payload) (state_of me spent peers missing held) before (state_of me seq peers' missing held') after
+      → state_of me seq peers' missing held' ≡ (outcome (state_of me spent peers missing held) (Broadcast payload)).state
 
-  pub does_broadcast : (seq : ℕ) → seq ≡ spent + 1 → Broadcasts seq
-  does_broadcast seq next =
+  pub after_broadcast : (seq : ℕ) → seq ≡ spent + 1 → Broadcasts seq
+  after_broadcast seq next =
       subst Broadcasts (sym next)
-      (λ payload peers' held' after is_held is_peers is_after.
+      (λ payload peers' held' is_held is_peers.
       let id : MsgId = record { origin = me; seq = spent + 1 } in
       let is_known : set.from_list {R = id_cmp} (ids held') ≡ set.insert (set.from_list (ids held)) id = ap (λ h. set.from_list (ids h)) is_held ∙ known-push held id payload in
-      record {
-        leaves = λ i. record { me = me; spent = spent + 1; peers = is_peers i; missing = missing; known = is_known i; held = is_held i };
-        sent = ap (λ (e : Effects). e.sends) is_after;
-        delivers = ap (λ (e : Effects). e.delivered) is_after;
-      })
+      λ i. record { me = me; spent = spent + 1; peers = is_peers i; missing = missing; known = is_known i; held = is_held i })
 
   -- the first copy of a message
   abbrev Takes : ℕ → ℕ → Type 0
   Takes round next =
-      (sender : Name) (id : MsgId) (payload : List ℕ) (peers' peers'' : PeerSets) (missing' : Missing) (held' : List (MsgId × List ℕ)) (after : Effects)
+      (sender : Name) (id : MsgId) (payload : List ℕ) (peers' peers'' : PeerSets) (missing' : Missing) (held' : List (MsgId × List ℕ))
       → held' ≡ held ++ (id, payload) ∷ []
       → peers' ≡ record peers { queued = with_entries (lazy_but (Some sender) peers.members) id next peers.queued }
-      → after ≡ record { sends = before.sends ++ map (gossip_to id next payload) (eager_but (Some sender) peers.members); delivered = Some (id, payload) }
       → missing' ≡ got id missing
       → peers'' ≡ record peers' { members = with_kind sender Eager peers'.members }
-      → Gives (first_copy sender id round payload (state_of me spent peers missing held)) before (state_of me spent peers'' missing' held') after
+      → state_of me spent peers'' missing' held' ≡ (first_copy sender id round payload (state_of me spent peers missing held)).state
 
-  pub does_first_copy : (round next : ℕ) → next ≡ next_round round → Takes round next
-  does_first_copy round next is_next =
+  pub after_first_copy : (round next : ℕ) → next ≡ next_round round → Takes round next
+  after_first_copy round next is_next =
       subst (Takes round) (sym is_next)
-      (λ sender id payload peers' peers'' missing' held' after is_held is_peers is_after is_missing is_eager.
+      (λ sender id payload peers' peers'' missing' held' is_held is_peers is_missing is_eager.
       let is_known : set.from_list {R = id_cmp} (ids held') ≡ set.insert (set.from_list (ids held)) id = ap (λ h. set.from_list (ids h)) is_held ∙ known-push held id payload in
       let are_peers : peers'' ≡ record { members = with_kind sender Eager peers.members; queued = with_entries (lazy_but (Some sender) peers.members) id (next_round round) peers.queued } = is_eager ∙ ap (λ (p : PeerSets). record p { members = with_kind sender Eager p.members }) is_peers in
-      record {
-        leaves = λ i. record { me = me; spent = spent; peers = are_peers i; missing = is_missing i; known = is_known i; held = is_held i };
-        sent = ap (λ (e : Effects). e.sends) is_after;
-        delivers = ap (λ (e : Effects). e.delivered) is_after;
-      })
+      λ i. record { me = me; spent = spent; peers = are_peers i; missing = is_missing i; known = is_known i; held = is_held i })
 
-  -- what waits is announced
-  pub does_flush : (peers' : PeerSets) (sends : List _) → peers' ≡ record peers { queued = [] } → sends ≡ before.sends ++ announcements peers.queued → Does Flush (state_of me spent peers missing held) before (state_of me spent peers' missing held) (record before { sends = sends })
-  does_flush peers' sends is_peers is_sends =
-      record {
-        leaves = ap (λ p. state_of me spent p missing held) is_peers;
-        sent = is_sends;
-        delivers = refl;
-      }
+-- ---- links go down and come up
+
+pub after_downs-is : (downs : List Name) (g : GossipState) → after_downs downs g ≡ record g { peers = record { members = without_members downs g.peers.members; queued = without_all_entries downs g.peers.queued }; missing = without_each downs g.missing }
+after_downs-is [] g = refl
+after_downs-is (name ∷ names) g = after_downs-is names (outcome g (Down name)).state
+
+pub after_ups-is : (ups : List Name) (g : GossipState) → after_ups ups g ≡ record g { peers = record g.peers { members = with_members ups g.peers.members } }
+after_ups-is [] g = refl
+after_ups-is (name ∷ names) g = after_ups-is names (outcome g (Up name)).state
+
+pub after_links : (downs ups : List Name) (g : GossipState) → record g { peers = relinked downs ups g.peers; missing = without_each downs g.missing } ≡ after_ups ups (after_downs downs g)
+after_links downs ups g = sym (ap (after_ups ups) (after_downs-is downs g) ∙ after_ups-is ups (record g { peers = record { members = without_members downs g.peers.members; queued = without_all_entries downs g.peers.queued }; missing = without_each downs g.missing }))

@@ -2,3 +2,6 @@ pub mod GossipLemmas
 pub mod IdOrder
 pub mod PacketLemmas
 pub mod StoreLemmas
+pub mod EffectLemmas
+pub mod LinkLemmas
+pub mod HeldLemmas

@@ -4,3 +4,5 @@ pub mod State
 pub mod Announcements
 pub mod Store
 pub mod Table
+pub mod Refusals
+pub mod Links

@@ -1,9 +1,8 @@
--- Where the held messages stand.
-use Rattle.std.specs.Prelude.{◌≡◌, ℕ, suc, ◌<◌, ◌≤◌, true, List, [], ◌∷◌, Option, None, Some, map, if◌then◌else◌}
-use Rattle.std.specs.Option.{option_map}
-use Rattle.std.specs.BTreeMap.{BTreeMap, get}
-use Rattle.node_names.specs.Order.{id_cmp}
-use Rattle.node_names.specs.Same.{same_id, has_id}
+-- The messages that a node holds.
+use Rattle.std.specs.Prelude.{◌≡◌, ℕ, ◌<◌, ◌≤◌, true, List, map}
+use Rattle.std.specs.List.{AllByRecursion as Each}
+use Rattle.node_names.specs.NodeName.{Name}
+use Rattle.node_names.specs.Same.{has_id}
 use Rattle.node_names.specs.declared.ids.Origin.{Origin}
 use Rattle.node_names.specs.declared.ids.MsgId.{MsgId}
 
@@ -11,15 +10,10 @@ use Rattle.node_names.specs.declared.ids.MsgId.{MsgId}
 abbrev pub ids : List (MsgId × List ℕ) → List MsgId
 ids held = map (λ message. message.0) held
 
--- the place of the first message of the id
-abbrev pub place_of : MsgId → List (MsgId × List ℕ) → Option ℕ
-place_of id [] = None
-place_of id (message ∷ held) = if same_id id message.0 then Some 0 else option_map suc (place_of id held)
-
--- The places are those of the messages.
-pub record AreIn (held : List (MsgId × List ℕ)) (places : BTreeMap MsgId ℕ) : Type 0 where
-  pub each : (id : MsgId) → get id_cmp places id ≡ place_of id held
-
 -- Of this run's own messages only those that were counted are there.
 pub record AreCounted (me : Origin) (held : List (MsgId × List ℕ)) (spent : ℕ) : Type 0 where
   pub each : (id : MsgId) → has_id (ids held) id ≡ true → id.origin ≡ me → (0 < id.seq) × (id.seq ≤ spent)
+
+-- What waits to be announced is there.
+pub record AreHeld (held : List (MsgId × List ℕ)) (queued : List (Name × MsgId × ℕ)) : Type 0 where
+  pub each : Each (λ entry. has_id (ids held) entry.1 ≡ true) queued

@@ -1,5 +1,6 @@
 -- What a node's gossip does, call by call: the broadcast tree by eager pushes, with lazy announcements to repair it.
 use Rattle.std.specs.Prelude.{◌≡◌, ℕ, ◌+◌, ◌-◌, ◌^◌, ◌&&◌, Bool, not, List, [], ◌∷◌, ◌++◌, Option, None, Some, min, map, filter, if◌then◌else◌}
+use denote.Ref.{Bor}
 use Rattle.std.specs.FinSet as set
 use Rattle.std.specs.Map.{lookup}
 use Rattle.node_names.specs.NodeName.{Name}
@@ -13,22 +14,28 @@ use Rattle.peer_sets.specs.Members.{is_member, eager_but, lazy_but, with_member,
 use Rattle.peer_sets.specs.Queue.{with_entries, without_entries}
 use Rattle.peer_sets.specs.declared.kind.PeerKind.{PeerKind}
 use Rattle.peer_sets.specs.declared.kind.PeerKind.TheVariants.{Eager, Lazy}
+use Rattle.gossip_core.specs.declared.call.CallOf.{CallOf}
+use Rattle.gossip_core.specs.declared.call.CallOf.TheVariants.{Broadcast, OnGossip, OnIHave, Fire, OnGraft, OnPrune, Flush, Up, Down}
 use Rattle.gossip_core.specs.Announcements.{announcements}
 use Rattle.gossip_core.specs.Effects.{Effects}
 use Rattle.gossip_core.specs.State.{GossipState}
 
 -- A call of a node's gossip: the application broadcasts, a packet comes, a timer fires, what waits is to be sent, or a
 -- link comes up or goes down.
-pub data Call : Type 0 where
-  Broadcast : (payload : List ℕ) → Call
-  OnGossip : (sender : Name) (id : MsgId) (round : ℕ) (payload : List ℕ) → Call
-  OnIHave : (sender : Name) (entries : List (MsgId × ℕ)) → Call
-  Fire : (id : MsgId) → Call
-  OnGraft : (sender : Name) (id : MsgId) (round : ℕ) → Call
-  OnPrune : (sender : Name) → Call
-  Flush : Call
-  Up : (peer : Name) → Call
-  Down : (peer : Name) → Call
+abbrev pub Call : Type 0
+Call = CallOf (List ℕ) (List (MsgId × ℕ))
+
+-- the call that a borrowed one is
+abbrev pub lent : CallOf (Bor (List ℕ)) (Bor (List (MsgId × ℕ))) → Call
+lent (Broadcast payload) = Broadcast payload.now
+lent (OnGossip sender id round payload) = OnGossip sender id round payload.now
+lent (OnIHave sender entries) = OnIHave sender entries.now
+lent (Fire id) = Fire id
+lent (OnGraft sender id round) = OnGraft sender id round
+lent (OnPrune sender) = OnPrune sender
+lent Flush = Flush
+lent (Up peer) = Up peer
+lent (Down peer) = Down peer
 
 -- What a call leaves, what it sends and what it delivers.
 pub record Outcome : Type 0 where
@@ -118,6 +125,16 @@ outcome g Flush = record { state = record g { peers = record g.peers { queued = 
 outcome g (Up peer) = quiet (record g { peers = record g.peers { members = with_member peer g.peers.members } })
 outcome g (Down peer) =
     quiet (record g { peers = record { members = without_member peer g.peers.members; queued = without_entries peer g.peers.queued }; missing = without peer g.missing })
+
+-- the gossip after these links went down
+abbrev pub after_downs : List Name → GossipState → GossipState
+after_downs [] g = g
+after_downs (name ∷ names) g = after_downs names (outcome g (Down name)).state
+
+-- and after these came up
+abbrev pub after_ups : List Name → GossipState → GossipState
+after_ups [] g = g
+after_ups (name ∷ names) g = after_ups names (outcome g (Up name)).state
 
 -- the delivery that stands after a call
 abbrev pub latest : Option (MsgId × List ℕ) → Option (MsgId × List ℕ) → Option (MsgId × List ℕ)

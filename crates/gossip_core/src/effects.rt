@@ -1,5 +1,5 @@
 //! What a node's gossip gives: packets to send, and a message to deliver.
-ghost use Rattle.std.specs.Prelude.{◌≡◌, [], ◌∷◌, ◌++◌, None, Some, OnOk, OnErr};
+ghost use Rattle.std.specs.Prelude.{◌≡◌, [], ◌∷◌, ◌++◌, take, None, IfOk, OnOk, OnErr};
 
 use bytes::Bytes;
 use frames::Body;
@@ -30,6 +30,8 @@ impl<A: Allocator> Model for Effects<A> {
 }
 
 impl<A: Allocator + Copy> Effects<A> {
+    ghost use Rattle.gossip_core.specs.Table.{latest};
+
     /// Nothing to send and nothing to deliver. It takes no memory.
     pub fn new(alloc: A) -> Self
         ensures sends { result.sends ≡ [] }
@@ -41,19 +43,43 @@ impl<A: Allocator + Copy> Effects<A> {
         }
     }
 
-    /// Puts a packet last.
-    pub(crate) fn send(&mut self, to: &NodeName, body: Body<A>) -> Result<(), AllocError>
-        ensures ok { OnOk result (self.new ≡ record self.old { sends = self.old.sends ++ (to.now, body) ∷ [] }) }
+    /// One packet, and nothing to deliver.
+    pub(crate) fn packet(alloc: A, to: &NodeName, body: Body<A>) -> Result<Self, AllocError>
+        ensures { IfOk result (λ effects. effects ≡ record { sends = (to.now, body) ∷ []; delivered = None }) }
+    {
+        let mut sends = Listed::new(alloc);
+        sends.push((*to, body))?;
+        Ok(Effects {
+            sends,
+            delivered: None,
+        })
+    }
+
+    /// Appends the packets.
+    pub(crate) fn send_all(
+        &mut self,
+        sends: Listed<(NodeName, Body<A>), A>,
+    ) -> Result<(), AllocError>
+        ensures ok { OnOk result (self.new ≡ record self.old { sends = self.old.sends ++ sends }) }
         ensures err { OnErr result (self.new ≡ self.old) }
     {
-        self.sends.push((*to, body))?;
+        self.sends.append(sends.into_vec())?;
         Ok(())
     }
 
-    /// Delivers the message.
-    pub(crate) fn deliver(&mut self, id: &MsgId, payload: Bytes<A>)
-        ensures { self.new ≡ record self.old { delivered = Some (id.now, payload) } }
+    /// Drops all packets but the first `n`.
+    pub(crate) fn keep_first(&mut self, n: usize)
+        ensures { self.new ≡ record self.old { sends = take n self.old.sends } }
     {
-        self.delivered = Some((*id, payload));
+        self.sends.truncate(n);
+    }
+
+    /// Delivers the message, if there is one.
+    pub(crate) fn deliver(&mut self, delivered: Option<(MsgId, Bytes<A>)>)
+        ensures { self.new ≡ record self.old { delivered = latest self.old.delivered delivered } }
+    {
+        if delivered.is_some() {
+            self.delivered = delivered;
+        }
     }
 }

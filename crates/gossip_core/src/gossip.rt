@@ -6,41 +6,44 @@ ghost use Rattle.std.specs.Map.{lookup};
 ghost use Rattle.std.specs.Option.{option_copied};
 ghost use Rattle.node_names.specs.Same.{same_id, same_name};
 ghost use Rattle.peer_sets.specs.Members.{all_eager};
+ghost use Rattle.gossip_core.specs.Refusals.{CanTake, IsTooLong, IsSpent};
 ghost use Rattle.gossip_core.specs.State.{GossipState, IsSound};
-ghost use Rattle.gossip_core.specs.Table.{Broadcast, OnGossip, OnIHave, Fire, OnGraft, OnPrune, Flush, Up, Down, Does, Gives, outcome, is_news, next_id, repeated, first_copy, asked, answer};
+ghost use Rattle.gossip_core.specs.Table.{lent, Does, outcome, is_news, next_id, repeated, first_copy, after_downs, after_ups};
+ghost use Rattle.gossip_core.specs.declared.call.CallOf.TheVariants.{Broadcast, OnGossip, OnIHave, Fire, OnGraft, OnPrune, Flush, Up, Down};
 
-use crate::announcements::announcements;
+use crate::answers::answers;
+use crate::call::{Call, CallOf};
 use crate::effects::Effects;
 use crate::fault::GossipFault;
-use crate::spread::gossip;
-use crate::store::{self, Message, Places};
+use crate::links::down_all;
+use crate::store::{self, Held};
 use bytes::Bytes;
-use frames::BodyOf;
+use indexmap::IndexMap;
 use missing::Missing;
 use node_names::{MsgId, NodeName, Origin};
 use peer_sets::PeerSets;
 use std::alloc::{AllocError, Allocator, Global};
-use std::collections::BTreeMap;
 use std::marker::Model;
 use world::MAX_PAYLOAD;
 
 /// The gossip of one run of one node: which messages it has, to whom it sends them, and how it repairs what it lacks.
 ///
-/// Looking a message up costs the logarithm of the number of messages. A copy costs their number.
+/// A call has two halves: `answer` says what it will send and deliver, and `take` changes the state. A caller who makes
+/// room for the answer in between has nothing left that can be refused after `take`. The other calls are both halves in
+/// one. Looking a message up costs the same however many are held. A copy costs their number.
 #[derive(Drop)]
 pub struct Gossip<A: Allocator = Global> {
     me: Origin,
     spent: u64,
     peers: PeerSets<A>,
     missing: Missing<A>,
-    held: Vec<Message<A>, A>,
-    places: Places<A>,
+    held: Held<A>,
 }
 
 impl<A: Allocator> Model for Gossip<A> {
     ghost use Rattle.std.specs.FinSet as set;
     ghost use Rattle.gossip_core.specs.State.{GossipState};
-    ghost use Rattle.gossip_core.specs.Store.{AreIn, AreCounted, ids};
+    ghost use Rattle.gossip_core.specs.Store.{AreCounted, AreHeld, ids};
 
     ghost Value = { GossipState };
 
@@ -50,9 +53,9 @@ impl<A: Allocator> Model for Gossip<A> {
 
     ghost coded = { Prim.hlevel (codes, set.code {R = id_cmp} id.the_row.coded) };
 
-    ghost view = { λ g. record { me = g.me; spent = g.spent; peers = g.peers; missing = g.missing; known = set.from_list (ids g.held.items); held = g.held.items } };
+    ghost view = { λ g. record { me = g.me; spent = g.spent; peers = g.peers; missing = g.missing; known = set.from_list (ids g.held.entries); held = g.held.entries } };
 
-    ghost invariant = { λ g. AreIn g.held.items g.places × AreCounted g.me g.held.items g.spent };
+    ghost invariant = { λ g. AreCounted g.me g.held.entries g.spent × AreHeld g.held.entries g.peers.queued };
 }
 
 impl<A: Allocator + Copy> Gossip<A> {
@@ -74,9 +77,199 @@ impl<A: Allocator + Copy> Gossip<A> {
             spent: seq_spent,
             peers: PeerSets::new(alloc, peers)?,
             missing: Missing::new(alloc),
-            held: Vec::new(alloc),
-            places: BTreeMap::new(alloc),
+            held: IndexMap::new(alloc),
         })
+    }
+
+    /// What the call will send and deliver. It changes nothing. The refusals are tested in the order of `GossipFault`.
+    pub fn answer(&self, call: &Call<'_, A>) -> Result<Effects<A>, GossipFault>
+        ensures ok { IfOk result (λ effects. effects ≡ record { sends = (outcome self.now (lent call.now)).sends; delivered = (outcome self.now (lent call.now)).delivered }) }
+        ensures taken { OnOk result (CanTake self.now (lent call.now)) }
+        ensures too_long { IsErrOf result GossipFault.PayloadTooLong ↔ IsTooLong (lent call.now) }
+        ensures spent { IsErrOf result GossipFault.SeqSpent ↔ IsSpent self.now (lent call.now) }
+    {
+        self.judge(call)?;
+        Ok(answers(*self.held.allocator(), self, call)?)
+    }
+
+    /// Whether the call may be made.
+    fn judge(&self, call: &Call<'_, A>) -> Result<(), GossipFault>
+        ensures taken { OnOk result (CanTake self.now (lent call.now)) }
+        ensures too_long { IsErrOf result GossipFault.PayloadTooLong ↔ IsTooLong (lent call.now) }
+        ensures spent { IsErrOf result GossipFault.SeqSpent ↔ IsSpent self.now (lent call.now) }
+        ensures memory { IsErrOf result GossipFault.OutOfMemory → ⊥ }
+    {
+        match call {
+            CallOf::Broadcast { payload } => self.judge_broadcast(payload),
+            CallOf::OnGossip { .. }
+            | CallOf::OnIHave { .. }
+            | CallOf::Fire { .. }
+            | CallOf::OnGraft { .. }
+            | CallOf::OnPrune { .. }
+            | CallOf::Flush
+            | CallOf::Up { .. }
+            | CallOf::Down { .. } => Ok(()),
+        }
+    }
+
+    /// Whether the message may be broadcast.
+    fn judge_broadcast(&self, payload: &Bytes<A>) -> Result<(), GossipFault>
+        ensures taken { OnOk result (CanTake self.now (Broadcast payload.now)) }
+        ensures too_long { IsErrOf result GossipFault.PayloadTooLong ↔ IsTooLong (Broadcast payload.now) }
+        ensures spent { IsErrOf result GossipFault.SeqSpent ↔ IsSpent self.now (Broadcast payload.now) }
+        ensures memory { IsErrOf result GossipFault.OutOfMemory → ⊥ }
+    {
+        if payload.len() > MAX_PAYLOAD {
+            return Err(GossipFault::PayloadTooLong);
+        }
+        if self.spent == u64::MAX {
+            return Err(GossipFault::SeqSpent);
+        }
+        Ok(())
+    }
+
+    /// Changes the state as the call does, or not at all where memory is refused.
+    pub fn take(&mut self, call: &Call<'_, A>) -> Result<(), AllocError>
+        requires { CanTake self.old (lent call.now) }
+        ensures ok { OnOk result (self.new ≡ (outcome self.old (lent call.now)).state) }
+        ensures err { OnErr result (self.new ≡ self.old) }
+    {
+        match call {
+            CallOf::Broadcast { payload } => self.take_broadcast(payload),
+            CallOf::OnGossip {
+                sender,
+                id,
+                round,
+                payload,
+            } => self.take_gossip(sender, id, *round, payload),
+            CallOf::OnIHave { sender, entries } => self.on_ihave(sender, entries),
+            CallOf::Fire { id } => {
+                self.take_fire(id);
+                Ok(())
+            }
+            CallOf::OnGraft { sender, .. } => {
+                self.peers.make_eager(sender);
+                Ok(())
+            }
+            CallOf::OnPrune { sender } => {
+                self.on_prune(sender);
+                Ok(())
+            }
+            CallOf::Flush => {
+                self.peers.clear_queue();
+                Ok(())
+            }
+            CallOf::Up { peer } => self.up(peer),
+            CallOf::Down { peer } => {
+                self.down(peer);
+                Ok(())
+            }
+        }
+    }
+
+    /// Holds and queues the node's next message.
+    fn take_broadcast(&mut self, payload: &Bytes<A>) -> Result<(), AllocError>
+        requires { CanTake self.old (Broadcast payload.now) }
+        ensures ok { OnOk result (self.new ≡ (outcome self.old (Broadcast payload.now)).state) }
+        ensures err { OnErr result (self.new ≡ self.old) }
+    {
+        let seq = self.spent + 1;
+        let id = MsgId {
+            origin: self.me,
+            seq,
+        };
+        store::keep(&mut self.held, &mut self.peers, &None, &id, 0, payload)?;
+        self.spent = seq;
+        Ok(())
+    }
+
+    /// Takes a packet that carries a message.
+    fn take_gossip(
+        &mut self,
+        sender: &NodeName,
+        id: &MsgId,
+        round: u32,
+        payload: &Bytes<A>,
+    ) -> Result<(), AllocError>
+        ensures ok { OnOk result (self.new ≡ (outcome self.old (OnGossip sender.now id.now round payload.now)).state) }
+        ensures err { OnErr result (self.new ≡ self.old) }
+    {
+        if self.knows(id) {
+            self.take_repeated(sender);
+            return Ok(());
+        }
+        if id.origin == self.me {
+            return Ok(());
+        }
+        self.take_first_copy(sender, id, round, payload)
+    }
+
+    /// A known message came again.
+    fn take_repeated(&mut self, sender: &NodeName)
+        ensures { self.new ≡ (repeated sender.now self.old).state }
+    {
+        if self.peers.is_member(sender) {
+            self.peers.make_lazy(sender);
+        }
+    }
+
+    /// A message of another run came for the first time.
+    fn take_first_copy(
+        &mut self,
+        sender: &NodeName,
+        id: &MsgId,
+        round: u32,
+        payload: &Bytes<A>,
+    ) -> Result<(), AllocError>
+        requires unknown { set.contains self.old.known id.now ≡ false }
+        requires foreign { id.now.origin ≢ self.old.me }
+        ensures ok { OnOk result (self.new ≡ (first_copy sender.now id.now round payload.now self.old).state) }
+        ensures err { OnErr result (self.new ≡ self.old) }
+    {
+        store::keep(
+            &mut self.held,
+            &mut self.peers,
+            &Some(*sender),
+            id,
+            round.saturating_add(1),
+            payload,
+        )?;
+        self.missing.got(id);
+        self.peers.make_eager(sender);
+        Ok(())
+    }
+
+    /// The timer of the id fires: who announced it first is eager from now on.
+    fn take_fire(&mut self, id: &MsgId)
+        ensures { self.new ≡ (outcome self.old (Fire id.now)).state }
+    {
+        if !self.missing.armed(id) {
+            return;
+        }
+        if let Some((peer, _)) = self.missing.take_first(id) {
+            self.peers.make_eager(&peer);
+        }
+    }
+
+    /// Makes the call, and appends what it sends and delivers.
+    fn make(&mut self, call: &Call<'_, A>, out: &mut Effects<A>) -> Result<(), AllocError>
+        requires { CanTake self.old (lent call.now) }
+        ensures ok { OnOk result (Does (lent call.now) self.old out.old self.new out.new) }
+        ensures err { OnErr result ((self.new ≡ self.old) × (out.new ≡ out.old)) }
+    {
+        let given = answers(*self.held.allocator(), self, call)?;
+        let kept = out.sends.len();
+        out.send_all(given.sends)?;
+        match self.take(call) {
+            Ok(()) => {
+                out.deliver(given.delivered);
+                Ok(())
+            }
+            Err(e) => {
+                out.keep_first(kept);
+                Err(e)
+            }
+        }
     }
 
     /// Takes the application's next message. The refusals are tested in the order of `GossipFault`.
@@ -91,27 +284,12 @@ impl<A: Allocator + Copy> Gossip<A> {
         ensures spent { IsErrOf result GossipFault.SeqSpent ↔ ((length payload.now ≤ MAX_PAYLOAD) × (self.old.spent ≡ u64.MAX)) }
         ensures err { OnErr result ((self.new ≡ self.old) × (out.new ≡ out.old)) }
     {
-        if payload.len() > MAX_PAYLOAD {
-            return Err(GossipFault::PayloadTooLong);
-        }
-        let Some(seq) = self.spent.checked_add(1) else {
-            return Err(GossipFault::SeqSpent);
-        };
+        self.judge_broadcast(payload)?;
         let id = MsgId {
             origin: self.me,
-            seq,
+            seq: self.spent + 1,
         };
-        store::take(
-            &mut self.held,
-            &mut self.places,
-            &mut self.peers,
-            &None,
-            &id,
-            0,
-            payload,
-            out,
-        )?;
-        self.spent = seq;
+        self.make(&CallOf::Broadcast { payload }, out)?;
         Ok(id)
     }
 
@@ -127,55 +305,13 @@ impl<A: Allocator + Copy> Gossip<A> {
         ensures ok { OnOk result (Does (OnGossip sender.now id.now round payload.now) self.old out.old self.new out.new) }
         ensures err { OnErr result ((self.new ≡ self.old) × (out.new ≡ out.old)) }
     {
-        if self.knows(id) {
-            return self.on_repeated(sender, out);
-        }
-        if id.origin == self.me {
-            return Ok(());
-        }
-        self.on_first_copy(sender, id, round, payload, out)
-    }
-
-    /// A known message came again.
-    fn on_repeated(&mut self, sender: &NodeName, out: &mut Effects<A>) -> Result<(), AllocError>
-        ensures ok { OnOk result (Gives (repeated sender.now self.old) out.old self.new out.new) }
-        ensures err { OnErr result ((self.new ≡ self.old) × (out.new ≡ out.old)) }
-    {
-        if !self.peers.is_member(sender) {
-            return Ok(());
-        }
-        out.send(sender, BodyOf::Prune)?;
-        self.peers.make_lazy(sender);
-        Ok(())
-    }
-
-    /// A message of another run came for the first time.
-    fn on_first_copy(
-        &mut self,
-        sender: &NodeName,
-        id: &MsgId,
-        round: u32,
-        payload: &Bytes<A>,
-        out: &mut Effects<A>,
-    ) -> Result<(), AllocError>
-        requires unknown { set.contains self.old.known id.now ≡ false }
-        requires foreign { id.now.origin ≢ self.old.me }
-        ensures ok { OnOk result (Gives (first_copy sender.now id.now round payload.now self.old) out.old self.new out.new) }
-        ensures err { OnErr result ((self.new ≡ self.old) × (out.new ≡ out.old)) }
-    {
-        store::take(
-            &mut self.held,
-            &mut self.places,
-            &mut self.peers,
-            &Some(*sender),
-            id,
-            round.saturating_add(1),
+        let call = CallOf::OnGossip {
+            sender: *sender,
+            id: *id,
+            round,
             payload,
-            out,
-        )?;
-        self.missing.got(id);
-        self.peers.make_eager(sender);
-        Ok(())
+        };
+        self.make(&call, out)
     }
 
     /// The announcements of messages that the node lacks, and did not broadcast itself.
@@ -212,20 +348,7 @@ impl<A: Allocator + Copy> Gossip<A> {
         ensures ok { OnOk result (Does (Fire id.now) self.old out.old self.new out.new) }
         ensures err { OnErr result ((self.new ≡ self.old) × (out.new ≡ out.old)) }
     {
-        if !self.missing.armed(id) {
-            return Ok(());
-        }
-        match self.missing.first(id) {
-            Some((peer, round)) => {
-                out.send(&peer, BodyOf::Graft { id: *id, round })?;
-                self.missing.take_first(id);
-                self.peers.make_eager(&peer);
-            }
-            None => {
-                self.missing.take_first(id);
-            }
-        }
-        Ok(())
+        self.make(&CallOf::Fire { id: *id }, out)
     }
 
     /// A packet that asks for a message came.
@@ -239,11 +362,12 @@ impl<A: Allocator + Copy> Gossip<A> {
         ensures ok { OnOk result (Does (OnGraft sender.now id.now round) self.old out.old self.new out.new) }
         ensures err { OnErr result ((self.new ≡ self.old) × (out.new ≡ out.old)) }
     {
-        if let Some(payload) = self.payload(id) {
-            out.send(sender, gossip(id, round, payload)?)?;
-        }
-        self.peers.make_eager(sender);
-        Ok(())
+        let call = CallOf::OnGraft {
+            sender: *sender,
+            id: *id,
+            round,
+        };
+        self.make(&call, out)
     }
 
     /// Announces all that waits.
@@ -251,10 +375,7 @@ impl<A: Allocator + Copy> Gossip<A> {
         ensures ok { OnOk result (Does Flush self.old out.old self.new out.new) }
         ensures err { OnErr result ((self.new ≡ self.old) × (out.new ≡ out.old)) }
     {
-        let packets = announcements(*self.held.allocator(), &self.peers)?;
-        out.sends.append(packets)?;
-        self.peers.clear_queue();
-        Ok(())
+        self.make(&CallOf::Flush, out)
     }
 
     /// A link came up.
@@ -280,6 +401,16 @@ impl<A: Allocator + Copy> Gossip<A> {
         self.missing.down(peer);
     }
 
+    /// These links went down, and then these came up. Where memory is refused, nothing is changed.
+    pub fn relink(&mut self, downs: &[NodeName], ups: &[NodeName]) -> Result<(), AllocError>
+        ensures ok { OnOk result (self.new ≡ after_ups ups.now (after_downs downs.now self.old)) }
+        ensures err { OnErr result (self.new ≡ self.old) }
+    {
+        self.peers.relink(downs, ups)?;
+        down_all(&mut self.missing, downs);
+        Ok(())
+    }
+
     /// The same gossip once more.
     pub fn copy(&self) -> Result<Self, AllocError>
         ensures { IfOk result (λ copy. copy ≡ self.now) }
@@ -290,7 +421,6 @@ impl<A: Allocator + Copy> Gossip<A> {
             peers: self.peers.copy()?,
             missing: self.missing.copy()?,
             held: self.held.clone()?,
-            places: self.places.clone()?,
         })
     }
 }
@@ -300,14 +430,14 @@ impl<A: Allocator> Gossip<A> {
     pub fn knows(&self, id: &MsgId) -> bool
         ensures { result ≡ set.contains self.now.known id.now }
     {
-        store::has(&self.held, &self.places, id)
+        self.held.contains_key(id)
     }
 
     /// The payload of the message, if it is held.
     pub fn payload(&self, id: &MsgId) -> Option<&Bytes<A>>
         ensures { option_copied result ≡ lookup (same_id id.now) self.now.held }
     {
-        store::payload(&self.held, &self.places, id)
+        self.held.get(id)
     }
 
     /// Which run of which node it is.

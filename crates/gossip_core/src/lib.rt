@@ -2,12 +2,16 @@
 #![tactic(auto)]
 
 mod announcements;
+mod answers;
+mod call;
 mod effects;
 mod fault;
 mod gossip;
+mod links;
 mod spread;
 mod store;
 
+pub use call::{Call, CallOf};
 pub use effects::Effects;
 pub use fault::GossipFault;
 pub use gossip::Gossip;

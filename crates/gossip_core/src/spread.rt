@@ -1,14 +1,13 @@
 //! How a message goes on: at once to the eager members, and announced to the lazy ones.
-ghost use Rattle.std.specs.Prelude.{◌≡◌, ◌++◌, map, Some, IfOk, OnOk, OnErr};
-ghost use Rattle.peer_sets.specs.Members.{is_left_out, eager_but, lazy_but};
-ghost use Rattle.peer_sets.specs.Queue.{with_entries};
+ghost use Rattle.std.specs.Prelude.{◌≡◌, map, Some, IfOk};
+ghost use Rattle.peer_sets.specs.Members.{is_left_out, eager_but};
 ghost use Rattle.gossip_core.specs.Table.{gossip_to};
 
 use crate::effects::Effects;
 use bytes::Bytes;
 use frames::{Body, BodyOf};
 use node_names::{Listed, MsgId, NodeName};
-use peer_sets::{Member, PeerSets};
+use peer_sets::Member;
 use std::alloc::{AllocError, Allocator};
 
 /// The body that carries the message.
@@ -56,47 +55,20 @@ fn pushes<A: Allocator + Copy>(
     Ok(sends)
 }
 
-/// Appends these packets, and queues the message for the lazy members but one.
-fn send_and_queue<A: Allocator + Copy>(
-    peers: &mut PeerSets<A>,
-    left_out: &Option<NodeName>,
-    id: &MsgId,
-    round: u32,
-    sends: Vec<(NodeName, Body<A>), A>,
-    out: &mut Listed<(NodeName, Body<A>), A>,
-) -> Result<(), AllocError>
-    ensures peers { OnOk result (peers.new ≡ record peers.old { queued = with_entries (lazy_but left_out.now peers.old.members) id.now round peers.old.queued }) }
-    ensures out { OnOk result (out.new ≡ out.old ++ sends.items) }
-    ensures err { OnErr result ((peers.new ≡ peers.old) × (out.new ≡ out.old)) }
-{
-    let kept = out.len();
-    out.append(sends)?;
-    match peers.queue_lazy(left_out, id, round) {
-        Ok(()) => Ok(()),
-        Err(e) => {
-            out.truncate(kept);
-            Err(e)
-        }
-    }
-}
-
-/// Delivers the message, sends it to the eager members and queues it for the lazy ones, but for one member.
+/// What a new message makes the node send and deliver: it goes to the eager members but one.
 pub(crate) fn spread<A: Allocator + Copy>(
-    peers: &mut PeerSets<A>,
+    alloc: A,
+    members: &[Member],
     left_out: &Option<NodeName>,
     id: &MsgId,
     round: u32,
     payload: &Bytes<A>,
-    out: &mut Effects<A>,
-) -> Result<(), AllocError>
-    ensures peers { OnOk result (peers.new ≡ record peers.old { queued = with_entries (lazy_but left_out.now peers.old.members) id.now round peers.old.queued }) }
-    ensures out { OnOk result (out.new ≡ record { sends = out.old.sends ++ map (gossip_to id.now round payload.now) (eager_but left_out.now peers.old.members); delivered = Some (id.now, payload.now) }) }
-    ensures err { OnErr result ((peers.new ≡ peers.old) × (out.new ≡ out.old)) }
+) -> Result<Effects<A>, AllocError>
+    ensures { IfOk result (λ effects. effects ≡ record { sends = map (gossip_to id.now round payload.now) (eager_but left_out.now members.now); delivered = Some (id.now, payload.now) }) }
 {
-    let alloc = *out.sends.allocator();
-    let sends = pushes(alloc, peers.members(), left_out, id, round, payload)?;
-    let delivered = payload.clone()?;
-    send_and_queue(peers, left_out, id, round, sends, &mut out.sends)?;
-    out.deliver(id, delivered);
-    Ok(())
+    let sends = pushes(alloc, members, left_out, id, round, payload)?;
+    Ok(Effects {
+        sends: Listed::from_vec(sends),
+        delivered: Some((*id, payload.clone()?)),
+    })
 }

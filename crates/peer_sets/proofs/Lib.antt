@@ -2,3 +2,4 @@ pub mod Distinct
 pub mod MemberLemmas
 pub mod QueueLemmas
 pub mod SoundLemmas
+pub mod TakenLemmas

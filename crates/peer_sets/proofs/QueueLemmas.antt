@@ -11,7 +11,7 @@ use Rattle.node_names.specs.NodeName.{Name}
 use Rattle.node_names.specs.Same.{same_name, same_name-Decides, same_name-laws, has_name, same_id}
 use Rattle.node_names.specs.declared.ids.MsgId.{MsgId}
 use Rattle.peer_sets.proofs.Distinct.{new_to_those_before}
-use Rattle.peer_sets.specs.Queue.{place_of, same_place, is_queued, with_entry, with_entries, receivers}
+use Rattle.peer_sets.specs.Queue.{place_of, same_place, is_queued, has_entry_of, with_entries, receivers}
 
 or_false : (b : Bool) → (b || false) ≡ b
 or_false true = refl
@@ -45,37 +45,32 @@ receivers-push (first ∷ queued) entry =
     go true = refl
     go false = refl
 
-module _ (id : MsgId) (round : ℕ) (queued : List (Name × MsgId × ℕ)) where
-  -- entries for other names are no entries for this one
-  not_for_others : (name : Name) (test : Name → Bool) (peers : List Name) → has_name peers name ≡ false → list_any (same_place (name, id)) (map place_of (map (λ peer. (peer, id, round)) (filter test peers))) ≡ false
-  not_for_others name test [] lacks = refl
-  not_for_others name test (peer ∷ peers) lacks = go (test peer) (same_name name peer) lacks (not_for_others name test peers) refl
-    where
-      go : (passes same : Bool) → (same || has_name peers name) ≡ false → (has_name peers name ≡ false → list_any (same_place (name, id)) (map place_of (map (λ p. (p, id, round)) (filter test peers))) ≡ false) → same_name name peer ≡ same → list_any (same_place (name, id)) (map place_of (map (λ p. (p, id, round)) (cond passes (peer ∷ filter test peers) (filter test peers)))) ≡ false
-      go passes true none later is = absurd (false≢true (sym none))
-      go true false none later is = ap (λ b. b && same_id id id || list_any (same_place (name, id)) (map place_of (map (λ p. (p, id, round)) (filter test peers)))) is ∙ later none
-      go false false none later is = later none
+-- an entry waits where its place is there
+pub is_queued-entries : (peer : Name) (id : MsgId) (queued : List (Name × MsgId × ℕ)) → list_any (λ entry. same_place (peer, id) (place_of entry)) queued ≡ is_queued peer id queued
+is_queued-entries peer id [] = refl
+is_queued-entries peer id (entry ∷ queued) = ap (λ b. same_place (peer, id) (place_of entry) || b) (is_queued-entries peer id queued)
 
-  -- one more peer is one more entry, if it has none
-  pub with_entries-push : (peers : List Name) (name : Name) → has_name peers name ≡ false → with_entries (peers ++ name ∷ []) id round queued ≡ with_entry name id round (with_entries peers id round queued)
-  with_entries-push peers name lacks =
-      ap (λ names. queued ++ map (λ peer. (peer, id, round)) names) (filter-append (λ peer. not (is_queued peer id queued)) peers (name ∷ []))
-      ∙ go (is_queued name id queued)
-      ∙ ap (λ b. if b then with_entries peers id round queued else with_entries peers id round queued ++ (name, id, round) ∷ []) (sym was_queued)
-    where
-      new : List Name
-      new = filter (λ peer. not (is_queued peer id queued)) peers
+-- and that is what a look through the entries answers
+pub is_queued-when : (peer : Name) (id : MsgId) (queued entries : List (Name × MsgId × ℕ)) (found : Bool) → entries ≡ queued → found ≡ list_any (λ entry. same_place (peer, id) (place_of entry)) entries → is_queued peer id queued ≡ found
+is_queued-when peer id queued entries found are is = sym (is_queued-entries peer id queued) ∙ ap (list_any (λ entry. same_place (peer, id) (place_of entry))) (sym are) ∙ sym is
 
-      was_queued : is_queued name id (with_entries peers id round queued) ≡ is_queued name id queued
-      was_queued =
-          ap (list_any (same_place (name, id))) (map-append place_of queued (map (λ peer. (peer, id, round)) new))
-          ∙ list_any-append (same_place (name, id)) (map place_of queued) (map place_of (map (λ peer. (peer, id, round)) new))
-          ∙ ap (λ b. is_queued name id queued || b) (not_for_others name (λ peer. not (is_queued peer id queued)) peers lacks)
-          ∙ or_false (is_queued name id queued)
+-- where none of the id waits, none of it waits for a peer
+not_queued : (peer : Name) (id : MsgId) (queued : List (Name × MsgId × ℕ)) → has_entry_of id queued ≡ false → is_queued peer id queued ≡ false
+not_queued peer id [] none = refl
+not_queued peer id (entry ∷ queued) none = go (same_name peer entry.0) (same_id id entry.1) none (not_queued peer id queued)
+  where
+    go : (named same : Bool) → (same || has_entry_of id queued) ≡ false → (has_entry_of id queued ≡ false → is_queued peer id queued ≡ false) → (named && same || is_queued peer id queued) ≡ false
+    go named true none later = absurd (false≢true (sym none))
+    go true false none later = later none
+    go false false none later = later none
 
-      go : (b : Bool) → queued ++ map (λ peer. (peer, id, round)) (new ++ cond (not b) (name ∷ []) []) ≡ (if b then queued ++ map (λ peer. (peer, id, round)) new else (queued ++ map (λ peer. (peer, id, round)) new) ++ (name, id, round) ∷ [])
-      go true = ap (λ names. queued ++ map (λ peer. (peer, id, round)) names) (append-nil new)
-      go false = ap (λ entries. queued ++ entries) (map-append (λ peer. (peer, id, round)) new (name ∷ [])) ∙ sym (append_assoc queued (map (λ peer. (peer, id, round)) new) ((name, id, round) ∷ []))
+-- so each of the peers gets an entry
+pub with_entries-new : (peers : List Name) (id : MsgId) (round : ℕ) (queued : List (Name × MsgId × ℕ)) → has_entry_of id queued ≡ false → with_entries peers id round queued ≡ queued ++ map (λ peer. (peer, id, round)) peers
+with_entries-new peers id round queued none = ap (λ names. queued ++ map (λ peer. (peer, id, round)) names) (all peers)
+  where
+    all : (names : List Name) → filter (λ peer. not (is_queued peer id queued)) names ≡ names
+    all [] = refl
+    all (name ∷ names) = ap (λ b. cond (not b) (name ∷ filter (λ peer. not (is_queued peer id queued)) names) (filter (λ peer. not (is_queued peer id queued)) names)) (not_queued name id queued none) ∙ ap (λ ns. name ∷ ns) (all names)
 
 -- the places of the entries that are left are the places that are left
 pub places-without : (peer : Name) (queued : List (Name × MsgId × ℕ)) → map place_of (filter (λ entry. not (same_name peer entry.0)) queued) ≡ filter (λ p. not (same_name peer p.0)) (map place_of queued)
@@ -85,12 +80,6 @@ places-without peer (entry ∷ queued) = go (same_name peer entry.0) (places-wit
     go : (same : Bool) → map place_of (filter (λ e. not (same_name peer e.0)) queued) ≡ filter (λ p. not (same_name peer p.0)) (map place_of queued) → map place_of (cond (not same) (entry ∷ filter (λ e. not (same_name peer e.0)) queued) (filter (λ e. not (same_name peer e.0)) queued)) ≡ cond (not same) (place_of entry ∷ filter (λ p. not (same_name peer p.0)) (map place_of queued)) (filter (λ p. not (same_name peer p.0)) (map place_of queued))
     go true later = later
     go false later = ap (λ ps. place_of entry ∷ ps) later
-
--- the entries so far and one more
-pub with_entries-take : (peers : List Name) (i : ℕ) (name : Name) (id : MsgId) (round : ℕ) (queued : List (Name × MsgId × ℕ)) → IsDistinct same_name peers → i < length peers → name ≡ get_or peers i name → with_entries (take (i + 1) peers) id round queued ≡ with_entry name id round (with_entries (take i peers) id round queued)
-with_entries-take peers i name id round queued distinct within is =
-    ap (λ names. with_entries names id round queued) (take_more peers i name within ∙ ap (λ n. take i peers ++ n ∷ []) (sym is))
-    ∙ with_entries-push id round queued (take i peers) name (ap (λ n. has_name (take i peers) n) is ∙ new_to_those_before same_name-laws peers i name distinct within)
 
 -- the receivers so far and one more
 pub receivers-take : (queued : List (Name × MsgId × ℕ)) (i : ℕ) (entry : Name × MsgId × ℕ) → i < length queued → entry ≡ get_or queued i entry → receivers (take (i + 1) queued) ≡ insert_key same_name (receivers (take i queued)) entry.0

@@ -17,9 +17,9 @@ use Rattle.node_names.specs.declared.ids.MsgId.{MsgId}
 use Rattle.peer_sets.proofs.Distinct.{each-weaker, each-map, each-append, each-filter, distinct-filter, distinct-map, distinct-append}
 use Rattle.peer_sets.proofs.MemberLemmas.{is_member-same, names-all_eager, names-with_kind, distinct-with_member, stays-with_member, distinct-without_member, stays-without_member, distinct-lazy_but, lazy_but_are_members}
 use Rattle.peer_sets.proofs.QueueLemmas.{places-without}
-use Rattle.peer_sets.specs.Members.{is_member, lazy_but, all_eager, with_member, without_member, with_kind}
-use Rattle.peer_sets.specs.PeerSets.{IsSound}
-use Rattle.peer_sets.specs.Queue.{place_of, same_place, is_queued, with_entry, with_entries, without_entries}
+use Rattle.peer_sets.specs.Members.{is_member, lazy_but, all_eager, with_member, with_members, without_member, without_members, with_kind}
+use Rattle.peer_sets.specs.PeerSets.{IsSound, relinked}
+use Rattle.peer_sets.specs.Queue.{place_of, same_place, is_queued, with_entry, with_entries, without_entries, without_all_entries}
 use Rattle.peer_sets.specs.declared.kind.PeerKind.{PeerKind}
 
 -- what holds of what a call leaves in either case
@@ -72,7 +72,11 @@ module _ (members : List (Name × PeerKind)) (queued : List (Name × MsgId × �
         once = subst (IsDistinct same_place) (sym (places-without name queued)) (distinct-filter same_place (λ p. not (same_name name p.0)) (map place_of queued) sound.once);
       }
 
-  -- ---- the queue grows
+  -- ---- the queue changes
+
+  pub sound-cleared : IsSound (record { members = members; queued = [] })
+  unfolding IsDistinct
+  sound-cleared = record { distinct = sound.distinct; for_members = tt; once = tt }
 
   pub sound-with_entry : (peer : Name) (id : MsgId) (round : ℕ) → is_member members peer ≡ true → IsSound (record { members = members; queued = with_entry peer id round queued })
   sound-with_entry peer id round is = go (is_queued peer id queued) refl
@@ -117,3 +121,16 @@ module _ (members : List (Name × PeerKind)) (queued : List (Name × MsgId × �
 
   pub sound-with_lazy : (left_out : Option Name) (id : MsgId) (round : ℕ) → IsSound (record { members = members; queued = with_entries (lazy_but left_out members) id round queued })
   sound-with_lazy left_out id round = sound-with_entries (lazy_but left_out members) id round (distinct-lazy_but left_out members sound.distinct) (lazy_but_are_members left_out members)
+
+-- ---- links go down and come up
+
+sound-with_members : (names : List Name) (members : List (Name × PeerKind)) (queued : List (Name × MsgId × ℕ)) → IsSound (record { members = members; queued = queued }) → IsSound (record { members = with_members names members; queued = queued })
+sound-with_members [] members queued sound = sound
+sound-with_members (name ∷ names) members queued sound = sound-with_members names (with_member name members) queued (sound-with_member members queued sound name)
+
+sound-without_members : (names : List Name) (members : List (Name × PeerKind)) (queued : List (Name × MsgId × ℕ)) → IsSound (record { members = members; queued = queued }) → IsSound (record { members = without_members names members; queued = without_all_entries names queued })
+sound-without_members [] members queued sound = sound
+sound-without_members (name ∷ names) members queued sound = sound-without_members names (without_member name members) (without_entries name queued) (sound-without members queued sound name)
+
+pub sound-relinked : (downs ups : List Name) (members : List (Name × PeerKind)) (queued : List (Name × MsgId × ℕ)) → IsSound (record { members = members; queued = queued }) → IsSound (relinked downs ups (record { members = members; queued = queued }))
+sound-relinked downs ups members queued sound = sound-with_members ups (without_members downs members) (without_all_entries downs queued) (sound-without_members downs members queued sound)

@@ -60,3 +60,13 @@ without_member name members = filter (λ m. not (same_name name m.0)) members
 -- the members, where the one of this name is of this kind
 abbrev pub with_kind : Name → PeerKind → List (Name × PeerKind) → List (Name × PeerKind)
 with_kind name kind members = map (λ m. if same_name name m.0 then (m.0, kind) else m) members
+
+-- the members and each of these, in turn
+abbrev pub with_members : List Name → List (Name × PeerKind) → List (Name × PeerKind)
+with_members [] members = members
+with_members (name ∷ names) members = with_members names (with_member name members)
+
+-- the members but these, taken out in turn
+abbrev pub without_members : List Name → List (Name × PeerKind) → List (Name × PeerKind)
+without_members [] members = members
+without_members (name ∷ names) members = without_members names (without_member name members)

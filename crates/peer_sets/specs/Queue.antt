@@ -17,6 +17,10 @@ same_place a b = same_name a.0 b.0 && same_id a.1 b.1
 abbrev pub is_queued : Name → MsgId → List (Name × MsgId × ℕ) → Bool
 is_queued peer id queued = list_any (same_place (peer, id)) (map place_of queued)
 
+-- whether an entry of the id waits for somebody
+abbrev pub has_entry_of : MsgId → List (Name × MsgId × ℕ) → Bool
+has_entry_of id queued = list_any (λ entry. same_id id entry.1) queued
+
 -- the queue and this entry, which goes last; there is one entry at most for a peer and an id
 abbrev pub with_entry : Name → MsgId → ℕ → List (Name × MsgId × ℕ) → List (Name × MsgId × ℕ)
 with_entry peer id round queued = if is_queued peer id queued then queued else queued ++ (peer, id, round) ∷ []
@@ -28,6 +32,11 @@ with_entries peers id round queued = queued ++ map (λ peer. (peer, id, round)) 
 -- the queue but the entries for this peer
 abbrev pub without_entries : Name → List (Name × MsgId × ℕ) → List (Name × MsgId × ℕ)
 without_entries peer queued = filter (λ entry. not (same_name peer entry.0)) queued
+
+-- the queue but the entries for these peers, taken out in turn
+abbrev pub without_all_entries : List Name → List (Name × MsgId × ℕ) → List (Name × MsgId × ℕ)
+without_all_entries [] queued = queued
+without_all_entries (peer ∷ peers) queued = without_all_entries peers (without_entries peer queued)
 
 -- what waits for the peer, in queue order
 abbrev pub waiting_for : Name → List (Name × MsgId × ℕ) → List (MsgId × ℕ)

@@ -1,7 +1,7 @@
 //! Lists of members.
 ghost use Rattle.std.specs.Prelude.{◌≡◌, OnOk, OnErr, IfOk, if◌then◌else◌};
 ghost use Rattle.node_names.specs.Same.{same_name};
-ghost use Rattle.peer_sets.specs.Members.{is_member, is_eager, all_eager, with_member, without_member, with_kind};
+ghost use Rattle.peer_sets.specs.Members.{is_member, is_eager, all_eager, with_member, with_members, without_member, without_members, with_kind};
 
 use crate::kind::PeerKind;
 use node_names::NodeName;
@@ -60,6 +60,28 @@ pub(crate) fn remove<A: Allocator>(members: &mut Vec<Member, A>, name: &NodeName
     ensures { members.new.items ≡ without_member name.now members.old.items }
 {
     members.retain(|member| *name != member.0);
+}
+
+/// Adds an eager member for each of these names, unless it is there. Where memory is refused, some may be added.
+pub(crate) fn add_all<A: Allocator>(
+    members: &mut Vec<Member, A>,
+    names: &[NodeName],
+) -> Result<(), AllocError>
+    ensures { OnOk result (members.new.items ≡ with_members names.now members.old.items) }
+{
+    for name in names {
+        add(members, name)?;
+    }
+    Ok(())
+}
+
+/// Takes these members out.
+pub(crate) fn remove_all<A: Allocator>(members: &mut Vec<Member, A>, names: &[NodeName])
+    ensures { members.new.items ≡ without_members names.now members.old.items }
+{
+    for name in names {
+        remove(members, name);
+    }
 }
 
 /// The member, of this kind if it has this name.

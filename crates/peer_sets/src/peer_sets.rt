@@ -1,16 +1,15 @@
 //! Eager and lazy peers, and the announcements that wait for them.
-ghost use Rattle.std.specs.Prelude.{◌≡◌, ◌↔◌, [], IsTrue, IfOk, OnOk, OnErr};
+ghost use Rattle.std.specs.Prelude.{◌≡◌, ◌↔◌, [], false, IsTrue, IfOk, OnOk, OnErr};
 ghost use Rattle.std.specs.List.{IsDistinct};
 ghost use Rattle.node_names.specs.Same.{same_name};
 ghost use Rattle.peer_sets.specs.Members.{is_member, is_eager, IsSplit, all_eager, with_member, without_member, with_kind, lazy_but};
-ghost use Rattle.peer_sets.specs.Queue.{with_entry, with_entries, without_entries, batches};
-ghost use Rattle.peer_sets.specs.PeerSets.{IsSound};
+ghost use Rattle.peer_sets.specs.Queue.{has_entry_of, with_entry, with_entries, without_entries, batches};
+ghost use Rattle.peer_sets.specs.PeerSets.{IsSound, relinked};
 ghost use Rattle.peer_sets.specs.declared.kind.PeerKind.TheVariants.{Eager, Lazy};
 
 use crate::kind::PeerKind;
 use crate::members::{self, Member};
-use crate::queue::{self, Announcement, Batch, Places};
-use indexmap::IndexSet;
+use crate::queue::{self, Announcement, Batch};
 use node_names::{Listed, MsgId, NodeName};
 use std::alloc::{AllocError, Allocator, Global};
 use std::marker::Model;
@@ -23,19 +22,16 @@ use std::marker::Model;
 pub struct PeerSets<A: Allocator = Global> {
     members: Vec<Member, A>,
     queued: Vec<Announcement, A>,
-    places: Places<A>,
 }
 
 impl<A: Allocator> Model for PeerSets<A> {
-    ghost use Rattle.std.specs.Prelude.{◌≡◌, map};
     ghost use Rattle.peer_sets.specs.PeerSets.{PeerSets, IsSound};
-    ghost use Rattle.peer_sets.specs.Queue.{place_of};
 
     ghost Value = { PeerSets };
 
     ghost view = { λ p. record { members = p.members.items; queued = p.queued.items } };
 
-    ghost invariant = { λ p. IsSound (record { members = p.members.items; queued = p.queued.items }) × (p.places.keys ≡ map place_of p.queued.items) };
+    ghost invariant = { λ p. IsSound (record { members = p.members.items; queued = p.queued.items }) };
 }
 
 impl<A: Allocator + Copy> PeerSets<A> {
@@ -47,7 +43,6 @@ impl<A: Allocator + Copy> PeerSets<A> {
         Ok(PeerSets {
             members: members::all_eager(alloc, peers)?,
             queued: Vec::new(alloc),
-            places: IndexSet::new(alloc),
         })
     }
 
@@ -59,12 +54,28 @@ impl<A: Allocator + Copy> PeerSets<A> {
         members::add(&mut self.members, name)
     }
 
-    /// Takes a member out, and the announcements that wait for it.
+    /// Takes a member out, and the announcements that wait for it. The announcements that stay close up, so this goes
+    /// over all that wait.
     pub fn down(&mut self, name: &NodeName)
         ensures { self.new ≡ record { members = without_member name.now self.old.members; queued = without_entries name.now self.old.queued } }
     {
         members::remove(&mut self.members, name);
-        queue::remove(&mut self.queued, &mut self.places, name);
+        queue::remove(&mut self.queued, name);
+    }
+
+    /// Takes these members out, with the announcements that wait for them, and then adds eager members as `up` does.
+    /// Where memory is refused, nothing is changed. It copies the members, and goes over all that waits once for each
+    /// member that is taken out.
+    pub fn relink(&mut self, downs: &[NodeName], ups: &[NodeName]) -> Result<(), AllocError>
+        ensures ok { OnOk result (self.new ≡ relinked downs.now ups.now self.old) }
+        ensures err { OnErr result (self.new ≡ self.old) }
+    {
+        let mut members = Vec::from_slice(*self.queued.allocator(), &self.members)?;
+        members::remove_all(&mut members, downs);
+        members::add_all(&mut members, ups)?;
+        self.members = members;
+        queue::remove_all(&mut self.queued, downs);
+        Ok(())
     }
 
     /// Makes a member eager. False: the name is no member, and nothing is changed.
@@ -87,28 +98,29 @@ impl<A: Allocator + Copy> PeerSets<A> {
         found
     }
 
-    /// Queues an announcement for a member. A second one for the same member and id is not made.
+    /// Queues an announcement for a member. A second one for the same member and id is not made. It looks through all
+    /// that waits; `queue_lazy` does not.
     pub fn queue(&mut self, peer: &NodeName, id: &MsgId, round: u32) -> Result<(), AllocError>
         requires { IsTrue (is_member self.old.members peer.now) }
         ensures ok { OnOk result (self.new ≡ record self.old { queued = with_entry peer.now id.now round self.old.queued }) }
         ensures err { OnErr result (self.new ≡ self.old) }
     {
-        queue::queue(&mut self.queued, &mut self.places, &(*peer, *id, round))
+        queue::queue(&mut self.queued, &(*peer, *id, round))
     }
 
-    /// Queues an announcement for each lazy member but one, or for none of them where memory is refused.
+    /// Queues an announcement for each lazy member but one, or for none of them where memory is refused. None of the id
+    /// waits yet: an id is queued when it becomes known, and so once.
     pub fn queue_lazy(
         &mut self,
         left_out: &Option<NodeName>,
         id: &MsgId,
         round: u32,
     ) -> Result<(), AllocError>
+        requires { has_entry_of id.now self.old.queued ≡ false }
         ensures ok { OnOk result (self.new ≡ record self.old { queued = with_entries (lazy_but left_out.now self.old.members) id.now round self.old.queued }) }
         ensures err { OnErr result (self.new ≡ self.old) }
     {
-        let alloc = *self.places.allocator();
-        let lazy = queue::lazy_but(alloc, &self.members, left_out)?;
-        queue::queue_all(&mut self.queued, &mut self.places, &lazy, id, round)
+        queue::queue_lazy(&mut self.queued, &self.members, left_out, id, round)
     }
 
     /// Empties the queue and gives what waited, by member in the order of their first announcements.
@@ -126,7 +138,7 @@ impl<A: Allocator + Copy> PeerSets<A> {
     pub fn batches(&self) -> Result<Listed<Batch<A>, A>, AllocError>
         ensures { IfOk result (λ all. all ≡ batches self.now.queued) }
     {
-        queue::batches(*self.places.allocator(), &self.queued)
+        queue::batches(*self.queued.allocator(), &self.queued)
     }
 
     /// Drops all that waits.
@@ -134,18 +146,16 @@ impl<A: Allocator + Copy> PeerSets<A> {
         ensures { self.new ≡ record self.old { queued = [] } }
     {
         self.queued.clear();
-        self.places.clear();
     }
 
     /// The same sets once more.
     pub fn copy(&self) -> Result<Self, AllocError>
         ensures { IfOk result (λ copy. copy ≡ self.now) }
     {
-        let alloc = *self.places.allocator();
+        let alloc = *self.queued.allocator();
         Ok(PeerSets {
             members: Vec::from_slice(alloc, &self.members)?,
             queued: Vec::from_slice(alloc, &self.queued)?,
-            places: self.places.clone()?,
         })
     }
 }

@@ -1,13 +1,8 @@
 //! The queue of announcements: what waits to be announced, in the order in which it came.
-//!
-//! A set of the entries' places stands beside the list, so that a look for a second entry costs the same however long
-//! the queue is.
-ghost use Rattle.std.specs.Prelude.{◌≡◌, ◌+◌, ◌<◌, ◌≤◌, ℕ, List, [], map, length, vec_len, vec_capacity, OnOk, OnErr, IfOk};
-ghost use Rattle.std.specs.List.{IsDistinct};
-ghost use Rattle.indexmap.specs.IndexSet.{spare};
-ghost use Rattle.node_names.specs.Same.{same_name};
-ghost use Rattle.peer_sets.specs.Members.{is_lazy, lazy_but, names, is_left_out};
-ghost use Rattle.peer_sets.specs.Queue.{place_of, is_queued, with_entry, with_entries, without_entries, waiting_for, receivers, batches};
+ghost use Rattle.std.specs.Prelude.{◌≡◌, ◌+◌, ◌++◌, ◌≤◌, false, map, length, vec_len, vec_capacity, OnOk, OnErr, IfOk};
+ghost use Rattle.std.specs.List.{list_any};
+ghost use Rattle.peer_sets.specs.Members.{lazy_but, is_left_out};
+ghost use Rattle.peer_sets.specs.Queue.{place_of, same_place, has_entry_of, with_entry, with_entries, without_entries, without_all_entries, waiting_for, receivers, batches};
 
 use crate::members::Member;
 use indexmap::IndexSet;
@@ -21,47 +16,30 @@ pub type Announcement = (NodeName, MsgId, u32);
 /// What waits for one peer: ids and rounds, oldest first.
 pub type Batch<A = Global> = (NodeName, Listed<(MsgId, u32), A>);
 
-/// Whom the entries are for and of which ids, in their order.
-pub(crate) type Places<A> = IndexSet<(NodeName, MsgId), BuildHasherDefault<FoldHasher>, A>;
-
 /// Names in the order in which they were added.
 type NameSet<A> = IndexSet<NodeName, BuildHasherDefault<FoldHasher>, A>;
 
-/// Puts an entry last in the room that there is, unless the peer has one of the id.
-fn put<A: Allocator + Copy>(
-    queued: &mut Vec<Announcement, A>,
-    places: &mut Places<A>,
-    entry: &Announcement,
-)
-    requires room { vec_len queued.old < vec_capacity queued.old }
-    requires place { 0 < spare places.old }
-    requires matched { places.old.keys ≡ map place_of queued.old.items }
-    ensures items { queued.new.items ≡ with_entry entry.now.0 entry.now.1 entry.now.2 queued.old.items }
-    ensures matched { places.new.keys ≡ map place_of queued.new.items }
-    ensures len { vec_len queued.new ≤ vec_len queued.old + 1 }
-    ensures capacity { vec_capacity queued.old ≤ vec_capacity queued.new }
-    ensures spare { spare places.old ≤ spare places.new + 1 }
+/// Whether an entry of the id waits for the peer.
+fn is_queued(queued: &[Announcement], peer: &NodeName, id: &MsgId) -> bool
+    ensures { result ≡ list_any (λ entry. same_place (peer.now, id.now) (place_of entry)) queued.now }
 {
-    let is_new = places.insert((entry.0, entry.1)).unwrap();
-    if is_new {
-        queued.push(*entry).unwrap();
-    }
+    queued
+        .iter()
+        .any(|entry| *peer == entry.0 && *id == entry.1)
 }
 
 /// Queues an entry, unless the peer has one of the id.
-pub(crate) fn queue<A: Allocator + Copy>(
+pub(crate) fn queue<A: Allocator>(
     queued: &mut Vec<Announcement, A>,
-    places: &mut Places<A>,
     entry: &Announcement,
 ) -> Result<(), AllocError>
-    requires { places.old.keys ≡ map place_of queued.old.items }
     ensures ok { OnOk result (queued.new.items ≡ with_entry entry.now.0 entry.now.1 entry.now.2 queued.old.items) }
     ensures err { OnErr result (queued.new.items ≡ queued.old.items) }
-    ensures matched { places.new.keys ≡ map place_of queued.new.items }
 {
-    queued.reserve(1)?;
-    places.reserve(1)?;
-    put(queued, places, entry);
+    if is_queued(queued, &entry.0, &entry.1) {
+        return Ok(());
+    }
+    queued.push(*entry)?;
     Ok(())
 }
 
@@ -75,57 +53,55 @@ fn is_left_out(left_out: &Option<NodeName>, name: &NodeName) -> bool
     }
 }
 
-/// The lazy members but one.
-pub(crate) fn lazy_but<A: Allocator>(
-    alloc: A,
+/// Puts an entry of the id last for each lazy member but one, in the room that there is.
+fn push_lazy<A: Allocator>(
+    queued: &mut Vec<Announcement, A>,
     members: &[Member],
     left_out: &Option<NodeName>,
-) -> Result<Vec<NodeName, A>, AllocError>
-    ensures { IfOk result (λ lazy. lazy.items ≡ lazy_but left_out.now members.now) }
+    id: &MsgId,
+    round: u32,
+)
+    requires { vec_len queued.old + length members.now ≤ vec_capacity queued.old }
+    ensures { queued.new.items ≡ queued.old.items ++ map (λ peer. (peer, id.now, round)) (lazy_but left_out.now members.now) }
 {
-    let mut lazy = Vec::new(alloc);
     for member in members {
         if !member.1.is_eager() && !is_left_out(left_out, &member.0) {
-            lazy.push(member.0)?;
+            queued.push((member.0, *id, round)).unwrap();
         }
     }
-    Ok(lazy)
 }
 
-/// Queues an entry of the id for each of these peers that has none.
-pub(crate) fn queue_all<A: Allocator + Copy>(
+/// Queues an entry of the id, of which none waits, for each lazy member but one.
+pub(crate) fn queue_lazy<A: Allocator>(
     queued: &mut Vec<Announcement, A>,
-    places: &mut Places<A>,
-    peers: &[NodeName],
+    members: &[Member],
+    left_out: &Option<NodeName>,
     id: &MsgId,
     round: u32,
 ) -> Result<(), AllocError>
-    requires distinct { IsDistinct same_name peers.now }
-    requires matched { places.old.keys ≡ map place_of queued.old.items }
-    ensures ok { OnOk result (queued.new.items ≡ with_entries peers.now id.now round queued.old.items) }
+    requires { has_entry_of id.now queued.old.items ≡ false }
+    ensures ok { OnOk result (queued.new.items ≡ with_entries (lazy_but left_out.now members.now) id.now round queued.old.items) }
     ensures err { OnErr result (queued.new.items ≡ queued.old.items) }
-    ensures matched { places.new.keys ≡ map place_of queued.new.items }
 {
-    queued.reserve(peers.len())?;
-    places.reserve(peers.len())?;
-    for peer in peers {
-        put(queued, places, &(*peer, *id, round));
-    }
+    queued.reserve(members.len())?;
+    push_lazy(queued, members, left_out, id, round);
     Ok(())
 }
 
 /// Takes out the entries for the peer.
-pub(crate) fn remove<A: Allocator + Copy>(
-    queued: &mut Vec<Announcement, A>,
-    places: &mut Places<A>,
-    peer: &NodeName,
-)
-    requires { places.old.keys ≡ map place_of queued.old.items }
-    ensures items { queued.new.items ≡ without_entries peer.now queued.old.items }
-    ensures matched { places.new.keys ≡ map place_of queued.new.items }
+pub(crate) fn remove<A: Allocator>(queued: &mut Vec<Announcement, A>, peer: &NodeName)
+    ensures { queued.new.items ≡ without_entries peer.now queued.old.items }
 {
     queued.retain(|entry| *peer != entry.0);
-    places.retain(|place| *peer != place.0);
+}
+
+/// Takes out the entries for these peers.
+pub(crate) fn remove_all<A: Allocator>(queued: &mut Vec<Announcement, A>, peers: &[NodeName])
+    ensures { queued.new.items ≡ without_all_entries peers.now queued.old.items }
+{
+    for peer in peers {
+        remove(queued, peer);
+    }
 }
 
 /// What waits for the peer.

@@ -1,8 +1,0 @@
-use Rattle.std.proofs.Common.{◌≡◌, ◌++◌, ◌∷◌, [], ap, subst}
-use Rattle.gossip_core.specs.Effects.{Effects}
-use Rattle.gossip_core.proofs.effects.Effects.send.Goals as goal
-
-pub returns-clause-ok : goal.returns-clause-ok
-returns-clause-ok g c =
-    subst (λ (before : Effects). ◌≡◌ {A = Effects} (record { sends = c.push.new.self; delivered = c.self.inside.delivered }) (record before { sends = before.sends ++ (c.args.to.now, c.args.body) ∷ [] })) c.self.view_is
-    (ap (λ sends. record { sends = sends; delivered = c.self.inside.delivered }) c.in_ok-push.ensures.ok)

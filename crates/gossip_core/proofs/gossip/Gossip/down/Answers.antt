@@ -1,0 +1,8 @@
+use Rattle.std.proofs.Common.{sym, ap, subst}
+use Rattle.peer_sets.specs.PeerSets.{PeerSets}
+use Rattle.gossip_core.specs.Store.{AreHeld}
+use Rattle.gossip_core.proofs.HeldLemmas.{held-without_entries}
+use Rattle.gossip_core.proofs.gossip.Gossip.down.Goals as goal
+
+pub invariant_of-self : goal.invariant_of-self
+invariant_of-self g c = (c.self.invariant.0, subst (λ (p : PeerSets). AreHeld c.self.inside.held.entries p.queued) (sym c.down.ensures) (held-without_entries c.self.inside.held.entries c.args.peer.now c.self.inside.peers.queued c.self.invariant.1))

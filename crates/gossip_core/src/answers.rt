@@ -1,0 +1,142 @@
+//! What a call of a node's gossip will send and deliver.
+ghost use Rattle.std.specs.Prelude.{◌≡◌, None, IfOk};
+ghost use Rattle.gossip_core.specs.Refusals.{CanTake};
+ghost use Rattle.gossip_core.specs.Table.{repeated, outcome, lent};
+
+use crate::announcements::announcements;
+use crate::call::{Call, CallOf};
+use crate::effects::Effects;
+use crate::gossip::Gossip;
+use crate::spread::{gossip, spread};
+use bytes::Bytes;
+use frames::BodyOf;
+use node_names::{Listed, MsgId, NodeName};
+use std::alloc::{AllocError, Allocator};
+
+/// What the node's next message makes it send and deliver.
+fn to_broadcast<A: Allocator + Copy>(
+    alloc: A,
+    node: &Gossip<A>,
+    payload: &Bytes<A>,
+) -> Result<Effects<A>, AllocError>
+    requires { CanTake node.now (CallOf.Broadcast payload.now) }
+    ensures { IfOk result (λ effects. effects ≡ record { sends = (outcome node.now (CallOf.Broadcast payload.now)).sends; delivered = (outcome node.now (CallOf.Broadcast payload.now)).delivered }) }
+{
+    let id = MsgId {
+        origin: node.me(),
+        seq: node.spent() + 1,
+    };
+    spread(alloc, node.peers().members(), &None, &id, 0, payload)
+}
+
+/// What a known message makes it send when it comes again.
+fn to_repeated<A: Allocator + Copy>(
+    alloc: A,
+    node: &Gossip<A>,
+    sender: &NodeName,
+) -> Result<Effects<A>, AllocError>
+    ensures { IfOk result (λ effects. effects ≡ record { sends = (repeated sender.now node.now).sends; delivered = (repeated sender.now node.now).delivered }) }
+{
+    if node.peers().is_member(sender) {
+        Effects::packet(alloc, sender, BodyOf::Prune)
+    } else {
+        Ok(Effects::new(alloc))
+    }
+}
+
+/// What a packet that carries a message makes it send and deliver.
+fn to_gossip<A: Allocator + Copy>(
+    alloc: A,
+    node: &Gossip<A>,
+    sender: &NodeName,
+    id: &MsgId,
+    round: u32,
+    payload: &Bytes<A>,
+) -> Result<Effects<A>, AllocError>
+    ensures { IfOk result (λ effects. effects ≡ record { sends = (outcome node.now (CallOf.OnGossip sender.now id.now round payload.now)).sends; delivered = (outcome node.now (CallOf.OnGossip sender.now id.now round payload.now)).delivered }) }
+{
+    if node.knows(id) {
+        return to_repeated(alloc, node, sender);
+    }
+    if id.origin == node.me() {
+        return Ok(Effects::new(alloc));
+    }
+    let next = round.saturating_add(1);
+    spread(
+        alloc,
+        node.peers().members(),
+        &Some(*sender),
+        id,
+        next,
+        payload,
+    )
+}
+
+/// What the timer of the id makes it send.
+fn to_fire<A: Allocator + Copy>(
+    alloc: A,
+    node: &Gossip<A>,
+    id: &MsgId,
+) -> Result<Effects<A>, AllocError>
+    ensures { IfOk result (λ effects. effects ≡ record { sends = (outcome node.now (CallOf.Fire id.now)).sends; delivered = (outcome node.now (CallOf.Fire id.now)).delivered }) }
+{
+    if !node.missing().armed(id) {
+        return Ok(Effects::new(alloc));
+    }
+    match node.missing().first(id) {
+        Some((peer, round)) => Effects::packet(alloc, &peer, BodyOf::Graft { id: *id, round }),
+        None => Ok(Effects::new(alloc)),
+    }
+}
+
+/// What a packet that asks for a message makes it send.
+fn to_graft<A: Allocator + Copy>(
+    alloc: A,
+    node: &Gossip<A>,
+    sender: &NodeName,
+    id: &MsgId,
+    round: u32,
+) -> Result<Effects<A>, AllocError>
+    ensures { IfOk result (λ effects. effects ≡ record { sends = (outcome node.now (CallOf.OnGraft sender.now id.now round)).sends; delivered = (outcome node.now (CallOf.OnGraft sender.now id.now round)).delivered }) }
+{
+    match node.payload(id) {
+        Some(payload) => Effects::packet(alloc, sender, gossip(id, round, payload)?),
+        None => Ok(Effects::new(alloc)),
+    }
+}
+
+/// The packets that announce all that waits.
+fn to_flush<A: Allocator + Copy>(alloc: A, node: &Gossip<A>) -> Result<Effects<A>, AllocError>
+    ensures { IfOk result (λ effects. effects ≡ record { sends = (outcome node.now CallOf.Flush).sends; delivered = None }) }
+{
+    let packets = announcements(alloc, node.peers())?;
+    Ok(Effects {
+        sends: Listed::from_vec(packets),
+        delivered: None,
+    })
+}
+
+/// What the call will send and deliver.
+pub(crate) fn answers<A: Allocator + Copy>(
+    alloc: A,
+    node: &Gossip<A>,
+    call: &Call<'_, A>,
+) -> Result<Effects<A>, AllocError>
+    requires { CanTake node.now (lent call.now) }
+    ensures { IfOk result (λ effects. effects ≡ record { sends = (outcome node.now (lent call.now)).sends; delivered = (outcome node.now (lent call.now)).delivered }) }
+{
+    match call {
+        CallOf::Broadcast { payload } => to_broadcast(alloc, node, payload),
+        CallOf::OnGossip {
+            sender,
+            id,
+            round,
+            payload,
+        } => to_gossip(alloc, node, sender, id, *round, payload),
+        CallOf::Fire { id } => to_fire(alloc, node, id),
+        CallOf::OnGraft { sender, id, round } => to_graft(alloc, node, sender, id, *round),
+        CallOf::Flush => to_flush(alloc, node),
+        CallOf::OnIHave { .. } | CallOf::OnPrune { .. } | CallOf::Up { .. } | CallOf::Down { .. } =>
+            Ok(Effects::new(alloc)),
+    }
+}

@@ -1,0 +1,66 @@
+//! The calls of a node's gossip, as values.
+use bytes::Bytes;
+use node_names::{MsgId, NodeName};
+use std::alloc::Global;
+
+/// A call of a node's gossip, over its form of a payload and of a list of announcements.
+#[derive(Drop)]
+pub enum CallOf<P, E> {
+    /// The application broadcasts its next message.
+    Broadcast {
+        /// What it says.
+        payload: P,
+    },
+    /// A packet that carries a message came.
+    OnGossip {
+        /// Who sent the packet.
+        sender: NodeName,
+        /// Which message it carries.
+        id: MsgId,
+        /// The round of the packet.
+        round: u32,
+        /// What the message says.
+        payload: P,
+    },
+    /// A packet that announces messages came.
+    OnIHave {
+        /// Who sent the packet.
+        sender: NodeName,
+        /// The announced ids and their rounds.
+        entries: E,
+    },
+    /// The timer of an id fires.
+    Fire {
+        /// The timer's id.
+        id: MsgId,
+    },
+    /// A packet that asks for a message came.
+    OnGraft {
+        /// Who sent the packet.
+        sender: NodeName,
+        /// Which message it asks for.
+        id: MsgId,
+        /// The round of the packet.
+        round: u32,
+    },
+    /// A packet came that asks for announcements in place of messages.
+    OnPrune {
+        /// Who sent the packet.
+        sender: NodeName,
+    },
+    /// All that waits is to be announced.
+    Flush,
+    /// A link came up.
+    Up {
+        /// Whom it leads to.
+        peer: NodeName,
+    },
+    /// A link went down.
+    Down {
+        /// Whom it led to.
+        peer: NodeName,
+    },
+}
+
+/// A call that borrows its payload and its announcements.
+pub type Call<'a, A = Global> = CallOf<&'a Bytes<A>, &'a [(MsgId, u32)]>;
