@@ -1,5 +1,6 @@
 pub mod Plum
 pub mod Steps
+pub mod Parts
 pub mod Members
 pub mod Numbered
 pub mod Fits

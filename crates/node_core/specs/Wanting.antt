@@ -23,7 +23,7 @@ use Rattle.peer_sets.specs.Members.{names, is_member}
 use Rattle.peer_sets.proofs.MemberLemmas.{is_member-names}
 use Rattle.gossip_core.specs.State.{GossipState}
 use Rattle.gossip_core.specs.Table.{Outcome, outcome, is_news, quiet}
-use Rattle.gossip_core.specs.Table.{Call as call}
+use Rattle.gossip_core.specs.declared.call.CallOf.TheVariants as call
 use Rattle.node_core.specs.Members.{each_one, one_of_left, one_of_right, one_of_append, one_of_filter, one_of_passing}
 use Rattle.node_core.specs.Plum.{IsLacked, state_with}
 use Rattle.node_core.specs.Resting.{delivers_nothing, leaves_all, keeps_all}

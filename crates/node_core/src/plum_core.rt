@@ -2,13 +2,15 @@
 ghost use Rattle.std.specs.Prelude.{◌≡◌, ◌+◌, ◌≤◌, ◌⊎◌, ◌↔◌, ◌++◌, None, List, length, IsSome, IsTrue, IfOk, IfErr, OnOk, OnErr, IsErrOf};
 ghost use Rattle.node_names.specs.NodeName.{Name};
 ghost use Rattle.frames.specs.Frame.{Frame as Plain};
-ghost use Rattle.world.specs.IdentityLaw.{IsTooLong};
-ghost use Rattle.world.specs.Output.{Stepped};
 ghost use Rattle.world.specs.Peers.{are_peers};
-ghost use Rattle.node_core.specs.Steps.{PlumStartsCounted, PlumSteps, PlumIsSpent, opening};
+ghost use Rattle.world.specs.Stimulus.{lent};
+ghost use Rattle.node_core.specs.Fits.{ComesFit};
+ghost use Rattle.node_core.specs.Steps.{IsAllowed, PlumStartsCounted, opening};
 
-use crate::giving::give;
-use crate::stepping::{judge, take};
+use crate::dispatch::part_of;
+use crate::output::append_numbered;
+use crate::parts::{go_on, work_out};
+use crate::turn::Turn;
 use bytes::Bytes;
 use frames::Frame;
 use gossip_core::{Effects, Gossip};
@@ -17,11 +19,12 @@ use node_names::{Limits, MsgId, NodeName, Origin};
 use peer_sets::PeerSets;
 use std::alloc::{AllocError, Allocator, Global};
 use std::marker::Model;
-use world::{Core, CoreError, NameSet, Out, Stimulus};
+use world::{Core, CoreError, NameSet, Out, Prepared, StimulusOf, StimulusRef};
 
 /// One run of one node.
 ///
-/// A step works on a copy of both parts, so it costs as much as copying what the node holds. Nothing outside sees that.
+/// A step costs what it sends and changes: an event of the membership copies its views, of at most 80 names, and a call of the
+/// gossip finds what it needs by hashes. Only `copy` costs as much as the node holds.
 #[derive(Drop)]
 pub struct PlumCore<A: Allocator = Global> {
     me: Origin,
@@ -92,7 +95,7 @@ impl<A: Allocator + Copy> PlumCore<A> {
         let mut membership = Membership::new(alloc, me.name, limits, peers)?;
         let gossip = Gossip::new(alloc, me, peers, seq_spent)?;
         let effects = greet(alloc, &mut membership, contact)?;
-        let framed = give(&me, frames_spent, effects, out)?;
+        let framed = append_numbered(&me, frames_spent, effects, out)?;
         Ok(PlumCore {
             me,
             membership,
@@ -100,44 +103,26 @@ impl<A: Allocator + Copy> PlumCore<A> {
             framed,
         })
     }
+}
 
-    /// The core after the step. This one stays as it is.
-    fn stepped(
-        &self,
-        stimulus: &Stimulus<Frame<A>, A>,
-        out: &mut Out<Frame<A>, A>,
-    ) -> Result<PlumCore<A>, CoreError>
-        ensures stepped { IfOk result (λ core. Stepped PlumSteps self.now stimulus.now out.old core out.new) }
-        ensures too_long { IsErrOf result CoreError.PayloadTooLong ↔ IsTooLong stimulus.now }
-        ensures spent { IsErrOf result CoreError.SeqSpent → PlumIsSpent self.now stimulus.now }
-        ensures err { OnErr result (out.new ≡ out.old) }
-    {
-        judge(&self.gossip, stimulus)?;
-        let mut membership = self.membership.copy()?;
-        let mut gossip = self.gossip.copy()?;
-        let framed = take(
-            &self.me,
-            self.framed,
-            &mut membership,
-            &mut gossip,
-            stimulus,
-            out,
-        )?;
-        Ok(PlumCore {
-            me: self.me,
-            membership,
-            gossip,
-            framed,
-        })
+/// What may be taken fits frames: a packet that came is one.
+fn heed<A: Allocator + Copy>(stimulus: &StimulusRef<'_, Frame<A>, A>)
+    ensures { IsAllowed (lent stimulus.now) → ComesFit (lent stimulus.now) }
+{
+    if let StimulusOf::Arrive { note, .. } = stimulus {
+        let _within_limits = note.body();
     }
 }
 
 impl<A: Allocator + Copy> Core<A> for PlumCore<A> {
     ghost use Rattle.node_core.specs.Plum.{IsSoundPlum, plum_state};
     ghost use Rattle.node_core.specs.PlumLaws.{plum_lawful};
-    ghost use Rattle.node_core.specs.Steps.{PlumStarts, PlumSteps, PlumIsSpent};
+    ghost use Rattle.node_core.specs.Parts.{IsTurn};
+    ghost use Rattle.node_core.specs.Steps.{PlumStarts, PlumSteps, PlumIsSpent, plum_after};
 
     type Note = Frame<A>;
+
+    type Turn = Turn<A>;
 
     ghost state = { plum_state };
 
@@ -148,6 +133,10 @@ impl<A: Allocator + Copy> Core<A> for PlumCore<A> {
     ghost steps = { PlumSteps };
 
     ghost is_spent = { PlumIsSpent };
+
+    ghost after = { plum_after };
+
+    ghost is_turn = { IsTurn };
 
     ghost lawful = { plum_lawful };
 
@@ -162,12 +151,37 @@ impl<A: Allocator + Copy> Core<A> for PlumCore<A> {
         PlumCore::start_counted(alloc, me, limits, peers, contact, 0, 0, out)
     }
 
-    fn step(
-        &mut self,
-        stimulus: &Stimulus<Frame<A>, A>,
+    fn prepare(
+        &self,
+        stimulus: &StimulusRef<'_, Frame<A>, A>,
         out: &mut Out<Frame<A>, A>,
-    ) -> Result<(), CoreError> {
-        *self = self.stepped(stimulus, out)?;
+    ) -> Result<Prepared<Turn<A>>, CoreError> {
+        let _sound = self.membership.views().limits();
+        heed(stimulus);
+        let part = part_of(&self.me, stimulus);
+        let alloc = *out.sends.allocator();
+        let worked = work_out(alloc, &self.membership, &self.gossip, &part)?;
+        let framed = append_numbered(&self.me, self.framed, worked.effects, out)?;
+        Ok(Prepared {
+            turn: Turn {
+                moved: worked.moved,
+                framed,
+            },
+            moved: worked.is_moved,
+        })
+    }
+
+    fn advance(
+        &mut self,
+        stimulus: &StimulusRef<'_, Frame<A>, A>,
+        turn: Turn<A>,
+    ) -> Result<(), AllocError> {
+        let _sound = self.membership.views().limits();
+        heed(stimulus);
+        let part = part_of(&self.me, stimulus);
+        let Turn { moved, framed } = turn;
+        go_on(&mut self.membership, &mut self.gossip, &part, moved)?;
+        self.framed = framed;
         Ok(())
     }
 

@@ -7,7 +7,6 @@ pub mod Flights
 mod Flying
 pub mod GivenLemmas
 pub mod Kept
-pub mod NameLemmas
 pub mod NameSets
 pub mod NodeLemmas
 pub mod Parenting

@@ -1,4 +1,4 @@
-//! What a step gives goes out: its packets numbered, and its delivery.
+//! What a step sends and delivers: its packets, numbered, and its delivery.
 ghost use Rattle.std.specs.Prelude.{◌≡◌, ◌<◌, ◌+◌, ◌++◌, IfOk, OnOk, OnErr, IsErrOf, length};
 ghost use Rattle.node_core.specs.Fits.{AreFit};
 ghost use Rattle.node_core.specs.Steps.{numbered, delivered_at};
@@ -49,9 +49,9 @@ fn append<A: Allocator + Copy>(
     Ok(())
 }
 
-/// Numbers the packets from the number after `framed` on and gives them and the delivery, and tells the last number. Each packet
+/// Appends the packets, numbered from the number after `framed` on, and the delivery, and returns the last number. Each packet
 /// fits a frame. `SeqSpent`: the packets are more than the numbers that are left.
-pub(crate) fn give<A: Allocator + Copy>(
+pub(crate) fn append_numbered<A: Allocator + Copy>(
     me: &Origin,
     framed: u64,
     effects: Effects<A>,

@@ -2,7 +2,7 @@ use Rattle.std.proofs.Common.{◌≡◌, ◌+◌, ◌++◌, length, ap, ◌∙�
 use Rattle.std.proofs.Math.Nat.{lt_of_not-le}
 use Rattle.gossip_core.specs.Effects.{Effects}
 use Rattle.node_core.specs.Steps.{numbered, delivered_at}
-use Rattle.node_core.proofs.giving.give.Goals as goal
+use Rattle.node_core.proofs.output.append_numbered.Goals as goal
 
 pub returns-in_default-clause-spent : goal.returns-in_default-clause-spent
 returns-in_default-clause-spent g c told =
