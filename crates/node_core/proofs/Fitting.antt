@@ -22,6 +22,7 @@ use Rattle.frames.specs.declared.TheConstants.{MAX_ANNOUNCEMENTS, MAX_NAMES}
 use Rattle.frames.specs.declared.body.BodyOf.TheVariants as body
 use Rattle.views.specs.Views.{AreSound}
 use Rattle.membership.proofs.Fits.{table_fits_frames}
+use Rattle.membership.specs.Event.{Event}
 use Rattle.membership.specs.declared.event.EventOf.TheVariants as heard_of
 use Rattle.membership.specs.Membership.{still}
 use Rattle.membership.specs.Table.{table}
@@ -262,10 +263,10 @@ module _ (core : Plum) (fits : FitsFrames core.gossip) (sound : AreSound core.me
   abbrev Turns : Turned → Type 0
   Turns t = FitsFrames t.gossip × AreFit t.sends
 
-  abbrev Moves : heard_of → Dice → Type 0
+  abbrev Moves : Event → Dice → Type 0
   Moves event dice = Turns (by_membership core.membership core.gossip event dice)
 
-  moves_fit : (event : heard_of) (dice : Dice) → AreFit (table event dice (still core.membership)).sends → Moves event dice
+  moves_fit : (event : Event) (dice : Dice) → AreFit (table event dice (still core.membership)).sends → Moves event dice
   moves_fit event dice sent = (ups_fit (table event dice (still core.membership)).ups (after_downs (table event dice (still core.membership)).downs core.gossip) (downs_fit (table event dice (still core.membership)).downs core.gossip fits), sent)
 
   heard_fits : (sender : Name) (said : Body) (dice : Dice) → IsFit said → Turns (heard core.membership core.gossip sender said dice)

@@ -1,12 +1,16 @@
 -- What a stimulus does is what its part does.
-use Rattle.std.proofs.Common.{◌≡◌, ◌≤◌, ◌<◌, Bool, true, false, length, refl, arith}
-use Rattle.std.specs.Prelude.{◌↔◌, if◌then◌else◌}
+use Rattle.std.proofs.Common.{◌≡◌, ◌∙◌, ◌≤◌, ◌<◌, Bool, true, false, length, refl, sym, ap, arith}
+use Rattle.std.specs.Prelude.{◌↔◌, IsErrAnd, IsErrOf, OnOk, if◌then◌else◌}
+use Rattle.std.specs.declared.result.Result.{Result}
+use Rattle.std.specs.declared.result.Result.TheVariants.{Ok, Err}
 use Rattle.node_names.specs.NodeName.{Name}
 use Rattle.node_names.specs.Same.{same_name}
 use Rattle.node_names.specs.declared.dice.Dice.{Dice}
 use Rattle.node_names.specs.declared.ids.Origin.{Origin}
 use Rattle.world.specs.IdentityLaw.{IsOutOfNumbers, IsTooLong}
 use Rattle.world.specs.Stimulus.{Stimulus}
+use Rattle.world.specs.declared.protocol.CoreError.{CoreError}
+use Rattle.world.specs.declared.protocol.CoreError.TheVariants.{PayloadTooLong}
 use Rattle.world.specs.declared.stimulus.StimulusOf.TheVariants.{Broadcast, Arrive, Fire, Flush, Down, Shuffle}
 use Rattle.frames.specs.Body.{Body}
 use Rattle.frames.specs.Frame.{Frame}
@@ -17,6 +21,7 @@ use Rattle.node_core.specs.Parts.{IsSpentPart, IsTooLongPart, by_part, part_hear
 use Rattle.node_core.specs.Plum.{Plum, plum_state}
 use Rattle.node_core.specs.Steps.{IsAllowed, heard, idle, turned}
 use Rattle.node_core.specs.declared.dispatch.PartOf.TheVariants.{Nobody}
+use Rattle.node_core.proofs.Told.{no_error}
 
 module _ (m : Membership) (g : GossipState) (sender : Name) where
   heard_by : (said : Body) (dice : Dice) → heard m g sender said dice ≡ by_part m g (part_heard sender said dice)
@@ -106,3 +111,29 @@ allowed_by (Fire id) short = tt
 allowed_by Flush short = tt
 allowed_by (Down peer dice) short = tt
 allowed_by (Shuffle dice) short = tt
+
+-- what did not refuse as too long may be taken
+pub ok_allowed : {T : Type 0} (result : Result T CoreError) (stimulus : Stimulus Frame) → IsErrOf result PayloadTooLong ↔ IsTooLong stimulus → OnOk result (IsAllowed stimulus)
+ok_allowed (Err e) stimulus long = tt
+ok_allowed (Ok x) stimulus long = allowed_by stimulus (λ h. no_error x PayloadTooLong (long.1 h))
+
+-- what follows of what may be taken follows where it was not refused
+pub ok_then : {T : Type 0} (result : Result T CoreError) (P Q : Type 0) → (P → Q) → OnOk result P → OnOk result Q
+ok_then (Err e) P Q f p = tt
+ok_then (Ok x) P Q f p = f p
+
+-- two answers, one after the other
+pub both_ways : {P Q R : Type 0} → P ↔ Q → Q ↔ R → P ↔ R
+both_ways a b = ((λ p. b.0 (a.0 p)), (λ r. a.1 (b.1 r)))
+
+-- equal refusals have equal causes
+same_error : {T : Type 0} (e x : CoreError) → ◌≡◌ {A = Result T CoreError} (Err e) (Err x) → e ≡ x
+same_error e x same = cc
+
+-- a refusal that is passed on comes as it came
+pub passes_on : {T U : Type 0} (result : Result U CoreError) (e x : CoreError) (P : Type 0) → IsErrAnd result (λ passed. passed ≡ e) → (◌≡◌ {A = Result T CoreError} (Err e) (Err x)) ↔ P → IsErrOf result x ↔ P
+passes_on (Ok v) e x P is came = absurd is
+passes_on (Err passed) e x P is came = (
+  (λ returned. came.0 (ap Err (sym is ∙ same_error passed x returned))),
+  (λ p. ap Err (is ∙ same_error e x (came.1 p))),
+)

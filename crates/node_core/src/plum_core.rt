@@ -1,15 +1,19 @@
 //! A node's core: the state machine that joins HyParView's membership and Plumtree's gossip.
-ghost use Rattle.std.specs.Prelude.{◌≡◌, ◌+◌, ◌≤◌, ◌⊎◌, ◌↔◌, ◌++◌, None, List, length, IsSome, IsTrue, IfOk, IfErr, OnOk, OnErr, IsErrOf};
+ghost use Rattle.std.specs.Prelude.{◌≡◌, ◌+◌, ◌≤◌, ◌⊎◌, ◌↔◌, ◌++◌, false, None, List, length, IsSome, IsTrue, IfOk, IfErr, OnOk, OnErr, IsErrOf};
 ghost use Rattle.node_names.specs.NodeName.{Name};
 ghost use Rattle.frames.specs.Frame.{Frame as Plain};
+ghost use Rattle.world.specs.IdentityLaw.{IsOutOfNumbers, IsTooLong};
 ghost use Rattle.world.specs.Peers.{are_peers};
+ghost use Rattle.world.specs.Run.{SameNames};
 ghost use Rattle.world.specs.Stimulus.{lent};
-ghost use Rattle.node_core.specs.Fits.{ComesFit};
-ghost use Rattle.node_core.specs.Steps.{IsAllowed, PlumStartsCounted, opening};
+ghost use Rattle.node_core.specs.Fits.{AreFit, ComesFit};
+ghost use Rattle.node_core.specs.Parts.{Takes, part_of};
+ghost use Rattle.node_core.specs.Plum.{plum_state};
+ghost use Rattle.node_core.specs.Steps.{IsAllowed, PlumStartsCounted, opening, turned};
 
 use crate::dispatch::part_of;
 use crate::output::append_numbered;
-use crate::parts::{go_on, work_out};
+use crate::parts::{Worked, go_on, work_out};
 use crate::turn::Turn;
 use bytes::Bytes;
 use frames::Frame;
@@ -103,6 +107,26 @@ impl<A: Allocator + Copy> PlumCore<A> {
             framed,
         })
     }
+
+    /// Works out what a stimulus does to the two parts. Nothing changes.
+    fn work_out(
+        &self,
+        alloc: A,
+        stimulus: &StimulusRef<'_, Frame<A>, A>,
+    ) -> Result<Worked<A>, CoreError>
+        ensures allowed { OnOk result (IsAllowed (lent stimulus.now)) }
+        ensures takes { IfOk result (λ worked. Takes self.now.membership self.now.gossip (part_of self.now.me (lent stimulus.now)) worked.moved) }
+        ensures effects { IfOk result (λ worked. worked.effects ≡ record { sends = (turned self.now.me self.now.membership self.now.gossip (lent stimulus.now)).sends; delivered = (turned self.now.me self.now.membership self.now.gossip (lent stimulus.now)).delivered }) }
+        ensures fit { OnOk result (AreFit (turned self.now.me self.now.membership self.now.gossip (lent stimulus.now)).sends) }
+        ensures moved { IfOk result (λ worked. (worked.is_moved ≡ false) ↔ SameNames self.now.membership.views.active (turned self.now.me self.now.membership self.now.gossip (lent stimulus.now)).membership.views.active) }
+        ensures too_long { IsErrOf result CoreError.PayloadTooLong ↔ IsTooLong (lent stimulus.now) }
+        ensures numbers { IsErrOf result CoreError.SeqSpent ↔ IsOutOfNumbers (plum_state self.now) (lent stimulus.now) }
+    {
+        let _sound = self.membership.views().limits();
+        heed(stimulus);
+        let part = part_of(&self.me, stimulus);
+        work_out(alloc, &self.membership, &self.gossip, &part)
+    }
 }
 
 /// What may be taken fits frames: a packet that came is one.
@@ -156,11 +180,7 @@ impl<A: Allocator + Copy> Core<A> for PlumCore<A> {
         stimulus: &StimulusRef<'_, Frame<A>, A>,
         out: &mut Out<Frame<A>, A>,
     ) -> Result<Prepared<Turn<A>>, CoreError> {
-        let _sound = self.membership.views().limits();
-        heed(stimulus);
-        let part = part_of(&self.me, stimulus);
-        let alloc = *out.sends.allocator();
-        let worked = work_out(alloc, &self.membership, &self.gossip, &part)?;
+        let worked = self.work_out(*out.sends.allocator(), stimulus)?;
         let framed = append_numbered(&self.me, self.framed, worked.effects, out)?;
         Ok(Prepared {
             turn: Turn {
