@@ -1,5 +1,5 @@
 -- The scenario that was read is the one that was played.
 use Rattle.plumtree.proofs.simulate.simulate.Goals as goal
 
-pub returns-in-Ok-clause-printed : goal.returns-in-Ok-clause-printed
-returns-in-Ok-clause-printed g c ended = (c.in-Ok.scenario.seed, c.in-Ok.scenario.limits, c.in-Ok.scenario.actions.items, c.in-Ok.ensures.ok, c.play_and_print.ensures.printed ended)
+pub returns-clause-stopped : goal.returns-clause-stopped
+returns-clause-stopped g c fault is has_memory = (c.in_ok-scenario.scenario.seed, c.in_ok-scenario.scenario.limits, c.in_ok-scenario.scenario.actions.items, c.in_ok-scenario.ensures.ok, c.play_and_print.ensures.stopped fault is has_memory)
