@@ -89,13 +89,11 @@ fn take_first<A: Allocator>(
     if !timers.contains(id) {
         return None;
     }
-    match wants::take_first(wants, id) {
-        Some(first) => Some(first),
-        None => {
-            timers::disarm(timers, id);
-            None
-        }
+    let first = wants::take_first(wants, id);
+    if first.is_none() {
+        timers::disarm(timers, id);
     }
+    first
 }
 
 /// Takes the announcements and the timer of the id out.

@@ -16,6 +16,17 @@ fn is_wanted(wants: &[Want], id: &MsgId, peer: &NodeName) -> bool
     wants.iter().any(|entry| *id == entry.0 && *peer == entry.1)
 }
 
+/// Puts an entry last in the room that there is, where the peer has not announced the id.
+pub(crate) fn put_new<A: Allocator>(wants: &mut Vec<Want, A>, entry: &Want)
+    requires room { vec_len wants.old < vec_capacity wants.old }
+    requires new { is_wanted entry.now.0 entry.now.1 wants.old.items ≡ false }
+    ensures items { wants.new.items ≡ with_want entry.now.0 entry.now.1 entry.now.2 wants.old.items }
+    ensures len { vec_len wants.new ≤ vec_len wants.old + 1 }
+    ensures capacity { vec_capacity wants.old ≤ vec_capacity wants.new }
+{
+    wants.push(*entry).unwrap();
+}
+
 /// Puts an entry last in the room that there is, unless the peer has announced the id.
 pub(crate) fn put<A: Allocator>(wants: &mut Vec<Want, A>, entry: &Want)
     requires { vec_len wants.old < vec_capacity wants.old }
@@ -26,18 +37,7 @@ pub(crate) fn put<A: Allocator>(wants: &mut Vec<Want, A>, entry: &Want)
     if is_wanted(wants, &entry.0, &entry.1) {
         return;
     }
-    wants.push(*entry).unwrap();
-}
-
-/// Puts an entry last in the room that there is, where the peer has not announced the id.
-pub(crate) fn put_new<A: Allocator>(wants: &mut Vec<Want, A>, entry: &Want)
-    requires room { vec_len wants.old < vec_capacity wants.old }
-    requires new { is_wanted entry.now.0 entry.now.1 wants.old.items ≡ false }
-    ensures items { wants.new.items ≡ with_want entry.now.0 entry.now.1 entry.now.2 wants.old.items }
-    ensures len { vec_len wants.new ≤ vec_len wants.old + 1 }
-    ensures capacity { vec_capacity wants.old ≤ vec_capacity wants.new }
-{
-    wants.push(*entry).unwrap();
+    put_new(wants, entry);
 }
 
 /// The place of the first entry of the id.
