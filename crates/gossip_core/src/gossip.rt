@@ -411,7 +411,7 @@ impl<A: Allocator + Copy> Gossip<A> {
         Ok(())
     }
 
-    /// The same gossip once more.
+    /// A copy of all that the gossip holds.
     pub fn copy(&self) -> Result<Self, AllocError>
         ensures { IfOk result (λ copy. copy ≡ self.now) }
     {

@@ -1,3 +1,4 @@
 pub mod Distinct
 pub mod WantLemmas
 pub mod SoundLemmas
+pub mod LackLemmas

@@ -1,12 +1,14 @@
 //! The messages that a node knows of and lacks.
-ghost use Rattle.std.specs.Prelude.{◌≡◌, [], not, is_some, if◌then◌else◌, IfOk, OnOk, OnErr};
+ghost use Rattle.std.specs.Prelude.{◌≡◌, ◌+◌, ◌<◌, ◌≤◌, [], not, is_some, length, vec_len, vec_capacity, if◌then◌else◌, IfOk, OnOk, OnErr};
+ghost use Rattle.indexmap.specs.IndexSet.{spare};
 ghost use Rattle.node_names.specs.Same.{has_id};
 ghost use Rattle.missing.specs.Missing.{IsSound, announced, announced_all, taken_first, got, without};
-ghost use Rattle.missing.specs.Wants.{first_want, without_first};
-ghost use Rattle.missing.specs.Timers.{without_timer};
+ghost use Rattle.missing.specs.Wants.{with_want, with_wants, first_want, without_first, without_id};
+ghost use Rattle.missing.specs.Timers.{with_timer, with_timers, without_timer};
 
-use crate::timers;
+use crate::timers::{self, Timers};
 use crate::wants::{self, Want};
+use indexmap::IndexSet;
 use node_names::{MsgId, NodeName};
 use std::alloc::{AllocError, Allocator, Global};
 use std::marker::Model;
@@ -14,11 +16,13 @@ use std::marker::Model;
 /// The announcements of messages that a node lacks, and the timers that will ask for them.
 ///
 /// Announcements keep the order in which they came, and timers the order in which they were armed. Each announced id is
-/// armed; a timer may outlive the announcements of its id.
+/// armed; a timer may outlive the announcements of its id. Whether an id is armed costs the same however many are, and
+/// the announcements are looked through only for an id that is. What is taken out lets all behind it move up, so a call
+/// that takes something out goes over what is there.
 #[derive(Drop)]
 pub struct Missing<A: Allocator = Global> {
     wants: Vec<Want, A>,
-    timers: Vec<MsgId, A>,
+    timers: Timers<A>,
 }
 
 impl<A: Allocator> Model for Missing<A> {
@@ -26,28 +30,93 @@ impl<A: Allocator> Model for Missing<A> {
 
     ghost Value = { Missing };
 
-    ghost view = { λ m. record { wants = m.wants.items; timers = m.timers.items } };
+    ghost view = { λ m. record { wants = m.wants.items; timers = m.timers.keys } };
 
-    ghost invariant = { λ m. IsSound (record { wants = m.wants.items; timers = m.timers.items }) };
+    ghost invariant = { λ m. IsSound (record { wants = m.wants.items; timers = m.timers.keys }) };
+}
+
+/// Puts an announcement of the peer last, in the room that there is, unless it is there, and arms its id. Whether the id
+/// was not armed before.
+fn put<A: Allocator + Copy>(wants: &mut Vec<Want, A>, timers: &mut Timers<A>, entry: &Want) -> bool
+    requires room { vec_len wants.old < vec_capacity wants.old }
+    requires timer { 0 < spare timers.old }
+    requires sound { IsSound (record { wants = wants.old.items; timers = timers.old.keys }) }
+    ensures new { result ≡ not (has_id timers.old.keys entry.now.0) }
+    ensures wants { wants.new.items ≡ with_want entry.now.0 entry.now.1 entry.now.2 wants.old.items }
+    ensures timers { timers.new.keys ≡ with_timer entry.now.0 timers.old.keys }
+    ensures len { vec_len wants.new ≤ vec_len wants.old + 1 }
+    ensures capacity { vec_capacity wants.old ≤ vec_capacity wants.new }
+    ensures spare { spare timers.old ≤ spare timers.new + 1 }
+{
+    let is_new = timers::arm(timers, &entry.0);
+    if is_new {
+        wants::put_new(wants, entry);
+    } else {
+        wants::put(wants, entry);
+    }
+    is_new
+}
+
+/// Puts the announcements of the peer last, in the room that there is, but those that are there, and arms their ids.
+fn put_all<A: Allocator + Copy>(
+    wants: &mut Vec<Want, A>,
+    timers: &mut Timers<A>,
+    peer: &NodeName,
+    entries: &[(MsgId, u32)],
+)
+    requires room { vec_len wants.old + length entries.now ≤ vec_capacity wants.old }
+    requires spare { length entries.now ≤ spare timers.old }
+    requires sound { IsSound (record { wants = wants.old.items; timers = timers.old.keys }) }
+    ensures wants { wants.new.items ≡ with_wants peer.now entries.now wants.old.items }
+    ensures timers { timers.new.keys ≡ with_timers entries.now timers.old.keys }
+{
+    for entry in entries {
+        put(wants, timers, &(entry.0, *peer, entry.1));
+    }
 }
 
 /// Takes the first announcement of the id, or, where there is none, its timer.
 fn take_first<A: Allocator>(
     wants: &mut Vec<Want, A>,
-    timers: &mut Vec<MsgId, A>,
+    timers: &mut Timers<A>,
     id: &MsgId,
 ) -> Option<(NodeName, u32)>
+    requires { IsSound (record { wants = wants.old.items; timers = timers.old.keys }) }
     ensures taken { result ≡ first_want id.now wants.old.items }
     ensures wants { wants.new.items ≡ without_first id.now wants.old.items }
-    ensures timers { timers.new.items ≡ (if is_some (first_want id.now wants.old.items) then timers.old.items else without_timer id.now timers.old.items) }
+    ensures timers { timers.new.keys ≡ (if is_some (first_want id.now wants.old.items) then timers.old.keys else without_timer id.now timers.old.keys) }
 {
-    match wants::take_first(wants, id) {
-        Some(first) => Some(first),
-        None => {
-            timers::disarm(timers, id);
-            None
-        }
+    if !timers.contains(id) {
+        return None;
     }
+    let first = wants::take_first(wants, id);
+    if first.is_none() {
+        timers::disarm(timers, id);
+    }
+    first
+}
+
+/// Takes the announcements and the timer of the id out.
+fn forget<A: Allocator>(wants: &mut Vec<Want, A>, timers: &mut Timers<A>, id: &MsgId)
+    requires { IsSound (record { wants = wants.old.items; timers = timers.old.keys }) }
+    ensures wants { wants.new.items ≡ without_id id.now wants.old.items }
+    ensures timers { timers.new.keys ≡ without_timer id.now timers.old.keys }
+{
+    if timers.contains(id) {
+        wants::remove_id(wants, id);
+        timers::disarm(timers, id);
+    }
+}
+
+/// Who announced the id first, and at which round.
+fn first<A: Allocator>(wants: &[Want], timers: &Timers<A>, id: &MsgId) -> Option<(NodeName, u32)>
+    requires { IsSound (record { wants = wants.now; timers = timers.now.keys }) }
+    ensures { result ≡ first_want id.now wants.now }
+{
+    if !timers.contains(id) {
+        return None;
+    }
+    wants::first(wants, id)
 }
 
 impl<A: Allocator + Copy> Missing<A> {
@@ -58,7 +127,7 @@ impl<A: Allocator + Copy> Missing<A> {
     {
         Missing {
             wants: Vec::new(alloc),
-            timers: Vec::new(alloc),
+            timers: IndexSet::new(alloc),
         }
     }
 
@@ -72,8 +141,8 @@ impl<A: Allocator + Copy> Missing<A> {
     {
         self.wants.reserve(1)?;
         self.timers.reserve(1)?;
-        wants::put(&mut self.wants, &(*id, *peer, round));
-        Ok(timers::arm(&mut self.timers, id))
+        let entry = (*id, *peer, round);
+        Ok(put(&mut self.wants, &mut self.timers, &entry))
     }
 
     /// The peer announced all of these, or, where memory is refused, none of them.
@@ -87,19 +156,18 @@ impl<A: Allocator + Copy> Missing<A> {
     {
         self.wants.reserve(entries.len())?;
         self.timers.reserve(entries.len())?;
-        wants::put_all(&mut self.wants, peer, entries);
-        timers::arm_all(&mut self.timers, entries);
+        put_all(&mut self.wants, &mut self.timers, peer, entries);
         Ok(())
     }
 
-    /// The same announcements and timers once more.
+    /// A copy of the announcements and timers.
     pub fn copy(&self) -> Result<Self, AllocError>
         ensures { IfOk result (λ copy. copy ≡ self.now) }
     {
         let alloc = *self.wants.allocator();
         Ok(Missing {
             wants: Vec::from_slice(alloc, &self.wants)?,
-            timers: Vec::from_slice(alloc, &self.timers)?,
+            timers: self.timers.clone()?,
         })
     }
 }
@@ -117,8 +185,7 @@ impl<A: Allocator> Missing<A> {
     pub fn got(&mut self, id: &MsgId)
         ensures { self.new ≡ got id.now self.old }
     {
-        wants::remove_id(&mut self.wants, id);
-        timers::disarm(&mut self.timers, id);
+        forget(&mut self.wants, &mut self.timers, id);
     }
 
     /// The peer went down: its announcements go, and the timers stay.
@@ -132,14 +199,14 @@ impl<A: Allocator> Missing<A> {
     pub fn armed(&self, id: &MsgId) -> bool
         ensures { result ≡ has_id self.now.timers id.now }
     {
-        timers::is_armed(&self.timers, id)
+        self.timers.contains(id)
     }
 
     /// The first announcement of the id: by whom, and at which round.
     pub fn first(&self, id: &MsgId) -> Option<(NodeName, u32)>
         ensures { result ≡ first_want id.now self.now.wants }
     {
-        wants::first(&self.wants, id)
+        first(&self.wants, &self.timers, id)
     }
 
     /// The announcements, oldest first.

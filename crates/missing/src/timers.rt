@@ -1,46 +1,32 @@
-//! Lists of armed ids.
-ghost use Rattle.std.specs.Prelude.{◌≡◌, ◌+◌, ◌<◌, ◌≤◌, length, not, vec_len, vec_capacity};
-ghost use Rattle.node_names.specs.Same.{has_id};
-ghost use Rattle.missing.specs.Timers.{with_timer, with_timers, without_timer};
+//! Sets of armed ids, in order of arming.
+ghost use Rattle.std.specs.Prelude.{◌≡◌, ◌+◌, ◌<◌, ◌≤◌, not};
+ghost use Rattle.std.specs.List.{IsDistinct};
+ghost use Rattle.indexmap.specs.IndexSet.{spare};
+ghost use Rattle.node_names.specs.Same.{same_id, has_id};
+ghost use Rattle.missing.specs.Timers.{with_timer, without_timer};
 
+use indexmap::IndexSet;
 use node_names::MsgId;
 use std::alloc::Allocator;
+use std::hash::{BuildHasherDefault, FoldHasher};
 
-/// Whether the id is armed.
-pub(crate) fn is_armed(timers: &[MsgId], id: &MsgId) -> bool
-    ensures { result ≡ has_id timers.now id.now }
-{
-    timers.iter().any(|armed| id == armed)
-}
+/// The armed ids, in order of arming.
+pub(crate) type Timers<A> = IndexSet<MsgId, BuildHasherDefault<FoldHasher>, A>;
 
 /// Arms the id in the room that there is. Whether it was not armed before.
-pub(crate) fn arm<A: Allocator>(timers: &mut Vec<MsgId, A>, id: &MsgId) -> bool
-    requires { vec_len timers.old < vec_capacity timers.old }
-    ensures new { result ≡ not (has_id timers.old.items id.now) }
-    ensures items { timers.new.items ≡ with_timer id.now timers.old.items }
-    ensures len { vec_len timers.new ≤ vec_len timers.old + 1 }
-    ensures capacity { vec_capacity timers.old ≤ vec_capacity timers.new }
+pub(crate) fn arm<A: Allocator + Copy>(timers: &mut Timers<A>, id: &MsgId) -> bool
+    requires { 0 < spare timers.old }
+    ensures new { result ≡ not (has_id timers.old.keys id.now) }
+    ensures keys { timers.new.keys ≡ with_timer id.now timers.old.keys }
+    ensures room { spare timers.old ≤ spare timers.new + 1 }
 {
-    if is_armed(timers, id) {
-        return false;
-    }
-    timers.push(*id).unwrap();
-    true
+    timers.insert(*id).unwrap()
 }
 
-/// Arms the ids of the announcements, in the room that there is.
-pub(crate) fn arm_all<A: Allocator>(timers: &mut Vec<MsgId, A>, announced: &[(MsgId, u32)])
-    requires { vec_len timers.old + length announced.now ≤ vec_capacity timers.old }
-    ensures { timers.new.items ≡ with_timers announced.now timers.old.items }
+/// Takes the timer of the id out. The timers behind it move up.
+pub(crate) fn disarm<A: Allocator>(timers: &mut Timers<A>, id: &MsgId)
+    requires { IsDistinct same_id timers.old.keys }
+    ensures { timers.new.keys ≡ without_timer id.now timers.old.keys }
 {
-    for one in announced {
-        arm(timers, &one.0);
-    }
-}
-
-/// Takes the timer of the id out.
-pub(crate) fn disarm<A: Allocator>(timers: &mut Vec<MsgId, A>, id: &MsgId)
-    ensures { timers.new.items ≡ without_timer id.now timers.old.items }
-{
-    timers.retain(|armed| id != armed);
+    timers.shift_remove(id);
 }

@@ -1,7 +1,7 @@
 //! Lists of announcements.
-ghost use Rattle.std.specs.Prelude.{◌≡◌, ◌+◌, ◌<◌, ◌≤◌, length, position, vec_len, vec_capacity};
+ghost use Rattle.std.specs.Prelude.{◌≡◌, ◌+◌, ◌<◌, ◌≤◌, false, position, vec_len, vec_capacity};
 ghost use Rattle.node_names.specs.Same.{same_id};
-ghost use Rattle.missing.specs.Wants.{is_wanted, with_want, with_wants, first_want, without_first, without_id, without_peer};
+ghost use Rattle.missing.specs.Wants.{is_wanted, with_want, first_want, without_first, without_id, without_peer};
 
 use node_names::{MsgId, NodeName};
 use std::alloc::Allocator;
@@ -16,6 +16,17 @@ fn is_wanted(wants: &[Want], id: &MsgId, peer: &NodeName) -> bool
     wants.iter().any(|entry| *id == entry.0 && *peer == entry.1)
 }
 
+/// Puts an entry last in the room that there is, where the peer has not announced the id.
+pub(crate) fn put_new<A: Allocator>(wants: &mut Vec<Want, A>, entry: &Want)
+    requires room { vec_len wants.old < vec_capacity wants.old }
+    requires new { is_wanted entry.now.0 entry.now.1 wants.old.items ≡ false }
+    ensures items { wants.new.items ≡ with_want entry.now.0 entry.now.1 entry.now.2 wants.old.items }
+    ensures len { vec_len wants.new ≤ vec_len wants.old + 1 }
+    ensures capacity { vec_capacity wants.old ≤ vec_capacity wants.new }
+{
+    wants.push(*entry).unwrap();
+}
+
 /// Puts an entry last in the room that there is, unless the peer has announced the id.
 pub(crate) fn put<A: Allocator>(wants: &mut Vec<Want, A>, entry: &Want)
     requires { vec_len wants.old < vec_capacity wants.old }
@@ -26,7 +37,7 @@ pub(crate) fn put<A: Allocator>(wants: &mut Vec<Want, A>, entry: &Want)
     if is_wanted(wants, &entry.0, &entry.1) {
         return;
     }
-    wants.push(*entry).unwrap();
+    put_new(wants, entry);
 }
 
 /// The place of the first entry of the id.
@@ -49,7 +60,7 @@ pub(crate) fn first(wants: &[Want], id: &MsgId) -> Option<(NodeName, u32)>
     }
 }
 
-/// Takes the first entry of the id out.
+/// Takes the first entry of the id out. The entries behind it move up.
 pub(crate) fn take_first<A: Allocator>(
     wants: &mut Vec<Want, A>,
     id: &MsgId,
@@ -66,28 +77,14 @@ pub(crate) fn take_first<A: Allocator>(
     }
 }
 
-/// Puts an entry last for each of the announcements of the peer, in the room that there is.
-pub(crate) fn put_all<A: Allocator>(
-    wants: &mut Vec<Want, A>,
-    peer: &NodeName,
-    announced: &[(MsgId, u32)],
-)
-    requires { vec_len wants.old + length announced.now ≤ vec_capacity wants.old }
-    ensures { wants.new.items ≡ with_wants peer.now announced.now wants.old.items }
-{
-    for one in announced {
-        put(wants, &(one.0, *peer, one.1));
-    }
-}
-
-/// Takes the entries of the id out.
+/// Takes the entries of the id out. It goes over all entries.
 pub(crate) fn remove_id<A: Allocator>(wants: &mut Vec<Want, A>, id: &MsgId)
     ensures { wants.new.items ≡ without_id id.now wants.old.items }
 {
     wants.retain(|entry| *id != entry.0);
 }
 
-/// Takes the entries of the peer out.
+/// Takes the entries of the peer out. It goes over all entries.
 pub(crate) fn remove_peer<A: Allocator>(wants: &mut Vec<Want, A>, peer: &NodeName)
     ensures { wants.new.items ≡ without_peer peer.now wants.old.items }
 {

@@ -1,16 +1,14 @@
 -- The queue, entry by entry.
-use Rattle.std.proofs.Common.{◌≡◌, ◌∙◌, ◌&&◌, ◌||◌, ◌+◌, ◌<◌, ℕ, Bool, true, false, not, cond, List, [], ◌∷◌, ◌++◌, length, get_or, take, filter, map, sym, ap, refl, if◌then◌else◌, append_assoc, append-nil}
-use Rattle.std.specs.List.{list_any, IsDistinct}
+use Rattle.std.proofs.Common.{◌≡◌, ◌∙◌, ◌&&◌, ◌||◌, ◌+◌, ◌<◌, ℕ, Bool, true, false, not, cond, List, [], ◌∷◌, ◌++◌, length, get_or, take, filter, map, sym, ap, refl, if◌then◌else◌, append-nil}
+use Rattle.std.specs.List.{list_any}
 use Rattle.std.proofs.lemmas.Bool.{false≢true}
-use Rattle.std.proofs.lemmas.List.{map-append, take_more}
+use Rattle.std.proofs.lemmas.List.{take_more}
 use Rattle.std.proofs.lemmas.List.Elements.{filter-append}
-use Rattle.std.proofs.lemmas.List.Folds.{list_any-append}
 use Rattle.std.proofs.lemmas.Map.Views.{any-filter_same}
 use Rattle.indexmap.specs.IndexSet.{insert_key}
 use Rattle.node_names.specs.NodeName.{Name}
-use Rattle.node_names.specs.Same.{same_name, same_name-Decides, same_name-laws, has_name, same_id}
+use Rattle.node_names.specs.Same.{same_name, same_name-Decides, same_name-laws, same_id}
 use Rattle.node_names.specs.declared.ids.MsgId.{MsgId}
-use Rattle.peer_sets.proofs.Distinct.{new_to_those_before}
 use Rattle.peer_sets.specs.Queue.{place_of, same_place, is_queued, has_entry_of, with_entries, receivers}
 
 or_false : (b : Bool) → (b || false) ≡ b

@@ -1,5 +1,5 @@
 -- The announcements that wait to be sent: to whom, of which id, at which round.
-use Rattle.std.specs.Prelude.{◌&&◌, ℕ, Bool, not, List, [], ◌∷◌, ◌++◌, map, filter, if◌then◌else◌}
+use Rattle.std.specs.Prelude.{◌&&◌, ℕ, zero, suc, Bool, not, List, [], ◌∷◌, ◌++◌, map, filter, if◌then◌else◌}
 use Rattle.std.specs.List.{list_any}
 use Rattle.node_names.specs.NodeName.{Name}
 use Rattle.node_names.specs.Same.{same_name, same_id}
@@ -50,3 +50,19 @@ receivers (entry ∷ queued) = entry.0 ∷ filter (λ peer. not (same_name entry
 -- what waits, by receiver
 abbrev pub batches : List (Name × MsgId × ℕ) → List (Name × List (MsgId × ℕ))
 batches queued = map (λ peer. (peer, waiting_for peer queued)) (receivers queued)
+
+-- the batches, where the one at the place has this entry last
+abbrev pub with_more : ℕ → MsgId × ℕ → List (Name × List (MsgId × ℕ)) → List (Name × List (MsgId × ℕ))
+with_more place entry [] = []
+with_more zero entry (batch ∷ batches) = (batch.0, batch.1 ++ entry ∷ []) ∷ batches
+with_more (suc place) entry (batch ∷ batches) = batch ∷ with_more place entry batches
+
+-- the batches, with an empty one last where the receiver has none
+abbrev pub with_empty : Name → List (Name × List (MsgId × ℕ)) → List (Name × List (MsgId × ℕ))
+with_empty peer batches = if list_any (same_name peer) (map (λ batch. batch.0) batches) then batches else batches ++ (peer, []) ∷ []
+
+-- the batches, where the one of the entry's receiver has it last; a new receiver's batch goes last
+abbrev pub with_batch : Name × MsgId × ℕ → List (Name × List (MsgId × ℕ)) → List (Name × List (MsgId × ℕ))
+with_batch entry [] = (entry.0, (entry.1, entry.2) ∷ []) ∷ []
+with_batch entry (batch ∷ batches) =
+    if same_name entry.0 batch.0 then (batch.0, batch.1 ++ (entry.1, entry.2) ∷ []) ∷ batches else batch ∷ with_batch entry batches

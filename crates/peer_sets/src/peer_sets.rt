@@ -148,7 +148,7 @@ impl<A: Allocator + Copy> PeerSets<A> {
         self.queued.clear();
     }
 
-    /// The same sets once more.
+    /// A copy of the members and of what waits.
     pub fn copy(&self) -> Result<Self, AllocError>
         ensures { IfOk result (λ copy. copy ≡ self.now) }
     {

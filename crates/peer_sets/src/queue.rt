@@ -1,8 +1,10 @@
 //! The queue of announcements: what waits to be announced, in the order in which it came.
-ghost use Rattle.std.specs.Prelude.{◌≡◌, ◌+◌, ◌++◌, ◌≤◌, false, map, length, vec_len, vec_capacity, OnOk, OnErr, IfOk};
-ghost use Rattle.std.specs.List.{list_any};
+ghost use Rattle.std.specs.Prelude.{◌≡◌, ◌+◌, ◌++◌, ◌<◌, ◌≤◌, false, map, length, vec_len, vec_capacity, OnOk, OnErr, IfOk};
+ghost use Rattle.std.specs.List.{list_any, position_or_len};
+ghost use Rattle.indexmap.specs.IndexSet.{insert_key};
+ghost use Rattle.node_names.specs.Same.{same_name};
 ghost use Rattle.peer_sets.specs.Members.{lazy_but, is_left_out};
-ghost use Rattle.peer_sets.specs.Queue.{place_of, same_place, has_entry_of, with_entry, with_entries, without_entries, without_all_entries, waiting_for, receivers, batches};
+ghost use Rattle.peer_sets.specs.Queue.{place_of, same_place, has_entry_of, with_entry, with_entries, without_entries, without_all_entries, with_more, with_empty, with_batch, batches};
 
 use crate::members::Member;
 use indexmap::IndexSet;
@@ -104,35 +106,66 @@ pub(crate) fn remove_all<A: Allocator>(queued: &mut Vec<Announcement, A>, peers:
     }
 }
 
-/// What waits for the peer.
-fn waiting_for<A: Allocator>(
-    alloc: A,
-    queued: &[Announcement],
-    peer: &NodeName,
-) -> Result<Listed<(MsgId, u32), A>, AllocError>
-    ensures { IfOk result (λ entries. entries ≡ waiting_for peer.now queued.now) }
+/// Puts an entry last in the batch at the place.
+fn put_in_slice<A: Allocator>(
+    batches: &mut [Batch<A>],
+    place: usize,
+    entry: (MsgId, u32),
+) -> Result<(), AllocError>
+    requires { place < length batches.old }
+    ensures { OnOk result (batches.new ≡ with_more place entry batches.old) }
 {
-    let mut entries = Listed::new(alloc);
-    for entry in queued {
-        if *peer == entry.0 {
-            entries.push((entry.1, entry.2))?;
-        }
-    }
-    Ok(entries)
+    let batch = &mut batches[place];
+    batch.1.push(entry)?;
+    Ok(())
 }
 
-/// The peers that something waits for.
-fn receivers<A: Allocator + Copy>(
-    alloc: A,
-    queued: &[Announcement],
-) -> Result<NameSet<A>, AllocError>
-    ensures { IfOk result (λ set. set.keys ≡ receivers queued.now) }
+/// Puts an entry last in the batch at the place.
+fn put_in<A: Allocator>(
+    batches: &mut Vec<Batch<A>, A>,
+    place: usize,
+    entry: (MsgId, u32),
+) -> Result<(), AllocError>
+    requires { place < length batches.old.items }
+    ensures { OnOk result (batches.new.items ≡ with_more place entry batches.old.items) }
 {
-    let mut set = IndexSet::new(alloc);
-    for entry in queued {
-        set.insert(entry.0)?;
+    put_in_slice(batches, place, entry)?;
+    Ok(())
+}
+
+/// Where the receiver's batch stands. A new receiver gets one, which is empty and goes last.
+fn batch_of<A: Allocator + Copy>(
+    receivers: &mut NameSet<A>,
+    batches: &mut Vec<Batch<A>, A>,
+    peer: &NodeName,
+) -> Result<usize, AllocError>
+    requires { map (λ batch. batch.0) batches.old.items ≡ receivers.old.keys }
+    ensures place { IfOk result (λ place. place ≡ position_or_len (same_name peer.now) receivers.old.keys) }
+    ensures batches { OnOk result (batches.new.items ≡ with_empty peer.now batches.old.items) }
+    ensures receivers { OnOk result (receivers.new.keys ≡ insert_key same_name receivers.old.keys peer.now) }
+{
+    let (place, is_new) = receivers.insert_full(*peer)?;
+    if !is_new {
+        return Ok(place);
     }
-    Ok(set)
+    let empty = Listed::new(*batches.allocator());
+    batches.push((*peer, empty))?;
+    Ok(place)
+}
+
+/// Puts an entry last in the batch of its receiver. A new receiver's batch goes last.
+fn put_batch<A: Allocator + Copy>(
+    receivers: &mut NameSet<A>,
+    batches: &mut Vec<Batch<A>, A>,
+    entry: &Announcement,
+) -> Result<(), AllocError>
+    requires { map (λ batch. batch.0) batches.old.items ≡ receivers.old.keys }
+    ensures put { OnOk result (batches.new.items ≡ with_batch entry.now batches.old.items) }
+    ensures matched { OnOk result (map (λ batch. batch.0) batches.new.items ≡ receivers.new.keys) }
+{
+    let place = batch_of(receivers, batches, &entry.0)?;
+    put_in(batches, place, (entry.1, entry.2))?;
+    Ok(())
 }
 
 /// What waits, by receiver.
@@ -142,10 +175,10 @@ pub(crate) fn batches<A: Allocator + Copy>(
 ) -> Result<Listed<Batch<A>, A>, AllocError>
     ensures { IfOk result (λ all. all ≡ batches queued.now) }
 {
-    let receivers = receivers(alloc, queued)?;
-    let mut all = Listed::new(alloc);
-    for peer in receivers.as_slice() {
-        all.push((*peer, waiting_for(alloc, queued, peer)?))?;
+    let mut receivers: NameSet<A> = IndexSet::new(alloc);
+    let mut all = Vec::new(alloc);
+    for entry in queued {
+        put_batch(&mut receivers, &mut all, entry)?;
     }
-    Ok(all)
+    Ok(Listed::from_vec(all))
 }

@@ -1,6 +1,6 @@
-use Rattle.std.proofs.Common.{rules}
-use Rattle.std.proofs.lemmas.Fn.{filter_same}
+use Rattle.std.proofs.Common.{◌∙◌}
+use Rattle.missing.proofs.LackLemmas.{remove_key-timer}
 use Rattle.missing.proofs.timers.disarm.Goals as goal
 
 pub returns : goal.returns
-returns g c = filter_same _ _ _ (λ x b f' k. search rules) _ _ c.retain.ensures.filtered
+returns g c = c.shift_remove.ensures.keys ∙ remove_key-timer c.args.id.now c.args.timers.now.keys c.requires

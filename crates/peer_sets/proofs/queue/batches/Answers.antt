@@ -1,8 +1,15 @@
--- All receivers are done.
-use Rattle.std.proofs.Common.{◌∙◌, ap, map}
-use Rattle.std.proofs.lemmas.List.{take_all}
-use Rattle.peer_sets.specs.Queue.{waiting_for}
+-- One more entry goes into its receiver's batch.
+use Rattle.std.proofs.Common.{sym, ap, ◌∙◌, get_or}
+use Rattle.peer_sets.specs.Queue.{with_batch}
+use Rattle.peer_sets.proofs.BatchLemmas.{batches-take}
 use Rattle.peer_sets.proofs.queue.batches.Goals as goal
 
-pub returns : goal.returns
-returns g c = c.loop-peer.invariant ∙ ap (map (λ peer. (peer, waiting_for peer c.args.queued.now))) (take_all c.loop-peer.peer-index c.as_slice-peer-items.result.now c.loop-peer-test.false ∙ c.as_slice-peer-items.ensures.keys ∙ c.in_ok-receivers.ensures)
+pub loop-entry-preserved : goal.loop-entry-preserved
+loop-entry-preserved g c = record {
+  put =
+      c.in_ok-put_batch.ensures.put
+      ∙ ap (λ entry. with_batch entry c.loop-entry.all.items) c.entry-item.is
+      ∙ ap (with_batch (get_or c.args.queued.now c.loop-entry.entry-index c.entry-item.result)) c.loop-entry.invariant.put
+      ∙ sym (batches-take c.args.queued.now c.loop-entry.entry-index c.entry-item.result c.loop-entry-test.true);
+  matched = c.in_ok-put_batch.ensures.matched;
+}

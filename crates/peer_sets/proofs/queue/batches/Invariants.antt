@@ -1,6 +1,10 @@
 use Rattle.std.proofs.Common.{◌≡◌, map, take}
-use Rattle.peer_sets.specs.Queue.{waiting_for}
+use Rattle.peer_sets.specs.Queue.{batches}
 use Rattle.peer_sets.proofs.queue.batches.Given as goal
 
-abbrev pub invariant-loop-peer : goal.invariant-loop-peer
-invariant-loop-peer g l = l.all ≡ map (λ peer. (peer, waiting_for peer l.queued)) (take l.peer-index l.peer-items)
+abbrev pub invariant-loop-entry : goal.invariant-loop-entry
+invariant-loop-entry g l =
+    record {
+      put : l.all.items ≡ batches (take l.entry-index l.queued);
+      matched : map (λ batch. batch.0) l.all.items ≡ l.receivers.keys;
+    }

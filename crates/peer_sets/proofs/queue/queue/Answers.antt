@@ -1,5 +1,5 @@
 -- Whether the peer has an entry of the id is whether its place is there.
-use Rattle.std.proofs.Common.{◌≡◌, ◌∙◌, ◌++◌, ◌∷◌, [], ap, sym, if◌then◌else◌}
+use Rattle.std.proofs.Common.{◌∙◌, ◌++◌, ◌∷◌, [], ap, sym, if◌then◌else◌}
 use Rattle.peer_sets.proofs.QueueLemmas.{is_queued-when}
 use Rattle.peer_sets.proofs.queue.queue.Goals as goal
 

@@ -1,5 +1,5 @@
 -- None of the peers has an entry of the id.
-use Rattle.std.proofs.Common.{◌≡◌, ◌∙◌, ◌++◌, map, ap, sym}
+use Rattle.std.proofs.Common.{◌∙◌, ◌++◌, map, ap, sym}
 use Rattle.peer_sets.specs.Members.{lazy_but}
 use Rattle.peer_sets.proofs.QueueLemmas.{with_entries-new}
 use Rattle.peer_sets.proofs.queue.queue_lazy.Goals as goal

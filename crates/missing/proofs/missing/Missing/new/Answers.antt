@@ -2,4 +2,4 @@ use Rattle.missing.proofs.SoundLemmas.{sound-empty}
 use Rattle.missing.proofs.missing.Missing.new.Goals as goal
 
 pub invariant_of-result : goal.invariant_of-result
-invariant_of-result g c = rw (c.new.ensures.items, c.new-2.ensures.items) sound-empty
+invariant_of-result g c = rw (c.new.ensures.items, c.new-2.ensures.empty) sound-empty

@@ -1,4 +1,4 @@
-use Rattle.std.proofs.Common.{◌≡◌, ap, subst, ◌∙◌}
+use Rattle.std.proofs.Common.{◌≡◌, subst}
 use Rattle.std.specs.Prelude.{OnOk}
 use Rattle.peer_sets.proofs.SoundLemmas.{by_result, sound-with_lazy}
 use Rattle.peer_sets.specs.Members.{lazy_but}
