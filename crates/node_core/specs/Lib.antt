@@ -11,5 +11,6 @@ pub mod Flushing
 pub mod Spreading
 pub mod Moving
 pub mod Whole
+pub mod Started
 pub mod Starting
 pub mod PlumLaws

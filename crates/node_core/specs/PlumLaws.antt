@@ -596,8 +596,8 @@ module _ (limits : Limits) (core : Plum) (sound : IsSoundPlum limits core) where
 pub plum_lawful : Laws plum_state frame_content IsSoundPlum PlumStarts PlumSteps
 plum_lawful =
     record {
-      start = λ me limits peers contact sends core fit started. starting.starts_well me limits peers contact sends core fit started;
-      start_sound = λ me limits peers contact sends core fit started. starting.starts_soundly me limits peers contact sends core fit started;
+      start = λ me limits peers contact sends core fit started. starting.starts_uncounted me limits peers contact sends core fit started;
+      start_sound = λ me limits peers contact sends core fit started. starting.starts_soundly 0 0 me limits peers contact sends core fit started;
       always = always;
       step = λ limits old stimulus sends given new sound from steps. subst (λ n. StepLaws frame_content (plum_state old) stimulus sends given (plum_state n)) (sym steps.leaves) (subst (λ d. StepLaws frame_content (plum_state old) stimulus sends d (plum_state (gone_on old (turned old.me old.membership old.gossip stimulus)))) (sym steps.delivers) (subst (λ s. StepLaws frame_content (plum_state old) stimulus s (delivered_at old.me (turned old.me old.membership old.gossip stimulus).delivered) (plum_state (gone_on old (turned old.me old.membership old.gossip stimulus)))) (sym steps.sent) (step_is_lawful limits old sound stimulus from).0));
       step_sound = λ limits old stimulus sends given new sound from steps. subst (IsSoundPlum limits) (sym steps.leaves) (step_is_lawful limits old sound stimulus from).1;

@@ -9,6 +9,7 @@ ghost use Rattle.world.specs.Stimulus.{lent};
 ghost use Rattle.node_core.specs.Fits.{AreFit, ComesFit};
 ghost use Rattle.node_core.specs.Parts.{Takes, part_of};
 ghost use Rattle.node_core.specs.Plum.{plum_state};
+ghost use Rattle.node_core.specs.Started.{IsStarted};
 ghost use Rattle.node_core.specs.Steps.{IsAllowed, PlumStartsCounted, opening, turned};
 
 use crate::dispatch::part_of;
@@ -91,6 +92,7 @@ impl<A: Allocator + Copy> PlumCore<A> {
     ) -> Result<PlumCore<A>, CoreError>
         requires { IsTrue (are_peers limits me.name peers.now contact) }
         ensures started { IfOk result (λ core. (sends : List (Name × Plain)) × PlumStartsCounted seq_spent frames_spent me limits peers.now contact sends core × (out.new ≡ record out.old { sends = out.old.sends ++ sends })) }
+        ensures lawful { IfOk result (λ core. (sends : List (Name × Plain)) × IsStarted seq_spent limits me peers.now sends core × (out.new ≡ record out.old { sends = out.old.sends ++ sends })) }
         ensures numbered { OnOk result (frames_spent + length (opening contact) ≤ u64.MAX) }
         ensures refused { IfErr result (λ e. (e ≡ CoreError.OutOfMemory) ⊎ ((e ≡ CoreError.SeqSpent) × IsSome contact × (frames_spent ≡ u64.MAX))) }
         ensures err { OnErr result (out.new ≡ out.old) }

@@ -2,7 +2,7 @@
 use Rattle.std.specs.declared.result.Result.TheVariants.{Err}
 use Rattle.std.proofs.Common.{◌∙◌, ap, arith, inl, refl}
 use Rattle.world.specs.declared.protocol.CoreError.TheVariants.{OutOfMemory}
-use Rattle.node_core.specs.Starting.{fit_views}
+use Rattle.node_core.specs.Starting.{fit_views, starts_counted}
 use Rattle.node_core.proofs.Openings.{IsRefusal, passed_on, refused_for, started_is}
 use Rattle.node_core.proofs.plum_core.PlumCore.start_counted.Goals as goal
 
@@ -20,3 +20,8 @@ returns-clause-started g c =
 
 pub returns-in_err-effects-clause-refused : goal.returns-in_err-effects-clause-refused
 returns-in_err-effects-clause-refused g c = passed_on c.from_residual-in_err-effects.result (IsRefusal c.args.contact c.args.frames_spent) OutOfMemory c.from_residual-in_err-effects.ensures.1 (inl refl)
+
+pub returns-clause-lawful : goal.returns-clause-lawful
+returns-clause-lawful g c =
+    let started = returns-clause-started g c in
+    (started.0, starts_counted c.args.seq_spent c.args.frames_spent c.args.me c.args.limits c.args.peers.now c.args.contact started.0 _ c.requires started.1, started.2)
