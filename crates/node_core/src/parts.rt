@@ -117,9 +117,7 @@ pub(crate) fn go_on<A: Allocator + Copy>(
 {
     match part {
         PartOf::Membership { .. } => {
-            let Some(moved) = moved else {
-                unreachable!()
-            };
+            let Some(moved) = moved else { unreachable!() };
             gossip.relink(moved.downs.as_slice(), moved.ups.as_slice())?;
             *membership = moved.membership;
             Ok(())

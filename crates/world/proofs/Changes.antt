@@ -35,9 +35,9 @@ module _ {C N T : Type 0} (is_turn : C → Stimulus N → T → Type 0) (nodes :
   steps_on go =
       put_node-at (record can.node { core = Some (go can.core can.told) }) nodes at can.first
       ∙ sym (
-        ap (λ o. nodes_after (stepped_node go o (stimulus_by sent entry.event entry.packet)) nodes) can.there
-        ∙ ap (λ o. nodes_after (stepped_node go (Some can.node) o) nodes) can.telling
-        ∙ ap (λ o. nodes_after (Some (record can.node { core = option_map (λ core. go core can.told) o })) nodes) can.running
+      ap (λ o. nodes_after (stepped_node go o (stimulus_by sent entry.event entry.packet)) nodes) can.there
+      ∙ ap (λ o. nodes_after (stepped_node go (Some can.node) o) nodes) can.telling
+      ∙ ap (λ o. nodes_after (Some (record can.node { core = option_map (λ core. go core can.told) o })) nodes) can.running
       )
 
   pub makes : {X E : Type 0} (go : C → Stimulus N → C) (result : Result X E) (node : NodeState C) (core after : C) (told : Stimulus N) → node ≡ get_or nodes at node → node.core ≡ Some core → stimulus_by sent entry.event entry.packet ≡ Some told → OnOk result (after ≡ go core told) → OnOk result (slice_set nodes at (record node { core = Some after }) ≡ nodes_after (stepped_node go (slice_get nodes at) (stimulus_by sent entry.event entry.packet)) nodes)

@@ -19,6 +19,7 @@ pub mod History
 pub mod HoldLaw
 pub mod Honest
 pub mod IdentityLaw
+pub mod KeptDice
 pub mod Laws
 pub mod Links
 pub mod Lists

@@ -44,13 +44,7 @@ impl<C: Core<A>, A: Allocator + Copy> World<C, A> {
             &mut self.flight,
             packets.len(),
         )?;
-        make_change(
-            &mut self.names,
-            &mut self.nodes,
-            &self.sent,
-            &entry,
-            change,
-        )?;
+        make_change(&mut self.names, &mut self.nodes, &self.sent, &entry, change)?;
         post(&mut self.sent, &mut self.flight, packets, leaving, again);
         put_last(&mut self.log, entry);
         Ok(())

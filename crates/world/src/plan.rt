@@ -9,7 +9,8 @@ ghost use Rattle.world.specs.Stimulus.{lent};
 
 use crate::delivery::Delivery;
 use crate::entry::Entry;
-use crate::event::{Event, EventOf};
+use crate::event::{Event, EventOf, KeptEvent};
+use crate::kept_dice::KeptDice;
 use crate::node_state::NodeState;
 use crate::out::Out;
 use crate::packet::Packet;
@@ -103,10 +104,12 @@ pub(crate) fn prepare_step<C: Core<A>, A: Allocator + Copy>(
     let mut out = Out::new(alloc);
     let Prepared { turn, moved } = core.prepare(stimulus, &mut out)?;
     let Out { sends, deliveries } = out;
+    let mut given = deliveries.into_vec();
+    given.shrink_to_fit();
     Ok(CoreStep {
         turn,
         sends: sends.into_vec(),
-        given: deliveries.into_vec(),
+        given,
         moved,
     })
 }
@@ -114,7 +117,7 @@ pub(crate) fn prepare_step<C: Core<A>, A: Allocator + Copy>(
 /// The stimulus that an event is to the core that it steps. Of an arrival, `packet` is the packet's number.
 pub(crate) fn stimulus_by<'a, N, A: Allocator>(
     sent: &'a [Packet<N>],
-    event: &'a Event<A>,
+    event: &'a KeptEvent<A>,
     packet: Option<usize>,
 ) -> Option<StimulusRef<'a, N, A>>
     ensures { option_map lent result ≡ stimulus_by sent.now event.now packet }
@@ -126,16 +129,16 @@ pub(crate) fn stimulus_by<'a, N, A: Allocator>(
             Some(StimulusOf::Arrive {
                 sender: packet.sender,
                 note: &packet.note,
-                dice: *dice,
+                dice: dice.get(),
             })
         }
         EventOf::Fire { id, .. } => Some(StimulusOf::Fire(*id)),
         EventOf::Flush { .. } => Some(StimulusOf::Flush),
         EventOf::Down { peer, dice, .. } => Some(StimulusOf::Down {
             peer: *peer,
-            dice: *dice,
+            dice: dice.get(),
         }),
-        EventOf::Shuffle { dice, .. } => Some(StimulusOf::Shuffle(*dice)),
+        EventOf::Shuffle { dice, .. } => Some(StimulusOf::Shuffle(dice.get())),
         EventOf::Start { .. }
         | EventOf::Lose { .. }
         | EventOf::Again { .. }
@@ -183,9 +186,12 @@ pub(crate) fn copy_delivery<A: Allocator>(delivery: &Delivery<A>) -> Result<Deli
     })
 }
 
-/// A copy of the event, which shares its payload.
-pub(crate) fn copy_event<A: Allocator + Copy>(event: &Event<A>) -> Result<Event<A>, AllocError>
-    ensures { IfOk result (λ copy. copy ≡ event.now) }
+/// The event as the log keeps it, which shares its payload.
+pub(crate) fn keep_event<A: Allocator + Copy>(
+    alloc: A,
+    event: &Event<A>,
+) -> Result<KeptEvent<A>, AllocError>
+    ensures { IfOk result (λ kept. kept ≡ event.now) }
 {
     Ok(match event {
         EventOf::Start {
@@ -205,7 +211,7 @@ pub(crate) fn copy_event<A: Allocator + Copy>(event: &Event<A>) -> Result<Event<
         },
         EventOf::Arrive { place, dice } => EventOf::Arrive {
             place: *place,
-            dice: *dice,
+            dice: KeptDice::new(alloc, dice)?,
         },
         EventOf::Lose { place } => EventOf::Lose { place: *place },
         EventOf::Again { number } => EventOf::Again { number: *number },
@@ -217,11 +223,11 @@ pub(crate) fn copy_event<A: Allocator + Copy>(event: &Event<A>) -> Result<Event<
         EventOf::Down { name, peer, dice } => EventOf::Down {
             name: *name,
             peer: *peer,
-            dice: *dice,
+            dice: KeptDice::new(alloc, dice)?,
         },
         EventOf::Shuffle { name, dice } => EventOf::Shuffle {
             name: *name,
-            dice: *dice,
+            dice: KeptDice::new(alloc, dice)?,
         },
         EventOf::Stop { name } => EventOf::Stop { name: *name },
     })

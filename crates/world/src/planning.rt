@@ -15,7 +15,7 @@ use crate::event::{Event, EventOf};
 use crate::lookup::{Running, find_running, node_of, number_at, packet_at};
 use crate::names::are_peers;
 use crate::node_state::NodeState;
-use crate::plan::{Change, Plan, copy_event, packets_of, prepare_step, start_core};
+use crate::plan::{Change, Plan, keep_event, packets_of, prepare_step, start_core};
 use crate::protocol::Core;
 use crate::stimulus::{StimulusOf, StimulusRef};
 use crate::world::World;
@@ -109,7 +109,7 @@ impl<C: Core<A>, A: Allocator + Copy> World<C, A> {
             leaving,
             again: None,
             entry: Entry {
-                event: copy_event(event)?,
+                event: keep_event(self.allocator(), event)?,
                 packet,
                 first_sent: self.sent().len(),
                 moved: step.moved,
@@ -164,7 +164,7 @@ impl<C: Core<A>, A: Allocator + Copy> World<C, A> {
         ensures { IfOk result (λ entry. entry ≡ record { event = event.now; packet = packet; first_sent = length self.now.group.sent; moved = false; given = [] }) }
     {
         Ok(Entry {
-            event: copy_event(event)?,
+            event: keep_event(self.allocator(), event)?,
             packet,
             first_sent: self.sent().len(),
             moved: false,

@@ -52,8 +52,8 @@ invariant_of-self-2 g c =
     let happens : Happens g.C.Core.state g.C.Core.starts g.C.Core.steps c.self.inside.limits before c.args.plan.entry (planned g.C.Core.after before c.args.plan.entry c.args.plan.change c.args.plan.packets.items c.args.plan.leaving c.args.plan.again) =
     subst (λ (w : Logged g.row.C.Denot g.row.C-Note.Denot). Happens g.C.Core.state g.C.Core.starts g.C.Core.steps w.limits w.group c.args.plan.entry (planned g.C.Core.after w.group c.args.plan.entry c.args.plan.change c.args.plan.packets.items c.args.plan.leaving c.args.plan.again)) (sym c.self.view_is) c.requires.happens in (
       run_goes_on g.C.Core.state g.C.Core.starts g.C.Core.steps c.self.inside.limits c.self.inside.log.items c.put_last.new.items.items before after c.args.plan.entry c.self.invariant.0
-      (subst (λ group. Happens g.C.Core.state g.C.Core.starts g.C.Core.steps c.self.inside.limits before c.args.plan.entry group) (sym same) happens)
-      (c.put_last.ensures.items ∙ ap (λ es. es ++ c.args.plan.entry ∷ []) c.make_room.ensures.log),
+          (subst (λ group. Happens g.C.Core.state g.C.Core.starts g.C.Core.steps c.self.inside.limits before c.args.plan.entry group) (sym same) happens)
+          (c.put_last.ensures.items ∙ ap (λ es. es ++ c.args.plan.entry ∷ []) c.make_room.ensures.log),
       c.in_ok-make_change.ensures.named,
       c.post.ensures.whole,
     )
