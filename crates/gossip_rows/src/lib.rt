@@ -6,7 +6,11 @@ mod act;
 #[cfg(test)]
 mod announcements;
 #[cfg(test)]
+mod halves;
+#[cfg(test)]
 mod limits;
+#[cfg(test)]
+mod links;
 #[cfg(test)]
 mod named;
 #[cfg(test)]
