@@ -1,4 +1,4 @@
-//! Calls of announcements and timers, worked out by hand, and each of their growths refused in turn.
+//! Calls of announcements and timers, worked out by hand, and each of their allocations refused in turn.
 use crate::named::{Id, id, name};
 use crate::texts::push_missing;
 use missing::Missing;
@@ -73,7 +73,7 @@ fn turns() -> &'static [Turn] {
 /// What the readers answer before any call.
 const START: &str = "| ";
 
-/// More growths than any call has.
+/// More allocations than any call has.
 const MANY: u64 = 50;
 
 /// Whether the call takes no memory.
@@ -211,7 +211,7 @@ fn plays_calls(rt: HostRuntime) -> Result<(), Fail> {
     Ok(())
 }
 
-/// Makes a call while the growth with this number is refused. Whether there is such a growth, and what the call gives.
+/// Makes a call while the allocation with this number is refused. Whether there is such an allocation, and what the call gives.
 fn try_call<A: Allocator + Copy>(
     rt: &impl Abort,
     heap: &RefusingAllocator,
@@ -242,7 +242,7 @@ fn is_turn_again<A: Allocator + Copy>(
     is_turn(rt, text, missing, turn)
 }
 
-/// Makes a call while the growth with this number is refused, and again if it is refused. Whether there is such a growth.
+/// Makes a call while the allocation with this number is refused, and again if it is refused. Whether there is such an allocation.
 fn refuse_call<A: Allocator + Copy>(
     rt: &impl Abort,
     heap: &RefusingAllocator,
@@ -263,7 +263,7 @@ fn refuse_call<A: Allocator + Copy>(
     Ok(is_spent)
 }
 
-/// Makes the calls up to one, and refuses its growth with this number. Whether there is such a growth.
+/// Makes the calls up to one, and refuses its allocation with this number. Whether there is such an allocation.
 fn sweep_parts<A: Allocator + Copy>(
     rt: &impl Abort,
     heap: &RefusingAllocator,
@@ -296,7 +296,7 @@ fn sweep_call<A: Allocator + Copy>(
     sweep_parts(rt, heap, text, &mut missing, parts, n)
 }
 
-/// Refuses each growth of one call in turn. How many it has.
+/// Refuses each allocation of one call in turn. How many it has.
 fn sweep<A: Allocator + Copy>(
     rt: &impl Abort,
     heap: &RefusingAllocator,
@@ -338,7 +338,7 @@ fn each_growth_of_each_call(rt: HostRuntime) -> Result<(), Fail> {
     Ok(())
 }
 
-/// Whether a copy is right: there is none if a growth was refused, and its readers answer so otherwise.
+/// Whether a copy is right: there is none if an allocation was refused, and its readers answer so otherwise.
 fn is_copy<A: Allocator>(
     text: &mut String,
     copy: &Result<Missing<A>, AllocError>,
@@ -354,7 +354,7 @@ fn is_copy<A: Allocator>(
     }
 }
 
-/// Copies what calls left while the growth with this number is refused. Whether there is such a growth.
+/// Copies what calls left while the allocation with this number is refused. Whether there is such an allocation.
 fn refuse_copy<A: Allocator + Copy>(
     rt: &impl Abort,
     heap: &RefusingAllocator,
@@ -372,7 +372,7 @@ fn refuse_copy<A: Allocator + Copy>(
     Ok(is_spent)
 }
 
-/// Refuses each growth of a copy of what calls leave in turn. How many it has.
+/// Refuses each allocation of a copy of what calls leave in turn. How many it has.
 fn sweep_copy<A: Allocator + Copy>(
     rt: &impl Abort,
     heap: &RefusingAllocator,

@@ -1,4 +1,4 @@
-//! The rows with each growth refused in turn: the refusal is for want of memory, everything is as it was before the refused
+//! The rows with each allocation refused in turn: the refusal is for memory, everything is as it was before the refused
 //! call, and the call made again answers as if nothing had been refused.
 use crate::act::{call, payload, takes_none};
 use crate::play::{are_turns, asked, is_call, is_left, is_shown, left, start};
@@ -11,13 +11,13 @@ use std::alloc::{AllocError, Allocator};
 use std::process::Abort;
 use std::test::Fail;
 
-/// More growths than any call has.
+/// More allocations than any call has.
 const MANY: u64 = 100;
 
 /// Calls before one, and those from it on.
 type Parts<'a> = (&'a [Turn], &'a [Turn]);
 
-/// Whether a call was refused for want of memory. Otherwise it was not refused.
+/// Whether a call was refused as out of memory. Otherwise it was not refused.
 fn is_refused(rt: &impl Abort, answer: &Result<(), GossipFault>) -> bool {
     match answer {
         Ok(()) => false,
@@ -28,7 +28,7 @@ fn is_refused(rt: &impl Abort, answer: &Result<(), GossipFault>) -> bool {
     }
 }
 
-/// Makes a call while the growth with this number is refused. Whether there is such a growth, and whether it is refused.
+/// Makes a call while the allocation with this number is refused. Whether there is such an allocation, and whether it is refused.
 fn try_call<A: Allocator + Copy>(
     rt: &impl Abort,
     heap: &RefusingAllocator,
@@ -64,7 +64,7 @@ fn is_call_again<A: Allocator + Copy>(
     is_call(rt, text, ids, gossip, turn, payload, out)
 }
 
-/// Makes a call while the growth with this number is refused, and again if it is refused. Whether there is such a growth.
+/// Makes a call while the allocation with this number is refused, and again if it is refused. Whether there is such an allocation.
 fn refuse_call<A: Allocator + Copy>(
     rt: &impl Abort,
     heap: &RefusingAllocator,
@@ -123,7 +123,7 @@ fn refuse_turn<A: Allocator + Copy>(
     refuse_alone(rt, heap, alloc, text, ids, gossip, stood, turn, &payload, n)
 }
 
-/// Whether a copy is right: there is none if a growth was refused, and its readers answer so otherwise.
+/// Whether a copy is right: there is none if an allocation was refused, and its readers answer so otherwise.
 fn is_copy<A: Allocator>(
     text: &mut String,
     ids: &[MsgId],
@@ -140,7 +140,7 @@ fn is_copy<A: Allocator>(
     }
 }
 
-/// Copies while the growth with this number is refused. Whether there is such a growth, and whether the copy is right.
+/// Copies while the allocation with this number is refused. Whether there is such an allocation, and whether the copy is right.
 fn try_copy<A: Allocator + Copy>(
     heap: &RefusingAllocator,
     text: &mut String,
@@ -156,7 +156,7 @@ fn try_copy<A: Allocator + Copy>(
     (is_spent, is_copy(text, ids, &copy, is_spent, wanted))
 }
 
-/// Does so with what a row leaves. Whether there is such a growth.
+/// Does so with what a row leaves. Whether there is such an allocation.
 fn refuse_copy<A: Allocator + Copy>(
     rt: &impl Abort,
     heap: &RefusingAllocator,
@@ -171,7 +171,7 @@ fn refuse_copy<A: Allocator + Copy>(
     Ok(is_spent)
 }
 
-/// Plays the calls of a row up to one, and refuses its growth with this number. Whether there is such a growth.
+/// Plays the calls of a row up to one, and refuses its allocation with this number. Whether there is such an allocation.
 fn sweep_parts<A: Allocator + Copy>(
     rt: &impl Abort,
     heap: &RefusingAllocator,
@@ -205,7 +205,7 @@ fn sweep_call<A: Allocator + Copy>(
     sweep_parts(rt, heap, alloc, text, ids, &mut gossip, parts, n)
 }
 
-/// Refuses each growth of one call in turn. How many it has.
+/// Refuses each allocation of one call in turn. How many it has.
 fn sweep<A: Allocator + Copy>(
     rt: &impl Abort,
     heap: &RefusingAllocator,
@@ -223,7 +223,7 @@ fn sweep<A: Allocator + Copy>(
     Ok(MANY)
 }
 
-/// Refuses each growth of each call of a row, and of the copy of what the row leaves, in turn. How many they have.
+/// Refuses each allocation of each call of a row, and of the copy of what the row leaves, in turn. How many they have.
 fn sweep_row<A: Allocator + Copy>(
     rt: &impl Abort,
     heap: &RefusingAllocator,
