@@ -10,7 +10,7 @@ pub enum GossipFault {
     PayloadTooLong,
     /// The numbers of this run's messages are used up.
     SeqSpent,
-    /// A growth was refused.
+    /// An allocation was refused.
     OutOfMemory,
 }
 

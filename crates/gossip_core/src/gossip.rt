@@ -208,9 +208,10 @@ impl<A: Allocator + Copy> Gossip<A> {
     fn take_repeated(&mut self, sender: &NodeName)
         ensures { self.new ≡ (repeated sender.now self.old).state }
     {
-        if self.peers.is_member(sender) {
-            self.peers.make_lazy(sender);
+        if !self.peers.is_member(sender) {
+            return;
         }
+        self.peers.make_lazy(sender);
     }
 
     /// A message of another run came for the first time.

@@ -2,12 +2,11 @@
 use crate::named::{Id, id, name};
 use bytes::Bytes;
 use gossip_core::{Effects, Gossip, GossipFault};
-use node_names::{MsgId, NodeName};
 use std::alloc::{AllocError, Allocator};
-use std::test::Fail;
+use std::process::Abort;
 
 /// A call in plain texts and numbers.
-#[derive(Clone, Copy, Debug)]
+#[derive(Clone, Copy)]
 pub(crate) enum Act {
     /// The node broadcasts a text.
     Broadcast(&'static str),
@@ -39,16 +38,8 @@ fn text_of(act: &Act) -> &'static str {
 }
 
 /// The payload that the call brings.
-pub(crate) fn payload<A: Allocator + Copy>(alloc: A, act: &Act) -> Result<Bytes<A>, Fail> {
-    Ok(Bytes::copy_from_slice(alloc, text_of(act).as_bytes())?)
-}
-
-/// A refusal in the words of a broadcast.
-fn refused(answer: Result<(), AllocError>) -> Result<(), GossipFault> {
-    match answer {
-        Ok(()) => Ok(()),
-        Err(_) => Err(GossipFault::OutOfMemory),
-    }
+pub(crate) fn payload<A: Allocator + Copy>(alloc: A, act: &Act) -> Result<Bytes<A>, AllocError> {
+    Bytes::copy_from_slice(alloc, text_of(act).as_bytes())
 }
 
 /// A broadcast whose id is left aside.
@@ -63,55 +54,98 @@ fn broadcast<A: Allocator + Copy>(
     }
 }
 
-/// A packet with one announcement.
-fn on_ihave<A: Allocator + Copy>(
+fn on_gossip<A: Allocator + Copy>(
+    rt: &impl Abort,
     gossip: &mut Gossip<A>,
-    sender: &NodeName,
-    entry: (MsgId, u32),
+    sender: &str,
+    message: Id,
+    round: u32,
+    payload: &Bytes<A>,
+    out: &mut Effects<A>,
 ) -> Result<(), AllocError> {
-    gossip.on_ihave(sender, &[entry])
+    let sender = name(rt, sender);
+    let message = id(rt, message);
+    gossip.on_gossip(&sender, &message, round, payload, out)
 }
 
-/// A call that takes memory and has a sender or a peer.
+/// A packet with one announcement.
+fn on_ihave<A: Allocator + Copy>(
+    rt: &impl Abort,
+    gossip: &mut Gossip<A>,
+    sender: &str,
+    message: Id,
+    round: u32,
+) -> Result<(), AllocError> {
+    let sender = name(rt, sender);
+    let entries = [(id(rt, message), round)];
+    gossip.on_ihave(&sender, &entries)
+}
+
+fn on_graft<A: Allocator + Copy>(
+    rt: &impl Abort,
+    gossip: &mut Gossip<A>,
+    sender: &str,
+    message: Id,
+    round: u32,
+    out: &mut Effects<A>,
+) -> Result<(), AllocError> {
+    let sender = name(rt, sender);
+    let message = id(rt, message);
+    gossip.on_graft(&sender, &message, round, out)
+}
+
+/// A packet that asks for announcements takes no memory.
+fn on_prune<A: Allocator + Copy>(
+    rt: &impl Abort,
+    gossip: &mut Gossip<A>,
+    sender: &str,
+) -> Result<(), AllocError> {
+    gossip.on_prune(&name(rt, sender));
+    Ok(())
+}
+
+/// A link that fails takes no memory.
+fn down<A: Allocator + Copy>(
+    rt: &impl Abort,
+    gossip: &mut Gossip<A>,
+    peer: &str,
+) -> Result<(), AllocError> {
+    gossip.down(&name(rt, peer));
+    Ok(())
+}
+
+/// A call other than a broadcast.
 fn call_with<A: Allocator + Copy>(
+    rt: &impl Abort,
     gossip: &mut Gossip<A>,
     act: &Act,
     payload: &Bytes<A>,
     out: &mut Effects<A>,
-) -> Result<Result<(), AllocError>, Fail> {
-    Ok(match *act {
+) -> Result<(), AllocError> {
+    match *act {
         Act::OnGossip(sender, message, round, _) => {
-            gossip.on_gossip(&name(sender)?, &id(message)?, round, payload, out)
+            on_gossip(rt, gossip, sender, message, round, payload, out)
         }
-        Act::OnIHave(sender, message, round) => {
-            on_ihave(gossip, &name(sender)?, (id(message)?, round))
-        }
-        Act::OnGraft(sender, message, round) => {
-            gossip.on_graft(&name(sender)?, &id(message)?, round, out)
-        }
-        Act::Fire(message) => gossip.fire(&id(message)?, out),
-        Act::Up(peer) => gossip.up(&name(peer)?),
+        Act::OnIHave(sender, message, round) => on_ihave(rt, gossip, sender, message, round),
+        Act::OnGraft(sender, message, round) => on_graft(rt, gossip, sender, message, round, out),
+        Act::Fire(message) => gossip.fire(&id(rt, message), out),
+        Act::Up(peer) => gossip.up(&name(rt, peer)),
+        Act::OnPrune(sender) => on_prune(rt, gossip, sender),
+        Act::Down(peer) => down(rt, gossip, peer),
         _ => gossip.flush(out),
-    })
+    }
 }
 
 /// Makes the call.
 pub(crate) fn call<A: Allocator + Copy>(
+    rt: &impl Abort,
     gossip: &mut Gossip<A>,
     act: &Act,
     payload: &Bytes<A>,
     out: &mut Effects<A>,
-) -> Result<Result<(), GossipFault>, Fail> {
-    match *act {
-        Act::Broadcast(_) => Ok(broadcast(gossip, payload, out)),
-        Act::OnPrune(sender) => {
-            gossip.on_prune(&name(sender)?);
-            Ok(Ok(()))
-        }
-        Act::Down(peer) => {
-            gossip.down(&name(peer)?);
-            Ok(Ok(()))
-        }
-        _ => Ok(refused(call_with(gossip, act, payload, out)?)),
+) -> Result<(), GossipFault> {
+    match act {
+        Act::Broadcast(_) => broadcast(gossip, payload, out),
+        _ => Ok(call_with(rt, gossip, act, payload, out)?),
     }
 }

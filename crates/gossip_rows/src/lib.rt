@@ -1,4 +1,4 @@
-//! Worked examples of one node's gossip, as tests, and sweeps in which each growth is refused in turn.
+//! Worked examples of one node's gossip, as tests, and sweeps in which each allocation is refused in turn.
 #![tactic(auto)]
 
 #[cfg(test)]
@@ -6,7 +6,11 @@ mod act;
 #[cfg(test)]
 mod announcements;
 #[cfg(test)]
+mod halves;
+#[cfg(test)]
 mod limits;
+#[cfg(test)]
+mod links;
 #[cfg(test)]
 mod named;
 #[cfg(test)]

@@ -1,17 +1,18 @@
 //! What a node refuses, and how much a frame takes.
-use crate::named::{name, origin, pair};
+use crate::named::{name, origin};
 use crate::play::start;
 use bytes::Bytes;
 use frames::BodyOf;
 use gossip_core::{Effects, Gossip, GossipFault};
-use node_names::Origin;
 use std::alloc::{AllocError, Allocator};
 use std::fmt::Write;
 use std::process::Abort;
 use std::test::Fail;
 
 /// How many bytes a payload has, and what its broadcast answers: the number of the message, or the refusal.
-const BROADCASTS: [(usize, Result<u64, GossipFault>); 4] = [
+type Case = (usize, Result<u64, GossipFault>);
+
+const BROADCASTS: [Case; 4] = [
     (32_769, Err(GossipFault::PayloadTooLong)),
     (32_768, Ok(u64::MAX)),
     (32_768, Err(GossipFault::SeqSpent)),
@@ -20,82 +21,157 @@ const BROADCASTS: [(usize, Result<u64, GossipFault>); 4] = [
 ];
 
 /// So many zeros.
-fn zeros<A: Allocator + Copy>(alloc: A, count: usize) -> Result<Bytes<A>, Fail> {
+fn zeros<A: Allocator + Copy>(alloc: A, count: usize) -> Result<Bytes<A>, AllocError> {
     let mut bytes = Vec::new(alloc);
     bytes.resize(count, 0u8)?;
     Ok(Bytes::from_vec(bytes)?)
 }
 
 /// A node without peers that has broadcast so many messages.
-fn lone<A: Allocator + Copy>(alloc: A, me: Origin, spent: u64) -> Result<Gossip<A>, AllocError> {
-    Gossip::new(alloc, me, &[], spent)
+fn lone<A: Allocator + Copy>(
+    rt: &impl Abort,
+    alloc: A,
+    spent: u64,
+) -> Result<Gossip<A>, AllocError> {
+    Gossip::new(alloc, origin(rt, "a"), &[], spent)
 }
 
-/// Broadcasts, and compares the answer.
-fn broadcast<A: Allocator + Copy>(
-    rt: &impl Abort,
+/// Whether a broadcast answers this.
+fn is_answer<A: Allocator + Copy>(
     gossip: &mut Gossip<A>,
     payload: &Bytes<A>,
     out: &mut Effects<A>,
     wanted: &Result<u64, GossipFault>,
-) {
+) -> bool {
     match gossip.broadcast(payload, out) {
-        Ok(id) => {
-            assert_eq!(rt; Ok(id.seq), *wanted);
-            assert!(rt; gossip.knows(&id));
-        }
-        Err(why) => assert_eq!(rt; Err(why), *wanted),
+        Ok(id) => Ok(id.seq) == *wanted && gossip.knows(&id),
+        Err(why) => Err(why) == *wanted,
     }
+}
+
+/// Whether a broadcast of so many zeros answers this.
+fn is_answer_to_zeros<A: Allocator + Copy>(
+    alloc: A,
+    gossip: &mut Gossip<A>,
+    out: &mut Effects<A>,
+    count: usize,
+    wanted: &Result<u64, GossipFault>,
+) -> Result<bool, AllocError> {
+    let payload = zeros(alloc, count)?;
+    Ok(is_answer(gossip, &payload, out, wanted))
+}
+
+/// Whether broadcasts answer so at a node without peers, and nothing is sent.
+fn are_answers<A: Allocator + Copy>(
+    alloc: A,
+    gossip: &mut Gossip<A>,
+    out: &mut Effects<A>,
+    broadcasts: &[Case],
+) -> Result<bool, AllocError> {
+    for (count, wanted) in broadcasts {
+        if !is_answer_to_zeros(alloc, gossip, out, *count, wanted)? {
+            return Ok(false);
+        }
+    }
+    Ok(out.sends.is_empty())
+}
+
+/// Whether they do so at a node that can broadcast one message more.
+fn are_last_answers<A: Allocator + Copy>(
+    rt: &impl Abort,
+    alloc: A,
+    broadcasts: &[Case],
+) -> Result<bool, AllocError> {
+    let mut gossip = lone(rt, alloc, u64::MAX - 1)?;
+    let mut out = Effects::new(alloc);
+    are_answers(alloc, &mut gossip, &mut out, broadcasts)
 }
 
 #[test]
 fn refuses_long_payloads_and_spent_numbers(rt: HostRuntime) -> Result<(), Fail> {
-    let mut gossip = lone(rt.alloc(), origin("a")?, u64::MAX - 1)?;
-    let mut out = Effects::new(rt.alloc());
-    for (count, wanted) in &BROADCASTS {
-        let payload = zeros(rt.alloc(), *count)?;
-        broadcast(&rt, &mut gossip, &payload, &mut out, wanted);
-    }
-    assert!(rt; out.sends.is_empty());
+    assert!(rt; are_last_answers(&rt, rt.alloc(), &BROADCASTS)?);
     Ok(())
 }
 
-/// Broadcasts so many empty payloads, none of which is sent at once.
-fn broadcast_empty<A: Allocator + Copy>(
-    rt: &impl Abort,
+/// Broadcasts a payload. Whether it is not sent at once.
+fn waits<A: Allocator + Copy>(
+    alloc: A,
+    gossip: &mut Gossip<A>,
+    payload: &Bytes<A>,
+) -> Result<bool, GossipFault> {
+    let mut out = Effects::new(alloc);
+    gossip.broadcast(payload, &mut out)?;
+    Ok(out.sends.is_empty())
+}
+
+/// Broadcasts so many empty payloads. Whether none of them is sent at once.
+fn wait<A: Allocator + Copy>(
     alloc: A,
     gossip: &mut Gossip<A>,
     count: usize,
-) -> Result<(), Fail> {
+) -> Result<bool, GossipFault> {
     let empty = zeros(alloc, 0)?;
     for _ in 0..count {
-        let mut out = Effects::new(alloc);
-        gossip.broadcast(&empty, &mut out)?;
-        assert!(rt; out.sends.is_empty());
+        if !waits(alloc, gossip, &empty)? {
+            return Ok(false);
+        }
     }
-    Ok(())
+    Ok(true)
 }
 
-/// How many announcements each packet has, after its receiver.
-fn lengths<A: Allocator + Copy>(alloc: A, out: &Effects<A>) -> Result<String<A>, Fail> {
-    let mut text = String::new(alloc);
+/// Appends how many announcements each packet has, after its receiver.
+fn push_lengths<A: Allocator>(text: &mut String, out: &Effects<A>) -> Result<(), AllocError> {
     for (to, body) in out.sends.as_slice() {
         if let BodyOf::IHave { entries } = body {
             write!(text, "{to}:{} ", entries.len())?;
         }
     }
-    Ok(text)
+    Ok(())
+}
+
+/// Flushes, and appends these lengths.
+fn push_flushed<A: Allocator + Copy>(
+    alloc: A,
+    text: &mut String,
+    gossip: &mut Gossip<A>,
+) -> Result<(), AllocError> {
+    let mut out = Effects::new(alloc);
+    gossip.flush(&mut out)?;
+    push_lengths(text, &out)
+}
+
+/// Has announcements of 65 messages wait for both peers, and flushes. Whether these are the lengths.
+fn are_cut<A: Allocator + Copy>(
+    rt: &impl Abort,
+    alloc: A,
+    text: &mut String,
+    gossip: &mut Gossip<A>,
+    wanted: &str,
+) -> Result<bool, GossipFault> {
+    gossip.on_prune(&name(rt, "a"));
+    gossip.on_prune(&name(rt, "b"));
+    if !wait(alloc, gossip, 65)? {
+        return Ok(false);
+    }
+    push_flushed(alloc, text, gossip)?;
+    Ok(text.as_str() == wanted)
+}
+
+/// Does so at a fresh node.
+fn are_cut_at_start<A: Allocator + Copy>(
+    rt: &impl Abort,
+    alloc: A,
+    text: &mut String,
+    wanted: &str,
+) -> Result<bool, GossipFault> {
+    let mut gossip = start(rt, alloc)?;
+    are_cut(rt, alloc, text, &mut gossip, wanted)
 }
 
 #[test]
 fn cuts_announcements_into_frames_of_64(rt: HostRuntime) -> Result<(), Fail> {
-    let peers = pair(&rt, "a", "b")?;
-    let mut gossip = start(rt.alloc(), &peers)?;
-    gossip.on_prune(&name("a")?);
-    gossip.on_prune(&name("b")?);
-    broadcast_empty(&rt, rt.alloc(), &mut gossip, 65)?;
-    let mut out = Effects::new(rt.alloc());
-    gossip.flush(&mut out)?;
-    assert_eq!(rt; lengths(rt.alloc(), &out)?.as_str(), "a:64 a:1 b:64 b:1 ");
+    let mut text = String::new(rt.alloc());
+    let are_right = are_cut_at_start(&rt, rt.alloc(), &mut text, "a:64 a:1 b:64 b:1 ")?;
+    assert!(rt; are_right, "{text}");
     Ok(())
 }

@@ -1,42 +1,40 @@
 //! Names and ids written as texts and numbers.
-ghost use Rattle.std.specs.Prelude.{IfOk};
 ghost use Rattle.std.specs.List.{IsDistinct};
 ghost use Rattle.node_names.specs.Same.{same_name};
 
 use node_names::{Incarnation, MsgId, NodeName, Origin};
 use std::process::Abort;
-use std::test::Fail;
 
 /// A message by the name of its origin, whose incarnation is 1, and its number.
 pub(crate) type Id = (&'static str, u64);
 
 /// The name of this text.
-pub(crate) fn name(text: &str) -> Result<NodeName, Fail> {
-    Ok(NodeName::parse(text.as_bytes())?)
+pub(crate) fn name(rt: &impl Abort, text: &str) -> NodeName {
+    NodeName::parse(text.as_bytes()).expect(rt, "a name")
 }
 
 /// The names of two texts that differ.
-pub(crate) fn pair(rt: &impl Abort, one: &str, other: &str) -> Result<[NodeName; 2], Fail>
-    ensures { IfOk result (λ names. IsDistinct same_name names) }
+pub(crate) fn pair(rt: &impl Abort, one: &str, other: &str) -> [NodeName; 2]
+    ensures { IsDistinct same_name result }
 {
-    let one = name(one)?;
-    let other = name(other)?;
+    let one = name(rt, one);
+    let other = name(rt, other);
     assert!(rt; one != other);
-    Ok([one, other])
+    [one, other]
 }
 
 /// The first incarnation of this name.
-pub(crate) fn origin(text: &str) -> Result<Origin, Fail> {
-    Ok(Origin {
-        name: name(text)?,
+pub(crate) fn origin(rt: &impl Abort, text: &str) -> Origin {
+    Origin {
+        name: name(rt, text),
         incarnation: Incarnation(1),
-    })
+    }
 }
 
 /// The id of the message.
-pub(crate) fn id(id: Id) -> Result<MsgId, Fail> {
-    Ok(MsgId {
-        origin: origin(id.0)?,
+pub(crate) fn id(rt: &impl Abort, id: Id) -> MsgId {
+    MsgId {
+        origin: origin(rt, id.0),
         seq: id.1,
-    })
+    }
 }

@@ -1,10 +1,10 @@
-//! Calls of peer sets, worked out by hand, and each of their growths refused in turn.
-ghost use Rattle.std.specs.List.{IsDistinct};
-ghost use Rattle.node_names.specs.Same.{same_name};
+//! Calls of peer sets, worked out by hand, and each of their allocations refused in turn.
+ghost use Rattle.std.specs.Prelude.{◌≡◌};
+ghost use Rattle.peer_sets.specs.Queue.{has_entry_of};
 
 use crate::named::{Id, id, name, pair};
 use crate::texts::{push_entries, push_peers};
-use node_names::{MsgId, NodeName};
+use node_names::{Listed, MsgId, NodeName};
 use peer_sets::PeerSets;
 use refusing_allocator::RefusingAllocator;
 use std::alloc::{AllocError, Allocator};
@@ -13,7 +13,7 @@ use std::process::Abort;
 use std::test::Fail;
 
 /// A call in plain texts and numbers.
-#[derive(Clone, Copy, Debug)]
+#[derive(Clone, Copy)]
 enum Act {
     Up(&'static str),
     Down(&'static str),
@@ -21,14 +21,18 @@ enum Act {
     MakeLazy(&'static str),
     Queue(&'static str, Id, u32),
     QueueLazy(Id, u32),
+    Relink(&'static str, &'static str, &'static str),
     Flush,
 }
 
 /// A call, what it gives, and what the readers answer after it.
 type Turn = (Act, &'static str, &'static str);
 
+/// Calls before one, and those from it on.
+type Parts<'a> = (&'a [Turn], &'a [Turn]);
+
 /// Calls of peer sets of `b` and `c`.
-const TURNS: [Turn; 10] = [
+const TURNS: &[Turn] = &[
     (Act::MakeLazy("c"), "true", "b+ c- | "),
     (Act::Queue("c", ("a", 1), 0), "", "b+ c- | c:a/1/1:0 "),
     (Act::Queue("c", ("a", 1), 0), "", "b+ c- | c:a/1/1:0 "),
@@ -39,9 +43,59 @@ const TURNS: [Turn; 10] = [
     (Act::QueueLazy(("a", 2), 3), "", "b+ c- d+ | c:a/1/2:3 "),
     (Act::MakeEager("c"), "true", "b+ c+ d+ | c:a/1/2:3 "),
     (Act::Down("c"), "", "b+ d+ | "),
+    (Act::MakeLazy("b"), "true", "b- d+ | "),
+    (Act::MakeLazy("d"), "true", "b- d- | "),
+    (
+        Act::QueueLazy(("a", 3), 1),
+        "",
+        "b- d- | b:a/1/3:1 d:a/1/3:1 ",
+    ),
+    (
+        Act::Queue("d", ("a", 2), 4),
+        "",
+        "b- d- | b:a/1/3:1 d:a/1/3:1 d:a/1/2:4 ",
+    ),
+    (
+        Act::Queue("b", ("a", 4), 0),
+        "",
+        "b- d- | b:a/1/3:1 d:a/1/3:1 d:a/1/2:4 b:a/1/4:0 ",
+    ),
+    (
+        Act::Relink("b", "e", "d"),
+        "",
+        "d- e+ | d:a/1/3:1 d:a/1/2:4 ",
+    ),
+    (
+        Act::Relink("e", "b", "e"),
+        "",
+        "d- b+ e+ | d:a/1/3:1 d:a/1/2:4 ",
+    ),
+    (
+        Act::Queue("b", ("a", 4), 0),
+        "",
+        "d- b+ e+ | d:a/1/3:1 d:a/1/2:4 b:a/1/4:0 ",
+    ),
+    (
+        Act::Queue("d", ("a", 4), 0),
+        "",
+        "d- b+ e+ | d:a/1/3:1 d:a/1/2:4 b:a/1/4:0 d:a/1/4:0 ",
+    ),
+    (
+        Act::Flush,
+        "d a/1/3:1 a/1/2:4 a/1/4:0; b a/1/4:0; ",
+        "d- b+ e+ | ",
+    ),
 ];
 
-/// More growths than any call has.
+/// All calls. The table is named here alone, since a function that names it is proved over the whole of it.
+fn turns() -> &'static [Turn] {
+    TURNS
+}
+
+/// What the readers answer before any call.
+const START: &str = "b+ c+ | ";
+
+/// More allocations than any call has.
 const MANY: u64 = 50;
 
 /// Whether the call takes no memory.
@@ -49,162 +103,295 @@ fn takes_none(act: &Act) -> bool {
     matches!(act, Act::Down(_) | Act::MakeEager(_) | Act::MakeLazy(_))
 }
 
-/// What the readers answer.
-fn shown<A: Allocator, B: Allocator>(texts: B, peers: &PeerSets<A>) -> Result<String<B>, Fail> {
-    let mut text = String::new(texts);
-    push_peers(&mut text, peers)?;
-    Ok(text)
+/// Peer sets of `b` and `c`.
+fn start<A: Allocator + Copy>(rt: &impl Abort, alloc: A) -> Result<PeerSets<A>, AllocError> {
+    let names = pair(rt, "b", "c");
+    PeerSets::new(alloc, &names)
+}
+
+/// What the readers answer after these calls.
+fn left(turns: &[Turn]) -> &'static str {
+    match turns.last() {
+        Some(turn) => turn.2,
+        None => START,
+    }
+}
+
+/// Whether the readers answer so. What they answer otherwise is the text.
+fn is_shown<A: Allocator>(
+    text: &mut String,
+    peers: &PeerSets<A>,
+    wanted: &str,
+) -> Result<bool, AllocError> {
+    text.clear();
+    push_peers(text, peers)?;
+    Ok(text.as_str() == wanted)
 }
 
 /// Queues an announcement for a member.
 fn queue<A: Allocator + Copy>(
+    rt: &impl Abort,
     peers: &mut PeerSets<A>,
-    peer: &NodeName,
-    id: &MsgId,
+    peer: &str,
+    message: Id,
     round: u32,
 ) -> Result<(), AllocError> {
-    if !peers.is_member(peer) {
+    let peer = name(rt, peer);
+    let message = id(rt, message);
+    if !peers.is_member(&peer) {
         return Ok(());
     }
-    peers.queue(peer, id, round)
+    peers.queue(&peer, &message, round)
+}
+
+/// Whether an announcement of the message waits.
+fn waits<A: Allocator>(peers: &PeerSets<A>, message: &MsgId) -> bool
+    ensures { result ≡ has_entry_of message.now peers.now.queued }
+{
+    peers.queued().iter().any(|entry| *message == entry.1)
+}
+
+/// Queues announcements for the lazy members, unless one of the message waits.
+fn queue_lazy<A: Allocator + Copy>(
+    rt: &impl Abort,
+    peers: &mut PeerSets<A>,
+    message: Id,
+    round: u32,
+) -> Result<(), AllocError> {
+    let message = id(rt, message);
+    if waits(peers, &message) {
+        return Ok(());
+    }
+    peers.queue_lazy(&None, &message, round)
+}
+
+/// Takes a member out and adds two in one call.
+fn relink<A: Allocator + Copy>(
+    rt: &impl Abort,
+    peers: &mut PeerSets<A>,
+    down: &str,
+    one: &str,
+    other: &str,
+) -> Result<(), AllocError> {
+    let downs = [name(rt, down)];
+    let ups = [name(rt, one), name(rt, other)];
+    peers.relink(&downs, &ups)
+}
+
+/// Appends what waited for each peer.
+fn push_batches<A: Allocator>(
+    text: &mut String,
+    batches: &[(NodeName, Listed<(MsgId, u32), A>)],
+) -> Result<(), AllocError> {
+    for (peer, entries) in batches {
+        write!(text, "{peer}")?;
+        push_entries(text, entries.as_slice())?;
+        text.push_str("; ")?;
+    }
+    Ok(())
 }
 
 /// Flushes, and appends what waited.
-fn flush<A: Allocator + Copy, B: Allocator>(
-    text: &mut String<B>,
+fn flush<A: Allocator + Copy>(
+    text: &mut String,
     peers: &mut PeerSets<A>,
-) -> Result<Result<(), AllocError>, Fail> {
-    let batches = match peers.flush() {
-        Ok(batches) => batches,
-        Err(refused) => return Ok(Err(refused)),
-    };
-    for (peer, entries) in batches.as_slice() {
-        write!(text, "{peer}")?;
-        push_entries(text, entries.as_slice())?;
-        write!(text, "; ")?;
-    }
-    Ok(Ok(()))
+) -> Result<(), AllocError> {
+    let batches = peers.flush()?;
+    push_batches(text, batches.as_slice())
 }
 
-/// Makes the call, and appends what it gives.
-fn call<A: Allocator + Copy, B: Allocator>(
-    text: &mut String<B>,
+fn down<A: Allocator + Copy>(
+    rt: &impl Abort,
+    peers: &mut PeerSets<A>,
+    peer: &str,
+) -> Result<(), AllocError> {
+    peers.down(&name(rt, peer));
+    Ok(())
+}
+
+/// Makes a peer eager, and appends whether it is a member.
+fn make_eager<A: Allocator + Copy>(
+    rt: &impl Abort,
+    text: &mut String,
+    peers: &mut PeerSets<A>,
+    peer: &str,
+) -> Result<(), AllocError> {
+    let is_found = peers.make_eager(&name(rt, peer));
+    write!(text, "{is_found}")
+}
+
+/// Makes a peer lazy, and appends whether it is a member.
+fn make_lazy<A: Allocator + Copy>(
+    rt: &impl Abort,
+    text: &mut String,
+    peers: &mut PeerSets<A>,
+    peer: &str,
+) -> Result<(), AllocError> {
+    let is_found = peers.make_lazy(&name(rt, peer));
+    write!(text, "{is_found}")
+}
+
+/// Makes the call, and writes what it gives in place of what the text said.
+fn call<A: Allocator + Copy>(
+    rt: &impl Abort,
+    text: &mut String,
     peers: &mut PeerSets<A>,
     act: &Act,
-) -> Result<Result<(), AllocError>, Fail> {
-    Ok(match *act {
-        Act::Up(peer) => peers.up(&name(peer)?),
-        Act::Down(peer) => {
-            peers.down(&name(peer)?);
-            Ok(())
-        }
-        Act::MakeEager(peer) => {
-            let found = peers.make_eager(&name(peer)?);
-            write!(text, "{found}")?;
-            Ok(())
-        }
-        Act::MakeLazy(peer) => {
-            let found = peers.make_lazy(&name(peer)?);
-            write!(text, "{found}")?;
-            Ok(())
-        }
-        Act::Queue(peer, message, round) => queue(peers, &name(peer)?, &id(message)?, round),
-        Act::QueueLazy(message, round) => peers.queue_lazy(&None, &id(message)?, round),
-        Act::Flush => return flush(text, peers),
-    })
+) -> Result<(), AllocError> {
+    text.clear();
+    match *act {
+        Act::Up(peer) => peers.up(&name(rt, peer)),
+        Act::Down(peer) => down(rt, peers, peer),
+        Act::MakeEager(peer) => make_eager(rt, text, peers, peer),
+        Act::MakeLazy(peer) => make_lazy(rt, text, peers, peer),
+        Act::Queue(peer, message, round) => queue(rt, peers, peer, message, round),
+        Act::QueueLazy(message, round) => queue_lazy(rt, peers, message, round),
+        Act::Relink(down, one, other) => relink(rt, peers, down, one, other),
+        Act::Flush => flush(text, peers),
+    }
 }
 
-/// Makes a call over ample memory, and compares what it gives and leaves.
-fn play<A: Allocator + Copy, B: Allocator + Copy>(
+/// Whether a call that was not refused gave what the text should say, and left this.
+fn is_left<A: Allocator>(
+    text: &mut String,
+    peers: &PeerSets<A>,
+    given: &str,
+    shown: &str,
+) -> Result<bool, AllocError> {
+    if text.as_str() != given {
+        return Ok(false);
+    }
+    is_shown(text, peers, shown)
+}
+
+/// Makes a call. Whether it is not refused, and gives and leaves what it should.
+fn is_turn<A: Allocator + Copy>(
     rt: &impl Abort,
-    texts: B,
+    text: &mut String,
     peers: &mut PeerSets<A>,
     turn: &Turn,
-) -> Result<(), Fail> {
-    let mut given = String::new(texts);
-    call(&mut given, peers, &turn.0)??;
-    assert_eq!(rt; given.as_str(), turn.1, "{:?}", turn.0);
-    assert_eq!(rt; shown(texts, peers)?.as_str(), turn.2, "{:?}", turn.0);
-    Ok(())
+) -> Result<bool, AllocError> {
+    call(rt, text, peers, &turn.0)?;
+    is_left(text, peers, turn.1, turn.2)
 }
 
-/// Makes calls over ample memory.
-fn play_all<A: Allocator + Copy, B: Allocator + Copy>(
+/// Makes calls. Whether each of them does so.
+fn are_turns<A: Allocator + Copy>(
     rt: &impl Abort,
-    texts: B,
+    text: &mut String,
     peers: &mut PeerSets<A>,
     turns: &[Turn],
-) -> Result<(), Fail> {
+) -> Result<bool, AllocError> {
     for turn in turns {
-        play(rt, texts, peers, turn)?;
+        if !is_turn(rt, text, peers, turn)? {
+            return Ok(false);
+        }
     }
-    Ok(())
+    Ok(true)
 }
 
 #[test]
 fn plays_calls(rt: HostRuntime) -> Result<(), Fail> {
-    let names = pair(&rt, "b", "c")?;
-    let mut peers = PeerSets::new(rt.alloc(), &names)?;
-    play_all(&rt, rt.alloc(), &mut peers, &TURNS)
+    let mut text = String::new(rt.alloc());
+    let mut peers = start(&rt, rt.alloc())?;
+    let are_right = are_turns(&rt, &mut text, &mut peers, turns())?;
+    assert!(rt; are_right, "{text}");
+    Ok(())
 }
 
-/// Makes a call whose growth with this number is refused, and makes it again if it is refused. Whether it had so many.
-fn refuse_call<'a, A: Allocator + Copy>(
+/// Makes a call while the allocation with this number is refused. Whether there is such an allocation, and whether it is refused.
+fn try_call<A: Allocator + Copy>(
     rt: &impl Abort,
-    heap: &'a RefusingAllocator<A>,
-    texts: A,
-    peers: &mut PeerSets<&'a RefusingAllocator<A>>,
+    heap: &RefusingAllocator,
+    text: &mut String,
+    peers: &mut PeerSets<A>,
     turn: &Turn,
     n: u64,
-) -> Result<bool, Fail> {
-    let stood = shown(texts, peers)?;
-    let mut given = String::new(texts);
+) -> (bool, bool) {
     heap.refuse(n);
-    let answer = call(&mut given, peers, &turn.0);
+    let is_refused = call(rt, text, peers, &turn.0).is_err();
     let is_spent = heap.is_spent();
     heap.refuse(0);
-    if answer?.is_err() {
-        assert!(rt; is_spent);
-        assert!(rt; !takes_none(&turn.0));
-        assert_eq!(rt; shown(texts, peers)?.as_str(), stood.as_str());
-        play(rt, texts, peers, turn)?;
+    (is_spent, is_refused)
+}
+
+/// Makes a call again that was refused. Whether it takes memory, its refusal left what stood, and it gives and leaves what it
+/// should now.
+fn is_turn_again<A: Allocator + Copy>(
+    rt: &impl Abort,
+    text: &mut String,
+    peers: &mut PeerSets<A>,
+    stood: &str,
+    turn: &Turn,
+) -> Result<bool, AllocError> {
+    let stands = is_shown(text, peers, stood)?;
+    if !stands || takes_none(&turn.0) {
+        return Ok(false);
     }
-    assert_eq!(rt; shown(texts, peers)?.as_str(), turn.2);
+    is_turn(rt, text, peers, turn)
+}
+
+/// Makes a call while the allocation with this number is refused, and again if it is refused. Whether there is such an allocation.
+fn refuse_call<A: Allocator + Copy>(
+    rt: &impl Abort,
+    heap: &RefusingAllocator,
+    text: &mut String,
+    peers: &mut PeerSets<A>,
+    stood: &str,
+    turn: &Turn,
+    n: u64,
+) -> Result<bool, AllocError> {
+    let (is_spent, is_refused) = try_call(rt, heap, text, peers, turn, n);
+    let is_right = if is_refused {
+        assert!(rt; is_spent);
+        is_turn_again(rt, text, peers, stood, turn)?
+    } else {
+        is_left(text, peers, turn.1, turn.2)?
+    };
+    assert!(rt; is_right);
     Ok(is_spent)
 }
 
-/// Plays the calls up to one, and refuses its growth with this number. Whether it had so many.
-fn sweep_call<'a, A: Allocator + Copy>(
+/// Makes the calls up to one, and refuses its allocation with this number. Whether there is such an allocation.
+fn sweep_parts<A: Allocator + Copy>(
     rt: &impl Abort,
-    heap: &'a RefusingAllocator<A>,
-    texts: A,
-    names: &[NodeName],
-    at: usize,
+    heap: &RefusingAllocator,
+    text: &mut String,
+    peers: &mut PeerSets<A>,
+    parts: Parts<'_>,
     n: u64,
-) -> Result<bool, Fail>
-    requires { IsDistinct same_name names.now }
-{
-    let mut peers = PeerSets::new(heap, names)?;
-    let (before, from) = TURNS.split_at(at.min(TURNS.len()));
-    play_all(rt, texts, &mut peers, before)?;
-    match from.first() {
-        Some(turn) => refuse_call(rt, heap, texts, &mut peers, turn, n),
+) -> Result<bool, AllocError> {
+    let are_right = are_turns(rt, text, peers, parts.0)?;
+    assert!(rt; are_right);
+    match parts.1.first() {
+        Some(turn) => refuse_call(rt, heap, text, peers, left(parts.0), turn, n),
         None => Ok(false),
     }
 }
 
-/// Refuses each growth of one call in turn. How many it has.
+/// Does so from fresh peer sets.
+fn sweep_call<A: Allocator + Copy>(
+    rt: &impl Abort,
+    heap: &RefusingAllocator,
+    alloc: A,
+    text: &mut String,
+    parts: Parts<'_>,
+    n: u64,
+) -> Result<bool, AllocError> {
+    let mut peers = start(rt, alloc)?;
+    sweep_parts(rt, heap, text, &mut peers, parts, n)
+}
+
+/// Refuses each allocation of one call in turn. How many it has.
 fn sweep<A: Allocator + Copy>(
     rt: &impl Abort,
-    heap: &RefusingAllocator<A>,
-    texts: A,
-    names: &[NodeName],
-    at: usize,
-) -> Result<u64, Fail>
-    requires { IsDistinct same_name names.now }
-{
+    heap: &RefusingAllocator,
+    alloc: A,
+    text: &mut String,
+    parts: Parts<'_>,
+) -> Result<u64, AllocError> {
     for n in 1..MANY {
-        if !sweep_call(rt, heap, texts, names, at, n)? {
+        if !sweep_call(rt, heap, alloc, text, parts, n)? {
             return Ok(n - 1);
         }
     }
@@ -212,55 +399,118 @@ fn sweep<A: Allocator + Copy>(
     Ok(MANY)
 }
 
+/// Does so for each call. How many they have.
+fn sweep_all<A: Allocator + Copy>(
+    rt: &impl Abort,
+    heap: &RefusingAllocator,
+    alloc: A,
+    text: &mut String,
+    turns: &[Turn],
+) -> Result<u64, AllocError> {
+    let mut refused = 0u64;
+    for at in 0..turns.len() {
+        let growths = sweep(rt, heap, alloc, text, turns.split_at(at))?;
+        refused = refused.saturating_add(growths);
+    }
+    Ok(refused)
+}
+
 #[test]
 fn each_growth_of_each_call(rt: HostRuntime) -> Result<(), Fail> {
     let heap = RefusingAllocator::new(rt.alloc());
-    let names = pair(&rt, "b", "c")?;
-    let mut refused = 0u64;
-    for at in 0..TURNS.len() {
-        refused = refused.saturating_add(sweep(&rt, &heap, rt.alloc(), &names, at)?);
-    }
+    let mut text = String::new(rt.alloc());
+    let refused = sweep_all(&rt, &heap, &heap, &mut text, turns())?;
     assert!(rt; refused > 5, "few growths were refused: {refused}");
     Ok(())
 }
 
-/// Makes and copies peer sets while the growth with this number is refused. Whether that had so many.
-fn sweep_copy<A: Allocator + Copy>(
+/// Whether a copy is right: there is none if an allocation was refused, and its readers answer so otherwise.
+fn is_copy<A: Allocator>(
+    text: &mut String,
+    copy: &Result<PeerSets<A>, AllocError>,
+    is_refused: bool,
+    wanted: &str,
+) -> Result<bool, AllocError> {
+    match copy {
+        Ok(peers) => {
+            let is_right = is_shown(text, peers, wanted)?;
+            Ok(is_right && !is_refused)
+        }
+        Err(_) => Ok(is_refused),
+    }
+}
+
+/// Copies what calls left while the allocation with this number is refused. Whether there is such an allocation.
+fn refuse_copy<A: Allocator + Copy>(
     rt: &impl Abort,
-    heap: &RefusingAllocator<A>,
-    texts: A,
-    peers: &PeerSets<&RefusingAllocator<A>>,
+    heap: &RefusingAllocator,
+    text: &mut String,
+    peers: &PeerSets<A>,
+    wanted: &str,
     n: u64,
-) -> Result<bool, Fail> {
-    let stood = shown(texts, peers)?;
+) -> Result<bool, AllocError> {
     heap.refuse(n);
     let copy = peers.copy();
     let is_spent = heap.is_spent();
     heap.refuse(0);
-    assert_eq!(rt; copy.is_err(), is_spent);
-    if let Ok(copy) = copy {
-        assert_eq!(rt; shown(texts, &copy)?.as_str(), stood.as_str());
-    }
+    let is_right = is_copy(text, &copy, is_spent, wanted)?;
+    assert!(rt; is_right);
     Ok(is_spent)
 }
 
-#[test]
-fn each_growth_of_new_and_copy(rt: HostRuntime) -> Result<(), Fail> {
-    let heap = RefusingAllocator::new(rt.alloc());
-    let names = pair(&rt, "b", "c")?;
-    heap.refuse(1);
-    assert!(rt; PeerSets::new(&heap, &names).is_err());
-    let mut peers = PeerSets::new(&heap, &names)?;
-    let (before, _) = TURNS.split_at(8);
-    play_all(&rt, rt.alloc(), &mut peers, before)?;
-    let mut refused = 0u64;
+/// Refuses each allocation of a copy of what calls leave in turn. How many it has.
+fn sweep_copy<A: Allocator + Copy>(
+    rt: &impl Abort,
+    heap: &RefusingAllocator,
+    text: &mut String,
+    peers: &PeerSets<A>,
+    wanted: &str,
+) -> Result<u64, AllocError> {
     for n in 1..MANY {
-        if !sweep_copy(&rt, &heap, rt.alloc(), &peers, n)? {
-            break;
+        if !refuse_copy(rt, heap, text, peers, wanted, n)? {
+            return Ok(n - 1);
         }
-        refused = n;
     }
-    assert!(rt; refused > 2, "few growths were refused: {refused}");
-    assert!(rt; refused < MANY - 1, "the sweep did not end");
+    assert!(rt; false, "the sweep did not end");
+    Ok(MANY)
+}
+
+/// Makes calls, and does so for what they leave.
+fn sweep_left<A: Allocator + Copy>(
+    rt: &impl Abort,
+    heap: &RefusingAllocator,
+    alloc: A,
+    text: &mut String,
+    turns: &[Turn],
+) -> Result<u64, AllocError> {
+    let mut peers = start(rt, alloc)?;
+    let are_right = are_turns(rt, text, &mut peers, turns)?;
+    assert!(rt; are_right);
+    sweep_copy(rt, heap, text, &peers, left(turns))
+}
+
+/// A copy of what the first eight calls leave.
+#[test]
+fn each_growth_of_a_copy(rt: HostRuntime) -> Result<(), Fail> {
+    let heap = RefusingAllocator::new(rt.alloc());
+    let mut text = String::new(rt.alloc());
+    let turns = turns();
+    let (before, _) = turns.split_at(8.min(turns.len()));
+    let refused = sweep_left(&rt, &heap, &heap, &mut text, before)?;
+    assert!(rt; refused > 1, "few growths were refused: {refused}");
     Ok(())
+}
+
+fn can_start<A: Allocator + Copy>(rt: &impl Abort, alloc: A) -> bool {
+    start(rt, alloc).is_ok()
+}
+
+/// Peer sets are not made without memory.
+#[test]
+fn refused_starts(rt: HostRuntime) {
+    let heap = RefusingAllocator::new(rt.alloc());
+    heap.refuse(1);
+    assert!(rt; !can_start(&rt, &heap));
+    assert!(rt; heap.is_spent());
+    assert!(rt; can_start(&rt, &heap));
 }

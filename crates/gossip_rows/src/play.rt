@@ -1,108 +1,182 @@
 //! Playing the rows call by call.
-ghost use Rattle.std.specs.List.{IsDistinct};
-ghost use Rattle.node_names.specs.Same.{same_name};
-
 use crate::act::{call, payload};
 use crate::named::{id, origin, pair};
-use crate::rows::{ASKED, ROWS, Turn};
-use crate::texts::{given, shown};
+use crate::rows::{ASKED, Row, START, Turn, rows};
+use crate::texts::{write_given, write_shown};
+use bytes::Bytes;
 use gossip_core::{Effects, Gossip};
-use node_names::{MsgId, NodeName};
-use std::alloc::Allocator;
+use node_names::MsgId;
+use std::alloc::{AllocError, Allocator};
 use std::process::Abort;
 use std::test::Fail;
 
 /// The messages that the readers are asked about.
-pub(crate) fn asked<A: Allocator>(alloc: A) -> Result<Vec<MsgId, A>, Fail> {
-    let mut ids = Vec::new(alloc);
-    for message in ASKED {
-        ids.push(id(message)?)?;
-    }
-    Ok(ids)
+pub(crate) fn asked(rt: &impl Abort) -> [MsgId; 6] {
+    ASKED.map(|message| id(rt, message))
 }
 
-/// The node `c` with these peers.
-pub(crate) fn start<A: Allocator + Copy>(alloc: A, peers: &[NodeName]) -> Result<Gossip<A>, Fail>
-    requires { IsDistinct same_name peers.now }
-{
-    Ok(Gossip::new(alloc, origin("c")?, peers, 0)?)
-}
-
-/// Compares what a call gave and left.
-pub(crate) fn compare<A: Allocator, B: Allocator + Copy>(
+/// The node `c` with the peers `a` and `b`.
+pub(crate) fn start<A: Allocator + Copy>(
     rt: &impl Abort,
-    texts: B,
+    alloc: A,
+) -> Result<Gossip<A>, AllocError> {
+    let peers = pair(rt, "a", "b");
+    Gossip::new(alloc, origin(rt, "c"), &peers, 0)
+}
+
+/// Whether the readers answer so. What they answer otherwise is the text.
+pub(crate) fn is_shown<A: Allocator>(
+    text: &mut String,
+    ids: &[MsgId],
+    gossip: &Gossip<A>,
+    wanted: &str,
+) -> Result<bool, AllocError> {
+    write_shown(text, gossip, ids)?;
+    Ok(text.as_str() == wanted)
+}
+
+/// Whether a call gave and left this. What it gave or left otherwise is the text.
+pub(crate) fn is_left<A: Allocator>(
+    text: &mut String,
     ids: &[MsgId],
     gossip: &Gossip<A>,
     out: &Effects<A>,
-    turn: &Turn,
-) -> Result<(), Fail> {
-    assert_eq!(rt; given(texts, out)?.as_str(), turn.1, "{:?}", turn.0);
-    assert_eq!(rt; shown(texts, gossip, ids)?.as_str(), turn.2, "{:?}", turn.0);
-    Ok(())
+    given: &str,
+    shown: &str,
+) -> Result<bool, AllocError> {
+    write_given(text, out)?;
+    if text.as_str() != given {
+        return Ok(false);
+    }
+    is_shown(text, ids, gossip, shown)
 }
 
-/// Makes a call over ample memory, and compares what it gives and leaves.
-fn play<A: Allocator + Copy, B: Allocator + Copy>(
+/// Makes a call. Whether it is not refused, and gives and leaves what it should.
+pub(crate) fn is_call<A: Allocator + Copy>(
     rt: &impl Abort,
-    alloc: A,
-    texts: B,
+    text: &mut String,
     ids: &[MsgId],
     gossip: &mut Gossip<A>,
     turn: &Turn,
-) -> Result<(), Fail> {
-    let bytes = payload(alloc, &turn.0)?;
-    let mut out = Effects::new(alloc);
-    call(gossip, &turn.0, &bytes, &mut out)??;
-    compare(rt, texts, ids, gossip, &out, turn)
+    payload: &Bytes<A>,
+    out: &mut Effects<A>,
+) -> Result<bool, AllocError> {
+    let answer = call(rt, gossip, &turn.0, payload, out);
+    let is_right = is_left(text, ids, gossip, out, turn.1, turn.2)?;
+    Ok(is_right && answer.is_ok())
 }
 
-/// Makes calls over ample memory.
-pub(crate) fn play_all<A: Allocator + Copy, B: Allocator + Copy>(
+/// Makes a call with this payload and effects of its own. Whether it does so.
+fn is_alone<A: Allocator + Copy>(
     rt: &impl Abort,
     alloc: A,
-    texts: B,
+    text: &mut String,
+    ids: &[MsgId],
+    gossip: &mut Gossip<A>,
+    turn: &Turn,
+    payload: &Bytes<A>,
+) -> Result<bool, AllocError> {
+    let mut out = Effects::new(alloc);
+    is_call(rt, text, ids, gossip, turn, payload, &mut out)
+}
+
+/// Makes a call with a payload of its own too. Whether it does so.
+fn is_turn<A: Allocator + Copy>(
+    rt: &impl Abort,
+    alloc: A,
+    text: &mut String,
+    ids: &[MsgId],
+    gossip: &mut Gossip<A>,
+    turn: &Turn,
+) -> Result<bool, AllocError> {
+    let payload = payload(alloc, &turn.0)?;
+    is_alone(rt, alloc, text, ids, gossip, turn, &payload)
+}
+
+/// Makes calls. Whether each of them does so.
+pub(crate) fn are_turns<A: Allocator + Copy>(
+    rt: &impl Abort,
+    alloc: A,
+    text: &mut String,
     ids: &[MsgId],
     gossip: &mut Gossip<A>,
     turns: &[Turn],
-) -> Result<(), Fail> {
+) -> Result<bool, AllocError> {
     for turn in turns {
-        play(rt, alloc, texts, ids, gossip, turn)?;
+        if !is_turn(rt, alloc, text, ids, gossip, turn)? {
+            return Ok(false);
+        }
     }
-    Ok(())
+    Ok(true)
 }
 
-/// Compares a copy with what was copied.
-fn compare_copy<A: Allocator + Copy>(
-    rt: &impl Abort,
-    alloc: A,
+/// What the readers answer after these calls.
+pub(crate) fn left(turns: &[Turn]) -> &'static str {
+    match turns.last() {
+        Some(turn) => turn.2,
+        None => START,
+    }
+}
+
+/// Whether a copy is of the same run and number as what was copied, and its readers answer so.
+fn is_copy<A: Allocator + Copy>(
+    text: &mut String,
+    ids: &[MsgId],
+    copy: &Gossip<A>,
+    gossip: &Gossip<A>,
+    wanted: &str,
+) -> Result<bool, AllocError> {
+    let is_same_run = copy.me() == gossip.me();
+    let is_same_number = copy.spent() == gossip.spent();
+    let is_right = is_shown(text, ids, copy, wanted)?;
+    Ok(is_same_run && is_same_number && is_right)
+}
+
+/// Whether it is copied so.
+fn is_copied<A: Allocator + Copy>(
+    text: &mut String,
     ids: &[MsgId],
     gossip: &Gossip<A>,
-) -> Result<(), Fail> {
+    wanted: &str,
+) -> Result<bool, AllocError> {
     let copy = gossip.copy()?;
-    assert!(rt; copy.me() == gossip.me());
-    assert!(rt; copy.spent() == gossip.spent());
-    let text = shown(alloc, &copy, ids)?;
-    let wanted = shown(alloc, gossip, ids)?;
-    assert_eq!(rt; text.as_str(), wanted.as_str());
-    Ok(())
+    is_copy(text, ids, &copy, gossip, wanted)
+}
+
+/// Plays a row, and copies what it leaves. Whether all is as it should.
+fn is_row<A: Allocator + Copy>(
+    rt: &impl Abort,
+    alloc: A,
+    text: &mut String,
+    ids: &[MsgId],
+    gossip: &mut Gossip<A>,
+    row: &Row,
+) -> Result<bool, AllocError> {
+    if !are_turns(rt, alloc, text, ids, gossip, row.turns)? {
+        return Ok(false);
+    }
+    is_copied(text, ids, gossip, left(row.turns))
+}
+
+/// Does so at a fresh node.
+fn is_row_from_start<A: Allocator + Copy>(
+    rt: &impl Abort,
+    alloc: A,
+    text: &mut String,
+    ids: &[MsgId],
+    row: &Row,
+) -> Result<bool, AllocError> {
+    let mut gossip = start(rt, alloc)?;
+    is_row(rt, alloc, text, ids, &mut gossip, row)
 }
 
 #[test]
 fn plays_rows(rt: HostRuntime) -> Result<(), Fail> {
-    let ids = asked(rt.alloc())?;
-    let peers = pair(&rt, "a", "b")?;
-    for turns in &ROWS {
-        let mut gossip = start(rt.alloc(), &peers)?;
-        play_all(
-            &rt,
-            rt.alloc(),
-            rt.alloc(),
-            ids.as_slice(),
-            &mut gossip,
-            turns,
-        )?;
-        compare_copy(&rt, rt.alloc(), ids.as_slice(), &gossip)?;
+    let mut text = String::new(rt.alloc());
+    let ids = asked(&rt);
+    for row in rows() {
+        let is_right = is_row_from_start(&rt, rt.alloc(), &mut text, &ids, row)?;
+        assert!(rt; is_right, "at {}: {text}", row.name);
     }
     Ok(())
 }

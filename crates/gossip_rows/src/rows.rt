@@ -5,6 +5,16 @@ use crate::named::Id;
 /// A call, what it gives, and what the readers answer after it.
 pub(crate) type Turn = (Act, &'static str, &'static str);
 
+/// Calls in a row.
+#[derive(Clone, Copy)]
+pub(crate) struct Row {
+    pub(crate) name: &'static str,
+    pub(crate) turns: &'static [Turn],
+}
+
+/// What the readers answer before any call.
+pub(crate) const START: &str = "a+ b+ | | | | ";
+
 const A1: Id = ("a", 1);
 
 const A2: Id = ("a", 2);
@@ -163,5 +173,26 @@ const LAZY: &[Turn] = &[
     ),
 ];
 
-/// All of them.
-pub(crate) const ROWS: [&[Turn]; 4] = [REPAIR, STRANGERS, ANNOUNCERS, LAZY];
+const ROWS: &[Row] = &[
+    Row {
+        name: "a message is repaired, and another goes out",
+        turns: REPAIR,
+    },
+    Row {
+        name: "strangers are answered and heard",
+        turns: STRANGERS,
+    },
+    Row {
+        name: "announcers are asked one after the other",
+        turns: ANNOUNCERS,
+    },
+    Row {
+        name: "a lazy peer is eager again",
+        turns: LAZY,
+    },
+];
+
+/// All rows. The table is named here alone, since a function that names it is proved over the whole of it.
+pub(crate) fn rows() -> &'static [Row] {
+    ROWS
+}

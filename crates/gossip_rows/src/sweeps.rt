@@ -1,154 +1,221 @@
-//! The rows with each growth refused in turn: the refusal is for want of memory, everything is as it was before the refused
+//! The rows with each allocation refused in turn: the refusal is for memory, everything is as it was before the refused
 //! call, and the call made again answers as if nothing had been refused.
-ghost use Rattle.std.specs.List.{IsDistinct};
-ghost use Rattle.node_names.specs.Same.{same_name};
-
 use crate::act::{call, payload, takes_none};
-use crate::named::{origin, pair};
-use crate::play::{asked, compare, play_all, start};
-use crate::rows::{ROWS, Turn};
-use crate::texts::{given, shown};
+use crate::play::{are_turns, asked, is_call, is_left, is_shown, left, start};
+use crate::rows::{Row, Turn, rows};
+use bytes::Bytes;
 use gossip_core::{Effects, Gossip, GossipFault};
-use node_names::{MsgId, NodeName};
+use node_names::MsgId;
 use refusing_allocator::RefusingAllocator;
-use std::alloc::{Allocator, Global};
+use std::alloc::{AllocError, Allocator};
 use std::process::Abort;
 use std::test::Fail;
 
-/// More growths than any call has.
+/// More allocations than any call has.
 const MANY: u64 = 100;
 
-/// Makes a call whose growth with this number is refused. Whether it had so many, and whether it was refused.
-fn try_call<'a>(
-    rt: &impl Abort,
-    heap: &'a RefusingAllocator,
-    gossip: &mut Gossip<&'a RefusingAllocator>,
-    out: &mut Effects<&'a RefusingAllocator>,
-    turn: &Turn,
-    n: u64,
-) -> Result<(bool, bool), Fail> {
-    let bytes = payload(heap, &turn.0)?;
-    heap.refuse(n);
-    let answer = call(gossip, &turn.0, &bytes, out);
-    let is_spent = heap.is_spent();
-    heap.refuse(0);
-    match answer? {
-        Ok(()) => Ok((is_spent, false)),
+/// Calls before one, and those from it on.
+type Parts<'a> = (&'a [Turn], &'a [Turn]);
+
+/// Whether a call was refused as out of memory. Otherwise it was not refused.
+fn is_refused(rt: &impl Abort, answer: &Result<(), GossipFault>) -> bool {
+    match answer {
+        Ok(()) => false,
         Err(why) => {
-            assert_eq!(rt; why, GossipFault::OutOfMemory);
-            Ok((is_spent, true))
+            assert!(rt; *why == GossipFault::OutOfMemory);
+            true
         }
     }
 }
 
-/// Compares what a refused call gave and left with nothing and what stood before.
-fn compare_refused<A: Allocator, B: Allocator + Copy>(
+/// Makes a call while the allocation with this number is refused. Whether there is such an allocation, and whether it is refused.
+fn try_call<A: Allocator + Copy>(
     rt: &impl Abort,
-    texts: B,
-    ids: &[MsgId],
-    gossip: &Gossip<A>,
-    out: &Effects<A>,
-    stood: &str,
-) -> Result<(), Fail> {
-    let text = given(texts, out)?;
-    assert_eq!(rt; text.as_str(), "");
-    let now = shown(texts, gossip, ids)?;
-    assert_eq!(rt; now.as_str(), stood);
-    Ok(())
+    heap: &RefusingAllocator,
+    gossip: &mut Gossip<A>,
+    turn: &Turn,
+    payload: &Bytes<A>,
+    out: &mut Effects<A>,
+    n: u64,
+) -> (bool, bool) {
+    heap.refuse(n);
+    let answer = call(rt, gossip, &turn.0, payload, out);
+    let is_spent = heap.is_spent();
+    heap.refuse(0);
+    (is_spent, is_refused(rt, &answer))
 }
 
-/// Makes a call whose growth with this number is refused, and makes it again if it is refused. Whether it had so many.
-fn refuse_call<'a>(
+/// Makes a call again that was refused. Whether it takes memory, its refusal gave nothing and left what stood, and it gives and
+/// leaves what it should now.
+fn is_call_again<A: Allocator + Copy>(
     rt: &impl Abort,
-    heap: &'a RefusingAllocator,
-    texts: Global,
+    text: &mut String,
     ids: &[MsgId],
-    gossip: &mut Gossip<&'a RefusingAllocator>,
-    out: &mut Effects<&'a RefusingAllocator>,
+    gossip: &mut Gossip<A>,
+    stood: &str,
     turn: &Turn,
-    n: u64,
-) -> Result<bool, Fail> {
-    let stood = shown(texts, gossip, ids)?;
-    let (is_spent, is_refused) = try_call(rt, heap, gossip, out, turn, n)?;
-    if is_refused {
-        assert!(rt; is_spent);
-        assert!(rt; !takes_none(&turn.0));
-        compare_refused(rt, texts, ids, gossip, out, stood.as_str())?;
-        let _ = try_call(rt, heap, gossip, out, turn, 0)?;
+    payload: &Bytes<A>,
+    out: &mut Effects<A>,
+) -> Result<bool, AllocError> {
+    let stands = is_left(text, ids, gossip, out, "", stood)?;
+    if !stands || takes_none(&turn.0) {
+        return Ok(false);
     }
-    compare(rt, texts, ids, gossip, out, turn)?;
+    is_call(rt, text, ids, gossip, turn, payload, out)
+}
+
+/// Makes a call while the allocation with this number is refused, and again if it is refused. Whether there is such an allocation.
+fn refuse_call<A: Allocator + Copy>(
+    rt: &impl Abort,
+    heap: &RefusingAllocator,
+    text: &mut String,
+    ids: &[MsgId],
+    gossip: &mut Gossip<A>,
+    stood: &str,
+    turn: &Turn,
+    payload: &Bytes<A>,
+    out: &mut Effects<A>,
+    n: u64,
+) -> Result<bool, AllocError> {
+    let (is_spent, is_refused) = try_call(rt, heap, gossip, turn, payload, out, n);
+    let is_right = if is_refused {
+        assert!(rt; is_spent);
+        is_call_again(rt, text, ids, gossip, stood, turn, payload, out)?
+    } else {
+        is_left(text, ids, gossip, out, turn.1, turn.2)?
+    };
+    assert!(rt; is_right);
     Ok(is_spent)
 }
 
-/// The same with effects of its own.
-fn refuse_alone<'a>(
-    rt: &impl Abort,
-    heap: &'a RefusingAllocator,
-    texts: Global,
-    ids: &[MsgId],
-    gossip: &mut Gossip<&'a RefusingAllocator>,
-    turn: &Turn,
-    n: u64,
-) -> Result<bool, Fail> {
-    let mut out = Effects::new(heap);
-    refuse_call(rt, heap, texts, ids, gossip, &mut out, turn, n)
-}
-
-/// Plays the calls of a row up to one, and refuses its growth with this number. Whether it had so many.
-fn sweep_call(
+/// Does so with this payload and effects of its own.
+fn refuse_alone<A: Allocator + Copy>(
     rt: &impl Abort,
     heap: &RefusingAllocator,
-    texts: Global,
+    alloc: A,
+    text: &mut String,
     ids: &[MsgId],
-    peers: &[NodeName],
-    turns: (&[Turn], &[Turn]),
+    gossip: &mut Gossip<A>,
+    stood: &str,
+    turn: &Turn,
+    payload: &Bytes<A>,
     n: u64,
-) -> Result<bool, Fail>
-    requires { IsDistinct same_name peers.now }
-{
-    let mut gossip = start(heap, peers)?;
-    play_all(rt, heap, texts, ids, &mut gossip, turns.0)?;
-    match turns.1.first() {
-        Some(turn) => refuse_alone(rt, heap, texts, ids, &mut gossip, turn, n),
-        None => sweep_copy(rt, heap, texts, ids, &gossip, n),
+) -> Result<bool, AllocError> {
+    let mut out = Effects::new(alloc);
+    refuse_call(
+        rt, heap, text, ids, gossip, stood, turn, payload, &mut out, n,
+    )
+}
+
+/// Does so with a payload of its own too.
+fn refuse_turn<A: Allocator + Copy>(
+    rt: &impl Abort,
+    heap: &RefusingAllocator,
+    alloc: A,
+    text: &mut String,
+    ids: &[MsgId],
+    gossip: &mut Gossip<A>,
+    stood: &str,
+    turn: &Turn,
+    n: u64,
+) -> Result<bool, AllocError> {
+    let payload = payload(alloc, &turn.0)?;
+    refuse_alone(rt, heap, alloc, text, ids, gossip, stood, turn, &payload, n)
+}
+
+/// Whether a copy is right: there is none if an allocation was refused, and its readers answer so otherwise.
+fn is_copy<A: Allocator>(
+    text: &mut String,
+    ids: &[MsgId],
+    copy: &Result<Gossip<A>, AllocError>,
+    is_refused: bool,
+    wanted: &str,
+) -> Result<bool, AllocError> {
+    match copy {
+        Ok(gossip) => {
+            let is_right = is_shown(text, ids, gossip, wanted)?;
+            Ok(is_right && !is_refused)
+        }
+        Err(_) => Ok(is_refused),
     }
 }
 
-/// Copies what a row leaves while the growth with this number is refused. Whether the copy had so many.
-fn sweep_copy(
-    rt: &impl Abort,
+/// Copies while the allocation with this number is refused. Whether there is such an allocation, and whether the copy is right.
+fn try_copy<A: Allocator + Copy>(
     heap: &RefusingAllocator,
-    texts: Global,
+    text: &mut String,
     ids: &[MsgId],
-    gossip: &Gossip<&RefusingAllocator>,
+    gossip: &Gossip<A>,
+    wanted: &str,
     n: u64,
-) -> Result<bool, Fail> {
+) -> (bool, Result<bool, AllocError>) {
     heap.refuse(n);
-    let stood = shown(texts, gossip, ids)?;
     let copy = gossip.copy();
     let is_spent = heap.is_spent();
     heap.refuse(0);
-    assert!(rt; copy.is_err() == is_spent);
-    if let Ok(copy) = copy {
-        let text = shown(texts, &copy, ids)?;
-        assert_eq!(rt; text.as_str(), stood.as_str());
-    }
+    (is_spent, is_copy(text, ids, &copy, is_spent, wanted))
+}
+
+/// Does so with what a row leaves. Whether there is such an allocation.
+fn refuse_copy<A: Allocator + Copy>(
+    rt: &impl Abort,
+    heap: &RefusingAllocator,
+    text: &mut String,
+    ids: &[MsgId],
+    gossip: &Gossip<A>,
+    wanted: &str,
+    n: u64,
+) -> Result<bool, AllocError> {
+    let (is_spent, is_right) = try_copy(heap, text, ids, gossip, wanted, n);
+    assert!(rt; is_right?);
     Ok(is_spent)
 }
 
-/// Refuses each growth of one call in turn. How many it has.
-fn sweep(
+/// Plays the calls of a row up to one, and refuses its allocation with this number. Whether there is such an allocation.
+fn sweep_parts<A: Allocator + Copy>(
     rt: &impl Abort,
     heap: &RefusingAllocator,
-    texts: Global,
+    alloc: A,
+    text: &mut String,
     ids: &[MsgId],
-    peers: &[NodeName],
-    turns: (&[Turn], &[Turn]),
-) -> Result<u64, Fail>
-    requires { IsDistinct same_name peers.now }
-{
+    gossip: &mut Gossip<A>,
+    parts: Parts<'_>,
+    n: u64,
+) -> Result<bool, AllocError> {
+    let are_right = are_turns(rt, alloc, text, ids, gossip, parts.0)?;
+    assert!(rt; are_right);
+    let stood = left(parts.0);
+    match parts.1.first() {
+        Some(turn) => refuse_turn(rt, heap, alloc, text, ids, gossip, stood, turn, n),
+        None => refuse_copy(rt, heap, text, ids, gossip, stood, n),
+    }
+}
+
+/// Does so at a fresh node.
+fn sweep_call<A: Allocator + Copy>(
+    rt: &impl Abort,
+    heap: &RefusingAllocator,
+    alloc: A,
+    text: &mut String,
+    ids: &[MsgId],
+    parts: Parts<'_>,
+    n: u64,
+) -> Result<bool, AllocError> {
+    let mut gossip = start(rt, alloc)?;
+    sweep_parts(rt, heap, alloc, text, ids, &mut gossip, parts, n)
+}
+
+/// Refuses each allocation of one call in turn. How many it has.
+fn sweep<A: Allocator + Copy>(
+    rt: &impl Abort,
+    heap: &RefusingAllocator,
+    alloc: A,
+    text: &mut String,
+    ids: &[MsgId],
+    parts: Parts<'_>,
+) -> Result<u64, AllocError> {
     for n in 1..MANY {
-        if !sweep_call(rt, heap, texts, ids, peers, turns, n)? {
+        if !sweep_call(rt, heap, alloc, text, ids, parts, n)? {
             return Ok(n - 1);
         }
     }
@@ -156,21 +223,20 @@ fn sweep(
     Ok(MANY)
 }
 
-/// Refuses each growth of each call of a row, and of the copy of what the row leaves, in turn. How many they have.
-fn sweep_row(
+/// Refuses each allocation of each call of a row, and of the copy of what the row leaves, in turn. How many they have.
+fn sweep_row<A: Allocator + Copy>(
     rt: &impl Abort,
     heap: &RefusingAllocator,
-    texts: Global,
+    alloc: A,
+    text: &mut String,
     ids: &[MsgId],
-    peers: &[NodeName],
-    turns: &[Turn],
-) -> Result<u64, Fail>
-    requires { IsDistinct same_name peers.now }
-{
+    row: &Row,
+) -> Result<u64, AllocError> {
     let mut refused = 0u64;
-    for at in 0..=turns.len() {
-        let parts = turns.split_at(at.min(turns.len()));
-        refused = refused.saturating_add(sweep(rt, heap, texts, ids, peers, parts)?);
+    for at in 0..=row.turns.len() {
+        let parts = row.turns.split_at(at.min(row.turns.len()));
+        let growths = sweep(rt, heap, alloc, text, ids, parts)?;
+        refused = refused.saturating_add(growths);
     }
     Ok(refused)
 }
@@ -178,23 +244,24 @@ fn sweep_row(
 #[test]
 fn each_growth_of_each_call(rt: HostRuntime) -> Result<(), Fail> {
     let heap = RefusingAllocator::new(rt.alloc());
-    let ids = asked(rt.alloc())?;
-    let peers = pair(&rt, "a", "b")?;
-    for turns in &ROWS {
-        let refused = sweep_row(&rt, &heap, rt.alloc(), ids.as_slice(), &peers, turns)?;
+    let mut text = String::new(rt.alloc());
+    let ids = asked(&rt);
+    for row in rows() {
+        let refused = sweep_row(&rt, &heap, &heap, &mut text, &ids, row)?;
         assert!(rt; refused > 5, "few growths were refused: {refused}");
     }
     Ok(())
 }
 
+fn can_start<A: Allocator + Copy>(rt: &impl Abort, alloc: A) -> bool {
+    start(rt, alloc).is_ok()
+}
+
 /// A node is not made without memory for its peers.
 #[test]
-fn refused_starts(rt: HostRuntime) -> Result<(), Fail> {
+fn refused_starts(rt: HostRuntime) {
     let heap = RefusingAllocator::new(rt.alloc());
-    let peers = pair(&rt, "a", "b")?;
-    let me = origin("c")?;
     heap.refuse(1);
-    assert!(rt; Gossip::new(&heap, me, &peers, 0).is_err());
+    assert!(rt; !can_start(&rt, &heap));
     assert!(rt; heap.is_spent());
-    Ok(())
 }

@@ -5,15 +5,11 @@ use gossip_core::{Effects, Gossip};
 use missing::Missing;
 use node_names::{MsgId, NodeName};
 use peer_sets::PeerSets;
-use std::alloc::Allocator;
+use std::alloc::{AllocError, Allocator};
 use std::fmt::Write;
-use std::test::Fail;
 
 /// Appends the members, with `+` for eager ones.
-fn push_members<A: Allocator, B: Allocator>(
-    text: &mut String<B>,
-    peers: &PeerSets<A>,
-) -> Result<(), Fail> {
+fn push_members<A: Allocator>(text: &mut String, peers: &PeerSets<A>) -> Result<(), AllocError> {
     for (name, _) in peers.members() {
         let mark = if peers.is_eager(name) { '+' } else { '-' };
         write!(text, "{name}{mark} ")?;
@@ -22,10 +18,7 @@ fn push_members<A: Allocator, B: Allocator>(
 }
 
 /// Appends announcements that wait.
-fn push_queued<B: Allocator>(
-    text: &mut String<B>,
-    queued: &[(NodeName, MsgId, u32)],
-) -> Result<(), Fail> {
+fn push_queued(text: &mut String, queued: &[(NodeName, MsgId, u32)]) -> Result<(), AllocError> {
     for (peer, id, round) in queued {
         write!(text, "{peer}:{id}:{round} ")?;
     }
@@ -33,10 +26,7 @@ fn push_queued<B: Allocator>(
 }
 
 /// Appends announcements that came.
-fn push_wants<B: Allocator>(
-    text: &mut String<B>,
-    wants: &[(MsgId, NodeName, u32)],
-) -> Result<(), Fail> {
+fn push_wants(text: &mut String, wants: &[(MsgId, NodeName, u32)]) -> Result<(), AllocError> {
     for (id, peer, round) in wants {
         write!(text, "{id}:{peer}:{round} ")?;
     }
@@ -44,7 +34,7 @@ fn push_wants<B: Allocator>(
 }
 
 /// Appends armed ids.
-fn push_timers<B: Allocator>(text: &mut String<B>, timers: &[MsgId]) -> Result<(), Fail> {
+fn push_timers(text: &mut String, timers: &[MsgId]) -> Result<(), AllocError> {
     for id in timers {
         write!(text, "{id} ")?;
     }
@@ -52,30 +42,27 @@ fn push_timers<B: Allocator>(text: &mut String<B>, timers: &[MsgId]) -> Result<(
 }
 
 /// Appends what the readers of peer sets answer: the members, and what waits for them.
-pub(crate) fn push_peers<A: Allocator, B: Allocator>(
-    text: &mut String<B>,
+pub(crate) fn push_peers<A: Allocator>(
+    text: &mut String,
     peers: &PeerSets<A>,
-) -> Result<(), Fail> {
+) -> Result<(), AllocError> {
     push_members(text, peers)?;
-    write!(text, "| ")?;
+    text.push_str("| ")?;
     push_queued(text, peers.queued())
 }
 
 /// Appends what the readers of announcements answer: these, and the armed ids.
-pub(crate) fn push_missing<A: Allocator, B: Allocator>(
-    text: &mut String<B>,
+pub(crate) fn push_missing<A: Allocator>(
+    text: &mut String,
     missing: &Missing<A>,
-) -> Result<(), Fail> {
+) -> Result<(), AllocError> {
     push_wants(text, missing.wants())?;
-    write!(text, "| ")?;
+    text.push_str("| ")?;
     push_timers(text, missing.timers())
 }
 
 /// Appends the letters of a payload.
-fn push_payload<A: Allocator, B: Allocator>(
-    text: &mut String<B>,
-    payload: &Bytes<A>,
-) -> Result<(), Fail> {
+fn push_payload<A: Allocator>(text: &mut String, payload: &Bytes<A>) -> Result<(), AllocError> {
     for byte in payload.as_slice() {
         text.push(char::from(*byte))?;
     }
@@ -83,90 +70,112 @@ fn push_payload<A: Allocator, B: Allocator>(
 }
 
 /// Appends ids with their rounds.
-pub(crate) fn push_entries<B: Allocator>(
-    text: &mut String<B>,
-    entries: &[(MsgId, u32)],
-) -> Result<(), Fail> {
+pub(crate) fn push_entries(text: &mut String, entries: &[(MsgId, u32)]) -> Result<(), AllocError> {
     for (id, round) in entries {
         write!(text, " {id}:{round}")?;
     }
     Ok(())
 }
 
+/// Appends a packet with a message.
+fn push_gossip<A: Allocator>(
+    text: &mut String,
+    id: &MsgId,
+    round: u32,
+    payload: &Bytes<A>,
+) -> Result<(), AllocError> {
+    write!(text, "gossip {id} {round} ")?;
+    push_payload(text, payload)
+}
+
 /// Appends what a packet says.
-fn push_body<A: Allocator, B: Allocator>(text: &mut String<B>, body: &Body<A>) -> Result<(), Fail> {
+fn push_body<A: Allocator>(text: &mut String, body: &Body<A>) -> Result<(), AllocError> {
     match body {
-        BodyOf::Gossip { id, round, payload } => {
-            write!(text, "gossip {id} {round} ")?;
-            push_payload(text, payload)
-        }
+        BodyOf::Gossip { id, round, payload } => push_gossip(text, id, *round, payload),
         BodyOf::IHave { entries } => {
-            write!(text, "ihave")?;
+            text.push_str("ihave")?;
             push_entries(text, entries.as_slice())
         }
-        BodyOf::Graft { id, round } => Ok(write!(text, "graft {id} {round}")?),
-        BodyOf::Prune => Ok(write!(text, "prune")?),
-        _ => Ok(write!(text, "about membership")?),
+        BodyOf::Graft { id, round } => write!(text, "graft {id} {round}"),
+        BodyOf::Prune => text.push_str("prune"),
+        _ => text.push_str("about membership"),
     }
 }
 
 /// Appends packets with their receivers.
-fn push_sends<A: Allocator, B: Allocator>(
-    text: &mut String<B>,
+fn push_sends<A: Allocator>(
+    text: &mut String,
     sends: &[(NodeName, Body<A>)],
-) -> Result<(), Fail> {
+) -> Result<(), AllocError> {
     for (to, body) in sends {
         write!(text, "to {to} ")?;
         push_body(text, body)?;
-        write!(text, "; ")?;
+        text.push_str("; ")?;
     }
     Ok(())
 }
 
-/// What a call gave: the delivery, and each packet with its receiver.
-pub(crate) fn given<A: Allocator, B: Allocator>(
-    texts: B,
-    effects: &Effects<A>,
-) -> Result<String<B>, Fail> {
-    let mut text = String::new(texts);
-    if let Some((id, payload)) = &effects.delivered {
-        write!(text, "deliver {id} ")?;
-        push_payload(&mut text, payload)?;
-        write!(text, "; ")?;
-    }
-    push_sends(&mut text, effects.sends.as_slice())?;
-    Ok(text)
+/// Appends the message that is delivered.
+fn push_delivery<A: Allocator>(
+    text: &mut String,
+    id: &MsgId,
+    payload: &Bytes<A>,
+) -> Result<(), AllocError> {
+    write!(text, "deliver {id} ")?;
+    push_payload(text, payload)?;
+    text.push_str("; ")
 }
 
-/// Appends the message and its payload, if it is known.
-fn push_known<A: Allocator, B: Allocator>(
-    text: &mut String<B>,
+/// Writes what a call gave in place of what the text said: the delivery, and each packet with its receiver.
+pub(crate) fn write_given<A: Allocator>(
+    text: &mut String,
+    effects: &Effects<A>,
+) -> Result<(), AllocError> {
+    text.clear();
+    if let Some((id, payload)) = &effects.delivered {
+        push_delivery(text, id, payload)?;
+    }
+    push_sends(text, effects.sends.as_slice())
+}
+
+/// Appends a message that is known, and its payload.
+fn push_known<A: Allocator>(
+    text: &mut String,
     gossip: &Gossip<A>,
     id: &MsgId,
-) -> Result<(), Fail> {
-    if !gossip.knows(id) {
-        return Ok(());
-    }
+) -> Result<(), AllocError> {
     write!(text, "{id}=")?;
     if let Some(payload) = gossip.payload(id) {
         push_payload(text, payload)?;
     }
-    Ok(write!(text, " ")?)
+    text.push_str(" ")
 }
 
-/// What the readers answer: members, queue, wants, timers, and those of these messages that are known.
-pub(crate) fn shown<A: Allocator, B: Allocator>(
-    texts: B,
+/// Appends those of the messages that are known.
+fn push_messages<A: Allocator>(
+    text: &mut String,
     gossip: &Gossip<A>,
     ids: &[MsgId],
-) -> Result<String<B>, Fail> {
-    let mut text = String::new(texts);
-    push_peers(&mut text, gossip.peers())?;
-    write!(text, "| ")?;
-    push_missing(&mut text, gossip.missing())?;
-    write!(text, "| ")?;
+) -> Result<(), AllocError> {
     for id in ids {
-        push_known(&mut text, gossip, id)?;
+        if gossip.knows(id) {
+            push_known(text, gossip, id)?;
+        }
     }
-    Ok(text)
+    Ok(())
+}
+
+/// Writes what the readers answer in place of what the text said: members, queue, wants, timers, and those of these messages
+/// that are known.
+pub(crate) fn write_shown<A: Allocator>(
+    text: &mut String,
+    gossip: &Gossip<A>,
+    ids: &[MsgId],
+) -> Result<(), AllocError> {
+    text.clear();
+    push_peers(text, gossip.peers())?;
+    text.push_str("| ")?;
+    push_missing(text, gossip.missing())?;
+    text.push_str("| ")?;
+    push_messages(text, gossip, ids)
 }
