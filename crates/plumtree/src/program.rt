@@ -59,11 +59,11 @@ where
     ensures { result ≤ 2 }
 {
     match arguments::parse(rt.alloc(), words) {
-        Ok(Request::Simulate { file: None, form }) => {
+        Ok(Request { file: None, form }) => {
             play_input(rt.alloc(), form, &mut rt.reader(), out, faults)
         }
         Ok(
-            Request::Simulate {
+            Request {
                 file: Some(path),
                 form,
             },
