@@ -1,6 +1,5 @@
 pub mod Borrowed
-pub mod Documents
-pub mod Faults
+pub mod Inputs
 pub mod Items
 pub mod Numbers
 pub mod Oks

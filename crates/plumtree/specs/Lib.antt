@@ -1,5 +1,4 @@
 pub mod Code
-pub mod Fault
 pub mod Form
 pub mod Graph
 pub mod Key

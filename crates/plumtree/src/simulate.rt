@@ -1,10 +1,9 @@
-//! The program `plumtree sim`, over any reader and writer.
-ghost use Rattle.std.specs.Prelude.{◌≡◌, ◌≢◌, ◌<◌, ℕ, List, Option, Err, IfOk, IfErr, IfSome, OnOk};
+//! The program `plumtree sim`, over the scenario's text and any writer.
+ghost use Rattle.std.specs.Prelude.{◌≡◌, ◌≢◌, ◌<◌, ℕ, List, Option, Err, IfOk, IfErr, OnOk};
 ghost use Rattle.node_names.specs.Limits.{Limits as Sizes};
 ghost use Rattle.plumtree.specs.declared.play.PlayFault.{PlayFault};
 ghost use Rattle.plumtree.specs.declared.scenario.action.Action.{Action};
 ghost use Rattle.plumtree.specs.declared.scenario.fault.ScenarioFault.{ScenarioFault};
-ghost use Rattle.plumtree.specs.Fault.{IsTextFault};
 ghost use Rattle.plumtree.specs.Scenario.{IsScenario};
 ghost use Rattle.plumtree.specs.Play.{delivered, IsPlayed, Prints, PrintsGroup, PrintsHalted};
 ghost use Rattle.frames.specs.Content.{frame_content};
@@ -19,51 +18,50 @@ use crate::scenario::{MOST_EVENTS, Scenario, ScenarioFault};
 use crate::{graph, output, trees};
 use node_core::PlumCore;
 use std::alloc::{Allocator, Global};
-use std::io::{Read, Write};
+use std::io::Write;
 use world::{Core, World};
 
 /// The room for a line: the longest payload in hexadecimal, and what stands before it.
 const LINE_ROOM: usize = 66_000;
 
-/// Reads a scenario, plays it, and writes what is delivered.
+/// Reads a text as a scenario, plays it, and writes what is delivered.
 ///
 /// Where the run ends early, all that was delivered before is written.
-pub fn simulate<R: Read, W: Write>(alloc: Global, input: &mut R, out: &mut W) -> Result<(), Failure>
+pub fn simulate<W: Write>(alloc: Global, text: &[u8], out: &mut W) -> Result<(), Failure>
     ensures printed { OnOk result ((seed : Option ℕ) × (sizes : Sizes) × (actions : List Action)
-        × IfSome (R.remaining input.old) (λ text. IsScenario LONGEST MOST_EVENTS text seed sizes actions)
+        × IsScenario LONGEST MOST_EVENTS text.now seed sizes actions
         × Prints plum_state frame_content PlumStarts PlumSteps MOST_ARRIVALS seed sizes actions (W.contents out.old) (W.contents out.new)) }
     ensures stopped { (fault : PlayFault) → result ≡ Err (Failure.Stopped fault) → fault ≢ PlayFault.OutOfMemory → (seed : Option ℕ) × (sizes : Sizes) × (actions : List Action)
-        × IfSome (R.remaining input.old) (λ text. IsScenario LONGEST MOST_EVENTS text seed sizes actions)
+        × IsScenario LONGEST MOST_EVENTS text.now seed sizes actions
         × PrintsHalted plum_state frame_content PlumStarts PlumSteps PlumIsSpent MOST_ARRIVALS seed sizes actions fault (W.contents out.old) (W.contents out.new) }
-    ensures refused { (fault : ScenarioFault) → result ≡ Err (Failure.Refused fault) → IsTextFault fault → IfSome (R.remaining input.old) (λ text.
-        (seed : Option ℕ) (sizes : Sizes) (actions : List Action) → ¬ IsScenario LONGEST MOST_EVENTS text seed sizes actions) }
+    ensures refused { (fault : ScenarioFault) → result ≡ Err (Failure.Refused fault) → fault ≢ ScenarioFault.OutOfMemory → (seed : Option ℕ) (sizes : Sizes) (actions : List Action)
+        → ¬ IsScenario LONGEST MOST_EVENTS text.now seed sizes actions }
     ensures unplayed { (fault : ScenarioFault) → result ≡ Err (Failure.Refused fault) → out.new ≡ out.old }
 {
-    let scenario = read_scenario(alloc, input)?;
+    let scenario = read_scenario(alloc, text)?;
     play_and_print::<PlumCore, Global, W>(alloc, &scenario, out)
 }
 
-/// Reads a scenario, plays it, and writes the group as it stands then as a Graphviz document.
-pub fn draw<R: Read, W: Write>(alloc: Global, input: &mut R, out: &mut W) -> Result<(), Failure>
+/// Reads a text as a scenario, plays it, and writes the group as it stands then as a Graphviz document.
+pub fn draw<W: Write>(alloc: Global, text: &[u8], out: &mut W) -> Result<(), Failure>
     ensures played { OnOk result ((seed : Option ℕ) × (sizes : Sizes) × (actions : List Action)
-        × IfSome (R.remaining input.old) (λ text. IsScenario LONGEST MOST_EVENTS text seed sizes actions)
+        × IsScenario LONGEST MOST_EVENTS text.now seed sizes actions
         × IsPlayed plum_state PlumStarts PlumSteps MOST_ARRIVALS seed sizes actions) }
-    ensures refused { (fault : ScenarioFault) → result ≡ Err (Failure.Refused fault) → IsTextFault fault → IfSome (R.remaining input.old) (λ text.
-        (seed : Option ℕ) (sizes : Sizes) (actions : List Action) → ¬ IsScenario LONGEST MOST_EVENTS text seed sizes actions) }
+    ensures refused { (fault : ScenarioFault) → result ≡ Err (Failure.Refused fault) → fault ≢ ScenarioFault.OutOfMemory → (seed : Option ℕ) (sizes : Sizes) (actions : List Action)
+        → ¬ IsScenario LONGEST MOST_EVENTS text.now seed sizes actions }
     ensures unplayed { (fault : ScenarioFault) → result ≡ Err (Failure.Refused fault) → out.new ≡ out.old }
 {
-    let scenario = read_scenario(alloc, input)?;
+    let scenario = read_scenario(alloc, text)?;
     play_and_draw(alloc, &scenario, out)
 }
 
-/// Reads a scenario.
-fn read_scenario<R: Read>(alloc: Global, input: &mut R) -> Result<Scenario, ScenarioFault>
-    ensures ok { IfOk result (λ scenario. IfSome (R.remaining input.old) (λ text.
-        IsScenario LONGEST MOST_EVENTS text scenario.seed scenario.limits scenario.actions.items)) }
-    ensures refused { IfErr result (λ fault. IsTextFault fault → IfSome (R.remaining input.old) (λ text.
-        (seed : Option ℕ) (sizes : Sizes) (actions : List Action) → ¬ IsScenario LONGEST MOST_EVENTS text seed sizes actions)) }
+/// Reads a text as a scenario.
+fn read_scenario(alloc: Global, text: &[u8]) -> Result<Scenario, ScenarioFault>
+    ensures ok { IfOk result (λ scenario. IsScenario LONGEST MOST_EVENTS text.now scenario.seed scenario.limits scenario.actions.items) }
+    ensures refused { IfErr result (λ fault. fault ≢ ScenarioFault.OutOfMemory → (seed : Option ℕ) (sizes : Sizes) (actions : List Action)
+        → ¬ IsScenario LONGEST MOST_EVENTS text.now seed sizes actions) }
 {
-    let document = read_document(alloc, input)?;
+    let document = read_document(alloc, text)?;
     Scenario::from_document(alloc, &document)
 }
 

@@ -1,5 +1,5 @@
 -- One delivery more.
-use Rattle.std.proofs.Common.{Bor, refl}
+use Rattle.std.proofs.Common.{Bor}
 use Rattle.world.specs.Delivery.{Delivery}
 use Rattle.plumtree.proofs.Borrowed.{mapped-more}
 use Rattle.plumtree.proofs.output.push_each.Goals as goal

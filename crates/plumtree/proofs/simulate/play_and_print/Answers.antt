@@ -1,5 +1,5 @@
 -- What was played is printed, also where it ended early.
-use Rattle.std.proofs.Common.{◌≡◌, List, subst}
+use Rattle.std.proofs.Common.{◌≡◌, subst}
 use Rattle.world.specs.Group.{Logged}
 use Rattle.plumtree.specs.Play.{IsHalted, PlaysActions, PrintsGroup, Standing, delivered, empty_group}
 use Rattle.plumtree.specs.Rolls.{rolls_in, rolls_of}

@@ -1,13 +1,11 @@
 -- What was delivered is sorted and written, and then the lines of each message.
 use Rattle.std.proofs.Common.{◌∙◌, ap, map, refl, subst, List}
 use Rattle.std.specs.Prelude.{IsPermutation, reverse}
-use Rattle.std.specs.Io.KnownBytes.{Appends}
 use Rattle.node_names.specs.declared.ids.MsgId.{MsgId}
 use Rattle.world.specs.Delivery.{Delivery}
 use Rattle.world.specs.Entry.{Entry}
 use Rattle.world.specs.History.{deliveries}
-use Rattle.plumtree.specs.Lines.{lines_of}
-use Rattle.plumtree.specs.Trees.{broadcasts_of, TellsTrees}
+use Rattle.plumtree.specs.Trees.{TellsTrees}
 use Rattle.plumtree.proofs.Texts.{written}
 use Rattle.plumtree.proofs.simulate.print.Goals as goal
 

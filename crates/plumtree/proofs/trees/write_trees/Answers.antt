@@ -1,5 +1,5 @@
 -- A step writes the lines of one message.
-use Rattle.std.proofs.Common.{◌≡◌, ◌∙◌, ◌++◌, List, ap, refl, sym}
+use Rattle.std.proofs.Common.{◌∙◌, ◌++◌, List, ap, refl}
 use Rattle.at_rest.specs.declared.branch.Branch.{Branch}
 use Rattle.plumtree.specs.Trees.{tree_lines, TellsTree}
 use Rattle.plumtree.proofs.Texts.{written}
