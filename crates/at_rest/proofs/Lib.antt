@@ -7,3 +7,6 @@ pub mod Levels
 pub mod Silences
 pub mod Leading
 pub mod Oks
+pub mod Forests
+pub mod Adding
+pub mod Unrests

@@ -89,7 +89,7 @@ fn push_branch<A: Allocator + Copy>(
 }
 
 /// From whom the deliveries of an entry came.
-fn parent_of<N, A: Allocator>(sent: &[Packet<N>], entry: &Entry<A>) -> Option<Origin>
+pub(crate) fn parent_of<N, A: Allocator>(sent: &[Packet<N>], entry: &Entry<A>) -> Option<Origin>
     ensures { result ≡ parent_by sent.now entry.now.packet entry.now.event }
 {
     match &entry.event {

@@ -88,6 +88,7 @@ fn pump_to_sink<A: Allocator + Copy>(
     let mut sink = Kept {
         frames,
         most: call.most,
+        refusals: 0,
     };
     Ok(pump_between(heap, alloc, reader, cutter, &mut sink, call, n))
 }

@@ -14,13 +14,20 @@ pub(crate) const PRUNE: [u8; 24] = *b"\0\0\0\x14\x01\x0b\x01a\0\0\0\0\0\0\0\x01\
 pub(crate) struct Kept<A: Allocator> {
     pub(crate) frames: Vec<Frame<A>, A>,
     pub(crate) most: usize,
+    pub(crate) refusals: u64,
 }
 
 impl<A: Allocator> Sink<Frame<A>> for Kept<A> {
     ghost taken = { λ kept. kept.frames.items };
 
+    ghost refusals = { λ kept. kept.refusals };
+
     fn frame(&mut self, frame: Frame<A>) -> bool {
-        self.frames.len() < self.most && self.frames.push(frame).is_ok()
+        if self.frames.len() < self.most && self.frames.push(frame).is_ok() {
+            return true;
+        }
+        self.refusals = self.refusals.saturating_add(1);
+        false
     }
 }
 

@@ -73,11 +73,11 @@ met_more None bytes more h = tt
 met_more (Some fault) bytes more h = (read_more bytes more fault h.0 h.1, h.1)
 
 -- what was fed, or was not, leaves the fault
-pub fed : (r : Bool) (fault : Option FrameFault) (given : ℕ) (old piece new : List ℕ) → new ≡ (if r then old ++ piece else old) → (given ≤ length old) × IsMet fault (drop given old) → (given ≤ length new) × IsMet fault (drop given new)
+pub fed : (r : Bool) (fault : Option FrameFault) (given : ℕ) (old piece new : List ℕ) → new ≡ (if r then old ++ piece else old) → (given + given ≤ length old) × IsMet fault (drop given old) → (given + given ≤ length new) × IsMet fault (drop given new)
 fed true fault given old piece new e h =
-    let more : drop given new ≡ drop given old ++ piece = ap (drop given) e ∙ drop-append-le given old piece h.0 in
+    let more : drop given new ≡ drop given old ++ piece = ap (drop given) e ∙ drop-append-le given old piece (omega (arith, h.0)) in
     (omega (arith, ap length e, length-append old piece, h.0), subst (IsMet fault) (sym more) (met_more fault (drop given old) piece h.1))
-fed false fault given old piece new e h = subst (λ t. (given ≤ length t) × IsMet fault (drop given t)) (sym e) h
+fed false fault given old piece new e h = subst (λ t. (given + given ≤ length t) × IsMet fault (drop given t)) (sym e) h
 
 -- the bytes of a frame were given
 pub cuts_from : (f : Frame) (old items : List ℕ) (given len : ℕ) → old ≡ drop given items → IsSpelling f (take len old) → Cuts f old (drop (given + len) items)

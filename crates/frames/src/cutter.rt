@@ -1,5 +1,5 @@
 //! Cutting a stream of bytes into frames.
-ghost use Rattle.std.specs.Prelude.{◌≡◌, ◌<◌, ◌++◌, [], None, Ok, length, OnOk, OnErr};
+ghost use Rattle.std.specs.Prelude.{◌≡◌, ◌<◌, ◌≤◌, ◌+◌, ◌++◌, [], None, Ok, drop, length, OnOk, OnErr};
 ghost use Rattle.frames.specs.Cutting.{IsNext};
 
 use crate::MAX_FRAME;
@@ -11,9 +11,9 @@ use std::marker::Model;
 
 /// The frames of a stream whose bytes come in pieces of any size.
 ///
-/// A contract sees a cutter as the bytes that it has been fed and that are no part of a frame that it gave. Between two
-/// frames it keeps less than one frame of them. Each byte is copied in once and, on average, moved at most once more, and a
-/// frame is read once it is whole.
+/// A contract sees a cutter as the bytes that it has been fed and that are no part of a frame that it gave. It never holds
+/// more than twice as many, and once `next` gives none these are less than one frame: so its memory does not grow with the
+/// stream. Each byte is copied in once and, on average, moved at most once more, and a frame is read once it is whole.
 #[derive(Drop)]
 pub struct Cutter<A: Allocator = Global> {
     /// What was fed, but for some of the frames given at its front.
@@ -25,14 +25,15 @@ pub struct Cutter<A: Allocator = Global> {
 }
 
 impl<A: Allocator> Model for Cutter<A> {
-    ghost use Rattle.std.specs.Prelude.{◌≤◌, List, ℕ, length, drop};
+    ghost use Rattle.std.specs.Prelude.{◌+◌, ◌≤◌, List, ℕ, length, drop};
     ghost use Rattle.frames.specs.Cutting.{IsMet};
 
     ghost Value = { List ℕ };
 
     ghost view = { λ c. drop c.given c.buffer.items };
 
-    ghost invariant = { λ c. (c.given ≤ length c.buffer.items) × IsMet c.fault (drop c.given c.buffer.items) };
+    // The bytes that were given and are still held are no more than those left.
+    ghost invariant = { λ c. (c.given + c.given ≤ length c.buffer.items) × IsMet c.fault (drop c.given c.buffer.items) };
 }
 
 impl<A: Allocator + Copy> Cutter<A> {
@@ -66,18 +67,7 @@ impl<A: Allocator + Copy> Cutter<A> {
         ensures ok { OnOk result (self.new ≡ self.old ++ piece.now) }
         ensures err { OnErr result (self.new ≡ self.old) }
     {
-        self.forget_given();
         self.buffer.extend_from_slice(piece)
-    }
-
-    /// Drops the frames that were given, once they take as much room as the bytes left.
-    fn forget_given(&mut self)
-        ensures { self.new ≡ self.old }
-    {
-        if self.given >= self.buffer.len() - self.given {
-            self.buffer.drain(..self.given);
-            self.given = 0;
-        }
     }
 
     /// The next frame, or none as long as it is not whole.
@@ -93,7 +83,7 @@ impl<A: Allocator + Copy> Cutter<A> {
         }
         match decode(*self.buffer.allocator(), self.rest()) {
             Ok((frame, len)) => {
-                self.given += len;
+                self.given = forget(&mut self.buffer, self.given + len);
                 Ok(Some(frame))
             }
             Err(FrameFault::Short) => Ok(None),
@@ -104,4 +94,17 @@ impl<A: Allocator + Copy> Cutter<A> {
             }
         }
     }
+}
+
+/// Drops the bytes at the front that were given, once they are as many as those left, and answers how many are still held.
+fn forget<A: Allocator>(buffer: &mut Vec<u8, A>, given: usize) -> usize
+    requires { given ≤ length buffer.old.items }
+    ensures left { drop result buffer.new.items ≡ drop given buffer.old.items }
+    ensures few { result + result ≤ length buffer.new.items }
+{
+    if given < buffer.len() - given {
+        return given;
+    }
+    buffer.drain(..given);
+    0
 }

@@ -1,5 +1,5 @@
 -- What a call that pumps a reader's bytes into a sink does.
-use Rattle.std.specs.Prelude.{◌≡◌, ℕ, ◌*◌, ◌≤◌, List, ◌++◌, length, Option, None, Err, IfSome}
+use Rattle.std.specs.Prelude.{◌≡◌, ◌≢◌, ℕ, ◌*◌, ◌≤◌, List, ◌++◌, length, Option, None, Err, IfSome}
 use Rattle.std.specs.Io.KnownBytes.{Consumes}
 use Rattle.frames.specs.declared.fault.FrameFault.TheVariants as fault
 use Rattle.frames.specs.Cutting.{Begins, Cuts}
@@ -37,11 +37,11 @@ pub record Pumps (end : LinkEnd) (turns : ℕ) (cutter cutter' : List ℕ) (take
   pub stream : Begins frames (cutter ++ bytes) rest
   pub ends : EndsSo end rest cutter'
 
--- The ends that come of giving frames to a sink.
+-- The ends that come of giving frames to a sink: a frame that is not whole yet is none.
 abbrev pub ComesOfGiving : LinkEnd → Type 0
 ComesOfGiving ReadFault = ⊥
 ComesOfGiving (WriteFault bytes) = ⊥
-ComesOfGiving (Frame f) = Unit {0}
+ComesOfGiving (Frame f) = f ≢ fault.Short
 ComesOfGiving (Ended n) = ⊥
 ComesOfGiving TurnLimit = ⊥
 ComesOfGiving SinkClosed = Unit {0}

@@ -1,5 +1,5 @@
 //! From a stream of bytes to a sink of frames.
-ghost use Rattle.std.specs.Prelude.{◌≡◌, ◌≢◌, ◌+◌, ◌≤◌, ℕ, IsTrue};
+ghost use Rattle.std.specs.Prelude.{◌≡◌, ◌≢◌, ◌+◌, ◌≤◌, ℕ, IsTrue, Some};
 ghost use Rattle.std.specs.Io.KnownBytes.{IsAtEnd};
 ghost use Rattle.links.specs.Counting.{counted, has_risen};
 ghost use Rattle.links.specs.Pumping.{Gives, Pumps};
@@ -18,7 +18,9 @@ fn give<S: Sink<Frame<A>>, A: Allocator + Copy>(
     cutter: &mut Cutter<A>,
     sink: &mut S,
 ) -> Option<LinkEnd>
-    ensures { Gives result cutter.old cutter.new (S.taken sink.old) (S.taken sink.new) }
+    ensures given { Gives result cutter.old cutter.new (S.taken sink.old) (S.taken sink.new) }
+    ensures refused { result ≡ Some LinkEnd.SinkClosed → IsTrue (has_risen (S.refusals sink.old) (S.refusals sink.new)) }
+    ensures willing { result ≢ Some LinkEnd.SinkClosed → S.refusals sink.new ≡ S.refusals sink.old }
 {
     loop {
         match cutter.next() {
@@ -48,6 +50,10 @@ pub fn pump<R: MeteredRead, S: Sink<Frame<A>>, A: Allocator + Copy>(
 ) -> LinkEnd
     ensures frames { Pumps result turns cutter.old cutter.new (S.taken sink.old) (S.taken sink.new)
         (R.remaining reader.old) (R.remaining reader.new) }
+    ensures refused { result ≡ LinkEnd.SinkClosed → IsTrue (has_risen (S.refusals sink.old) (S.refusals sink.new)) }
+    ensures willing { result ≢ LinkEnd.SinkClosed → S.refusals sink.new ≡ S.refusals sink.old }
+    // A frame that is not whole yet is no fault.
+    ensures whole { result ≢ LinkEnd.Frame FrameFault.Short }
     ensures read_fault { result ≡ LinkEnd.ReadFault → IsTrue (has_risen (R.failed reader.old) (R.failed reader.new)) }
     ensures no_fault { result ≢ LinkEnd.ReadFault → R.failed reader.new ≡ R.failed reader.old }
     ensures ended { (left : ℕ) → result ≡ LinkEnd.Ended left → IsAtEnd (R.remaining reader.new) }

@@ -1,21 +1,29 @@
 //! Where frames go, and where their bytes come from.
-ghost use Rattle.std.specs.Prelude.{◌≡◌, ◌≤◌, ◌∷◌, ◌++◌, [], ℕ, List, Some, None, Ok, OnErr, length};
+ghost use Rattle.std.specs.Prelude.{◌≡◌, ◌≤◌, ◌∷◌, ◌++◌, [], ℕ, List, Some, None, Ok, OnErr, IsTrue, length};
 ghost use Rattle.std.specs.Bool.{OnTrue, OnFalse};
+ghost use Rattle.links.specs.Counting.{has_risen};
 
 use bytes::Bytes;
 use std::alloc::{AllocError, Allocator};
 
 /// What takes frames, whose type is `F`.
 ///
+/// It counts the frames that it refused; a count at the greatest u64 stays there.
+///
 /// The parameter is not the frames' allocator: an impl of a trait that takes a value over an allocator by value is not covered.
 pub trait Sink<F> {
     /// The frames that it took.
     ghost taken: { Self → List F };
 
+    /// The number of the frames that it was offered and refused.
+    ghost refusals: { Self → ℕ };
+
     /// Takes a frame, or answers `false`: it takes no more, and has not taken this one.
     fn frame(&mut self, frame: F) -> bool
         ensures took { OnTrue result (taken self.new ≡ taken self.old ++ frame ∷ []) }
-        ensures closed { OnFalse result (taken self.new ≡ taken self.old) };
+        ensures closed { OnFalse result (taken self.new ≡ taken self.old) }
+        ensures willing { OnTrue result (refusals self.new ≡ refusals self.old) }
+        ensures refused { OnFalse result (IsTrue (has_risen (refusals self.old) (refusals self.new))) };
 }
 
 /// What gives the bytes of frames, one frame an item.

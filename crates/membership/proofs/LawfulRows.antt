@@ -9,7 +9,7 @@ use Rattle.views.specs.Views as view
 use Rattle.views.proofs.CallerLemmas.{lacks-others, chosen_is_there, chosen_other_is_there, active-add_passive, active-forget_absent, owner-add_passive, limits-add_passive, same-integrate, sound-add_passive, sound-forget, sound-integrate}
 use Rattle.membership.specs.Membership.{Membership, Turn, still}
 use Rattle.membership.specs.Event.{Event}
-use Rattle.membership.specs.Event.Event.{Joins, Join, ForwardJoin, Neighbor, Reply, Disconnect, Shuffle, ShuffleReply, Down, Tick}
+use Rattle.membership.specs.declared.event.EventOf.TheVariants.{Joins, Join, ForwardJoin, Neighbor, Reply, Disconnect, Shuffle, ShuffleReply, Down, Tick}
 use Rattle.membership.specs.Blocks.{send, admit, step_down, lose, forget, is_asked, close_request, welcome, shuffled_passive, accept_shuffle}
 use Rattle.membership.specs.Table.{on_join, walk_on, on_forward_join, on_neighbor, on_reply, on_disconnect, on_down, start_shuffle, on_tick, on_shuffle, on_shuffle_reply, table}
 use Rattle.membership.specs.Laws.{IsFromAnother, Lawful}

@@ -1,16 +1,23 @@
--- What a node's membership hears of.
-use Rattle.std.specs.Prelude.{ℕ, Bool, List}
+-- An event as the definitions see it: its names are a plain list.
+use denote.Ref.{Bor}
+use Rattle.std.specs.Prelude.{List}
 use Rattle.node_names.specs.NodeName.{Name}
+use Rattle.membership.specs.declared.event.EventOf.{EventOf}
+use Rattle.membership.specs.declared.event.EventOf.TheVariants.{Joins, Join, ForwardJoin, Neighbor, Reply, Disconnect, Shuffle, ShuffleReply, Down, Tick}
 
 -- The node is to join by a contact; a message of HyParView came from a sender; the link to a peer failed; its tick has come.
-pub data Event : Type 0 where
-  Joins : (contact : Name) → Event
-  Join : (sender : Name) → Event
-  ForwardJoin : (sender new : Name) (ttl : ℕ) → Event
-  Neighbor : (sender : Name) (high : Bool) → Event
-  Reply : (sender : Name) (accepted : Bool) → Event
-  Disconnect : (sender : Name) → Event
-  Shuffle : (sender origin : Name) (ttl : ℕ) (names : List Name) → Event
-  ShuffleReply : (sender : Name) (names : List Name) → Event
-  Down : (peer : Name) → Event
-  Tick : Event
+abbrev pub Event : Type 0
+Event = EventOf (List Name)
+
+-- the event whose names are lent
+abbrev pub lent : EventOf (Bor (List Name)) → Event
+lent (Joins contact) = Joins contact
+lent (Join sender) = Join sender
+lent (ForwardJoin sender new ttl) = ForwardJoin sender new ttl
+lent (Neighbor sender high) = Neighbor sender high
+lent (Reply sender accepted) = Reply sender accepted
+lent (Disconnect sender) = Disconnect sender
+lent (Shuffle sender origin ttl names) = Shuffle sender origin ttl names.now
+lent (ShuffleReply sender names) = ShuffleReply sender names.now
+lent (Down peer) = Down peer
+lent Tick = Tick

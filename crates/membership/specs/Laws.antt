@@ -12,7 +12,7 @@ use Rattle.views.specs.Names.{others}
 use Rattle.views.specs.Views.{AreSound}
 use Rattle.membership.specs.Membership.{Membership, Turn}
 use Rattle.membership.specs.Event.{Event}
-use Rattle.membership.specs.Event.Event.{Joins, Join, ForwardJoin, Neighbor, Reply, Disconnect, Shuffle, ShuffleReply, Down, Tick}
+use Rattle.membership.specs.declared.event.EventOf.TheVariants.{Joins, Join, ForwardJoin, Neighbor, Reply, Disconnect, Shuffle, ShuffleReply, Down, Tick}
 
 -- The contact or the sender is another than the owner.
 abbrev pub IsFromAnother : Name → Event → Type 0

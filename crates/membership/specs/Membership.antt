@@ -30,6 +30,14 @@ pub record Turn : Type 0 where
 abbrev pub still : Membership → Turn
 still m = record { views = m.views; asked = m.asked; shuffled = m.shuffled; sends = []; downs = []; ups = [] }
 
+-- the node's membership at the end of the turn
+abbrev pub ended : Turn → Membership
+ended turn = record { views = turn.views; asked = turn.asked; shuffled = turn.shuffled }
+
+-- what the turn sent and told
+abbrev pub moves_of : Turn → Moves
+moves_of turn = record { sends = turn.sends; downs = turn.downs; ups = turn.ups }
+
 -- The event ends so: the node stands as the turn says, and what the turn sent and told is appended.
 pub record Ends (turn : Turn) (moved : Moves) (new : Membership) (moves : Moves) : Type 0 where
   pub node : new ≡ record { views = turn.views; asked = turn.asked; shuffled = turn.shuffled }

@@ -9,7 +9,7 @@ use Rattle.views.specs.Names.{word, chosen, others}
 use Rattle.views.specs.Views as view
 use Rattle.membership.specs.Membership.{Turn}
 use Rattle.membership.specs.Event.{Event}
-use Rattle.membership.specs.Event.Event.{Joins, Join, ForwardJoin, Neighbor, Reply, Disconnect, Shuffle, ShuffleReply, Down, Tick}
+use Rattle.membership.specs.declared.event.EventOf.TheVariants.{Joins, Join, ForwardJoin, Neighbor, Reply, Disconnect, Shuffle, ShuffleReply, Down, Tick}
 use Rattle.membership.specs.Blocks.{send, send_all, admit, step_down, lose, forget, is_asked, close_request, promote, welcome, shuffle_with, accept_shuffle}
 
 -- JOIN: the sender is welcomed, and its name goes on a walk from every other active name.

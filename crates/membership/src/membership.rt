@@ -1,14 +1,15 @@
 //! A node's membership.
 ghost use Rattle.std.specs.Prelude.{◌≡◌, [], IfOk, OnOk, OnErr, None};
 ghost use Rattle.views.specs.Views.{ArePeers, fresh};
-ghost use Rattle.membership.specs.Membership.{Ends, still};
+ghost use Rattle.membership.specs.Membership.{Ends, ended, moves_of, still};
 ghost use Rattle.membership.specs.Draft.{turn_of};
-ghost use Rattle.membership.specs.Event.{Event};
+ghost use Rattle.membership.specs.Event.{lent};
+ghost use Rattle.membership.specs.declared.event.EventOf.TheVariants as Event;
 ghost use Rattle.membership.specs.Table.{table};
 
 use crate::draft::Draft;
+use crate::event::{Event, EventOf};
 use crate::moves::Moves;
-use frames::BodyOf;
 use node_names::{Dice, Limits, Listed, NodeName};
 use std::alloc::{AllocError, Allocator, Global};
 use std::marker::Model;
@@ -65,7 +66,7 @@ impl<A: Allocator + Copy> Membership<A> {
         })
     }
 
-    /// The same membership once more.
+    /// A copy of it.
     pub fn copy(&self) -> Result<Membership<A>, AllocError>
         ensures { IfOk result (λ copy. copy ≡ self.now) }
     {
@@ -95,11 +96,18 @@ impl<A: Allocator + Copy> Membership<A> {
         })
     }
 
-    /// Stands as the turn says, and appends what it sent and told.
-    fn end(&mut self, draft: Draft<A>, moves: &mut Moves<A>) -> Result<(), AllocError>
-        ensures ok { OnOk result (Ends (turn_of draft) moves.old self.new moves.new) }
-        ensures err { OnErr result ((self.new ≡ self.old) × (moves.new ≡ moves.old)) }
+    /// The membership after the event, and what the event makes the node send and tell. This membership stays as it is: a
+    /// caller that goes through with the event puts the new one in its place, which takes no memory.
+    pub fn prepare(
+        &self,
+        event: &Event<'_>,
+        dice: &Dice,
+    ) -> Result<(Membership<A>, Moves<A>), AllocError>
+        ensures next { IfOk result (λ p. p.0 ≡ ended (table (lent event.now) dice.now (still self.now))) }
+        ensures moves { IfOk result (λ p. p.1 ≡ moves_of (table (lent event.now) dice.now (still self.now))) }
     {
+        let mut draft = self.draft()?;
+        draft.take(event, dice)?;
         let Draft {
             views,
             asked,
@@ -108,10 +116,27 @@ impl<A: Allocator + Copy> Membership<A> {
             downs,
             ups,
         } = draft;
-        moves.append(sends, downs, ups)?;
-        self.views = views;
-        self.asked = asked;
-        self.shuffled = shuffled;
+        let next = Membership {
+            views,
+            asked,
+            shuffled,
+        };
+        Ok((next, Moves { sends, downs, ups }))
+    }
+
+    /// Takes the event, and appends what it makes the node send and tell.
+    fn take(
+        &mut self,
+        event: &Event<'_>,
+        dice: &Dice,
+        moves: &mut Moves<A>,
+    ) -> Result<(), AllocError>
+        ensures ok { OnOk result (Ends (table (lent event.now) dice.now (still self.old)) moves.old self.new moves.new) }
+        ensures err { OnErr result ((self.new ≡ self.old) × (moves.new ≡ moves.old)) }
+    {
+        let (next, made) = self.prepare(event, dice)?;
+        moves.append(made)?;
+        *self = next;
         Ok(())
     }
 
@@ -120,9 +145,7 @@ impl<A: Allocator + Copy> Membership<A> {
         ensures ok { (dice : _) → OnOk result (Ends (table (Event.Joins contact) dice (still self.old)) moves.old self.new moves.new) }
         ensures err { OnErr result ((self.new ≡ self.old) × (moves.new ≡ moves.old)) }
     {
-        let mut draft = self.draft()?;
-        draft.send(contact, BodyOf::Join)?;
-        self.end(draft, moves)
+        self.take(&EventOf::Joins { contact }, &Dice([0; 16]), moves)
     }
 
     /// A node joins by this one.
@@ -135,9 +158,7 @@ impl<A: Allocator + Copy> Membership<A> {
         ensures ok { OnOk result (Ends (table (Event.Join sender) dice.now (still self.old)) moves.old self.new moves.new) }
         ensures err { OnErr result ((self.new ≡ self.old) × (moves.new ≡ moves.old)) }
     {
-        let mut draft = self.draft()?;
-        draft.on_join(sender, dice)?;
-        self.end(draft, moves)
+        self.take(&EventOf::Join { sender }, dice, moves)
     }
 
     /// The name of a node that joins, with the steps that its walk has left.
@@ -152,9 +173,7 @@ impl<A: Allocator + Copy> Membership<A> {
         ensures ok { OnOk result (Ends (table (Event.ForwardJoin sender new ttl) dice.now (still self.old)) moves.old self.new moves.new) }
         ensures err { OnErr result ((self.new ≡ self.old) × (moves.new ≡ moves.old)) }
     {
-        let mut draft = self.draft()?;
-        draft.on_forward_join(sender, new, ttl, dice)?;
-        self.end(draft, moves)
+        self.take(&EventOf::ForwardJoin { sender, new, ttl }, dice, moves)
     }
 
     /// A request to become a neighbour.
@@ -168,9 +187,7 @@ impl<A: Allocator + Copy> Membership<A> {
         ensures ok { OnOk result (Ends (table (Event.Neighbor sender high) dice.now (still self.old)) moves.old self.new moves.new) }
         ensures err { OnErr result ((self.new ≡ self.old) × (moves.new ≡ moves.old)) }
     {
-        let mut draft = self.draft()?;
-        draft.on_neighbor(sender, high, dice)?;
-        self.end(draft, moves)
+        self.take(&EventOf::Neighbor { sender, high }, dice, moves)
     }
 
     /// The answer to such a request.
@@ -184,9 +201,7 @@ impl<A: Allocator + Copy> Membership<A> {
         ensures ok { OnOk result (Ends (table (Event.Reply sender accepted) dice.now (still self.old)) moves.old self.new moves.new) }
         ensures err { OnErr result ((self.new ≡ self.old) × (moves.new ≡ moves.old)) }
     {
-        let mut draft = self.draft()?;
-        draft.on_reply(sender, accepted, dice)?;
-        self.end(draft, moves)
+        self.take(&EventOf::Reply { sender, accepted }, dice, moves)
     }
 
     /// The sender has dropped this node out of its active view.
@@ -199,9 +214,7 @@ impl<A: Allocator + Copy> Membership<A> {
         ensures ok { OnOk result (Ends (table (Event.Disconnect sender) dice.now (still self.old)) moves.old self.new moves.new) }
         ensures err { OnErr result ((self.new ≡ self.old) × (moves.new ≡ moves.old)) }
     {
-        let mut draft = self.draft()?;
-        draft.on_disconnect(sender, dice)?;
-        self.end(draft, moves)
+        self.take(&EventOf::Disconnect { sender }, dice, moves)
     }
 
     /// Names that `origin` knows, with the steps that they have left.
@@ -217,9 +230,16 @@ impl<A: Allocator + Copy> Membership<A> {
         ensures ok { OnOk result (Ends (table (Event.Shuffle sender origin ttl names.now) dice.now (still self.old)) moves.old self.new moves.new) }
         ensures err { OnErr result ((self.new ≡ self.old) × (moves.new ≡ moves.old)) }
     {
-        let mut draft = self.draft()?;
-        draft.on_shuffle(sender, origin, ttl, names, dice)?;
-        self.end(draft, moves)
+        self.take(
+            &EventOf::Shuffle {
+                sender,
+                origin,
+                ttl,
+                names,
+            },
+            dice,
+            moves,
+        )
     }
 
     /// The names that a shuffle of this node is answered with.
@@ -233,9 +253,7 @@ impl<A: Allocator + Copy> Membership<A> {
         ensures ok { OnOk result (Ends (table (Event.ShuffleReply sender names.now) dice.now (still self.old)) moves.old self.new moves.new) }
         ensures err { OnErr result ((self.new ≡ self.old) × (moves.new ≡ moves.old)) }
     {
-        let mut draft = self.draft()?;
-        draft.on_shuffle_reply(names, dice)?;
-        self.end(draft, moves)
+        self.take(&EventOf::ShuffleReply { sender, names }, dice, moves)
     }
 
     /// The link to a peer failed.
@@ -248,9 +266,7 @@ impl<A: Allocator + Copy> Membership<A> {
         ensures ok { OnOk result (Ends (table (Event.Down peer) dice.now (still self.old)) moves.old self.new moves.new) }
         ensures err { OnErr result ((self.new ≡ self.old) × (moves.new ≡ moves.old)) }
     {
-        let mut draft = self.draft()?;
-        draft.on_down(peer, dice)?;
-        self.end(draft, moves)
+        self.take(&EventOf::Down { peer }, dice, moves)
     }
 
     /// The membership tick.
@@ -258,8 +274,6 @@ impl<A: Allocator + Copy> Membership<A> {
         ensures ok { OnOk result (Ends (table (Event.Tick) dice.now (still self.old)) moves.old self.new moves.new) }
         ensures err { OnErr result ((self.new ≡ self.old) × (moves.new ≡ moves.old)) }
     {
-        let mut draft = self.draft()?;
-        draft.on_tick(dice)?;
-        self.end(draft, moves)
+        self.take(&EventOf::Tick, dice, moves)
     }
 }

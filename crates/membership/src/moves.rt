@@ -44,19 +44,15 @@ impl<A: Allocator + Copy> Moves<A> {
     }
 
     /// Appends to each of the lists.
-    pub(crate) fn append(
-        &mut self,
-        sends: Listed<(NodeName, Body<A>), A>,
-        downs: Listed<NodeName, A>,
-        ups: Listed<NodeName, A>,
-    ) -> Result<(), AllocError>
+    pub(crate) fn append(&mut self, more: Moves<A>) -> Result<(), AllocError>
         ensures ok { OnOk result (self.new ≡ record {
-          sends = self.old.sends ++ sends;
-          downs = self.old.downs ++ downs;
-          ups = self.old.ups ++ ups;
+          sends = self.old.sends ++ more.sends;
+          downs = self.old.downs ++ more.downs;
+          ups = self.old.ups ++ more.ups;
         }) }
         ensures err { OnErr result (self.new ≡ self.old) }
     {
+        let Moves { sends, downs, ups } = more;
         let sent = self.sends.len();
         let told = self.downs.len();
         self.sends.append(sends.into_vec())?;

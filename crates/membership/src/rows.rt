@@ -5,8 +5,10 @@ ghost use Rattle.views.specs.Names.{others, sample};
 ghost use Rattle.membership.specs.Blocks as block;
 ghost use Rattle.membership.specs.Table as row;
 ghost use Rattle.membership.specs.Draft.{turn_of};
+ghost use Rattle.membership.specs.Event.{lent};
 
 use crate::draft::{Draft, is_asked};
+use crate::event::{Event, EventOf};
 use crate::pick::{choose, pick};
 use frames::BodyOf;
 use node_names::{Dice, Listed, NodeName};
@@ -32,6 +34,31 @@ fn joined<A: Allocator + Copy>(
 }
 
 impl<A: Allocator + Copy> Draft<A> {
+    /// Does what the event's row of the table says.
+    pub(crate) fn take(&mut self, event: &Event<'_>, dice: &Dice) -> Result<(), AllocError>
+        ensures { OnOk result (turn_of self.new ≡ row.table (lent event.now) dice.now (turn_of self.old)) }
+    {
+        match event {
+            EventOf::Joins { contact } => self.send(*contact, BodyOf::Join),
+            EventOf::Join { sender } => self.on_join(*sender, dice),
+            EventOf::ForwardJoin { sender, new, ttl } => {
+                self.on_forward_join(*sender, *new, *ttl, dice)
+            }
+            EventOf::Neighbor { sender, high } => self.on_neighbor(*sender, *high, dice),
+            EventOf::Reply { sender, accepted } => self.on_reply(*sender, *accepted, dice),
+            EventOf::Disconnect { sender } => self.on_disconnect(*sender, dice),
+            EventOf::Shuffle {
+                sender,
+                origin,
+                ttl,
+                names,
+            } => self.on_shuffle(*sender, *origin, *ttl, names, dice),
+            EventOf::ShuffleReply { names, .. } => self.on_shuffle_reply(names, dice),
+            EventOf::Down { peer } => self.on_down(*peer, dice),
+            EventOf::Tick => self.on_tick(dice),
+        }
+    }
+
     /// Sends a name on a walk of this length from each of the others.
     fn send_walks(
         &mut self,
@@ -50,7 +77,7 @@ impl<A: Allocator + Copy> Draft<A> {
     }
 
     /// JOIN.
-    pub(crate) fn on_join(&mut self, sender: NodeName, dice: &Dice) -> Result<(), AllocError>
+    fn on_join(&mut self, sender: NodeName, dice: &Dice) -> Result<(), AllocError>
         ensures { OnOk result (turn_of self.new ≡ row.on_join dice.now sender (turn_of self.old)) }
     {
         let ttl = self.views.limits().arwl();
@@ -68,7 +95,7 @@ impl<A: Allocator + Copy> Draft<A> {
     }
 
     /// FORWARDJOIN.
-    pub(crate) fn on_forward_join(
+    fn on_forward_join(
         &mut self,
         sender: NodeName,
         new: NodeName,
@@ -107,12 +134,7 @@ impl<A: Allocator + Copy> Draft<A> {
     }
 
     /// NEIGHBOR.
-    pub(crate) fn on_neighbor(
-        &mut self,
-        sender: NodeName,
-        high: bool,
-        dice: &Dice,
-    ) -> Result<(), AllocError>
+    fn on_neighbor(&mut self, sender: NodeName, high: bool, dice: &Dice) -> Result<(), AllocError>
         ensures { OnOk result (turn_of self.new ≡ row.on_neighbor dice.now sender high (turn_of self.old)) }
     {
         let accepted = high || self.is_active(&sender) || self.has_room();
@@ -123,12 +145,7 @@ impl<A: Allocator + Copy> Draft<A> {
     }
 
     /// NEIGHBORREPLY.
-    pub(crate) fn on_reply(
-        &mut self,
-        sender: NodeName,
-        accepted: bool,
-        dice: &Dice,
-    ) -> Result<(), AllocError>
+    fn on_reply(&mut self, sender: NodeName, accepted: bool, dice: &Dice) -> Result<(), AllocError>
         ensures { OnOk result (turn_of self.new ≡ row.on_reply dice.now sender accepted (turn_of self.old)) }
     {
         self.close_request(&sender);
@@ -145,7 +162,7 @@ impl<A: Allocator + Copy> Draft<A> {
     }
 
     /// DISCONNECT.
-    pub(crate) fn on_disconnect(&mut self, sender: NodeName, dice: &Dice) -> Result<(), AllocError>
+    fn on_disconnect(&mut self, sender: NodeName, dice: &Dice) -> Result<(), AllocError>
         ensures { OnOk result (turn_of self.new ≡ row.on_disconnect dice.now sender (turn_of self.old)) }
     {
         if !self.is_active(&sender) {
@@ -156,7 +173,7 @@ impl<A: Allocator + Copy> Draft<A> {
     }
 
     /// The link to a peer failed.
-    pub(crate) fn on_down(&mut self, peer: NodeName, dice: &Dice) -> Result<(), AllocError>
+    fn on_down(&mut self, peer: NodeName, dice: &Dice) -> Result<(), AllocError>
         ensures { OnOk result (turn_of self.new ≡ row.on_down dice.now peer (turn_of self.old)) }
     {
         if self.is_active(&peer) {
@@ -204,7 +221,7 @@ impl<A: Allocator + Copy> Draft<A> {
     }
 
     /// The tick.
-    pub(crate) fn on_tick(&mut self, dice: &Dice) -> Result<(), AllocError>
+    fn on_tick(&mut self, dice: &Dice) -> Result<(), AllocError>
         ensures { OnOk result (turn_of self.new ≡ row.on_tick dice.now (turn_of self.old)) }
     {
         self.start_shuffle(dice)?;
@@ -242,7 +259,7 @@ impl<A: Allocator + Copy> Draft<A> {
     }
 
     /// SHUFFLE.
-    pub(crate) fn on_shuffle(
+    fn on_shuffle(
         &mut self,
         sender: NodeName,
         origin: NodeName,
@@ -269,11 +286,7 @@ impl<A: Allocator + Copy> Draft<A> {
     }
 
     /// SHUFFLEREPLY.
-    pub(crate) fn on_shuffle_reply(
-        &mut self,
-        names: &[NodeName],
-        dice: &Dice,
-    ) -> Result<(), AllocError>
+    fn on_shuffle_reply(&mut self, names: &[NodeName], dice: &Dice) -> Result<(), AllocError>
         ensures { OnOk result (turn_of self.new ≡ row.on_shuffle_reply dice.now names.now (turn_of self.old)) }
     {
         self.views.integrate(names, self.shuffled.as_slice(), dice)?;

@@ -22,7 +22,8 @@ use Rattle.frames.specs.declared.TheConstants.{MAX_ANNOUNCEMENTS, MAX_NAMES}
 use Rattle.frames.specs.declared.body.BodyOf.TheVariants as body
 use Rattle.views.specs.Views.{AreSound}
 use Rattle.membership.proofs.Fits.{table_fits_frames}
-use Rattle.membership.specs.Event.{Event as heard_of}
+use Rattle.membership.specs.Event.{Event}
+use Rattle.membership.specs.declared.event.EventOf.TheVariants as heard_of
 use Rattle.membership.specs.Membership.{still}
 use Rattle.membership.specs.Table.{table}
 use Rattle.missing.specs.Missing.{announced_all, taken_first}
@@ -33,12 +34,12 @@ use Rattle.peer_sets.specs.declared.kind.PeerKind.TheVariants.{Eager, Lazy}
 use Rattle.gossip_core.proofs.PacketLemmas.{packets_to-step}
 use Rattle.gossip_core.specs.Announcements.{packets_to, announcements}
 use Rattle.gossip_core.specs.State.{GossipState}
-use Rattle.gossip_core.specs.Table.{Call, Outcome, outcome, spread, repeated, first_copy, asked, answer, is_news, next_round, quiet, with_peer, gossip_to}
-use Rattle.gossip_core.specs.Table.{Call as call}
+use Rattle.gossip_core.specs.Table.{Call, Outcome, outcome, spread, repeated, first_copy, asked, answer, is_news, next_round, quiet, with_peer, gossip_to, after_downs, after_ups}
+use Rattle.gossip_core.specs.declared.call.CallOf.TheVariants as call
 use Rattle.node_core.specs.Fits.{FitsFrames, IsFit, AreFit, ComesFit}
 use Rattle.node_core.specs.Members.{of_each, each_one, one_of_filter, one_of_map}
 use Rattle.node_core.specs.Plum.{Plum}
-use Rattle.node_core.specs.Steps.{Turned, turned, heard, idle, by_membership, after_downs, after_ups}
+use Rattle.node_core.specs.Steps.{Turned, turned, heard, idle, by_membership}
 use Rattle.node_core.specs.Wanting.{stood}
 
 either : {X : Type 0} (P : X → Type 0) (b : Bool) (x y : X) → (b ≡ true → P x) → (b ≡ false → P y) → P (if b then x else y)
@@ -262,10 +263,10 @@ module _ (core : Plum) (fits : FitsFrames core.gossip) (sound : AreSound core.me
   abbrev Turns : Turned → Type 0
   Turns t = FitsFrames t.gossip × AreFit t.sends
 
-  abbrev Moves : heard_of → Dice → Type 0
+  abbrev Moves : Event → Dice → Type 0
   Moves event dice = Turns (by_membership core.membership core.gossip event dice)
 
-  moves_fit : (event : heard_of) (dice : Dice) → AreFit (table event dice (still core.membership)).sends → Moves event dice
+  moves_fit : (event : Event) (dice : Dice) → AreFit (table event dice (still core.membership)).sends → Moves event dice
   moves_fit event dice sent = (ups_fit (table event dice (still core.membership)).ups (after_downs (table event dice (still core.membership)).downs core.gossip) (downs_fit (table event dice (still core.membership)).downs core.gossip fits), sent)
 
   heard_fits : (sender : Name) (said : Body) (dice : Dice) → IsFit said → Turns (heard core.membership core.gossip sender said dice)

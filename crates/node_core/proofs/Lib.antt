@@ -2,3 +2,5 @@ pub mod Fitting
 pub mod Frames
 pub mod Openings
 pub mod Told
+pub mod SameSets
+pub mod Parting

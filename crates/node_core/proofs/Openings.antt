@@ -14,7 +14,7 @@ use Rattle.frames.specs.Frame.{Frame}
 use Rattle.world.specs.Output.{Output}
 use Rattle.world.specs.declared.protocol.CoreError.{CoreError}
 use Rattle.world.specs.declared.protocol.CoreError.TheVariants.{PayloadTooLong, SeqSpent, OutOfMemory}
-use Rattle.membership.specs.Event.{Event as on}
+use Rattle.membership.specs.declared.event.EventOf.TheVariants as on
 use Rattle.membership.specs.Membership.{Membership, Moves, Ends, still}
 use Rattle.membership.specs.Table.{table}
 use Rattle.gossip_core.specs.Effects.{Effects}

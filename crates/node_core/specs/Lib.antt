@@ -1,5 +1,6 @@
 pub mod Plum
 pub mod Steps
+pub mod Parts
 pub mod Members
 pub mod Numbered
 pub mod Fits
@@ -10,5 +11,6 @@ pub mod Flushing
 pub mod Spreading
 pub mod Moving
 pub mod Whole
+pub mod Started
 pub mod Starting
 pub mod PlumLaws

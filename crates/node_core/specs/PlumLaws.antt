@@ -39,7 +39,7 @@ use Rattle.views.proofs.CallerLemmas.{lacks-others}
 use Rattle.membership.proofs.About.{table_is_about_membership}
 use Rattle.membership.proofs.LawfulRows.{table_is_lawful}
 use Rattle.membership.specs.Event.{Event}
-use Rattle.membership.specs.Event.{Event as heard_of}
+use Rattle.membership.specs.declared.event.EventOf.TheVariants as heard_of
 use Rattle.membership.specs.Laws.{IsFromAnother, Lawful}
 use Rattle.membership.specs.Membership.{Turn, still}
 use Rattle.membership.specs.Table.{table}
@@ -53,13 +53,13 @@ use Rattle.peer_sets.specs.Members.{names, is_member}
 use Rattle.peer_sets.proofs.MemberLemmas.{is_member-names, names-with_kind}
 use Rattle.peer_sets.specs.declared.kind.PeerKind.TheVariants.{Eager, Lazy}
 use Rattle.gossip_core.specs.State.{GossipState}
-use Rattle.gossip_core.specs.Table.{Outcome, outcome, repeated, first_copy, asked, answer, is_news, next_id, next_round, quiet, with_peer}
-use Rattle.gossip_core.specs.Table.{Call as call}
+use Rattle.gossip_core.specs.Table.{Outcome, outcome, repeated, first_copy, asked, answer, is_news, next_id, next_round, quiet, with_peer, after_downs, after_ups}
+use Rattle.gossip_core.specs.declared.call.CallOf.TheVariants as call
 use Rattle.gossip_core.specs.Table.{Call}
 use Rattle.node_core.specs.Members.{each_one, of_each, one_of_filter, one_of_passing, one_of_names, one_of_ids, counts_none}
 use Rattle.node_core.specs.Numbered.{each-numbered, carrying-numbered, with-numbered}
 use Rattle.node_core.specs.Plum.{Plum, IsSoundPlum, IsWhole, IsLacked, plum_state, state_with}
-use Rattle.node_core.specs.Steps.{Turned, PlumSteps, PlumStarts, turned, heard, idle, by_gossip, by_membership, gone_on, numbered, delivered_at, after_downs, after_ups}
+use Rattle.node_core.specs.Steps.{Turned, PlumSteps, PlumStarts, turned, heard, idle, by_gossip, by_membership, gone_on, numbered, delivered_at}
 use Rattle.node_core.specs.Starting as starting
 use Rattle.node_core.specs.Firing.{fires_lawfully}
 use Rattle.node_core.specs.Flushing.{flushes_lawfully}
@@ -596,8 +596,8 @@ module _ (limits : Limits) (core : Plum) (sound : IsSoundPlum limits core) where
 pub plum_lawful : Laws plum_state frame_content IsSoundPlum PlumStarts PlumSteps
 plum_lawful =
     record {
-      start = λ me limits peers contact sends core fit started. starting.starts_well me limits peers contact sends core fit started;
-      start_sound = λ me limits peers contact sends core fit started. starting.starts_soundly me limits peers contact sends core fit started;
+      start = λ me limits peers contact sends core fit started. starting.starts_uncounted me limits peers contact sends core fit started;
+      start_sound = λ me limits peers contact sends core fit started. starting.starts_soundly 0 0 me limits peers contact sends core fit started;
       always = always;
       step = λ limits old stimulus sends given new sound from steps. subst (λ n. StepLaws frame_content (plum_state old) stimulus sends given (plum_state n)) (sym steps.leaves) (subst (λ d. StepLaws frame_content (plum_state old) stimulus sends d (plum_state (gone_on old (turned old.me old.membership old.gossip stimulus)))) (sym steps.delivers) (subst (λ s. StepLaws frame_content (plum_state old) stimulus s (delivered_at old.me (turned old.me old.membership old.gossip stimulus).delivered) (plum_state (gone_on old (turned old.me old.membership old.gossip stimulus)))) (sym steps.sent) (step_is_lawful limits old sound stimulus from).0));
       step_sound = λ limits old stimulus sends given new sound from steps. subst (IsSoundPlum limits) (sym steps.leaves) (step_is_lawful limits old sound stimulus from).1;

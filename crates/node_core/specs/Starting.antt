@@ -1,8 +1,8 @@
 -- A core starts: what that owes. Proofs, and nothing to believe.
-use Rattle.std.specs.Prelude.{◌≡◌, ◌≢◌, ◌&&◌, ◌+◌, true, false, not, List, Option, Some, None, length, refl, IsTrue, nat_le}
+use Rattle.std.specs.Prelude.{◌≡◌, ◌≢◌, ◌&&◌, ◌+◌, ℕ, true, false, not, List, Option, Some, None, length, refl, IsTrue, nat_le}
 use Rattle.std.specs.FinSet as set
 use Rattle.std.specs.List.{AllByRecursion as Each}
-use Rattle.std.proofs.Common.{sym, ◌∙◌, subst, zero-le}
+use Rattle.std.proofs.Common.{ap, sym, ◌∙◌, subst, zero-le}
 use Rattle.std.proofs.lemmas.Bool.{false≢true, true≢false}
 use Rattle.node_names.specs.NodeName.{Name}
 use Rattle.node_names.specs.Limits.{Limits}
@@ -20,7 +20,8 @@ use Rattle.missing.proofs.SoundLemmas.{sound-empty}
 use Rattle.peer_sets.proofs.MemberLemmas.{names-all_eager}
 use Rattle.peer_sets.proofs.SoundLemmas.{sound-new}
 use Rattle.node_core.specs.Plum.{Plum, IsSoundPlum, plum_state}
-use Rattle.node_core.specs.Steps.{PlumStarts, newcomer, numbered, opening}
+use Rattle.node_core.specs.Started.{IsStarted}
+use Rattle.node_core.specs.Steps.{PlumStarts, PlumStartsCounted, newcomer, numbered, opening}
 
 module _ (limits : Limits) (owner : Name) (peers : List Name) (contact : Option Name) (fit : IsTrue (are_peers limits owner peers contact)) where
   later : (are_distinct peers && (not (has_name peers owner) && not (is_contact contact owner))) ≡ true
@@ -39,19 +40,19 @@ module _ (limits : Limits) (owner : Name) (peers : List Name) (contact : Option 
   pub another_contact : is_contact contact owner ≡ false
   another_contact = not_true (is_contact contact owner) (and_right (not (has_name peers owner)) (not (is_contact contact owner)) (and_right (are_distinct peers) _ later))
 
-module _ (me : Origin) (limits : Limits) (peers : List Name) (contact : Option Name) (sends : List (Name × Frame)) (core : Plum) (fit : IsTrue (are_peers limits me.name peers contact)) (started : PlumStarts me limits peers contact sends core) where
-  to_another : (c : Option Name) → is_contact c me.name ≡ false → Each (λ send. send.0 ≢ me.name) (numbered me 0 (opening c))
+module _ (spent framed : ℕ) (me : Origin) (limits : Limits) (peers : List Name) (contact : Option Name) (sends : List (Name × Frame)) (core : Plum) (fit : IsTrue (are_peers limits me.name peers contact)) (started : PlumStartsCounted spent framed me limits peers contact sends core) where
+  to_another : (c : Option Name) → is_contact c me.name ≡ false → Each (λ send. send.0 ≢ me.name) (numbered me framed (opening c))
   to_another None apart = tt
   to_another (Some c) apart = ((λ same. true≢false (sym ((same_name-Decides c me.name).1 same) ∙ apart)), tt)
 
-  silent : (c : Option Name) → Each (λ send. IsSilent (frame_content send.1)) (numbered me 0 (opening c))
+  silent : (c : Option Name) → Each (λ send. IsSilent (frame_content send.1)) (numbered me framed (opening c))
   silent None = tt
   silent (Some c) = (record { carries_nothing = refl; announces_nothing = refl; asks_nothing = refl }, tt)
 
   first : Plum
-  first = newcomer me limits peers 0 (0 + length (opening contact))
+  first = newcomer me limits peers spent (framed + length (opening contact))
 
-  first_laws : StartLaws frame_content me peers (numbered me 0 (opening contact)) (plum_state (newcomer me limits peers 0 (0 + length (opening contact))))
+  first_laws : StartLaws frame_content me peers (numbered me framed (opening contact)) (record (plum_state (newcomer me limits peers spent (framed + length (opening contact)))) { count = 0 })
   first_laws =
       record {
         is_me = refl;
@@ -67,10 +68,10 @@ module _ (me : Origin) (limits : Limits) (peers : List Name) (contact : Option N
         sends_silent = silent contact;
       }
 
-  pub starts_well : StartLaws frame_content me peers sends (plum_state core)
-  starts_well = subst (λ c. StartLaws frame_content me peers sends (plum_state c)) (sym started.leaves) (subst (λ s. StartLaws frame_content me peers s (plum_state (newcomer me limits peers 0 (0 + length (opening contact))))) (sym started.sent) first_laws)
+  pub starts_well : StartLaws frame_content me peers sends (record (plum_state core) { count = 0 })
+  starts_well = subst (λ (c : Plum). StartLaws frame_content me peers sends (record (plum_state c) { count = 0 })) (sym started.leaves) (subst (λ s. StartLaws frame_content me peers s (record (plum_state (newcomer me limits peers spent (framed + length (opening contact)))) { count = 0 })) (sym started.sent) first_laws)
 
-  first_sound : IsSoundPlum limits (newcomer me limits peers 0 (0 + length (opening contact)))
+  first_sound : IsSoundPlum limits (newcomer me limits peers spent (framed + length (opening contact)))
   first_sound =
       let fits : ArePeers me.name limits peers = fit_views limits me.name peers contact fit in
       record {
@@ -104,3 +105,10 @@ module _ (me : Origin) (limits : Limits) (peers : List Name) (contact : Option N
 
   pub starts_soundly : IsSoundPlum limits core
   starts_soundly = subst (IsSoundPlum limits) (sym started.leaves) first_sound
+
+  pub starts_counted : IsStarted spent limits me peers sends core
+  starts_counted = record { sound = starts_soundly; counted = ap (λ (c : Plum). c.gossip.spent) started.leaves; lawful = starts_well }
+
+-- without spent numbers the count is that of the laws
+pub starts_uncounted : (me : Origin) (limits : Limits) (peers : List Name) (contact : Option Name) (sends : List (Name × Frame)) (core : Plum) → IsTrue (are_peers limits me.name peers contact) → PlumStarts me limits peers contact sends core → StartLaws frame_content me peers sends (plum_state core)
+starts_uncounted me limits peers contact sends core fit started = subst (λ n. StartLaws frame_content me peers sends (record (plum_state core) { count = n })) (sym (starts_counted 0 0 me limits peers contact sends core fit started).counted) (starts_well 0 0 me limits peers contact sends core fit started)

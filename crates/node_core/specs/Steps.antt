@@ -9,6 +9,7 @@ use Rattle.node_names.specs.declared.dice.Dice.{Dice}
 use Rattle.node_names.specs.declared.ids.MsgId.{MsgId}
 use Rattle.node_names.specs.declared.ids.Origin.{Origin}
 use Rattle.world.specs.Delivery.{Delivery}
+use Rattle.world.specs.IdentityLaw.{IsOutOfNumbers}
 use Rattle.world.specs.Stimulus.{Stimulus}
 use Rattle.world.specs.declared.TheConstants.{MAX_PAYLOAD}
 use Rattle.world.specs.declared.stimulus.StimulusOf.TheVariants.{Broadcast, Arrive, Fire, Flush, Down, Shuffle}
@@ -16,16 +17,16 @@ use Rattle.frames.specs.Body.{Body}
 use Rattle.frames.specs.Frame.{Frame}
 use Rattle.frames.specs.declared.body.BodyOf.TheVariants as body
 use Rattle.views.specs.Views.{fresh}
-use Rattle.membership.specs.Membership.{Membership, Turn, still}
+use Rattle.membership.specs.Membership.{Membership, Turn, ended, still}
 use Rattle.membership.specs.Event.{Event}
-use Rattle.membership.specs.Event.{Event as on}
+use Rattle.membership.specs.declared.event.EventOf.TheVariants as on
 use Rattle.membership.specs.Table.{table}
 use Rattle.peer_sets.specs.Members.{all_eager}
 use Rattle.gossip_core.specs.Effects.{Effects}
 use Rattle.gossip_core.specs.State.{GossipState}
-use Rattle.gossip_core.specs.Table.{Call, Outcome, outcome}
-use Rattle.gossip_core.specs.Table.{Call as call}
-use Rattle.node_core.specs.Plum.{Plum}
+use Rattle.gossip_core.specs.Table.{Call, Outcome, after_downs, after_ups, outcome}
+use Rattle.gossip_core.specs.declared.call.CallOf.TheVariants as call
+use Rattle.node_core.specs.Plum.{Plum, plum_state}
 
 -- The core's two parts after a stimulus, and what they send and deliver, before the packets are numbered.
 pub record Turned : Type 0 where
@@ -43,20 +44,6 @@ abbrev pub by_gossip : Membership → GossipState → Call → Turned
 by_gossip m g c =
     let done = outcome g c in
     record { membership = m; gossip = done.state; sends = done.sends; delivered = done.delivered }
-
--- the gossip after these links went down
-abbrev pub after_downs : List Name → GossipState → GossipState
-after_downs [] g = g
-after_downs (name ∷ names) g = after_downs names (outcome g (call.Down name)).state
-
--- and after these came up
-abbrev pub after_ups : List Name → GossipState → GossipState
-after_ups [] g = g
-after_ups (name ∷ names) g = after_ups names (outcome g (call.Up name)).state
-
--- the node's membership at the end of the turn
-abbrev pub ended : Turn → Membership
-ended turn = record { views = turn.views; asked = turn.asked; shuffled = turn.shuffled }
 
 -- the gossip hears which links the turn closed, and then which it opened
 abbrev pub moved : GossipState → Turn → Turned
@@ -88,19 +75,6 @@ turned me m g (Fire id) = by_gossip m g (call.Fire id)
 turned me m g Flush = by_gossip m g call.Flush
 turned me m g (Down peer dice) = by_membership m g (on.Down peer) dice
 turned me m g (Shuffle dice) = by_membership m g on.Tick dice
-
--- The two parts stand so, and these are to be sent and delivered.
-pub record IsTurned (t : Turned) (m : Membership) (g : GossipState) (effects : Effects) : Type 0 where
-  pub membership : m ≡ t.membership
-  pub gossip : g ≡ t.gossip
-  pub sends : effects.sends ≡ t.sends
-  pub delivers : effects.delivered ≡ t.delivered
-
--- The gossip stands as after the call, and what the call sends and delivers is to be sent and delivered.
-pub record IsGossiped (done : Outcome) (g : GossipState) (effects : Effects) : Type 0 where
-  pub gossip : g ≡ done.state
-  pub sends : effects.sends ≡ done.sends
-  pub delivers : effects.delivered ≡ done.delivered
 
 -- the bodies as frames of this origin, numbered in their order from the next number on
 abbrev pub numbered : Origin → ℕ → List (Name × Body) → List (Name × Frame)
@@ -160,4 +134,8 @@ PlumStarts = PlumStartsCounted 0 0
 -- The numbers are used up: those of the messages at a broadcast, or those of the frames, of which the step needs more than
 -- are left.
 abbrev pub PlumIsSpent : Plum → Stimulus Frame → Type 0
-PlumIsSpent core stimulus = (core.gossip.spent ≡ 2 ^ 64 - 1) ⊎ (2 ^ 64 - 1 < core.framed + length (turned core.me core.membership core.gossip stimulus).sends)
+PlumIsSpent core stimulus = IsOutOfNumbers (plum_state core) stimulus ⊎ (2 ^ 64 - 1 < core.framed + length (turned core.me core.membership core.gossip stimulus).sends)
+
+-- the core that goes on after the stimulus
+abbrev pub plum_after : Plum → Stimulus Frame → Plum
+plum_after core stimulus = gone_on core (turned core.me core.membership core.gossip stimulus)

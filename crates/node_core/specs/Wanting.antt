@@ -23,7 +23,7 @@ use Rattle.peer_sets.specs.Members.{names, is_member}
 use Rattle.peer_sets.proofs.MemberLemmas.{is_member-names}
 use Rattle.gossip_core.specs.State.{GossipState}
 use Rattle.gossip_core.specs.Table.{Outcome, outcome, is_news, quiet}
-use Rattle.gossip_core.specs.Table.{Call as call}
+use Rattle.gossip_core.specs.declared.call.CallOf.TheVariants as call
 use Rattle.node_core.specs.Members.{each_one, one_of_left, one_of_right, one_of_append, one_of_filter, one_of_passing}
 use Rattle.node_core.specs.Plum.{IsLacked, state_with}
 use Rattle.node_core.specs.Resting.{delivers_nothing, leaves_all, keeps_all}
@@ -167,7 +167,7 @@ module _ (g : GossipState) (active passive : List Name) (members : names g.peers
       (record { appears = each_one _ g.peers.queued (λ entry h. inl h); leaves = (tt, keeps_all before) })
       (record {
         taken = λ name j round a is foreign lacks. subst (λ n. Stands j n (with_wants sender.name news g.missing.wants)) (sym a.0) (all_stand sender.name news g.missing.wants j round (one_of_passing (λ entry. is_news g entry.0) (j, round) entries a.1 (is_news_to g j lacks foreign)));
-        appears = each_one _ (with_wants sender.name news g.missing.wants) (λ entry h. elim (stood sender.name news g.missing.wants entry h) [ inl was ↦ inl was | inr new ↦ inr (new.0, (one_of_filter (λ e. is_news g e.0) (entry.0, entry.2) entries new.1).0) ]);
+        appears = each_one _ (with_wants sender.name news g.missing.wants) (λ entry h. elim (stood sender.name news g.missing.wants entry h) [ inl was ↦ inl was | inr new ↦ inr ((new.0, (one_of_filter (λ e. is_news g e.0) (entry.0, entry.2) entries new.1).0), (news_is g entry.0 (one_of_filter (λ e. is_news g e.0) (entry.0, entry.2) entries new.1).1).foreign) ]);
         arms = each_one _ (with_timers news g.missing.timers) (λ j h. elim (was_armed news g.missing.timers j h) [ inl was ↦ inl was | inr new ↦ inr (sender.name, all_stand sender.name news g.missing.wants j new.0 new.1) ]);
       })
       (record {

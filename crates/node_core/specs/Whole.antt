@@ -22,7 +22,8 @@ use Rattle.peer_sets.specs.Queue.{with_entries, without_entries, is_queued}
 use Rattle.peer_sets.specs.declared.kind.PeerKind.{PeerKind}
 use Rattle.gossip_core.proofs.IdOrder.{id_ties, id_total}
 use Rattle.gossip_core.specs.State.{GossipState}
-use Rattle.gossip_core.specs.Table.{Down, outcome, with_peer}
+use Rattle.gossip_core.specs.Table.{outcome, with_peer}
+use Rattle.gossip_core.specs.declared.call.CallOf.TheVariants.{Down}
 use Rattle.node_core.specs.Members.{each_one, of_each, one_of_append, one_of_filter, one_of_map}
 use Rattle.node_core.specs.Plum.{IsWhole, IsLacked}
 

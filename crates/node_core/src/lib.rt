@@ -1,17 +1,15 @@
 //! One node: HyParView's membership and Plumtree's gossip, joined into one core.
 #![tactic(auto)]
 
-mod giving;
-mod gossiping;
-mod hearing;
+mod dispatch;
 mod laws;
-mod moving;
+mod names;
 mod numbering;
+mod output;
+mod parts;
 mod plum_core;
-mod stepping;
-mod telling;
-mod turning;
+mod turn;
 
 pub use laws::{core_is_lawful, packets_fit_frames};
 pub use plum_core::PlumCore;
-pub use turning::turn;
+pub use turn::Turn;

@@ -1,14 +1,21 @@
 //! A node's core: the state machine that joins HyParView's membership and Plumtree's gossip.
-ghost use Rattle.std.specs.Prelude.{◌≡◌, ◌+◌, ◌≤◌, ◌⊎◌, ◌↔◌, ◌++◌, None, List, length, IsSome, IsTrue, IfOk, IfErr, OnOk, OnErr, IsErrOf};
+ghost use Rattle.std.specs.Prelude.{◌≡◌, ◌+◌, ◌≤◌, ◌⊎◌, ◌↔◌, ◌++◌, false, None, List, length, IsSome, IsTrue, IfOk, IfErr, OnOk, OnErr, IsErrOf};
 ghost use Rattle.node_names.specs.NodeName.{Name};
 ghost use Rattle.frames.specs.Frame.{Frame as Plain};
-ghost use Rattle.world.specs.IdentityLaw.{IsTooLong};
-ghost use Rattle.world.specs.Output.{Stepped};
+ghost use Rattle.world.specs.IdentityLaw.{IsOutOfNumbers, IsTooLong};
 ghost use Rattle.world.specs.Peers.{are_peers};
-ghost use Rattle.node_core.specs.Steps.{PlumStartsCounted, PlumSteps, PlumIsSpent, opening};
+ghost use Rattle.world.specs.Run.{SameNames};
+ghost use Rattle.world.specs.Stimulus.{lent};
+ghost use Rattle.node_core.specs.Fits.{AreFit, ComesFit};
+ghost use Rattle.node_core.specs.Parts.{Takes, part_of};
+ghost use Rattle.node_core.specs.Plum.{plum_state};
+ghost use Rattle.node_core.specs.Started.{IsStarted};
+ghost use Rattle.node_core.specs.Steps.{IsAllowed, PlumStartsCounted, opening, turned};
 
-use crate::giving::give;
-use crate::stepping::{judge, take};
+use crate::dispatch::part_of;
+use crate::output::append_numbered;
+use crate::parts::{Worked, go_on, work_out};
+use crate::turn::Turn;
 use bytes::Bytes;
 use frames::Frame;
 use gossip_core::{Effects, Gossip};
@@ -17,11 +24,12 @@ use node_names::{Limits, MsgId, NodeName, Origin};
 use peer_sets::PeerSets;
 use std::alloc::{AllocError, Allocator, Global};
 use std::marker::Model;
-use world::{Core, CoreError, NameSet, Out, Stimulus};
+use world::{Core, CoreError, NameSet, Out, Prepared, StimulusOf, StimulusRef};
 
 /// One run of one node.
 ///
-/// A step works on a copy of both parts, so it costs as much as copying what the node holds. Nothing outside sees that.
+/// A step costs what it sends and changes: an event of the membership copies its views, of at most 80 names, and a call of the
+/// gossip finds what it needs by hashes. Only `copy` costs as much as the node holds.
 #[derive(Drop)]
 pub struct PlumCore<A: Allocator = Global> {
     me: Origin,
@@ -84,6 +92,7 @@ impl<A: Allocator + Copy> PlumCore<A> {
     ) -> Result<PlumCore<A>, CoreError>
         requires { IsTrue (are_peers limits me.name peers.now contact) }
         ensures started { IfOk result (λ core. (sends : List (Name × Plain)) × PlumStartsCounted seq_spent frames_spent me limits peers.now contact sends core × (out.new ≡ record out.old { sends = out.old.sends ++ sends })) }
+        ensures lawful { IfOk result (λ core. (sends : List (Name × Plain)) × IsStarted seq_spent limits me peers.now sends core × (out.new ≡ record out.old { sends = out.old.sends ++ sends })) }
         ensures numbered { OnOk result (frames_spent + length (opening contact) ≤ u64.MAX) }
         ensures refused { IfErr result (λ e. (e ≡ CoreError.OutOfMemory) ⊎ ((e ≡ CoreError.SeqSpent) × IsSome contact × (frames_spent ≡ u64.MAX))) }
         ensures err { OnErr result (out.new ≡ out.old) }
@@ -92,7 +101,7 @@ impl<A: Allocator + Copy> PlumCore<A> {
         let mut membership = Membership::new(alloc, me.name, limits, peers)?;
         let gossip = Gossip::new(alloc, me, peers, seq_spent)?;
         let effects = greet(alloc, &mut membership, contact)?;
-        let framed = give(&me, frames_spent, effects, out)?;
+        let framed = append_numbered(&me, frames_spent, effects, out)?;
         Ok(PlumCore {
             me,
             membership,
@@ -101,43 +110,45 @@ impl<A: Allocator + Copy> PlumCore<A> {
         })
     }
 
-    /// The core after the step. This one stays as it is.
-    fn stepped(
+    /// Works out what a stimulus does to the two parts. Nothing changes.
+    fn work_out(
         &self,
-        stimulus: &Stimulus<Frame<A>, A>,
-        out: &mut Out<Frame<A>, A>,
-    ) -> Result<PlumCore<A>, CoreError>
-        ensures stepped { IfOk result (λ core. Stepped PlumSteps self.now stimulus.now out.old core out.new) }
-        ensures too_long { IsErrOf result CoreError.PayloadTooLong ↔ IsTooLong stimulus.now }
-        ensures spent { IsErrOf result CoreError.SeqSpent → PlumIsSpent self.now stimulus.now }
-        ensures err { OnErr result (out.new ≡ out.old) }
+        alloc: A,
+        stimulus: &StimulusRef<'_, Frame<A>, A>,
+    ) -> Result<Worked<A>, CoreError>
+        ensures allowed { OnOk result (IsAllowed (lent stimulus.now)) }
+        ensures takes { IfOk result (λ worked. Takes self.now.membership self.now.gossip (part_of self.now.me (lent stimulus.now)) worked.moved) }
+        ensures effects { IfOk result (λ worked. worked.effects ≡ record { sends = (turned self.now.me self.now.membership self.now.gossip (lent stimulus.now)).sends; delivered = (turned self.now.me self.now.membership self.now.gossip (lent stimulus.now)).delivered }) }
+        ensures fit { OnOk result (AreFit (turned self.now.me self.now.membership self.now.gossip (lent stimulus.now)).sends) }
+        ensures moved { IfOk result (λ worked. (worked.is_moved ≡ false) ↔ SameNames self.now.membership.views.active (turned self.now.me self.now.membership self.now.gossip (lent stimulus.now)).membership.views.active) }
+        ensures too_long { IsErrOf result CoreError.PayloadTooLong ↔ IsTooLong (lent stimulus.now) }
+        ensures numbers { IsErrOf result CoreError.SeqSpent ↔ IsOutOfNumbers (plum_state self.now) (lent stimulus.now) }
     {
-        judge(&self.gossip, stimulus)?;
-        let mut membership = self.membership.copy()?;
-        let mut gossip = self.gossip.copy()?;
-        let framed = take(
-            &self.me,
-            self.framed,
-            &mut membership,
-            &mut gossip,
-            stimulus,
-            out,
-        )?;
-        Ok(PlumCore {
-            me: self.me,
-            membership,
-            gossip,
-            framed,
-        })
+        let _sound = self.membership.views().limits();
+        heed(stimulus);
+        let part = part_of(&self.me, stimulus);
+        work_out(alloc, &self.membership, &self.gossip, &part)
+    }
+}
+
+/// What may be taken fits frames: a packet that came is one.
+fn heed<A: Allocator + Copy>(stimulus: &StimulusRef<'_, Frame<A>, A>)
+    ensures { IsAllowed (lent stimulus.now) → ComesFit (lent stimulus.now) }
+{
+    if let StimulusOf::Arrive { note, .. } = stimulus {
+        let _within_limits = note.body();
     }
 }
 
 impl<A: Allocator + Copy> Core<A> for PlumCore<A> {
     ghost use Rattle.node_core.specs.Plum.{IsSoundPlum, plum_state};
     ghost use Rattle.node_core.specs.PlumLaws.{plum_lawful};
-    ghost use Rattle.node_core.specs.Steps.{PlumStarts, PlumSteps, PlumIsSpent};
+    ghost use Rattle.node_core.specs.Parts.{IsTurn};
+    ghost use Rattle.node_core.specs.Steps.{PlumStarts, PlumSteps, PlumIsSpent, plum_after};
 
     type Note = Frame<A>;
+
+    type Turn = Turn<A>;
 
     ghost state = { plum_state };
 
@@ -148,6 +159,10 @@ impl<A: Allocator + Copy> Core<A> for PlumCore<A> {
     ghost steps = { PlumSteps };
 
     ghost is_spent = { PlumIsSpent };
+
+    ghost after = { plum_after };
+
+    ghost is_turn = { IsTurn };
 
     ghost lawful = { plum_lawful };
 
@@ -162,12 +177,33 @@ impl<A: Allocator + Copy> Core<A> for PlumCore<A> {
         PlumCore::start_counted(alloc, me, limits, peers, contact, 0, 0, out)
     }
 
-    fn step(
-        &mut self,
-        stimulus: &Stimulus<Frame<A>, A>,
+    fn prepare(
+        &self,
+        stimulus: &StimulusRef<'_, Frame<A>, A>,
         out: &mut Out<Frame<A>, A>,
-    ) -> Result<(), CoreError> {
-        *self = self.stepped(stimulus, out)?;
+    ) -> Result<Prepared<Turn<A>>, CoreError> {
+        let worked = self.work_out(*out.sends.allocator(), stimulus)?;
+        let framed = append_numbered(&self.me, self.framed, worked.effects, out)?;
+        Ok(Prepared {
+            turn: Turn {
+                moved: worked.moved,
+                framed,
+            },
+            moved: worked.is_moved,
+        })
+    }
+
+    fn advance(
+        &mut self,
+        stimulus: &StimulusRef<'_, Frame<A>, A>,
+        turn: Turn<A>,
+    ) -> Result<(), AllocError> {
+        let _sound = self.membership.views().limits();
+        heed(stimulus);
+        let part = part_of(&self.me, stimulus);
+        let Turn { moved, framed } = turn;
+        go_on(&mut self.membership, &mut self.gossip, &part, moved)?;
+        self.framed = framed;
         Ok(())
     }
 

@@ -1,10 +1,9 @@
-pub mod Documents
-pub mod Faults
+pub mod Borrowed
+pub mod Inputs
 pub mod Items
 pub mod Numbers
 pub mod Oks
 pub mod Plays
-pub mod Steps
 pub mod Telling
 pub mod Texts
 pub mod Zips

@@ -1,5 +1,6 @@
 -- Trees that are printed, one more.
 use Rattle.std.proofs.Common.{◌≡◌, ◌<◌, ◌+◌, ℕ, List, [], ◌∷◌, ◌++◌, length, take, get_or, refl, sym, ◌∙◌, ap, subst, append_assoc, append-nil}
+use Rattle.std.specs.Prelude.{◌↔◌, Bool, true, false, not, IsTrue}
 use Rattle.std.proofs.lemmas.List.{take_more}
 use Rattle.node_names.specs.declared.ids.MsgId.{MsgId}
 use Rattle.world.specs.Content.{Content}
@@ -18,3 +19,8 @@ module _ {C N : Type 0} (state : C → CoreState) (content : N → Content) (gro
       let P : List MsgId → Type 0 = λ some. TellsTrees state content group some (text ++ more) in
       let same : take (k + 1) ids ≡ take k ids ++ id ∷ [] = take_more ids k id within ∙ ap (λ (i : MsgId). take k ids ++ i ∷ []) (sym here) in
       subst P (sym same) (TellsTrees-push (take k ids) id text more told one)
+
+-- a test that is the negation of another tells what that one's failing tells
+pub told_rest : (rest unrest : Bool) (P : Type 0) → rest ≡ not unrest → (unrest ≡ false) ↔ P → IsTrue rest ↔ P
+told_rest rest true P is both = (λ holds. absurd (cc (is, holds)), λ p. absurd (cc (both.1 p)))
+told_rest rest false P is both = (λ holds. both.0 refl, λ p. is)

@@ -2,9 +2,8 @@
 use Rattle.std.proofs.Common.{◌≡◌, ℕ, ◌+◌, ◌<◌, ◌∙◌, List, [], ◌∷◌, ◌++◌, length, get_or, take, refl, ap, sym, append_assoc, append-nil, Option, Some, None}
 use Rattle.std.specs.Io.KnownBytes.{Appends}
 use Rattle.std.proofs.lemmas.List.{take_more}
-use Rattle.world.specs.Delivery.{Delivery}
 use Rattle.at_rest.specs.declared.branch.Branch.{Branch}
-use Rattle.plumtree.specs.Lines.{hexadecimal, line_of, lines_of}
+use Rattle.plumtree.specs.Lines.{hexadecimal}
 use Rattle.plumtree.specs.Trees.{branch_line, branch_lines}
 
 hexadecimal-append : (bs cs : List ℕ) → hexadecimal (bs ++ cs) ≡ hexadecimal bs ++ hexadecimal cs
@@ -14,14 +13,6 @@ hexadecimal-append (b ∷ bs) cs = rw (hexadecimal-append bs cs) refl
 -- one byte more
 pub hexadecimal-more : (bs : List ℕ) (i : ℕ) → i < length bs → hexadecimal (take (i + 1) bs) ≡ hexadecimal (take i bs) ++ hexadecimal (get_or bs i 0 ∷ [])
 hexadecimal-more bs i h = ap hexadecimal (take_more bs i 0 h) ∙ hexadecimal-append (take i bs) (get_or bs i 0 ∷ [])
-
-lines_of-push : (ds : List Delivery) (d : Delivery) → lines_of (ds ++ d ∷ []) ≡ lines_of ds ++ line_of d
-lines_of-push [] d = simp append-nil
-lines_of-push (e ∷ ds) d = ap (λ (rest : List ℕ). line_of e ++ rest) (lines_of-push ds d) ∙ sym (append_assoc (line_of e) (lines_of ds) (line_of d))
-
--- one delivery more
-pub lines_of-more : (ds : List Delivery) (i : ℕ) (d : Delivery) → i < length ds → d ≡ get_or ds i d → lines_of (take (i + 1) ds) ≡ lines_of (take i ds) ++ line_of d
-lines_of-more ds i d h e = ap lines_of (take_more ds i d h) ∙ ap (λ (x : Delivery). lines_of (take i ds ++ x ∷ [])) (sym e) ∙ lines_of-push (take i ds) d
 
 -- what is appended in two steps
 pub joined : (new text old part step whole : List ℕ) → new ≡ text ++ step → text ≡ old ++ part → whole ≡ part ++ step → new ≡ old ++ whole

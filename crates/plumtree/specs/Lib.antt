@@ -1,5 +1,5 @@
 pub mod Code
-pub mod Fault
+pub mod Form
 pub mod Graph
 pub mod Key
 pub mod Lines

@@ -168,3 +168,36 @@ pub record Prints
   pub rolls : Option Stream
   pub played : PlaysActions state starts steps most actions (record { rolls = rolls_of seed; group = empty_group limits }) (record { rolls = rolls; group = group })
   pub printed : PrintsGroup state content group (delivered group) before after
+
+-- Some group and generator play these actions, from a group without nodes.
+abbrev pub IsPlayed :
+    {C N : Type 0} →
+    (C → CoreState) →
+    (Origin → Limits → List Name → Option Name → List (Name × N) → C → Type 0) →
+    (C → Stimulus N → List (Name × N) → List Delivery → C → Type 0) →
+    ℕ →
+    Option ℕ →
+    Limits →
+    List Action →
+    Type 0
+IsPlayed {C} {N} state starts steps most seed limits actions = (new : Standing C N) × PlaysActions state starts steps most actions (record { rolls = rolls_of seed; group = empty_group limits }) new
+
+-- What the output gains is what is printed of a group that played these actions up to the one at which it halted by this
+-- fault.
+pub record PrintsHalted
+    {C N : Type 0}
+    (state : C → CoreState)
+    (content : N → Content)
+    (starts : Origin → Limits → List Name → Option Name → List (Name × N) → C → Type 0)
+    (steps : C → Stimulus N → List (Name × N) → List Delivery → C → Type 0)
+    (is_spent : C → Stimulus N → Type 0)
+    (most : ℕ)
+    (seed : Option ℕ)
+    (limits : Limits)
+    (actions : List Action)
+    (stopped : PlayFault)
+    (before after : Option (List ℕ))
+    : Type 0 where
+  pub group : Logged C N
+  pub halted : IsHalted state starts steps is_spent most actions stopped (record { rolls = rolls_of seed; group = empty_group limits }) group
+  pub printed : PrintsGroup state content group (delivered group) before after

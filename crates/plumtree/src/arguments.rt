@@ -1,13 +1,18 @@
 //! What the words of the command line ask for.
+ghost use Rattle.std.specs.Prelude.{◌≡◌, Some, codes, option_map, if◌then◌else◌};
+ghost use Rattle.clap.specs.Matches.{first_value, found_of, one_text};
+
 use clap::error::ErrorKind;
-use clap::{Arg, ArgAction, Command, Error};
+use clap::{Arg, ArgAction, ArgMatches, Command, Error};
 use std::alloc::{AllocError, Global};
 
-/// What the program is to do.
+/// What the program is to do: to play a scenario and write what came of it.
 #[derive(Clone, Copy, Debug, PartialEq, Eq)]
-pub enum Request<'a> {
-    /// Play the scenario in this file, or the one on standard input, and write what came of it in this form.
-    Simulate { file: Option<&'a str>, form: Form },
+pub struct Request<'a> {
+    /// The file of the scenario, or `None` for standard input.
+    pub file: Option<&'a str>,
+    /// The form in which the outcome is written.
+    pub form: Form,
 }
 
 /// How the outcome of a scenario is written.
@@ -25,19 +30,30 @@ pub enum Form {
 pub fn parse<'a>(alloc: Global, words: &'a [String]) -> Result<Request<'a>, Error> {
     let matches = command(alloc)?.try_get_matches_from(words)?;
     Ok(match matches.subcommand() {
-        Some((_, sim)) => Request::Simulate {
-            file: sim.get_str("FILE"),
-            form: form_of(sim.get_flag("dot")),
-        },
-        None => Request::Simulate {
+        Some((_, sim)) => requested(sim),
+        None => Request {
             file: None,
             form: Form::Lines,
         },
     })
 }
 
+/// What the words after `sim` ask for.
+fn requested<'a>(sim: &ArgMatches<'a>) -> Request<'a>
+    ensures file { option_map (λ file. file.now) result.file ≡ first_value (found_of sim.now) (codes "FILE") }
+    ensures drawn { one_text (found_of sim.now) (codes "dot") ≡ Some (codes "true") → result.form ≡ Form.Graph }
+    ensures plain { one_text (found_of sim.now) (codes "dot") ≡ Some (codes "false") → result.form ≡ Form.Lines }
+{
+    Request {
+        file: sim.get_str("FILE"),
+        form: form_of(sim.get_flag("dot")),
+    }
+}
+
 /// A drawing, if one is asked for.
-fn form_of(is_drawn: bool) -> Form {
+fn form_of(is_drawn: bool) -> Form
+    ensures { result ≡ (if is_drawn then Form.Graph else Form.Lines) }
+{
     if is_drawn { Form::Graph } else { Form::Lines }
 }
 

@@ -1,13 +1,14 @@
 //! The lines that are printed for deliveries.
-ghost use Rattle.std.specs.Prelude.{◌≡◌, ◌<◌, [], ◌∷◌, ◌++◌, IsPermutation, IsSorted, OnOk, string_bytes};
+ghost use Rattle.std.specs.Prelude.{◌≡◌, ◌<◌, [], ◌∷◌, ◌++◌, map, reverse, IsPermutation, IsSorted, IfOk, OnOk, string_bytes};
 ghost use Rattle.std.specs.Io.KnownBytes.{Appends};
+ghost use Rattle.world.specs.History.{deliveries as all_deliveries};
 ghost use Rattle.plumtree.specs.Lines.{hex_digit, hexadecimal, payload_text, line_of, lines_of, line_cmp};
 
 use std::alloc::{AllocError, Allocator};
 use std::io;
 use std::io::Write;
 use thiserror::Error;
-use world::Delivery;
+use world::{Delivery, Entry};
 
 /// Why lines were not all written.
 #[derive(Clone, Copy, Debug, PartialEq, Eq, Error)]
@@ -32,21 +33,48 @@ impl From<io::Error> for OutputFault {
     }
 }
 
-/// Sorts deliveries by node, and those of one node by message.
-pub fn sort<A: Allocator>(deliveries: &mut Vec<Delivery<A>, A>)
-    ensures permutation { IsPermutation deliveries.old.items deliveries.new.items }
-    ensures sorted { IsSorted line_cmp deliveries.new.items }
+/// All deliveries of a log, in their order.
+pub fn deliveries<'a, A: Allocator + Copy>(
+    alloc: A,
+    log: &'a [Entry<A>],
+) -> Result<Vec<&'a Delivery<A>, A>, AllocError>
+    ensures { IfOk result (λ found. map (λ d. d.now) found.items ≡ all_deliveries (reverse log.now)) }
 {
-    deliveries.sort_unstable_by_key(|delivery| (delivery.node, delivery.id));
+    let mut found = Vec::new(alloc);
+    for entry in log {
+        push_each(&mut found, entry.given.as_slice())?;
+    }
+    Ok(found)
+}
+
+/// Appends each of these.
+fn push_each<'a, A: Allocator>(
+    found: &mut Vec<&'a Delivery<A>, A>,
+    given: &'a [Delivery<A>],
+) -> Result<(), AllocError>
+    ensures { OnOk result (map (λ d. d.now) found.new.items ≡ map (λ d. d.now) found.old.items ++ given.now) }
+{
+    for delivery in given {
+        found.push(delivery)?;
+    }
+    Ok(())
+}
+
+/// Sorts deliveries by node, and those of one node by message.
+pub fn sort<A: Allocator>(deliveries: &mut Vec<&Delivery<A>, A>) -> Result<(), AllocError>
+    ensures permutation { OnOk result (IsPermutation (map (λ d. d.now) deliveries.old.items) (map (λ d. d.now) deliveries.new.items)) }
+    ensures sorted { OnOk result (IsSorted line_cmp (map (λ d. d.now) deliveries.new.items)) }
+{
+    deliveries.sort_by_cached_key(|delivery| (delivery.node, delivery.id))
 }
 
 /// Writes a line for each delivery, in one write each. `text` is room for a line.
 pub fn write_lines<A: Allocator, W: Write>(
     text: &mut String<A>,
-    deliveries: &[Delivery<A>],
+    deliveries: &[&Delivery<A>],
     out: &mut W,
 ) -> Result<(), OutputFault>
-    ensures { OnOk result (Appends (W.contents out.old) (W.contents out.new) (lines_of deliveries.now)) }
+    ensures { OnOk result (Appends (W.contents out.old) (W.contents out.new) (lines_of (map (λ d. d.now) deliveries.now))) }
 {
     for delivery in deliveries {
         text.clear();

@@ -1,6 +1,6 @@
 //! Playing a scenario in a simulated group.
-ghost use Rattle.std.specs.Prelude.{◌≡◌, ◌≢◌, [], ◌∷◌, ◌++◌, Err, map, IfOk, IfErr, OnOk};
-ghost use Rattle.plumtree.specs.Play.{event_of, fault_of, delivered, empty_group, rolls_after, HaltsIn, IsHalted, PlaysAction, PlaysActions, Refuses, Takes};
+ghost use Rattle.std.specs.Prelude.{◌≡◌, ◌≢◌, IfOk, IfErr, OnOk};
+ghost use Rattle.plumtree.specs.Play.{event_of, fault_of, empty_group, rolls_after, HaltsIn, IsHalted, PlaysAction, PlaysActions, Refuses, Takes};
 ghost use Rattle.plumtree.specs.Rolls.{rolled, rolls_in, rolls_of};
 
 use crate::code::Code;
@@ -10,7 +10,7 @@ use bytes::Bytes;
 use node_names::{Limits, Listed};
 use std::alloc::{AllocError, Allocator};
 use thiserror::Error;
-use world::{Core, Delivery, Event, Given, World, WorldError};
+use world::{Core, Event, World, WorldError};
 
 /// The most arrivals that one action plays.
 pub const MOST_ARRIVALS: usize = 10_000;
@@ -54,50 +54,36 @@ impl Halt {
     }
 }
 
-/// A group of nodes, and what they have delivered so far.
+/// A group of nodes, and what its next dice are drawn from.
 #[derive(Drop)]
 pub struct Player<C: Core<A>, A: Allocator> {
     group: World<C, A>,
     rolls: Rolls,
-    /// Room for the event that is played.
-    next: Vec<Event<A>, A>,
-    deliveries: Vec<Delivery<A>, A>,
 }
 
 impl<C: Core<A>, A: Allocator + Copy> Player<C, A> {
     /// A group without nodes, whose dice are drawn by this seed.
-    pub fn new(alloc: A, seed: Option<u64>, limits: Limits) -> Result<Player<C, A>, AllocError>
-        ensures rolls { IfOk result (λ player. rolls_in player.rolls ≡ rolls_of seed) }
-        ensures group { IfOk result (λ player. player.group ≡ empty_group limits) }
-        ensures deliveries { IfOk result (λ player. player.deliveries.items ≡ []) }
+    pub fn new(alloc: A, seed: Option<u64>, limits: Limits) -> Player<C, A>
+        ensures rolls { rolls_in result.rolls ≡ rolls_of seed }
+        ensures group { result.group ≡ empty_group limits }
     {
-        Ok(Player {
+        Player {
             group: World::new(alloc, limits),
             rolls: Rolls::new(seed),
-            next: Vec::with_capacity(alloc, 1)?,
-            deliveries: Vec::new(alloc),
-        })
+        }
     }
 
-    /// The group as it stands, and what was delivered in it.
-    pub fn into_parts(self) -> (World<C, A>, Vec<Delivery<A>, A>)
-        ensures group { result.0 ≡ self.group }
-        ensures deliveries { result.1 ≡ self.deliveries }
+    /// The group as it stands.
+    pub fn group(&self) -> &World<C, A>
+        ensures { result.now ≡ self.now.group }
     {
-        let Player {
-            group,
-            deliveries,
-            ..
-        } = self;
-        (group, deliveries)
+        &self.group
     }
 
     /// Plays actions in order.
     pub fn play(&mut self, alloc: A, actions: &[Action]) -> Result<(), PlayFault>
-        requires whole { self.old.deliveries.items ≡ delivered self.old.group }
         ensures ok { OnOk result (PlaysActions C.state C.starts C.steps MOST_ARRIVALS actions.now (record { rolls = rolls_in self.old.rolls; group = self.old.group }) (record { rolls = rolls_in self.new.rolls; group = self.new.group })) }
         ensures stopped { IfErr result (λ fault. fault ≢ PlayFault.OutOfMemory → IsHalted C.state C.starts C.steps C.is_spent MOST_ARRIVALS actions.now fault (record { rolls = rolls_in self.old.rolls; group = self.old.group }) self.new.group) }
-        ensures whole { result ≢ Err PlayFault.OutOfMemory → self.new.deliveries.items ≡ delivered self.new.group }
     {
         for (number, action) in actions.iter().enumerate() {
             if let Err(halt) = self.play_action(alloc, action) {
@@ -109,10 +95,8 @@ impl<C: Core<A>, A: Allocator + Copy> Player<C, A> {
 
     /// Plays one action.
     fn play_action(&mut self, alloc: A, action: &Action) -> Result<(), Halt>
-        requires whole { self.old.deliveries.items ≡ delivered self.old.group }
         ensures ok { OnOk result (PlaysAction C.state C.starts C.steps MOST_ARRIVALS action.now (record { rolls = rolls_in self.old.rolls; group = self.old.group }) (record { rolls = rolls_in self.new.rolls; group = self.new.group })) }
         ensures halted { IfErr result (λ halt. halt ≢ Halt.Refused WorldError.OutOfMemory → HaltsIn C.state C.starts C.steps C.is_spent MOST_ARRIVALS action.now halt (record { rolls = rolls_in self.old.rolls; group = self.old.group }) self.new.group) }
-        ensures whole { result ≢ Err (Halt.Refused WorldError.OutOfMemory) → self.new.deliveries.items ≡ delivered self.new.group }
     {
         match event_of(alloc, &mut self.rolls, action) {
             Ok(Some(event)) => match self.step(event) {
@@ -126,10 +110,8 @@ impl<C: Core<A>, A: Allocator + Copy> Player<C, A> {
 
     /// Lets the oldest packet arrive until none is in flight.
     fn arrive_all(&mut self) -> Result<(), Halt>
-        requires whole { self.old.deliveries.items ≡ delivered self.old.group }
         ensures ok { OnOk result (PlaysAction C.state C.starts C.steps MOST_ARRIVALS Action.ArriveAll (record { rolls = rolls_in self.old.rolls; group = self.old.group }) (record { rolls = rolls_in self.new.rolls; group = self.new.group })) }
         ensures halted { IfErr result (λ halt. halt ≢ Halt.Refused WorldError.OutOfMemory → HaltsIn C.state C.starts C.steps C.is_spent MOST_ARRIVALS Action.ArriveAll halt (record { rolls = rolls_in self.old.rolls; group = self.old.group }) self.new.group) }
-        ensures whole { result ≢ Err (Halt.Refused WorldError.OutOfMemory) → self.new.deliveries.items ≡ delivered self.new.group }
     {
         for _ in 0..MOST_ARRIVALS {
             if self.group.flight().is_empty() {
@@ -152,29 +134,11 @@ impl<C: Core<A>, A: Allocator + Copy> Player<C, A> {
 
     /// Plays one event.
     fn step(&mut self, event: Event<A>) -> Result<(), WorldError>
-        requires whole { self.old.deliveries.items ≡ delivered self.old.group }
         ensures ok { OnOk result (Takes C.state C.starts C.steps event self.old.group self.new.group) }
         ensures refused { IfErr result (λ why. why ≢ WorldError.OutOfMemory → (self.new.group ≡ self.old.group) × Refuses C.state C.starts C.steps C.is_spent event why self.new.group) }
-        ensures whole { result ≢ Err WorldError.OutOfMemory → self.new.deliveries.items ≡ delivered self.new.group }
         ensures rolls { self.new.rolls ≡ self.old.rolls }
     {
-        self.prepare(event)?;
-        match self.group.run(self.next.as_slice()) {
-            Ok(given) => Ok(append(given, &mut self.deliveries)?),
-            Err(fault) => Err(fault.why),
-        }
-    }
-
-    /// Makes room for what an event may deliver, and puts the event in its place.
-    fn prepare(&mut self, event: Event<A>) -> Result<(), AllocError>
-        ensures next { OnOk result (self.new.next.items ≡ event ∷ []) }
-        ensures group { self.new.group ≡ self.old.group }
-        ensures rolls { self.new.rolls ≡ self.old.rolls }
-        ensures deliveries { self.new.deliveries.items ≡ self.old.deliveries.items }
-    {
-        self.deliveries.reserve(1)?;
-        self.next.clear();
-        self.next.push(event)?;
+        self.group.apply(event)?;
         Ok(())
     }
 }
@@ -224,17 +188,4 @@ fn event_of<A: Allocator + Copy>(
         Action::Stop { node } => Event::Stop { name: node },
         Action::ArriveAll => return Ok(None),
     }))
-}
-
-/// Appends the deliveries of a run.
-fn append<A: Allocator>(
-    given: Vec<Given<A>, A>,
-    deliveries: &mut Vec<Delivery<A>, A>,
-) -> Result<(), AllocError>
-    ensures { OnOk result (deliveries.new.items ≡ deliveries.old.items ++ map (λ g. g.delivery) given.items) }
-{
-    for Given { at: _, delivery } in given {
-        deliveries.push(delivery)?;
-    }
-    Ok(())
 }

@@ -1,28 +1,42 @@
 //! Reading a scenario's text.
-ghost use Rattle.std.specs.Prelude.{◌≡◌, ◌<◌, ◌≤◌, length, vec_len, IfOk, IfSome, IsErrOf, IfErr};
+ghost use Rattle.std.specs.Prelude.{◌≡◌, ◌≢◌, ◌+◌, ◌<◌, ◌≤◌, length, take, IfOk, IfSome, IsErrOf, IfErr};
 ghost use Rattle.std.specs.Prelude.{None, Some, IsUtf8};
+ghost use Rattle.std.specs.IoError.{error_kind};
 ghost use Rattle.toml.specs.Parse.{parse_document};
 ghost use Rattle.toml.specs.View.{table_view};
-ghost use Rattle.plumtree.specs.Fault.{IsReadFault, IsTextFault};
 
 use crate::scenario::ScenarioFault;
 use std::alloc::Global;
+use std::io;
 use std::io::{ErrorKind, Read};
 use toml::Table;
 
 /// The most bytes that a scenario may have.
 pub const LONGEST: usize = 1_048_576;
 
-/// Reads the whole input as a TOML document. That it is too long is said before it is no TOML.
-pub fn read_document<R: Read>(alloc: Global, input: &mut R) -> Result<Table, ScenarioFault>
-    ensures ok { IfOk result (λ table. IfSome (R.remaining input.old) (λ text. IsUtf8 text × (parse_document text ≡ Some (table_view table)))) }
-    ensures too_long { IsErrOf result ScenarioFault.TooLong → IfSome (R.remaining input.old) (λ text. LONGEST < length text) }
-    ensures not_toml { IsErrOf result ScenarioFault.NotToml → IfSome (R.remaining input.old) (λ text. IsUtf8 text → parse_document text ≡ None) }
-    ensures refused { IfErr result (λ fault. IsTextFault fault → IfSome (R.remaining input.old) (λ text. length text ≤ LONGEST → IsUtf8 text → parse_document text ≡ None)) }
-    ensures short { IfOk result (λ _. IfSome (R.remaining input.old) (λ text. length text ≤ LONGEST)) }
+/// Reads the whole input, or one byte more than a scenario may have. A read that is interrupted is made again.
+pub fn read_text<R: Read>(alloc: Global, input: &mut R) -> io::Result<Vec<u8>>
+    ensures text { IfOk result (λ text. IfSome (R.remaining input.old) (λ rest. text.items ≡ take (LONGEST + 1) rest)) }
+    ensures retried { IfErr result (λ error. error_kind error ≢ ErrorKind.Interrupted) }
 {
-    let bytes = read_bytes(alloc, input)?;
-    match toml::table_from_slice(alloc, bytes.as_slice()) {
+    let mut text = Vec::new(alloc);
+    let mut start = input.take(LONGEST as u64 + 1);
+    start.read_to_end(&mut text)?;
+    Ok(text)
+}
+
+/// Reads a text as a TOML document. That it is too long is said before it is no TOML.
+pub fn read_document(alloc: Global, text: &[u8]) -> Result<Table, ScenarioFault>
+    ensures short { IfOk result (λ _. length text.now ≤ LONGEST) }
+    ensures ok { IfOk result (λ table. IsUtf8 text.now × (parse_document text.now ≡ Some (table_view table))) }
+    ensures too_long { IsErrOf result ScenarioFault.TooLong → LONGEST < length text.now }
+    ensures not_toml { IsErrOf result ScenarioFault.NotToml → IsUtf8 text.now → parse_document text.now ≡ None }
+    ensures refused { IfErr result (λ fault. fault ≢ ScenarioFault.OutOfMemory → length text.now ≤ LONGEST → IsUtf8 text.now → parse_document text.now ≡ None) }
+{
+    if text.len() > LONGEST {
+        return Err(ScenarioFault::TooLong);
+    }
+    match toml::table_from_slice(alloc, text) {
         Ok(table) => Ok(table),
         Err(error) => {
             if error.is_memory() {
@@ -32,32 +46,4 @@ pub fn read_document<R: Read>(alloc: Global, input: &mut R) -> Result<Table, Sce
             }
         }
     }
-}
-
-/// Reads the whole input, if it is short enough.
-fn read_bytes<R: Read>(alloc: Global, input: &mut R) -> Result<Vec<u8>, ScenarioFault>
-    ensures short { IfOk result (λ bytes. vec_len bytes ≤ LONGEST) }
-    ensures whole { IfOk result (λ bytes. IfSome (R.remaining input.old) (λ rest. bytes.items ≡ rest)) }
-    ensures too_long { IsErrOf result ScenarioFault.TooLong → IfSome (R.remaining input.old) (λ rest. LONGEST < length rest) }
-    ensures faults { IfErr result IsReadFault }
-{
-    let mut bytes = Vec::new(alloc);
-    let mut chunk = [0; 8192];
-    for _ in 0..u64::MAX {
-        match input.read(&mut chunk) {
-            Ok(0) => return Ok(bytes),
-            Ok(count) => {
-                if count > LONGEST - bytes.len() {
-                    return Err(ScenarioFault::TooLong);
-                }
-                bytes.extend_from_slice(&chunk[..count])?;
-            }
-            Err(error) => {
-                if error.kind() != ErrorKind::Interrupted {
-                    return Err(ScenarioFault::Unreadable);
-                }
-            }
-        }
-    }
-    Err(ScenarioFault::Unreadable)
 }

@@ -1,11 +1,11 @@
 //! The lines that are printed of messages: whether the group is at rest for each, and its tree.
-ghost use Rattle.std.specs.Prelude.{◌≡◌, [], ◌∷◌, ◌++◌, ℕ, List, IsPermutation, IsSorted, IfOk, OnOk, string_bytes};
+ghost use Rattle.std.specs.Prelude.{◌≡◌, [], ◌∷◌, ◌++◌, ℕ, List, map, IsPermutation, IsSorted, IfOk, OnOk, string_bytes};
 ghost use Rattle.std.specs.Io.KnownBytes.{Appends};
 ghost use Rattle.node_names.specs.Order.{id_cmp};
-ghost use Rattle.plumtree.specs.Trees.{branch_line, branch_lines, broadcasts_of, rest_word, tree_lines, TellsTree, TellsTrees};
+ghost use Rattle.plumtree.specs.Trees.{branch_line, branch_lines, broadcasts_of, rest_word, tree_lines, TellsTrees};
 
 use crate::output::OutputFault;
-use at_rest::{Branch, is_at_rest, tree};
+use at_rest::{Branch, Forest, Unrest};
 use node_names::MsgId;
 use std::alloc::{AllocError, Allocator};
 use std::io::Write;
@@ -14,9 +14,9 @@ use world::{Core, Delivery, World};
 /// The messages that were broadcast, each as its own origin delivered it, in the order of their ids.
 pub fn broadcasts<A: Allocator + Copy>(
     alloc: A,
-    deliveries: &[Delivery<A>],
+    deliveries: &[&Delivery<A>],
 ) -> Result<Vec<MsgId, A>, AllocError>
-    ensures permutation { IfOk result (λ ids. IsPermutation (broadcasts_of deliveries.now) ids.items) }
+    ensures permutation { IfOk result (λ ids. IsPermutation (broadcasts_of (map (λ d. d.now) deliveries.now)) ids.items) }
     ensures sorted { IfOk result (λ ids. IsSorted id_cmp ids.items) }
 {
     let mut ids = own_deliveries(alloc, deliveries)?;
@@ -27,9 +27,9 @@ pub fn broadcasts<A: Allocator + Copy>(
 /// The same in the order of the deliveries.
 fn own_deliveries<A: Allocator + Copy>(
     alloc: A,
-    deliveries: &[Delivery<A>],
+    deliveries: &[&Delivery<A>],
 ) -> Result<Vec<MsgId, A>, AllocError>
-    ensures { IfOk result (λ ids. ids.items ≡ broadcasts_of deliveries.now) }
+    ensures { IfOk result (λ ids. ids.items ≡ broadcasts_of (map (λ d. d.now) deliveries.now)) }
 {
     let mut ids = Vec::new(alloc);
     for delivery in deliveries {
@@ -61,26 +61,26 @@ pub fn write_trees<C: Core<A>, A: Allocator + Copy, W: Write>(
 ) -> Result<(), OutputFault>
     ensures { OnOk result ((written : List ℕ) × TellsTrees C.state C.Note.content group.now ids.now written × Appends (W.contents out.old) (W.contents out.new) written) }
 {
+    let forest = Forest::new(alloc, group)?;
+    let unrest = Unrest::new(alloc, group)?;
     for id in ids {
-        write_tree(alloc, text, group, id, out)?;
+        write_tree(text, id, unrest.is_at_rest(id), forest.tree(id), out)?;
     }
     Ok(out.flush()?)
 }
 
-/// Writes the lines of a message.
-fn write_tree<C: Core<A>, A: Allocator + Copy, W: Write>(
-    alloc: A,
+/// Writes the lines of a message with this tree.
+fn write_tree<A: Allocator, W: Write>(
     text: &mut String<A>,
-    group: &World<C, A>,
     id: &MsgId,
+    is_resting: bool,
+    branches: &[Branch],
     out: &mut W,
 ) -> Result<(), OutputFault>
-    ensures { OnOk result ((written : List ℕ) × TellsTree C.state C.Note.content group.now id.now written × Appends (W.contents out.old) (W.contents out.new) written) }
+    ensures { OnOk result (Appends (W.contents out.old) (W.contents out.new) (tree_lines id.now is_resting branches.now)) }
 {
-    let is_resting = is_at_rest(group, id);
-    let branches = tree(alloc, group, id)?;
     text.clear();
-    push_tree(text, id, is_resting, branches.as_slice())?;
+    push_tree(text, id, is_resting, branches)?;
     Ok(out.write_all(text.as_bytes())?)
 }
 

@@ -1,14 +1,16 @@
 pub mod Carrying
+pub mod Changes
 pub mod Delivering
 pub mod FindLemmas
 pub mod FloodMoves
-pub mod Flying
+pub mod Flights
+mod Flying
 pub mod GivenLemmas
 pub mod Kept
-pub mod NameLemmas
 pub mod NameSets
 pub mod NodeLemmas
 pub mod Parenting
+pub mod Places
 pub mod PlanLemmas
 pub mod PlayLemmas
 pub mod RestKeeps

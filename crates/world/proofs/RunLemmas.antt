@@ -1,6 +1,8 @@
 -- A run goes on by one event.
 use Rattle.std.proofs.Common.{◌≡◌, List, [], ◌∷◌, ◌++◌, sym, ◌∙◌, ap, subst}
-use Rattle.std.specs.Prelude.{ℕ, Option, reverse, length}
+use Rattle.std.specs.Prelude.{ℕ, Option, OnErr, reverse, length}
+use Rattle.std.specs.declared.result.Result.{Result}
+use Rattle.std.specs.declared.result.Result.TheVariants.{Ok, Err}
 use Rattle.std.proofs.lemmas.List.{reverse-append}
 use Rattle.node_names.specs.NodeName.{Name}
 use Rattle.node_names.specs.Limits.{Limits}
@@ -9,7 +11,7 @@ use Rattle.world.specs.CoreState.{CoreState}
 use Rattle.world.specs.Delivery.{Delivery}
 use Rattle.world.specs.Entry.{Entry}
 use Rattle.world.specs.Event.{Event}
-use Rattle.world.specs.Group.{Group}
+use Rattle.world.specs.Group.{Group, Logged}
 use Rattle.world.specs.Plan.{group_after, launched, nodes_after, staying}
 use Rattle.world.specs.Run.{Effect, Happens, Run, Tells}
 use Rattle.world.specs.Stimulus.{Stimulus}
@@ -25,6 +27,22 @@ pub same_group :
     flight ≡ staying group.flight leaving ++ launched again (length group.sent) (length packets) →
     ◌≡◌ {A = Group C N} (record { nodes = nodes; sent = sent; flight = flight }) (group_after group changed packets leaving again)
 same_group group changed packets leaving again nodes sent flight p q r = λ i. record { nodes = p i; sent = q i; flight = r i }
+
+-- a group with a log whose parts are as before is as before
+pub same_world :
+    {C N : Type 0} (limits : Limits) (group : Group C N) (log : List Entry)
+    (nodes : List (NodeState C)) (sent : List (Packet N)) (flight : List ℕ) (entries : List Entry) →
+    nodes ≡ group.nodes →
+    sent ≡ group.sent →
+    flight ≡ group.flight →
+    entries ≡ log →
+    ◌≡◌ {A = Logged C N} (record { limits = limits; group = record { nodes = nodes; sent = sent; flight = flight }; log = entries }) (record { limits = limits; group = group; log = log })
+same_world limits group log nodes sent flight entries p q r s = λ i. record { limits = limits; group = record { nodes = p i; sent = q i; flight = r i }; log = s i }
+
+-- what holds anyway holds where it was refused
+pub refused_anyway : {X E : Type 0} (result : Result X E) (P : Type 0) → P → OnErr result P
+refused_anyway (Ok x) P p = tt
+refused_anyway (Err e) P p = p
 
 module _
     {C N : Type 0}

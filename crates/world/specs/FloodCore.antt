@@ -1,5 +1,5 @@
 -- The flooding core: it delivers and holds each new message, and sends it to every peer but the one that it came from.
-use Rattle.std.specs.Prelude.{◌≡◌, ◌+◌, ◌-◌, ◌^◌, ◌<◌, ◌≤◌, ◌&&◌, ℕ, Bool, true, false, not, List, [], ◌∷◌, ◌++◌, Option, Some, None, length, map, filter, is_some}
+use Rattle.std.specs.Prelude.{◌≡◌, ◌+◌, ◌-◌, ◌^◌, ◌<◌, ◌≤◌, ◌&&◌, ℕ, Bool, true, false, not, if◌then◌else◌, List, [], ◌∷◌, ◌++◌, Option, Some, None, length, map, filter, is_some}
 use Rattle.std.specs.Bool.{MatchBool}
 use Rattle.std.specs.List.{IsDistinct}
 use Rattle.std.specs.Map.{lookup}
@@ -104,6 +104,28 @@ FloodSteps old (Fire id) sends given new = IsIdle old sends given new
 FloodSteps old Flush sends given new = IsIdle old sends given new
 FloodSteps old (Down peer dice) sends given new = DropsPeer old peer sends given new
 FloodSteps old (Shuffle dice) sends given new = IsIdle old sends given new
+
+-- the core that holds the message, if it is news
+abbrev pub with_news : Flooding → Message → Flooding
+with_news core note = if is_news core note.id then record core { held = core.held ++ (note.id, note.payload) ∷ [] } else core
+
+-- the core that goes on after the stimulus
+abbrev pub flood_after : Flooding → Stimulus Message → Flooding
+flood_after core (Broadcast payload) = record core { held = core.held ++ (record { origin = core.me; seq = core.count + 1 }, payload) ∷ []; count = core.count + 1 }
+flood_after core (Arrive sender note dice) = with_news core note
+flood_after core (Fire id) = core
+flood_after core Flush = core
+flood_after core (Down peer dice) = record core { peers = remove_key (same_name peer) core.peers }
+flood_after core (Shuffle dice) = core
+
+-- Of a step that was worked out the core keeps nothing; a broadcast has a number left.
+abbrev pub IsFloodTurn : Flooding → Stimulus Message → Unit {0} → Type 0
+IsFloodTurn core (Broadcast payload) turn = core.count < 2 ^ 64 - 1
+IsFloodTurn core (Arrive sender note dice) turn = Unit {0}
+IsFloodTurn core (Fire id) turn = Unit {0}
+IsFloodTurn core Flush turn = Unit {0}
+IsFloodTurn core (Down peer dice) turn = Unit {0}
+IsFloodTurn core (Shuffle dice) turn = Unit {0}
 
 -- The core has spent all its sequence numbers.
 abbrev pub FloodIsSpent : Flooding → Stimulus Message → Type 0

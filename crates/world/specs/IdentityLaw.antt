@@ -1,5 +1,5 @@
 -- A core stays who it is.
-use Rattle.std.specs.Prelude.{◌≡◌, ◌<◌, length}
+use Rattle.std.specs.Prelude.{◌≡◌, ◌<◌, ◌≤◌, ◌^◌, ◌-◌, length}
 use Rattle.world.specs.CoreState.{CoreState}
 use Rattle.world.specs.Stimulus.{Stimulus}
 use Rattle.world.specs.declared.TheConstants.{MAX_PAYLOAD}
@@ -17,3 +17,13 @@ IsTooLong (Fire id) = ⊥
 IsTooLong Flush = ⊥
 IsTooLong (Down peer dice) = ⊥
 IsTooLong (Shuffle dice) = ⊥
+
+-- The stimulus is a broadcast of an allowed payload, and the core has spent all its sequence numbers: this is refused as such
+-- before anything is allocated.
+abbrev pub IsOutOfNumbers : {N : Type 0} → CoreState → Stimulus N → Type 0
+IsOutOfNumbers core (Broadcast payload) = (length payload ≤ MAX_PAYLOAD) × (core.count ≡ 2 ^ 64 - 1)
+IsOutOfNumbers core (Arrive sender note dice) = ⊥
+IsOutOfNumbers core (Fire id) = ⊥
+IsOutOfNumbers core Flush = ⊥
+IsOutOfNumbers core (Down peer dice) = ⊥
+IsOutOfNumbers core (Shuffle dice) = ⊥

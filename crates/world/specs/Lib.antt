@@ -6,6 +6,7 @@ pub mod DeliveryLaw
 pub mod Entry
 pub mod ErrorText
 pub mod Event
+pub mod Flight
 pub mod FloodCore
 pub mod FloodLaws
 pub mod FloodLists
@@ -18,6 +19,7 @@ pub mod History
 pub mod HoldLaw
 pub mod Honest
 pub mod IdentityLaw
+pub mod KeptDice
 pub mod Laws
 pub mod Links
 pub mod Lists

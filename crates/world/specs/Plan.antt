@@ -1,9 +1,21 @@
 -- What a plan for an event makes of a group.
-use Rattle.std.specs.Prelude.{ℕ, List, [], ◌∷◌, ◌++◌, Option, Some, None, length, remove}
-use Rattle.world.specs.Group.{Group, put_node}
+use Rattle.std.specs.Prelude.{◌≡◌, ℕ, List, [], ◌∷◌, ◌++◌, Option, Some, None, length, map, option_map, remove, slice_get}
+use Rattle.std.specs.List.{position}
+use Rattle.node_names.specs.NodeName.{Name}
+use Rattle.node_names.specs.Same.{same_name}
+use Rattle.node_names.specs.declared.dice.Dice.{Dice}
+use Rattle.world.specs.Entry.{Entry}
+use Rattle.world.specs.Event.{Event}
+use Rattle.world.specs.Group.{Group, node_of, put_node}
 use Rattle.world.specs.Lists.{places}
+use Rattle.world.specs.Refusals.{sent_under}
+use Rattle.world.specs.Stimulus.{Stimulus}
+use Rattle.world.specs.declared.event.EventOf.TheVariants.{Start, Broadcast, Arrive, Lose, Again, Fire, Flush, Down, Shuffle, Stop}
 use Rattle.world.specs.declared.node_state.NodeState.{NodeState}
 use Rattle.world.specs.declared.packet.Packet.{Packet}
+use Rattle.world.specs.declared.plan.Change.{Change}
+use Rattle.world.specs.declared.plan.Change.TheVariants.{Nothing, Put, Step}
+use Rattle.world.specs.declared.stimulus.StimulusOf.TheVariants as stimulus
 
 -- the flight without the place that is left, if one is
 abbrev pub staying : List ℕ → Option ℕ → List ℕ
@@ -28,3 +40,65 @@ group_after group node packets leaving again =
       sent = group.sent ++ packets;
       flight = staying group.flight leaving ++ launched again (length group.sent) (length packets);
     }
+
+-- the names of the nodes, in their order
+abbrev pub names_of : {C : Type 0} → List (NodeState C) → List Name
+names_of nodes = map (λ node. node.name) nodes
+
+-- the stimulus that the arrival of a packet is
+abbrev pub arrival : {N : Type 0} → Option (Packet N) → Dice → Option (Stimulus N)
+arrival None dice = None
+arrival (Some packet) dice = Some (stimulus.Arrive packet.sender packet.note dice)
+
+-- the stimulus that an event is to the core that it steps, where it steps one; that of an arrival is the packet of the number
+abbrev pub stimulus_by : {N : Type 0} → List (Packet N) → Event → Option ℕ → Option (Stimulus N)
+stimulus_by sent (Broadcast name payload) number = Some (stimulus.Broadcast payload)
+stimulus_by sent (Arrive place dice) number = arrival (sent_under sent number) dice
+stimulus_by sent (Fire name id) number = Some (stimulus.Fire id)
+stimulus_by sent (Flush name) number = Some stimulus.Flush
+stimulus_by sent (Down name peer dice) number = Some (stimulus.Down peer dice)
+stimulus_by sent (Shuffle name dice) number = Some (stimulus.Shuffle dice)
+stimulus_by sent (Start name incarnation peers contact) number = None
+stimulus_by sent (Lose place) number = None
+stimulus_by sent (Again other) number = None
+stimulus_by sent (Stop name) number = None
+
+-- the node with its core gone on by the stimulus
+abbrev pub stepped_node : {C N : Type 0} → (C → Stimulus N → C) → Option (NodeState C) → Option (Stimulus N) → Option (NodeState C)
+stepped_node after None told = None
+stepped_node after (Some node) None = None
+stepped_node after (Some node) (Some told) = Some (record node { core = option_map (λ core. after core told) node.core })
+
+-- the node that a change puts, as it will be
+abbrev pub changed : {C N T : Type 0} → (C → Stimulus N → C) → List (NodeState C) → List (Packet N) → Entry → Change C T → Option (NodeState C)
+changed after nodes sent entry Nothing = None
+changed after nodes sent entry (Put node) = Some node
+changed after nodes sent entry (Step at turn) = stepped_node after (slice_get nodes at) (stimulus_by sent entry.event entry.packet)
+
+-- the group after the plan of this entry
+abbrev pub planned : {C N T : Type 0} → (C → Stimulus N → C) → Group C N → Entry → Change C T → List (Packet N) → Option ℕ → Option ℕ → Group C N
+planned after group entry change packets leaving again = group_after group (changed after group.nodes group.sent entry change) packets leaving again
+
+-- Under the name runs the node at this place, with this core.
+pub record RunsAt {C : Type 0} (name : Name) (nodes : List (NodeState C)) (at : ℕ) (node : NodeState C) (core : C) : Type 0 where
+  pub known : node_of name nodes ≡ Some node
+  pub there : slice_get nodes at ≡ Some node
+  pub first : position (λ other. same_name node.name other.name) nodes ≡ Some at
+  pub running : node.core ≡ Some core
+
+-- The node at this place runs and is the first of its name, and its core can make the step that was worked out for the entry.
+pub record CanStep {C N T : Type 0} (is_turn : C → Stimulus N → T → Type 0) (nodes : List (NodeState C)) (sent : List (Packet N)) (entry : Entry) (at : ℕ) (turn : T) : Type 0 where
+  pub node : NodeState C
+  pub core : C
+  pub told : Stimulus N
+  pub there : slice_get nodes at ≡ Some node
+  pub first : position (λ other. same_name node.name other.name) nodes ≡ Some at
+  pub running : node.core ≡ Some core
+  pub telling : stimulus_by sent entry.event entry.packet ≡ Some told
+  pub turns : is_turn core told turn
+
+-- The change can be made.
+abbrev pub IsReady : {C N T : Type 0} → (C → Stimulus N → T → Type 0) → List (NodeState C) → List (Packet N) → Entry → Change C T → Type 0
+IsReady is_turn nodes sent entry Nothing = Unit {0}
+IsReady is_turn nodes sent entry (Put node) = Unit {0}
+IsReady is_turn nodes sent entry (Step at turn) = CanStep is_turn nodes sent entry at turn

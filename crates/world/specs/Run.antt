@@ -12,7 +12,6 @@ use Rattle.world.specs.Lists.{places}
 use Rattle.node_names.specs.Same.{has_name}
 use Rattle.world.specs.Peers.{are_peers}
 use Rattle.world.specs.Stimulus.{Stimulus}
-use Rattle.world.specs.declared.event.EventOf.{EventOf}
 use Rattle.world.specs.declared.event.EventOf.TheVariants.{Start, Broadcast, Arrive, Lose, Again, Fire, Flush, Down, Shuffle, Stop}
 use Rattle.world.specs.declared.node_state.NodeState.{NodeState}
 use Rattle.world.specs.declared.packet.Packet.{Packet}
@@ -132,7 +131,7 @@ module _
     (limits : Limits)
   where
     -- what the event of the entry does, by its kind
-    abbrev pub Effect : Group C N → Entry → Group C N → EventOf (List ℕ) (List Name) → Type 0
+    abbrev pub Effect : Group C N → Entry → Group C N → Event → Type 0
     Effect before entry after (Start name incarnation peers contact) = (entry.packet ≡ None) × Starts starts limits before (record { name = name; incarnation = incarnation }) peers contact entry after
     Effect before entry after (Broadcast name payload) = (entry.packet ≡ None) × Acts state steps before before.flight name (stimulus.Broadcast payload) entry after
     Effect before entry after (Arrive place dice) = Arrives state steps before place (λ packet. stimulus.Arrive packet.sender packet.note dice) entry after

@@ -1,5 +1,6 @@
 -- What makes a core step, and what else such a step speaks of.
-use Rattle.std.specs.Prelude.{◌≢◌, ℕ, List}
+use denote.Ref.{Bor}
+use Rattle.std.specs.Prelude.{◌≡◌, ◌≢◌, ◌≤◌, ◌^◌, ◌-◌, ℕ, List, length}
 use Rattle.node_names.specs.NodeName.{Name}
 use Rattle.world.specs.declared.stimulus.StimulusOf.{StimulusOf}
 use Rattle.world.specs.declared.stimulus.StimulusOf.TheVariants.{Broadcast, Arrive, Fire, Flush, Down, Shuffle}
@@ -7,6 +8,15 @@ use Rattle.world.specs.declared.stimulus.StimulusOf.TheVariants.{Broadcast, Arri
 -- A stimulus whose packet is of the type N.
 abbrev pub Stimulus : Type 0 → Type 0
 Stimulus N = StimulusOf (List ℕ) N
+
+-- the stimulus whose payload or packet is lent
+abbrev pub lent : {P N : Type 0} → StimulusOf (Bor P) (Bor N) → StimulusOf P N
+lent (Broadcast payload) = Broadcast payload.now
+lent (Arrive sender note dice) = Arrive sender note.now dice
+lent (Fire id) = Fire id
+lent Flush = Flush
+lent (Down peer dice) = Down peer dice
+lent (Shuffle dice) = Shuffle dice
 
 -- The stimulus is no packet from a sender of this name.
 abbrev pub IsNotFrom : {N : Type 0} → Name → Stimulus N → Type 0

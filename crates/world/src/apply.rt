@@ -3,11 +3,11 @@ ghost use Rattle.std.specs.Prelude.{◌≡◌, ◌<◌, [], ◌∷◌, ◌++◌,
 ghost use Rattle.std.specs.Option.{ForSome};
 ghost use Rattle.world.specs.Headline.{Headline};
 ghost use Rattle.world.specs.Play.{Plays, PlaysOn, RefusesAt, given_at};
-ghost use Rattle.world.specs.Plan.{group_after};
+ghost use Rattle.world.specs.Plan.{IsReady, planned};
 ghost use Rattle.world.specs.Refusals.{IsRefusal, refusal};
 ghost use Rattle.world.specs.Run.{Applied, Happens};
 
-use crate::commit::{change, post, put_last};
+use crate::commit::{make_change, make_room, post, put_last};
 use crate::delivery::Delivery;
 use crate::error::WorldError;
 use crate::event::Event;
@@ -19,26 +19,33 @@ use node_names::Listed;
 use std::alloc::{AllocError, Allocator};
 
 impl<C: Core<A>, A: Allocator + Copy> World<C, A> {
-    /// Does what a plan says, all or nothing.
+    /// Does what a plan says, all or nothing. All room is made first; the step of a core is the last that can be refused.
     fn commit(&mut self, plan: Plan<C, A>) -> Result<(), AllocError>
-        requires happens { Happens C.state C.starts C.steps self.old.limits self.old.group plan.entry (group_after self.old.group plan.node plan.packets.items plan.leaving plan.again) }
+        requires happens { Happens C.state C.starts C.steps self.old.limits self.old.group plan.entry (planned C.after self.old.group plan.entry plan.change plan.packets.items plan.leaving plan.again) }
         requires leaving { ForSome plan.leaving (λ place. place < length self.old.group.flight) }
-        ensures group { OnOk result (self.new.group ≡ group_after self.old.group plan.node plan.packets.items plan.leaving plan.again) }
+        requires ready { IsReady C.is_turn self.old.group.nodes self.old.group.sent plan.entry plan.change }
+        ensures group { OnOk result (self.new.group ≡ planned C.after self.old.group plan.entry plan.change plan.packets.items plan.leaving plan.again) }
         ensures log { OnOk result (self.new.log ≡ self.old.log ++ plan.entry ∷ []) }
         ensures limits { self.new.limits ≡ self.old.limits }
         ensures err { OnErr result (self.new ≡ self.old) }
     {
         let Plan {
-            node,
+            change,
             packets,
             leaving,
             again,
             entry,
         } = plan;
-        self.log.reserve(1)?;
-        self.nodes.reserve(1)?;
-        post(&mut self.sent, &mut self.flight, packets, leaving, again)?;
-        change(&mut self.nodes, node);
+        make_room(
+            &mut self.log,
+            &mut self.names,
+            &mut self.nodes,
+            &mut self.sent,
+            &mut self.flight,
+            packets.len(),
+        )?;
+        make_change(&mut self.names, &mut self.nodes, &self.sent, &entry, change)?;
+        post(&mut self.sent, &mut self.flight, packets, leaving, again);
         put_last(&mut self.log, entry);
         Ok(())
     }

@@ -1,16 +1,53 @@
-//! The changes that a plan makes, all room made first.
-ghost use Rattle.std.specs.Prelude.{◌≡◌, ◌≤◌, ◌<◌, ◌+◌, ◌-◌, ◌++◌, [], ◌∷◌, OnOk, OnErr, length, vec_len, vec_capacity};
+//! The changes that a plan makes, in room that was made before.
+ghost use Rattle.std.specs.Prelude.{◌≡◌, ◌≤◌, ◌<◌, ◌+◌, ◌-◌, ◌++◌, ◌∷◌, [], false, Some, OnOk, OnErr, length, slice_get, vec_len, vec_capacity};
 ghost use Rattle.std.specs.Option.{ForSome};
-ghost use Rattle.std.specs.List.{position};
-ghost use Rattle.node_names.specs.Same.{same_name};
+ghost use Rattle.indexmap.specs.IndexSet.{spare};
+ghost use Rattle.node_names.specs.Same.{has_name};
+ghost use Rattle.world.specs.Flight.{flying};
 ghost use Rattle.world.specs.Group.{put_node};
-ghost use Rattle.world.specs.Lists.{places};
-ghost use Rattle.world.specs.Plan.{launched, nodes_after, staying};
+ghost use Rattle.world.specs.Plan.{CanStep, IsReady, changed, launched, names_of, nodes_after, staying};
 
+use crate::entry::Entry;
+use crate::flight::Flight;
+use crate::lookup::place_of;
+use crate::names::NameSet;
 use crate::node_state::NodeState;
 use crate::packet::Packet;
+use crate::plan::{Change, stimulus_by};
+use crate::protocol::Core;
 use node_names::NodeName;
 use std::alloc::{AllocError, Allocator};
+
+/// Makes room for one more entry and one more node, and for so many packets, one at least in flight.
+pub(crate) fn make_room<C, N, A: Allocator + Copy>(
+    log: &mut Vec<Entry<A>, A>,
+    names: &mut NameSet<A>,
+    nodes: &mut Vec<NodeState<C>, A>,
+    sent: &mut Vec<Packet<N>, A>,
+    flight: &mut Flight<A>,
+    packets: usize,
+) -> Result<(), AllocError>
+    requires { flight.old.gone ≤ vec_len flight.old.numbers }
+    ensures log { log.new.items ≡ log.old.items }
+    ensures names { names.new.keys ≡ names.old.keys }
+    ensures nodes { nodes.new.items ≡ nodes.old.items }
+    ensures sent { sent.new.items ≡ sent.old.items }
+    ensures flight { flying flight.new ≡ flying flight.old }
+    ensures whole { flight.new.gone ≤ vec_len flight.new.numbers }
+    ensures entry { OnOk result (vec_len log.new < vec_capacity log.new) }
+    ensures name { OnOk result (0 < spare names.new) }
+    ensures node { OnOk result (vec_len nodes.new < vec_capacity nodes.new) }
+    ensures packets { OnOk result (vec_len sent.new + packets ≤ vec_capacity sent.new) }
+    ensures places { OnOk result (vec_len flight.new.numbers + packets ≤ vec_capacity flight.new.numbers) }
+    ensures place { OnOk result (vec_len flight.new.numbers < vec_capacity flight.new.numbers) }
+{
+    log.reserve(1)?;
+    names.reserve(1)?;
+    nodes.reserve(1)?;
+    sent.reserve(packets)?;
+    flight.reserve(packets.max(1))?;
+    Ok(())
+}
 
 /// Puts an item last, in the room that there is.
 pub(crate) fn put_last<T: Drop, A: Allocator>(items: &mut Vec<T, A>, item: T)
@@ -22,70 +59,108 @@ pub(crate) fn put_last<T: Drop, A: Allocator>(items: &mut Vec<T, A>, item: T)
     items.push(item).unwrap();
 }
 
+/// Puts a name last that is not there, in the room that there is.
+fn put_name<A: Allocator + Copy>(names: &mut NameSet<A>, name: NodeName)
+    requires room { 0 < spare names.old }
+    requires absent { has_name names.old.keys name ≡ false }
+    ensures { names.new.keys ≡ names.old.keys ++ name ∷ [] }
+{
+    let _ = names.insert(name).unwrap();
+}
+
 /// Puts a node in the place of the one of its name, or last where there is none, in the room that there is.
-fn put_node<C: Drop, A: Allocator>(nodes: &mut Vec<NodeState<C>, A>, node: NodeState<C>)
-    requires { vec_len nodes.old < vec_capacity nodes.old }
-    ensures { nodes.new.items ≡ put_node node nodes.old.items }
-{
-    match place_of(nodes.as_slice(), &node.name) {
-        Some(at) => nodes[at] = node,
-        None => put_last(nodes, node),
-    }
-}
-
-/// Puts the node that changes, if one does, in the room that there is.
-pub(crate) fn change<C: Drop, A: Allocator>(
+fn put_node<C: Drop, A: Allocator + Copy>(
+    names: &mut NameSet<A>,
     nodes: &mut Vec<NodeState<C>, A>,
-    node: Option<NodeState<C>>,
+    node: NodeState<C>,
 )
-    requires { vec_len nodes.old < vec_capacity nodes.old }
-    ensures { nodes.new.items ≡ nodes_after node nodes.old.items }
+    requires named { names.old.keys ≡ names_of nodes.old.items }
+    requires room { vec_len nodes.old < vec_capacity nodes.old }
+    requires spare { 0 < spare names.old }
+    ensures nodes { nodes.new.items ≡ put_node node nodes.old.items }
+    ensures named { names.new.keys ≡ names_of nodes.new.items }
 {
-    if let Some(node) = node {
-        put_node(nodes, node);
+    match place_of(names, &node.name) {
+        Some(at) => nodes[at] = node,
+        None => {
+            put_name(names, node.name);
+            put_last(nodes, node);
+        }
     }
 }
 
-/// The place of the node of this name.
-fn place_of<C>(nodes: &[NodeState<C>], name: &NodeName) -> Option<usize>
-    ensures { result ≡ position (λ node. same_name name.now node.name) nodes.now }
+/// Makes the step of a node's core that was worked out for the entry.
+fn advance<C: Core<A>, A: Allocator + Copy>(
+    nodes: &mut Vec<NodeState<C>, A>,
+    sent: &[Packet<C::Note>],
+    entry: &Entry<A>,
+    at: usize,
+    turn: C::Turn,
+) -> Result<(), AllocError>
+    requires { CanStep C.is_turn nodes.old.items sent.now entry.now at turn }
+    ensures ok { OnOk result (nodes.new.items ≡ nodes_after (changed C.after nodes.old.items sent.now entry.now (Change.Step at turn)) nodes.old.items) }
+    ensures err { OnErr result (nodes.new.items ≡ nodes.old.items) }
+    ensures names { names_of nodes.new.items ≡ names_of nodes.old.items }
 {
-    nodes.iter().position(|node| *name == node.name)
+    let Some(stimulus) = stimulus_by(sent, &entry.event, entry.packet) else {
+        unreachable!()
+    };
+    let Some(core) = &mut nodes[at].core else {
+        unreachable!()
+    };
+    core.advance(&stimulus, turn)
 }
 
-/// Puts the packets of these places into flight, in the room that there is.
-fn launch<A: Allocator>(flight: &mut Vec<usize, A>, first: usize, last: usize)
-    requires order { first ≤ last }
-    requires room { vec_len flight.old + (last - first) ≤ vec_capacity flight.old }
-    ensures { flight.new.items ≡ flight.old.items ++ places first (last - first) }
+/// Makes the change of the nodes: all of it, or nothing where an allocation is refused.
+pub(crate) fn make_change<C: Core<A>, A: Allocator + Copy>(
+    names: &mut NameSet<A>,
+    nodes: &mut Vec<NodeState<C>, A>,
+    sent: &[Packet<C::Note>],
+    entry: &Entry<A>,
+    change: Change<C, C::Turn>,
+) -> Result<(), AllocError>
+    requires named { names.old.keys ≡ names_of nodes.old.items }
+    requires room { vec_len nodes.old < vec_capacity nodes.old }
+    requires spare { 0 < spare names.old }
+    requires ready { IsReady C.is_turn nodes.old.items sent.now entry.now change }
+    ensures ok { OnOk result (nodes.new.items ≡ nodes_after (changed C.after nodes.old.items sent.now entry.now change) nodes.old.items) }
+    ensures err { OnErr result (nodes.new.items ≡ nodes.old.items) }
+    ensures named { names.new.keys ≡ names_of nodes.new.items }
 {
-    for number in first..last {
-        put_last(flight, number);
+    match change {
+        Change::Nothing => Ok(()),
+        Change::Put(node) => {
+            put_node(names, nodes, node);
+            Ok(())
+        }
+        Change::Step { at, turn } => advance(nodes, sent, entry, at, turn),
     }
 }
 
-/// Sends the packets, and changes the flight.
+/// Sends the packets, and changes the flight, in the room that there is.
 pub(crate) fn post<N: Drop, A: Allocator>(
     sent: &mut Vec<Packet<N>, A>,
-    flight: &mut Vec<usize, A>,
+    flight: &mut Flight<A>,
     mut packets: Vec<Packet<N>, A>,
     leaving: Option<usize>,
     again: Option<usize>,
-) -> Result<(), AllocError>
-    requires { ForSome leaving (λ place. place < length flight.old.items) }
-    ensures sent { OnOk result (sent.new.items ≡ sent.old.items ++ packets.items) }
-    ensures flight { OnOk result (flight.new.items ≡ staying flight.old.items leaving ++ launched again (length sent.old.items) (length packets.items)) }
-    ensures err { OnErr result ((sent.new.items ≡ sent.old.items) × (flight.new.items ≡ flight.old.items)) }
+)
+    requires whole { flight.old.gone ≤ vec_len flight.old.numbers }
+    requires leaving { ForSome leaving (λ place. place < length (flying flight.old)) }
+    requires room { vec_len sent.old + vec_len packets ≤ vec_capacity sent.old }
+    requires places { vec_len flight.old.numbers + vec_len packets ≤ vec_capacity flight.old.numbers }
+    requires place { vec_len flight.old.numbers < vec_capacity flight.old.numbers }
+    ensures sent { sent.new.items ≡ sent.old.items ++ packets.items }
+    ensures flight { flying flight.new ≡ staying (flying flight.old) leaving ++ launched again (length sent.old.items) (length packets.items) }
+    ensures whole { flight.new.gone ≤ vec_len flight.new.numbers }
 {
     let first = sent.len();
-    flight.reserve(packets.len().max(1))?;
-    sent.append(&mut packets)?;
+    sent.append(&mut packets).unwrap();
     if let Some(place) = leaving {
         flight.remove(place);
     }
     match again {
-        Some(number) => put_last(flight, number),
-        None => launch(flight, first, sent.len()),
+        Some(number) => flight.push(number),
+        None => flight.launch(first, sent.len()),
     }
-    Ok(())
 }

@@ -1,6 +1,6 @@
 //! What the log keeps of an accepted event.
 use crate::delivery::Delivery;
-use crate::event::Event;
+use crate::event::KeptEvent;
 use node_names::Listed;
 use std::alloc::{Allocator, Global};
 use std::marker::Model;
@@ -9,7 +9,7 @@ use std::marker::Model;
 #[derive(Drop)]
 pub struct Entry<A: Allocator = Global> {
     /// The event.
-    pub event: Event<A>,
+    pub event: KeptEvent<A>,
     /// The place among all packets ever sent of the packet that the event named, if it names one.
     pub packet: Option<usize>,
     /// How many packets had been sent before the event: its own stand from there on.

@@ -1,4 +1,5 @@
 //! What can happen to a group of nodes.
+use crate::kept_dice::KeptDice;
 use bytes::Bytes;
 use node_names::{Dice, Incarnation, Listed, MsgId, NodeName};
 use std::alloc::Global;
@@ -6,9 +7,12 @@ use std::alloc::Global;
 /// An event of a group whose payloads and lists stand on the allocator `A`.
 pub type Event<A = Global> = EventOf<Bytes<A>, Listed<NodeName, A>>;
 
-/// An event, by its kind. `P` is a payload and `L` a list of names.
+/// An event as the log keeps it: dice that are all 0 take no memory.
+pub type KeptEvent<A = Global> = EventOf<Bytes<A>, Listed<NodeName, A>, KeptDice<A>>;
+
+/// An event, by its kind. `P` is a payload, `L` a list of names and `D` the dice.
 #[derive(Drop)]
-pub enum EventOf<P, L> {
+pub enum EventOf<P, L, D = Dice> {
     /// A node runs under a fresh incarnation, with `peers` as its active view. One that runs under that name is
     /// replaced.
     Start {
@@ -25,7 +29,7 @@ pub enum EventOf<P, L> {
     /// The packet at a place of the flight reaches the node that runs under its receiver's name.
     Arrive {
         place: usize,
-        dice: Dice,
+        dice: D,
     },
     /// The packet at a place of the flight is lost.
     Lose {
@@ -48,12 +52,12 @@ pub enum EventOf<P, L> {
     Down {
         name: NodeName,
         peer: NodeName,
-        dice: Dice,
+        dice: D,
     },
     /// A node's membership tick.
     Shuffle {
         name: NodeName,
-        dice: Dice,
+        dice: D,
     },
     /// A node stops, and its state is gone.
     Stop {

@@ -1,18 +1,18 @@
 //! The flooding core: each new message goes to every peer but the one that it came from.
-ghost use Rattle.std.specs.Prelude.{◌≡◌, ◌↔◌, ◌<◌, ◌+◌, ◌++◌, [], ◌∷◌, ℕ, List, Option, None, IsTrue, IfOk, IfErr, OnOk, OnErr, IsErrOf, length, map};
+ghost use Rattle.std.specs.Prelude.{◌≡◌, ◌↔◌, ◌<◌, ◌≤◌, ◌+◌, ◌++◌, [], ◌∷◌, ℕ, List, Option, None, false, IsTrue, IfOk, IfErr, OnOk, OnErr, IsErrOf, length, map};
 ghost use Rattle.std.specs.Map.{lookup};
 ghost use Rattle.indexmap.specs.IndexMap.{spare};
 ghost use Rattle.node_names.specs.Same.{same_id};
 ghost use Rattle.world.specs.Output.{Stepped};
-ghost use Rattle.world.specs.FloodCore.{FloodSteps, is_left_out, note_to, others};
+ghost use Rattle.world.specs.FloodCore.{FloodSteps, flood_after, is_left_out, is_news, note_to, others, with_news};
 
 use crate::MAX_PAYLOAD;
 use crate::delivery::Delivery;
 use crate::flood_note::FloodNote;
-use crate::names::{NameSet, set_of};
+use crate::names::{NameSet, has_name, set_of};
 use crate::out::Out;
-use crate::protocol::{Core, CoreError};
-use crate::stimulus::{Stimulus, StimulusOf};
+use crate::protocol::{Core, CoreError, Prepared};
+use crate::stimulus::{StimulusOf, StimulusRef};
 use bytes::Bytes;
 use indexmap::{IndexMap, IndexSet};
 use node_names::{Limits, MsgId, NodeName, Origin};
@@ -102,21 +102,18 @@ fn is_left_out(except: &Option<NodeName>, name: &NodeName) -> bool
     }
 }
 
-/// Delivers and holds a message that is new, and sends it to all peers but one.
-fn take<A: Allocator + Copy>(
+/// Appends the delivery of a message, and its packets to all peers but one.
+fn spread<A: Allocator + Copy>(
     me: &Origin,
     peers: &[NodeName],
-    held: &mut Held<A>,
     id: &MsgId,
     payload: &Bytes<A>,
     except: &Option<NodeName>,
     out: &mut Out<FloodNote<A>, A>,
 ) -> Result<(), AllocError>
-    requires { lookup (same_id id.now) held.old.entries ≡ None }
-    ensures held { OnOk result (held.new.entries ≡ held.old.entries ++ (id.now, payload.now) ∷ []) }
     ensures sends { OnOk result (out.new.sends ≡ out.old.sends ++ map (note_to id.now payload.now) (others except.now peers.now)) }
     ensures deliveries { OnOk result (out.new.deliveries ≡ out.old.deliveries ++ record { node = me.now; id = id.now; payload = payload.now } ∷ []) }
-    ensures err { OnErr result ((held.new.entries ≡ held.old.entries) × (out.new ≡ out.old)) }
+    ensures err { OnErr result (out.new ≡ out.old) }
 {
     let alloc = *out.sends.allocator();
     let notes = notes_for(alloc, peers, except, id, payload)?;
@@ -125,24 +122,55 @@ fn take<A: Allocator + Copy>(
         id: *id,
         payload: payload.clone()?,
     };
+    out.extend(notes, delivery)
+}
+
+/// Holds a message that is new.
+fn hold<A: Allocator + Copy>(
+    held: &mut Held<A>,
+    id: &MsgId,
+    payload: &Bytes<A>,
+) -> Result<(), AllocError>
+    requires { lookup (same_id id.now) held.old.entries ≡ None }
+    ensures ok { OnOk result (held.new.entries ≡ held.old.entries ++ (id.now, payload.now) ∷ []) }
+    ensures err { OnErr result (held.new.entries ≡ held.old.entries) }
+{
     let kept = payload.clone()?;
     held.reserve(1)?;
-    out.extend(notes, delivery)?;
     put_new(held, id, kept);
     Ok(())
 }
 
+/// A step that leaves the peers as they are.
+const fn still() -> Prepared<()>
+    ensures { result.moved ≡ false }
+{
+    Prepared {
+        turn: (),
+        moved: false,
+    }
+}
+
 impl<A: Allocator + Copy> FloodCore<A> {
-    /// Takes the core's own next message.
-    fn broadcast(
-        &mut self,
+    /// Whether the message is new, and of another run.
+    fn is_news(&self, id: &MsgId) -> bool
+        ensures { result ≡ is_news self.now id.now }
+    {
+        !self.held.contains_key(id) && id.origin != self.me
+    }
+
+    /// Works out a broadcast of the core's own next message.
+    fn prepare_broadcast(
+        &self,
         payload: &Bytes<A>,
         out: &mut Out<FloodNote<A>, A>,
-    ) -> Result<(), CoreError>
-        ensures stepped { OnOk result (Stepped FloodSteps self.old (StimulusOf.Broadcast payload.now) out.old self.new out.new) }
+    ) -> Result<Prepared<()>, CoreError>
+        ensures stepped { OnOk result (Stepped FloodSteps self.now (StimulusOf.Broadcast payload.now) out.old (flood_after self.now (StimulusOf.Broadcast payload.now)) out.new) }
+        ensures counted { OnOk result (self.now.count < u64.MAX) }
+        ensures still { IfOk result (λ prepared. prepared.moved ≡ false) }
         ensures too_long { IsErrOf result CoreError.PayloadTooLong ↔ (MAX_PAYLOAD < length payload.now) }
-        ensures spent { IsErrOf result CoreError.SeqSpent → self.old.count ≡ u64.MAX }
-        ensures err { OnErr result ((self.new ≡ self.old) × (out.new ≡ out.old)) }
+        ensures spent { IsErrOf result CoreError.SeqSpent ↔ ((length payload.now ≤ MAX_PAYLOAD) × (self.now.count ≡ u64.MAX)) }
+        ensures err { OnErr result (out.new ≡ out.old) }
     {
         if payload.len() > MAX_PAYLOAD {
             return Err(CoreError::PayloadTooLong);
@@ -154,52 +182,67 @@ impl<A: Allocator + Copy> FloodCore<A> {
             origin: self.me,
             seq,
         };
-        take(
-            &self.me,
-            self.peers.as_slice(),
-            &mut self.held,
-            &id,
-            payload,
-            &None,
-            out,
-        )?;
+        spread(&self.me, self.peers.as_slice(), &id, payload, &None, out)?;
+        Ok(still())
+    }
+
+    /// Works out what a packet's message does, if it is news.
+    fn prepare_arrival(
+        &self,
+        sender: &Origin,
+        note: &FloodNote<A>,
+        out: &mut Out<FloodNote<A>, A>,
+    ) -> Result<Prepared<()>, CoreError>
+        ensures stepped { (dice : _) → OnOk result (Stepped FloodSteps self.now (StimulusOf.Arrive sender.now note.now dice) out.old (flood_after self.now (StimulusOf.Arrive sender.now note.now dice)) out.new) }
+        ensures still { IfOk result (λ prepared. prepared.moved ≡ false) }
+        ensures refused { IfErr result (λ e. e ≡ CoreError.OutOfMemory) }
+        ensures err { OnErr result (out.new ≡ out.old) }
+    {
+        if !self.is_news(&note.id) {
+            return Ok(still());
+        }
+        let except = Some(sender.name);
+        let peers = self.peers.as_slice();
+        spread(&self.me, peers, &note.id, &note.payload, &except, out)?;
+        Ok(still())
+    }
+
+    /// Holds the core's own next message.
+    fn advance_broadcast(&mut self, payload: &Bytes<A>) -> Result<(), AllocError>
+        requires { self.old.count < u64.MAX }
+        ensures ok { OnOk result (self.new ≡ flood_after self.old (StimulusOf.Broadcast payload.now)) }
+        ensures err { OnErr result (self.new ≡ self.old) }
+    {
+        let seq = self.count + 1;
+        let id = MsgId {
+            origin: self.me,
+            seq,
+        };
+        hold(&mut self.held, &id, payload)?;
         self.count = seq;
         Ok(())
     }
 
-    /// Takes the packet's message if it is news.
-    fn arrive(
-        &mut self,
-        sender: &Origin,
-        note: &FloodNote<A>,
-        out: &mut Out<FloodNote<A>, A>,
-    ) -> Result<(), CoreError>
-        ensures stepped { (dice : _) → OnOk result (Stepped FloodSteps self.old (StimulusOf.Arrive sender.now note.now dice) out.old self.new out.new) }
-        ensures refused { IfErr result (λ e. e ≡ CoreError.OutOfMemory) }
-        ensures err { OnErr result ((self.new ≡ self.old) × (out.new ≡ out.old)) }
+    /// Holds a packet's message, if it is news.
+    fn advance_arrival(&mut self, note: &FloodNote<A>) -> Result<(), AllocError>
+        ensures ok { OnOk result (self.new ≡ with_news self.old note.now) }
+        ensures err { OnErr result (self.new ≡ self.old) }
     {
-        let id = note.id;
-        if id.origin == self.me || self.held.contains_key(&id) {
+        if !self.is_news(&note.id) {
             return Ok(());
         }
-        take(
-            &self.me,
-            self.peers.as_slice(),
-            &mut self.held,
-            &id,
-            &note.payload,
-            &Some(sender.name),
-            out,
-        )?;
+        hold(&mut self.held, &note.id, &note.payload)?;
         Ok(())
     }
 }
 
 impl<A: Allocator + Copy> Core<A> for FloodCore<A> {
-    ghost use Rattle.world.specs.FloodCore.{flood_state, FloodStarts, FloodSteps, FloodIsSpent, IsSoundFlooding};
+    ghost use Rattle.world.specs.FloodCore.{flood_after, flood_state, FloodStarts, FloodSteps, FloodIsSpent, IsFloodTurn, IsSoundFlooding};
     ghost use Rattle.world.specs.FloodLaws.{flood_lawful};
 
     type Note = FloodNote<A>;
+
+    type Turn = ();
 
     ghost state = { flood_state };
 
@@ -210,6 +253,10 @@ impl<A: Allocator + Copy> Core<A> for FloodCore<A> {
     ghost steps = { FloodSteps };
 
     ghost is_spent = { FloodIsSpent };
+
+    ghost after = { flood_after };
+
+    ghost is_turn = { IsFloodTurn };
 
     ghost lawful = { flood_lawful };
 
@@ -230,14 +277,30 @@ impl<A: Allocator + Copy> Core<A> for FloodCore<A> {
         })
     }
 
-    fn step(
-        &mut self,
-        stimulus: &Stimulus<FloodNote<A>, A>,
+    fn prepare(
+        &self,
+        stimulus: &StimulusRef<'_, FloodNote<A>, A>,
         out: &mut Out<FloodNote<A>, A>,
-    ) -> Result<(), CoreError> {
+    ) -> Result<Prepared<()>, CoreError> {
         match stimulus {
-            StimulusOf::Broadcast(payload) => self.broadcast(payload, out),
-            StimulusOf::Arrive { sender, note, .. } => self.arrive(sender, note, out),
+            StimulusOf::Broadcast(payload) => self.prepare_broadcast(payload, out),
+            StimulusOf::Arrive { sender, note, .. } => self.prepare_arrival(sender, note, out),
+            StimulusOf::Down { peer, .. } => Ok(Prepared {
+                turn: (),
+                moved: has_name(self.peers.as_slice(), peer),
+            }),
+            StimulusOf::Fire(_) | StimulusOf::Flush | StimulusOf::Shuffle(_) => Ok(still()),
+        }
+    }
+
+    fn advance(
+        &mut self,
+        stimulus: &StimulusRef<'_, FloodNote<A>, A>,
+        _turn: (),
+    ) -> Result<(), AllocError> {
+        match stimulus {
+            StimulusOf::Broadcast(payload) => self.advance_broadcast(payload),
+            StimulusOf::Arrive { note, .. } => self.advance_arrival(note),
             StimulusOf::Down { peer, .. } => {
                 self.peers.shift_remove(peer);
                 Ok(())

@@ -1,41 +1,78 @@
-//! Finding a node by its name.
-ghost use Rattle.std.specs.Prelude.{◌≡◌, Some, None, IfOk, IfErr, IfSome, IfNone, option_copied, slice_get};
+//! Finding a node by its name, and a packet by its place.
+ghost use Rattle.std.specs.Prelude.{◌≡◌, Some, None, IfOk, IfErr, IfSome, IfNone, option_copied, position, slice_get};
+ghost use Rattle.node_names.specs.Same.{same_name};
 ghost use Rattle.world.specs.Group.{core_of, node_of};
+ghost use Rattle.world.specs.Plan.{RunsAt, names_of};
 ghost use Rattle.world.specs.Refusals.{absent, sent_under};
 
 use crate::error::WorldError;
+use crate::names::NameSet;
 use crate::node_state::NodeState;
 use crate::packet::Packet;
 use node_names::NodeName;
+use std::alloc::Allocator;
 
-/// The node of this name.
-pub(crate) fn node_of<'a, C>(nodes: &'a [NodeState<C>], name: &NodeName) -> Option<&'a NodeState<C>>
+/// A running node.
+#[derive(Clone, Copy)]
+pub(crate) struct Running<'a, C> {
+    /// Its place among the nodes.
+    pub(crate) at: usize,
+    /// The node.
+    pub(crate) node: &'a NodeState<C>,
+    /// Its core.
+    pub(crate) core: &'a C,
+}
+
+/// The place of the name among the names of all nodes, which are in the nodes' order.
+pub(crate) fn place_of<A: Allocator>(names: &NameSet<A>, name: &NodeName) -> Option<usize>
+    ensures { result ≡ position (same_name name.now) names.now.keys }
+{
+    names.get_index_of(name)
+}
+
+/// The node of this name. `names` are the names of all nodes.
+pub(crate) fn node_of<'a, C, A: Allocator>(
+    names: &NameSet<A>,
+    nodes: &'a [NodeState<C>],
+    name: &NodeName,
+) -> Option<&'a NodeState<C>>
+    requires { names.now.keys ≡ names_of nodes.now }
     ensures { option_copied result ≡ node_of name.now nodes.now }
 {
-    nodes.iter().find(|node| *name == node.name)
+    match place_of(names, name) {
+        Some(at) => Some(&nodes[at]),
+        None => None,
+    }
 }
 
 /// The core that runs under this name.
-pub(crate) fn core_of<'a, C>(nodes: &'a [NodeState<C>], name: &NodeName) -> Option<&'a C>
-    ensures { option_copied result ≡ core_of name.now nodes.now }
-{
-    node_of(nodes, name)?.core.as_ref()
-}
-
-/// The node of this name and its core, if it runs.
-pub(crate) fn running<'a, C>(
+pub(crate) fn core_of<'a, C, A: Allocator>(
+    names: &NameSet<A>,
     nodes: &'a [NodeState<C>],
     name: &NodeName,
-) -> Result<(&'a NodeState<C>, &'a C), WorldError>
-    ensures known { IfOk result (λ found. node_of name.now nodes.now ≡ Some found.0.now) }
-    ensures running { IfOk result (λ found. found.0.now.core ≡ Some found.1.now) }
+) -> Option<&'a C>
+    requires { names.now.keys ≡ names_of nodes.now }
+    ensures { option_copied result ≡ core_of name.now nodes.now }
+{
+    node_of(names, nodes, name)?.core.as_ref()
+}
+
+/// The node that runs under this name.
+pub(crate) fn find_running<'a, C, A: Allocator>(
+    names: &NameSet<A>,
+    nodes: &'a [NodeState<C>],
+    name: &NodeName,
+) -> Result<Running<'a, C>, WorldError>
+    requires { names.now.keys ≡ names_of nodes.now }
+    ensures found { IfOk result (λ found. RunsAt name.now nodes.now found.at found.node.now found.core.now) }
     ensures absent { IfErr result (λ e. absent (node_of name.now nodes.now) ≡ Some e) }
 {
-    let Some(node) = node_of(nodes, name) else {
+    let Some(at) = place_of(names, name) else {
         return Err(WorldError::UnknownNode);
     };
+    let node = &nodes[at];
     match &node.core {
-        Some(core) => Ok((node, core)),
+        Some(core) => Ok(Running { at, node, core }),
         None => Err(WorldError::NotRunning),
     }
 }

@@ -1,28 +1,41 @@
 //! What an event will do to a group, worked out before anything changes.
-ghost use Rattle.std.specs.Prelude.{◌≡◌, ◌≤◌, ◌<◌, ◌+◌, ◌⊎◌, ◌↔◌, ◌++◌, [], ◌∷◌, ℕ, false, true, Some, None, IsTrue, IfOk, IfErr, OnOk, IsErrOf, length, map, slice_get};
+ghost use Rattle.std.specs.Prelude.{◌≡◌, ◌≤◌, ◌<◌, ◌+◌, ◌⊎◌, ◌↔◌, ◌++◌, [], ◌∷◌, ℕ, false, true, Some, None, IsTrue, IfOk, IfErr, OnOk, IsErrOf, length, map, option_map, slice_get};
 ghost use Rattle.world.specs.Group.{packets};
 ghost use Rattle.world.specs.IdentityLaw.{IsTooLong};
 ghost use Rattle.world.specs.Peers.{are_peers};
+ghost use Rattle.world.specs.Plan.{stimulus_by};
 ghost use Rattle.world.specs.Run.{SameNames};
+ghost use Rattle.world.specs.Stimulus.{lent};
 
 use crate::delivery::Delivery;
 use crate::entry::Entry;
-use crate::event::{Event, EventOf};
-use crate::names::NameSet;
+use crate::event::{Event, EventOf, KeptEvent};
+use crate::kept_dice::KeptDice;
 use crate::node_state::NodeState;
 use crate::out::Out;
 use crate::packet::Packet;
-use crate::protocol::{Core, CoreError};
-use crate::stimulus::Stimulus;
+use crate::protocol::{Core, CoreError, Prepared};
+use crate::stimulus::{StimulusOf, StimulusRef};
 use bytes::Bytes;
 use node_names::{Limits, NodeName, Origin};
 use std::alloc::{AllocError, Allocator};
 
-/// An event's whole effect on a group.
+/// What changes of the nodes.
+#[derive(Drop)]
+pub(crate) enum Change<C, T> {
+    /// Nothing.
+    Nothing,
+    /// This node is put in the place of the one of its name, or last.
+    Put(NodeState<C>),
+    /// The core of the node at this place makes the step that was worked out.
+    Step { at: usize, turn: T },
+}
+
+/// An event's whole effect on a group, worked out and not yet made.
 #[derive(Drop)]
 pub(crate) struct Plan<C: Core<A>, A: Allocator> {
-    /// The node that changes, as it will be.
-    pub(crate) node: Option<NodeState<C>>,
+    /// What changes of the nodes.
+    pub(crate) change: Change<C, C::Turn>,
     /// The packets that are sent.
     pub(crate) packets: Vec<Packet<C::Note>, A>,
     /// The place of the flight that is left.
@@ -33,16 +46,16 @@ pub(crate) struct Plan<C: Core<A>, A: Allocator> {
     pub(crate) entry: Entry<A>,
 }
 
-/// A core's step on a copy of it.
+/// A core's step, worked out.
 #[derive(Drop)]
 pub(crate) struct CoreStep<C: Core<A>, A: Allocator> {
-    /// The core after the step.
-    pub(crate) core: C,
+    /// What the core keeps of it.
+    pub(crate) turn: C::Turn,
     /// What it sends.
     pub(crate) sends: Vec<(NodeName, C::Note), A>,
     /// What it delivers.
     pub(crate) given: Vec<Delivery<A>, A>,
-    /// Whether its active view is another set.
+    /// Whether its active view will be another set.
     pub(crate) moved: bool,
 }
 
@@ -76,35 +89,61 @@ pub(crate) fn start_core<C: Core<A>, A: Allocator + Copy>(
     })
 }
 
-/// Steps a copy of the core.
-pub(crate) fn step_copy<C: Core<A>, A: Allocator + Copy>(
+/// Works out a core's step.
+pub(crate) fn prepare_step<C: Core<A>, A: Allocator + Copy>(
     alloc: A,
     core: &C,
-    stimulus: &Stimulus<C::Note, A>,
+    stimulus: &StimulusRef<'_, C::Note, A>,
 ) -> Result<CoreStep<C, A>, CoreError>
-    ensures stepped { IfOk result (λ step. C.steps core.now stimulus.now step.sends.items step.given.items step.core) }
-    ensures moved { IfOk result (λ step. (step.moved ≡ false) ↔ SameNames (C.state core.now).active (C.state step.core).active) }
-    ensures too_long { IsErrOf result CoreError.PayloadTooLong → IsTooLong stimulus.now }
-    ensures spent { IsErrOf result CoreError.SeqSpent → C.is_spent core.now stimulus.now }
+    ensures turn { IfOk result (λ step. C.is_turn core.now (lent stimulus.now) step.turn) }
+    ensures stepped { IfOk result (λ step. C.steps core.now (lent stimulus.now) step.sends.items step.given.items (C.after core.now (lent stimulus.now))) }
+    ensures moved { IfOk result (λ step. (step.moved ≡ false) ↔ SameNames (C.state core.now).active (C.state (C.after core.now (lent stimulus.now))).active) }
+    ensures too_long { IsErrOf result CoreError.PayloadTooLong → IsTooLong (lent stimulus.now) }
+    ensures spent { IsErrOf result CoreError.SeqSpent → C.is_spent core.now (lent stimulus.now) }
 {
-    let mut next = core.copy()?;
     let mut out = Out::new(alloc);
-    next.step(stimulus, &mut out)?;
-    let moved = !are_same(core.active(), next.active());
+    let Prepared { turn, moved } = core.prepare(stimulus, &mut out)?;
     let Out { sends, deliveries } = out;
+    let mut given = deliveries.into_vec();
+    given.shrink_to_fit();
     Ok(CoreStep {
-        core: next,
+        turn,
         sends: sends.into_vec(),
-        given: deliveries.into_vec(),
+        given,
         moved,
     })
 }
 
-/// Whether two sets have the same names.
-fn are_same<A: Allocator>(names: &NameSet<A>, others: &NameSet<A>) -> bool
-    ensures { IsTrue result ↔ SameNames names.now.keys others.now.keys }
+/// The stimulus that an event is to the core that it steps. Of an arrival, `packet` is the packet's number.
+pub(crate) fn stimulus_by<'a, N, A: Allocator>(
+    sent: &'a [Packet<N>],
+    event: &'a KeptEvent<A>,
+    packet: Option<usize>,
+) -> Option<StimulusRef<'a, N, A>>
+    ensures { option_map lent result ≡ stimulus_by sent.now event.now packet }
 {
-    names.is_subset(others) && others.is_subset(names)
+    match event {
+        EventOf::Broadcast { payload, .. } => Some(StimulusOf::Broadcast(payload)),
+        EventOf::Arrive { dice, .. } => {
+            let packet = sent.get(packet?)?;
+            Some(StimulusOf::Arrive {
+                sender: packet.sender,
+                note: &packet.note,
+                dice: dice.get(),
+            })
+        }
+        EventOf::Fire { id, .. } => Some(StimulusOf::Fire(*id)),
+        EventOf::Flush { .. } => Some(StimulusOf::Flush),
+        EventOf::Down { peer, dice, .. } => Some(StimulusOf::Down {
+            peer: *peer,
+            dice: dice.get(),
+        }),
+        EventOf::Shuffle { dice, .. } => Some(StimulusOf::Shuffle(dice.get())),
+        EventOf::Start { .. }
+        | EventOf::Lose { .. }
+        | EventOf::Again { .. }
+        | EventOf::Stop { .. } => None,
+    }
 }
 
 /// The packets that the sender's sends make.
@@ -122,7 +161,7 @@ pub(crate) fn packets_of<N: Drop, A: Allocator + Copy>(
         .collect(alloc)
 }
 
-/// The same deliveries once more.
+/// A copy of the deliveries.
 pub(crate) fn copy_deliveries<A: Allocator + Copy>(
     alloc: A,
     given: &[Delivery<A>],
@@ -136,7 +175,7 @@ pub(crate) fn copy_deliveries<A: Allocator + Copy>(
     Ok(copies)
 }
 
-/// The same delivery once more.
+/// A copy of the delivery, which shares its payload.
 pub(crate) fn copy_delivery<A: Allocator>(delivery: &Delivery<A>) -> Result<Delivery<A>, AllocError>
     ensures { IfOk result (λ copy. copy ≡ delivery.now) }
 {
@@ -147,9 +186,12 @@ pub(crate) fn copy_delivery<A: Allocator>(delivery: &Delivery<A>) -> Result<Deli
     })
 }
 
-/// The same event once more.
-pub(crate) fn copy_event<A: Allocator + Copy>(event: &Event<A>) -> Result<Event<A>, AllocError>
-    ensures { IfOk result (λ copy. copy ≡ event.now) }
+/// The event as the log keeps it, which shares its payload.
+pub(crate) fn keep_event<A: Allocator + Copy>(
+    alloc: A,
+    event: &Event<A>,
+) -> Result<KeptEvent<A>, AllocError>
+    ensures { IfOk result (λ kept. kept ≡ event.now) }
 {
     Ok(match event {
         EventOf::Start {
@@ -169,7 +211,7 @@ pub(crate) fn copy_event<A: Allocator + Copy>(event: &Event<A>) -> Result<Event<
         },
         EventOf::Arrive { place, dice } => EventOf::Arrive {
             place: *place,
-            dice: *dice,
+            dice: KeptDice::new(alloc, dice)?,
         },
         EventOf::Lose { place } => EventOf::Lose { place: *place },
         EventOf::Again { number } => EventOf::Again { number: *number },
@@ -181,11 +223,11 @@ pub(crate) fn copy_event<A: Allocator + Copy>(event: &Event<A>) -> Result<Event<
         EventOf::Down { name, peer, dice } => EventOf::Down {
             name: *name,
             peer: *peer,
-            dice: *dice,
+            dice: KeptDice::new(alloc, dice)?,
         },
         EventOf::Shuffle { name, dice } => EventOf::Shuffle {
             name: *name,
-            dice: *dice,
+            dice: KeptDice::new(alloc, dice)?,
         },
         EventOf::Stop { name } => EventOf::Stop { name: *name },
     })

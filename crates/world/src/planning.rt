@@ -3,21 +3,21 @@ ghost use Rattle.std.specs.Prelude.{◌≡◌, ◌⊎◌, ◌<◌, [], false, So
 ghost use Rattle.std.specs.Option.{ForSome};
 ghost use Rattle.world.specs.Group.{node_of};
 ghost use Rattle.world.specs.IdentityLaw.{IsTooLong};
-ghost use Rattle.world.specs.Plan.{group_after, staying};
-ghost use Rattle.world.specs.Refusals.{IsRefusal, refusal, stale};
+ghost use Rattle.world.specs.Plan.{IsReady, RunsAt, planned, staying, stimulus_by};
+ghost use Rattle.world.specs.Refusals.{IsRefusal, absent, refusal, stale};
 ghost use Rattle.world.specs.Run.{Acts, Tells};
+ghost use Rattle.world.specs.Stimulus.{lent};
 
 use crate::MAX_PAYLOAD;
 use crate::entry::Entry;
 use crate::error::WorldError;
 use crate::event::{Event, EventOf};
-use crate::lookup::{node_of, number_at, packet_at, running};
+use crate::lookup::{Running, find_running, node_of, number_at, packet_at};
 use crate::names::are_peers;
 use crate::node_state::NodeState;
-use crate::plan::{Plan, copy_event, packets_of, start_core, step_copy};
+use crate::plan::{Change, Plan, keep_event, packets_of, prepare_step, start_core};
 use crate::protocol::Core;
-use crate::stimulus::{Stimulus, StimulusOf};
-use crate::wire::Wire;
+use crate::stimulus::{StimulusOf, StimulusRef};
 use crate::world::World;
 use bytes::Bytes;
 use node_names::{Dice, Incarnation, Listed, MsgId, NodeName, Origin};
@@ -26,8 +26,9 @@ use std::alloc::{AllocError, Allocator};
 impl<C: Core<A>, A: Allocator + Copy> World<C, A> {
     /// The plan of an event.
     pub(crate) fn plan(&self, event: &Event<A>) -> Result<Plan<C, A>, WorldError>
-        ensures tells { IfOk result (λ plan. Tells C.state C.starts C.steps self.now.limits event.now self.now.group plan.entry (group_after self.now.group plan.node plan.packets.items plan.leaving plan.again)) }
+        ensures tells { IfOk result (λ plan. Tells C.state C.starts C.steps self.now.limits event.now self.now.group plan.entry (planned C.after self.now.group plan.entry plan.change plan.packets.items plan.leaving plan.again)) }
         ensures leaving { IfOk result (λ plan. ForSome plan.leaving (λ place. place < length self.now.group.flight)) }
+        ensures ready { IfOk result (λ plan. IsReady C.is_turn self.now.group.nodes self.now.group.sent plan.entry plan.change) }
         ensures refused { IfErr result (IsRefusal C.is_spent self.now.limits self.now.group event.now) }
         ensures accepted { OnOk result (refusal self.now.limits self.now.group event.now ≡ None) }
     {
@@ -50,45 +51,65 @@ impl<C: Core<A>, A: Allocator + Copy> World<C, A> {
         }
     }
 
+    /// Refuses an origin that is no fresh run of its node.
+    fn is_fresh(&self, me: &Origin) -> Result<(), WorldError>
+        ensures ok { OnOk result (stale (node_of me.now.name self.now.group.nodes) me.now.incarnation ≡ None) }
+        ensures stale { IfErr result (λ e. stale (node_of me.now.name self.now.group.nodes) me.now.incarnation ≡ Some e) }
+    {
+        match node_of(&self.names, &self.nodes, &me.name) {
+            Some(node) if node.highest >= me.incarnation => Err(WorldError::StaleIncarnation {
+                highest: node.highest,
+            }),
+            _ => Ok(()),
+        }
+    }
+
+    /// The node that runs under the name.
+    fn find_running(&self, name: &NodeName) -> Result<Running<'_, C>, WorldError>
+        ensures found { IfOk result (λ found. RunsAt name.now self.now.group.nodes found.at found.node.now found.core.now) }
+        ensures absent { IfErr result (λ e. absent (node_of name.now self.now.group.nodes) ≡ Some e) }
+    {
+        find_running(&self.names, &self.nodes, name)
+    }
+
     /// The plan of a step of a running node's core.
     fn plan_step(
         &self,
         name: &NodeName,
-        node: &NodeState<C>,
-        core: &C,
-        stimulus: &Stimulus<C::Note, A>,
+        found: &Running<'_, C>,
+        stimulus: &StimulusRef<'_, C::Note, A>,
         event: &Event<A>,
         packet: Option<usize>,
         leaving: Option<usize>,
     ) -> Result<Plan<C, A>, WorldError>
-        requires known { node_of name.now self.now.group.nodes ≡ Some node.now }
-        requires running { node.now.core ≡ Some core.now }
-        requires fits { IsTooLong stimulus.now → ⊥ }
+        requires found { RunsAt name.now self.now.group.nodes found.now.at found.now.node.now found.now.core.now }
+        requires told { stimulus_by self.now.group.sent event.now packet ≡ Some (lent stimulus.now) }
+        requires fits { IsTooLong (lent stimulus.now) → ⊥ }
         ensures event { IfOk result (λ plan. plan.entry.event ≡ event.now) }
         ensures packet { IfOk result (λ plan. plan.entry.packet ≡ packet) }
         ensures first_sent { IfOk result (λ plan. plan.entry.first_sent ≡ length self.now.group.sent) }
         ensures leaving { IfOk result (λ plan. plan.leaving ≡ leaving) }
-        ensures acts { IfOk result (λ plan. Acts C.state C.steps self.now.group (staying self.now.group.flight leaving) name.now stimulus.now plan.entry (group_after self.now.group plan.node plan.packets.items plan.leaving plan.again)) }
-        ensures refused { IfErr result (λ e. (e ≡ WorldError.OutOfMemory) ⊎ ((e ≡ WorldError.SeqSpent) × C.is_spent core.now stimulus.now)) }
+        ensures acts { IfOk result (λ plan. Acts C.state C.steps self.now.group (staying self.now.group.flight leaving) name.now (lent stimulus.now) plan.entry (planned C.after self.now.group plan.entry plan.change plan.packets.items plan.leaving plan.again)) }
+        ensures ready { IfOk result (λ plan. IsReady C.is_turn self.now.group.nodes self.now.group.sent plan.entry plan.change) }
+        ensures refused { IfErr result (λ e. (e ≡ WorldError.OutOfMemory) ⊎ ((e ≡ WorldError.SeqSpent) × C.is_spent found.now.core.now (lent stimulus.now))) }
     {
         let alloc = self.allocator();
         let sender = Origin {
-            name: node.name,
-            incarnation: node.highest,
+            name: found.node.name,
+            incarnation: found.node.highest,
         };
-        let step = step_copy(alloc, core, stimulus)?;
+        let step = prepare_step(alloc, found.core, stimulus)?;
         let packets = packets_of(alloc, &sender, step.sends)?;
         Ok(Plan {
-            node: Some(NodeState {
-                name: node.name,
-                highest: node.highest,
-                core: Some(step.core),
-            }),
+            change: Change::Step {
+                at: found.at,
+                turn: step.turn,
+            },
             packets,
             leaving,
             again: None,
             entry: Entry {
-                event: copy_event(event)?,
+                event: keep_event(self.allocator(), event)?,
                 packet,
                 first_sent: self.sent().len(),
                 moved: step.moved,
@@ -107,8 +128,9 @@ impl<C: Core<A>, A: Allocator + Copy> World<C, A> {
         event: &Event<A>,
     ) -> Result<Plan<C, A>, WorldError>
         requires { event.now ≡ EventOf.Start name.now incarnation.now peers.now contact.now }
-        ensures tells { IfOk result (λ plan. Tells C.state C.starts C.steps self.now.limits event.now self.now.group plan.entry (group_after self.now.group plan.node plan.packets.items plan.leaving plan.again)) }
+        ensures tells { IfOk result (λ plan. Tells C.state C.starts C.steps self.now.limits event.now self.now.group plan.entry (planned C.after self.now.group plan.entry plan.change plan.packets.items plan.leaving plan.again)) }
         ensures leaving { IfOk result (λ plan. ForSome plan.leaving (λ place. place < length self.now.group.flight)) }
+        ensures ready { IfOk result (λ plan. IsReady C.is_turn self.now.group.nodes self.now.group.sent plan.entry plan.change) }
         ensures refused { IfErr result (IsRefusal C.is_spent self.now.limits self.now.group event.now) }
         ensures accepted { OnOk result (refusal self.now.limits self.now.group event.now ≡ None) }
     {
@@ -117,7 +139,7 @@ impl<C: Core<A>, A: Allocator + Copy> World<C, A> {
             incarnation: *incarnation,
         };
         let peers = peers.as_slice();
-        is_fresh(self.nodes(), &me)?;
+        self.is_fresh(&me)?;
         if !are_peers(&self.limits(), name, peers, contact) {
             return Err(WorldError::BadPeers);
         }
@@ -125,7 +147,7 @@ impl<C: Core<A>, A: Allocator + Copy> World<C, A> {
         let start = start_core::<C, A>(alloc, &me, self.limits(), peers, contact)?;
         let packets = packets_of(alloc, &me, start.sends)?;
         Ok(Plan {
-            node: Some(NodeState {
+            change: Change::Put(NodeState {
                 name: *name,
                 highest: *incarnation,
                 core: Some(start.core),
@@ -142,7 +164,7 @@ impl<C: Core<A>, A: Allocator + Copy> World<C, A> {
         ensures { IfOk result (λ entry. entry ≡ record { event = event.now; packet = packet; first_sent = length self.now.group.sent; moved = false; given = [] }) }
     {
         Ok(Entry {
-            event: copy_event(event)?,
+            event: keep_event(self.allocator(), event)?,
             packet,
             first_sent: self.sent().len(),
             moved: false,
@@ -158,17 +180,18 @@ impl<C: Core<A>, A: Allocator + Copy> World<C, A> {
         event: &Event<A>,
     ) -> Result<Plan<C, A>, WorldError>
         requires { event.now ≡ EventOf.Broadcast name.now payload.now }
-        ensures tells { IfOk result (λ plan. Tells C.state C.starts C.steps self.now.limits event.now self.now.group plan.entry (group_after self.now.group plan.node plan.packets.items plan.leaving plan.again)) }
+        ensures tells { IfOk result (λ plan. Tells C.state C.starts C.steps self.now.limits event.now self.now.group plan.entry (planned C.after self.now.group plan.entry plan.change plan.packets.items plan.leaving plan.again)) }
         ensures leaving { IfOk result (λ plan. ForSome plan.leaving (λ place. place < length self.now.group.flight)) }
+        ensures ready { IfOk result (λ plan. IsReady C.is_turn self.now.group.nodes self.now.group.sent plan.entry plan.change) }
         ensures refused { IfErr result (IsRefusal C.is_spent self.now.limits self.now.group event.now) }
         ensures accepted { OnOk result (refusal self.now.limits self.now.group event.now ≡ None) }
     {
-        let (node, core) = running(self.nodes(), name)?;
+        let found = self.find_running(name)?;
         if payload.len() > MAX_PAYLOAD {
             return Err(WorldError::PayloadTooLong);
         }
-        let stimulus = StimulusOf::Broadcast(payload.clone()?);
-        let plan = self.plan_step(name, node, core, &stimulus, event, None, None)?;
+        let stimulus = StimulusOf::Broadcast(payload);
+        let plan = self.plan_step(name, &found, &stimulus, event, None, None)?;
         Ok(plan)
     }
 
@@ -180,24 +203,24 @@ impl<C: Core<A>, A: Allocator + Copy> World<C, A> {
         event: &Event<A>,
     ) -> Result<Plan<C, A>, WorldError>
         requires { event.now ≡ EventOf.Arrive place dice.now }
-        ensures tells { IfOk result (λ plan. Tells C.state C.starts C.steps self.now.limits event.now self.now.group plan.entry (group_after self.now.group plan.node plan.packets.items plan.leaving plan.again)) }
+        ensures tells { IfOk result (λ plan. Tells C.state C.starts C.steps self.now.limits event.now self.now.group plan.entry (planned C.after self.now.group plan.entry plan.change plan.packets.items plan.leaving plan.again)) }
         ensures leaving { IfOk result (λ plan. ForSome plan.leaving (λ place. place < length self.now.group.flight)) }
+        ensures ready { IfOk result (λ plan. IsReady C.is_turn self.now.group.nodes self.now.group.sent plan.entry plan.change) }
         ensures refused { IfErr result (IsRefusal C.is_spent self.now.limits self.now.group event.now) }
         ensures accepted { OnOk result (refusal self.now.limits self.now.group event.now ≡ None) }
     {
         let Some((number, packet)) = packet_at(self.flight(), self.sent(), place) else {
             return Err(WorldError::NoPacket);
         };
-        let (node, core) = running(self.nodes(), &packet.to)?;
+        let found = self.find_running(&packet.to)?;
         let stimulus = StimulusOf::Arrive {
             sender: packet.sender,
-            note: packet.note.copy()?,
+            note: &packet.note,
             dice: *dice,
         };
         let plan = self.plan_step(
             &packet.to,
-            node,
-            core,
+            &found,
             &stimulus,
             event,
             Some(number),
@@ -209,8 +232,9 @@ impl<C: Core<A>, A: Allocator + Copy> World<C, A> {
     /// The plan of a loss.
     fn plan_lose(&self, place: usize, event: &Event<A>) -> Result<Plan<C, A>, WorldError>
         requires { event.now ≡ EventOf.Lose place }
-        ensures tells { IfOk result (λ plan. Tells C.state C.starts C.steps self.now.limits event.now self.now.group plan.entry (group_after self.now.group plan.node plan.packets.items plan.leaving plan.again)) }
+        ensures tells { IfOk result (λ plan. Tells C.state C.starts C.steps self.now.limits event.now self.now.group plan.entry (planned C.after self.now.group plan.entry plan.change plan.packets.items plan.leaving plan.again)) }
         ensures leaving { IfOk result (λ plan. ForSome plan.leaving (λ place. place < length self.now.group.flight)) }
+        ensures ready { IfOk result (λ plan. IsReady C.is_turn self.now.group.nodes self.now.group.sent plan.entry plan.change) }
         ensures refused { IfErr result (IsRefusal C.is_spent self.now.limits self.now.group event.now) }
         ensures accepted { OnOk result (refusal self.now.limits self.now.group event.now ≡ None) }
     {
@@ -218,7 +242,7 @@ impl<C: Core<A>, A: Allocator + Copy> World<C, A> {
             return Err(WorldError::NoPacket);
         };
         Ok(Plan {
-            node: None,
+            change: Change::Nothing,
             packets: Vec::new(self.allocator()),
             leaving: Some(place),
             again: None,
@@ -229,8 +253,9 @@ impl<C: Core<A>, A: Allocator + Copy> World<C, A> {
     /// The plan of a repeat.
     fn plan_again(&self, number: usize, event: &Event<A>) -> Result<Plan<C, A>, WorldError>
         requires { event.now ≡ EventOf.Again number }
-        ensures tells { IfOk result (λ plan. Tells C.state C.starts C.steps self.now.limits event.now self.now.group plan.entry (group_after self.now.group plan.node plan.packets.items plan.leaving plan.again)) }
+        ensures tells { IfOk result (λ plan. Tells C.state C.starts C.steps self.now.limits event.now self.now.group plan.entry (planned C.after self.now.group plan.entry plan.change plan.packets.items plan.leaving plan.again)) }
         ensures leaving { IfOk result (λ plan. ForSome plan.leaving (λ place. place < length self.now.group.flight)) }
+        ensures ready { IfOk result (λ plan. IsReady C.is_turn self.now.group.nodes self.now.group.sent plan.entry plan.change) }
         ensures refused { IfErr result (IsRefusal C.is_spent self.now.limits self.now.group event.now) }
         ensures accepted { OnOk result (refusal self.now.limits self.now.group event.now ≡ None) }
     {
@@ -238,7 +263,7 @@ impl<C: Core<A>, A: Allocator + Copy> World<C, A> {
             return Err(WorldError::NoPacket);
         }
         Ok(Plan {
-            node: None,
+            change: Change::Nothing,
             packets: Vec::new(self.allocator()),
             leaving: None,
             again: Some(number),
@@ -254,28 +279,30 @@ impl<C: Core<A>, A: Allocator + Copy> World<C, A> {
         event: &Event<A>,
     ) -> Result<Plan<C, A>, WorldError>
         requires { event.now ≡ EventOf.Fire name.now id.now }
-        ensures tells { IfOk result (λ plan. Tells C.state C.starts C.steps self.now.limits event.now self.now.group plan.entry (group_after self.now.group plan.node plan.packets.items plan.leaving plan.again)) }
+        ensures tells { IfOk result (λ plan. Tells C.state C.starts C.steps self.now.limits event.now self.now.group plan.entry (planned C.after self.now.group plan.entry plan.change plan.packets.items plan.leaving plan.again)) }
         ensures leaving { IfOk result (λ plan. ForSome plan.leaving (λ place. place < length self.now.group.flight)) }
+        ensures ready { IfOk result (λ plan. IsReady C.is_turn self.now.group.nodes self.now.group.sent plan.entry plan.change) }
         ensures refused { IfErr result (IsRefusal C.is_spent self.now.limits self.now.group event.now) }
         ensures accepted { OnOk result (refusal self.now.limits self.now.group event.now ≡ None) }
     {
-        let (node, core) = running(self.nodes(), name)?;
+        let found = self.find_running(name)?;
         let stimulus = StimulusOf::Fire(*id);
-        let plan = self.plan_step(name, node, core, &stimulus, event, None, None)?;
+        let plan = self.plan_step(name, &found, &stimulus, event, None, None)?;
         Ok(plan)
     }
 
     /// The plan of a flush.
     fn plan_flush(&self, name: &NodeName, event: &Event<A>) -> Result<Plan<C, A>, WorldError>
         requires { event.now ≡ EventOf.Flush name.now }
-        ensures tells { IfOk result (λ plan. Tells C.state C.starts C.steps self.now.limits event.now self.now.group plan.entry (group_after self.now.group plan.node plan.packets.items plan.leaving plan.again)) }
+        ensures tells { IfOk result (λ plan. Tells C.state C.starts C.steps self.now.limits event.now self.now.group plan.entry (planned C.after self.now.group plan.entry plan.change plan.packets.items plan.leaving plan.again)) }
         ensures leaving { IfOk result (λ plan. ForSome plan.leaving (λ place. place < length self.now.group.flight)) }
+        ensures ready { IfOk result (λ plan. IsReady C.is_turn self.now.group.nodes self.now.group.sent plan.entry plan.change) }
         ensures refused { IfErr result (IsRefusal C.is_spent self.now.limits self.now.group event.now) }
         ensures accepted { OnOk result (refusal self.now.limits self.now.group event.now ≡ None) }
     {
-        let (node, core) = running(self.nodes(), name)?;
+        let found = self.find_running(name)?;
         let stimulus = StimulusOf::Flush;
-        let plan = self.plan_step(name, node, core, &stimulus, event, None, None)?;
+        let plan = self.plan_step(name, &found, &stimulus, event, None, None)?;
         Ok(plan)
     }
 
@@ -288,17 +315,18 @@ impl<C: Core<A>, A: Allocator + Copy> World<C, A> {
         event: &Event<A>,
     ) -> Result<Plan<C, A>, WorldError>
         requires { event.now ≡ EventOf.Down name.now peer.now dice.now }
-        ensures tells { IfOk result (λ plan. Tells C.state C.starts C.steps self.now.limits event.now self.now.group plan.entry (group_after self.now.group plan.node plan.packets.items plan.leaving plan.again)) }
+        ensures tells { IfOk result (λ plan. Tells C.state C.starts C.steps self.now.limits event.now self.now.group plan.entry (planned C.after self.now.group plan.entry plan.change plan.packets.items plan.leaving plan.again)) }
         ensures leaving { IfOk result (λ plan. ForSome plan.leaving (λ place. place < length self.now.group.flight)) }
+        ensures ready { IfOk result (λ plan. IsReady C.is_turn self.now.group.nodes self.now.group.sent plan.entry plan.change) }
         ensures refused { IfErr result (IsRefusal C.is_spent self.now.limits self.now.group event.now) }
         ensures accepted { OnOk result (refusal self.now.limits self.now.group event.now ≡ None) }
     {
-        let (node, core) = running(self.nodes(), name)?;
+        let found = self.find_running(name)?;
         let stimulus = StimulusOf::Down {
             peer: *peer,
             dice: *dice,
         };
-        let plan = self.plan_step(name, node, core, &stimulus, event, None, None)?;
+        let plan = self.plan_step(name, &found, &stimulus, event, None, None)?;
         Ok(plan)
     }
 
@@ -310,30 +338,32 @@ impl<C: Core<A>, A: Allocator + Copy> World<C, A> {
         event: &Event<A>,
     ) -> Result<Plan<C, A>, WorldError>
         requires { event.now ≡ EventOf.Shuffle name.now dice.now }
-        ensures tells { IfOk result (λ plan. Tells C.state C.starts C.steps self.now.limits event.now self.now.group plan.entry (group_after self.now.group plan.node plan.packets.items plan.leaving plan.again)) }
+        ensures tells { IfOk result (λ plan. Tells C.state C.starts C.steps self.now.limits event.now self.now.group plan.entry (planned C.after self.now.group plan.entry plan.change plan.packets.items plan.leaving plan.again)) }
         ensures leaving { IfOk result (λ plan. ForSome plan.leaving (λ place. place < length self.now.group.flight)) }
+        ensures ready { IfOk result (λ plan. IsReady C.is_turn self.now.group.nodes self.now.group.sent plan.entry plan.change) }
         ensures refused { IfErr result (IsRefusal C.is_spent self.now.limits self.now.group event.now) }
         ensures accepted { OnOk result (refusal self.now.limits self.now.group event.now ≡ None) }
     {
-        let (node, core) = running(self.nodes(), name)?;
+        let found = self.find_running(name)?;
         let stimulus = StimulusOf::Shuffle(*dice);
-        let plan = self.plan_step(name, node, core, &stimulus, event, None, None)?;
+        let plan = self.plan_step(name, &found, &stimulus, event, None, None)?;
         Ok(plan)
     }
 
     /// The plan of a stop.
     fn plan_stop(&self, name: &NodeName, event: &Event<A>) -> Result<Plan<C, A>, WorldError>
         requires { event.now ≡ EventOf.Stop name.now }
-        ensures tells { IfOk result (λ plan. Tells C.state C.starts C.steps self.now.limits event.now self.now.group plan.entry (group_after self.now.group plan.node plan.packets.items plan.leaving plan.again)) }
+        ensures tells { IfOk result (λ plan. Tells C.state C.starts C.steps self.now.limits event.now self.now.group plan.entry (planned C.after self.now.group plan.entry plan.change plan.packets.items plan.leaving plan.again)) }
         ensures leaving { IfOk result (λ plan. ForSome plan.leaving (λ place. place < length self.now.group.flight)) }
+        ensures ready { IfOk result (λ plan. IsReady C.is_turn self.now.group.nodes self.now.group.sent plan.entry plan.change) }
         ensures refused { IfErr result (IsRefusal C.is_spent self.now.limits self.now.group event.now) }
         ensures accepted { OnOk result (refusal self.now.limits self.now.group event.now ≡ None) }
     {
-        let (node, _) = running(self.nodes(), name)?;
+        let found = self.find_running(name)?;
         Ok(Plan {
-            node: Some(NodeState {
-                name: node.name,
-                highest: node.highest,
+            change: Change::Put(NodeState {
+                name: found.node.name,
+                highest: found.node.highest,
                 core: None,
             }),
             packets: Vec::new(self.allocator()),
@@ -341,18 +371,5 @@ impl<C: Core<A>, A: Allocator + Copy> World<C, A> {
             again: None,
             entry: self.quiet_entry(event, None)?,
         })
-    }
-}
-
-/// Refuses an origin that is no fresh run of its node.
-fn is_fresh<C>(nodes: &[NodeState<C>], me: &Origin) -> Result<(), WorldError>
-    ensures ok { OnOk result (stale (node_of me.now.name nodes.now) me.now.incarnation ≡ None) }
-    ensures stale { IfErr result (λ e. stale (node_of me.now.name nodes.now) me.now.incarnation ≡ Some e) }
-{
-    match node_of(nodes, &me.name) {
-        Some(node) if node.highest >= me.incarnation => Err(WorldError::StaleIncarnation {
-            highest: node.highest,
-        }),
-        _ => Ok(()),
     }
 }

@@ -1,19 +1,20 @@
 //! One node's protocol as a state machine, and the laws that every such machine keeps.
-ghost use Rattle.std.specs.Prelude.{◌≡◌, ◌↔◌, ◌++◌, ℕ, List, Option, IsTrue, IfOk, IfErr, OnOk, OnErr, IsErrOf, option_copied};
+ghost use Rattle.std.specs.Prelude.{◌≡◌, ◌↔◌, ◌++◌, ℕ, false, List, Option, IsTrue, IfOk, IfErr, OnOk, OnErr, IsErrOf, option_copied};
 ghost use Rattle.node_names.specs.NodeName.{Name};
 ghost use Rattle.node_names.specs.Limits.{Limits};
 ghost use Rattle.node_names.specs.declared.ids.Origin.{Origin};
 ghost use Rattle.world.specs.CoreState.{CoreState};
 ghost use Rattle.world.specs.Delivery.{Delivery};
-ghost use Rattle.world.specs.IdentityLaw.{IsTooLong};
+ghost use Rattle.world.specs.IdentityLaw.{IsOutOfNumbers, IsTooLong};
 ghost use Rattle.world.specs.Laws.{Laws};
 ghost use Rattle.world.specs.Output.{Stepped};
 ghost use Rattle.world.specs.Peers.{are_peers};
-ghost use Rattle.world.specs.Stimulus.{Stimulus};
+ghost use Rattle.world.specs.Run.{SameNames};
+ghost use Rattle.world.specs.Stimulus.{Stimulus, lent};
 
 use crate::names::NameSet;
 use crate::out::Out;
-use crate::stimulus::Stimulus;
+use crate::stimulus::{Stimulus, StimulusRef};
 use crate::wire::Wire;
 use bytes::Bytes;
 use node_names::{Limits, MsgId, NodeName, Origin};
@@ -60,10 +61,22 @@ impl From<AllocError> for CoreError {
     }
 }
 
+/// A step that is worked out and not yet made.
+#[derive(Drop)]
+pub struct Prepared<T> {
+    /// What the core keeps for the second half of the step.
+    pub turn: T,
+    /// Whether the core's active view will be another set.
+    pub moved: bool,
+}
+
 /// A node's protocol: it starts, and then takes one stimulus after the other.
 pub trait Core<A: Allocator>: Sized + Drop {
     /// The packets that it sends.
     type Note: Wire<A>;
+
+    /// What it keeps between the two halves of a step.
+    type Turn: Drop;
 
     /// What it shows of itself.
     ghost state: { Self → CoreState };
@@ -80,6 +93,12 @@ pub trait Core<A: Allocator>: Sized + Drop {
     /// Some number that this step needs is used up.
     ghost is_spent: { Self → Stimulus Self.Note → Type 0 };
 
+    /// The core that goes on after the stimulus.
+    ghost after: { Self → Stimulus Self.Note → Self };
+
+    /// The turn is what the core keeps of this stimulus, which it does not refuse.
+    ghost is_turn: { Self → Stimulus Self.Note → Self.Turn → Type 0 };
+
     /// Starts a node with `peers` as its active view. Its only refusal is for want of memory.
     fn start(
         alloc: A,
@@ -94,6 +113,31 @@ pub trait Core<A: Allocator>: Sized + Drop {
         ensures refused { IfErr result (λ e. e ≡ CoreError.OutOfMemory) }
         ensures err { OnErr result (out.new ≡ out.old) };
 
+    /// Works a step out: appends what it sends and delivers, and changes nothing of the core. All refusals but those of memory
+    /// come here.
+    fn prepare(
+        &self,
+        stimulus: &StimulusRef<'_, Self::Note, A>,
+        out: &mut Out<Self::Note, A>,
+    ) -> Result<Prepared<Self::Turn>, CoreError>
+        ensures turn { IfOk result (λ prepared. is_turn self.now (lent stimulus.now) prepared.turn) }
+        ensures stepped { OnOk result (Stepped steps self.now (lent stimulus.now) out.old (after self.now (lent stimulus.now)) out.new) }
+        ensures moved { IfOk result (λ prepared. (prepared.moved ≡ false) ↔ SameNames (state self.now).active (state (after self.now (lent stimulus.now))).active) }
+        ensures too_long { IsErrOf result CoreError.PayloadTooLong ↔ IsTooLong (lent stimulus.now) }
+        ensures spent { IsErrOf result CoreError.SeqSpent → is_spent self.now (lent stimulus.now) }
+        ensures numbers { IsOutOfNumbers (state self.now) (lent stimulus.now) → IsErrOf result CoreError.SeqSpent }
+        ensures err { OnErr result (out.new ≡ out.old) };
+
+    /// Makes a step that was worked out on this core as it is: all of it, or nothing where an allocation is refused.
+    fn advance(
+        &mut self,
+        stimulus: &StimulusRef<'_, Self::Note, A>,
+        turn: Self::Turn,
+    ) -> Result<(), AllocError>
+        requires { is_turn self.old (lent stimulus.now) turn }
+        ensures ok { OnOk result (self.new ≡ after self.old (lent stimulus.now)) }
+        ensures err { OnErr result (self.new ≡ self.old) };
+
     /// Takes one stimulus, and appends what it sends and delivers.
     fn step(
         &mut self,
@@ -103,9 +147,22 @@ pub trait Core<A: Allocator>: Sized + Drop {
         ensures stepped { OnOk result (Stepped steps self.old stimulus.now out.old self.new out.new) }
         ensures too_long { IsErrOf result CoreError.PayloadTooLong ↔ IsTooLong stimulus.now }
         ensures spent { IsErrOf result CoreError.SeqSpent → is_spent self.old stimulus.now }
-        ensures err { OnErr result ((self.new ≡ self.old) × (out.new ≡ out.old)) };
+        ensures numbers { IsOutOfNumbers (state self.old) stimulus.now → IsErrOf result CoreError.SeqSpent }
+        ensures err { OnErr result ((self.new ≡ self.old) × (out.new ≡ out.old)) }
+    {
+        let sent = out.sends.len();
+        let delivered = out.deliveries.len();
+        let lent = stimulus.as_ref();
+        let Prepared { turn, .. } = self.prepare(&lent, out)?;
+        if self.advance(&lent, turn).is_err() {
+            out.sends.truncate(sent);
+            out.deliveries.truncate(delivered);
+            return Err(CoreError::OutOfMemory);
+        }
+        Ok(())
+    }
 
-    /// The same core once more.
+    /// A copy of the core, which costs as much as what it holds.
     fn copy(&self) -> Result<Self, AllocError>
         ensures { IfOk result (λ copy. copy ≡ self.now) };
 

@@ -1,10 +1,16 @@
 //! What makes a core step.
+ghost use Rattle.std.specs.Prelude.{◌≡◌};
+ghost use Rattle.world.specs.Stimulus.{lent};
+
 use bytes::Bytes;
 use node_names::{Dice, MsgId, NodeName, Origin};
 use std::alloc::Global;
 
 /// A stimulus whose payload stands on the allocator `A` and whose packet is an `N`.
 pub type Stimulus<N, A = Global> = StimulusOf<Bytes<A>, N>;
+
+/// A stimulus whose payload or packet stands elsewhere, as in a list of packets.
+pub type StimulusRef<'a, N, A = Global> = StimulusOf<&'a Bytes<A>, &'a N>;
 
 /// A stimulus, by its kind. `P` is a payload and `N` a packet.
 #[derive(Drop)]
@@ -21,4 +27,27 @@ pub enum StimulusOf<P, N> {
     Down { peer: NodeName, dice: Dice },
     /// The membership tick.
     Shuffle(Dice),
+}
+
+impl<P, N> StimulusOf<P, N> {
+    /// The same stimulus, its payload or packet lent.
+    pub fn as_ref(&self) -> StimulusOf<&P, &N>
+        ensures { lent result ≡ self.now }
+    {
+        match self {
+            StimulusOf::Broadcast(payload) => StimulusOf::Broadcast(payload),
+            StimulusOf::Arrive { sender, note, dice } => StimulusOf::Arrive {
+                sender: *sender,
+                note,
+                dice: *dice,
+            },
+            StimulusOf::Fire(id) => StimulusOf::Fire(*id),
+            StimulusOf::Flush => StimulusOf::Flush,
+            StimulusOf::Down { peer, dice } => StimulusOf::Down {
+                peer: *peer,
+                dice: *dice,
+            },
+            StimulusOf::Shuffle(dice) => StimulusOf::Shuffle(*dice),
+        }
+    }
 }

@@ -4,10 +4,13 @@ ghost use Rattle.world.specs.Group.{core_of};
 ghost use Rattle.world.specs.Headline.{Headline};
 
 use crate::entry::Entry;
+use crate::flight::Flight;
 use crate::lookup::core_of;
+use crate::names::NameSet;
 use crate::node_state::NodeState;
 use crate::packet::Packet;
 use crate::protocol::Core;
+use indexmap::IndexSet;
 use node_names::{Limits, NodeName};
 use std::alloc::{Allocator, Global};
 use std::marker::Model;
@@ -16,22 +19,27 @@ use std::marker::Model;
 #[derive(Drop)]
 pub struct World<C: Core<A>, A: Allocator = Global> {
     pub(crate) limits: Limits,
+    /// The names of the nodes, in their order, to find them by.
+    pub(crate) names: NameSet<A>,
     pub(crate) nodes: Vec<NodeState<C>, A>,
     pub(crate) sent: Vec<Packet<C::Note>, A>,
-    pub(crate) flight: Vec<usize, A>,
+    pub(crate) flight: Flight<A>,
     pub(crate) log: Vec<Entry<A>, A>,
 }
 
 impl<C: Core<A>, A: Allocator> Model for World<C, A> {
-    ghost use Rattle.std.specs.Prelude.{reverse};
+    ghost use Rattle.std.specs.Prelude.{◌≡◌, ◌≤◌, reverse, vec_len};
+    ghost use Rattle.world.specs.Flight.{flying};
     ghost use Rattle.world.specs.Group.{Logged};
+    ghost use Rattle.world.specs.Plan.{names_of};
     ghost use Rattle.world.specs.Run.{Run};
 
     ghost Value = { Logged C C.Note };
 
-    ghost view = { λ w. record { limits = w.limits; group = record { nodes = w.nodes.items; sent = w.sent.items; flight = w.flight.items }; log = w.log.items } };
+    ghost view = { λ w. record { limits = w.limits; group = record { nodes = w.nodes.items; sent = w.sent.items; flight = flying w.flight }; log = w.log.items } };
 
-    ghost invariant = { λ w. Run C.state C.starts C.steps w.limits (reverse w.log.items) (record { nodes = w.nodes.items; sent = w.sent.items; flight = w.flight.items }) };
+    ghost invariant = { λ w. Run C.state C.starts C.steps w.limits (reverse w.log.items) (record { nodes = w.nodes.items; sent = w.sent.items; flight = flying w.flight })
+        × (w.names.keys ≡ names_of w.nodes.items) × (w.flight.gone ≤ vec_len w.flight.numbers) };
 }
 
 impl<C: Core<A>, A: Allocator + Copy> World<C, A> {
@@ -45,9 +53,10 @@ impl<C: Core<A>, A: Allocator + Copy> World<C, A> {
     {
         World {
             limits,
+            names: IndexSet::new(alloc),
             nodes: Vec::new(alloc),
             sent: Vec::new(alloc),
-            flight: Vec::new(alloc),
+            flight: Flight::new(alloc),
             log: Vec::new(alloc),
         }
     }
@@ -75,7 +84,7 @@ impl<C: Core<A>, A: Allocator + Copy> World<C, A> {
     pub fn core(&self, name: &NodeName) -> Option<&C>
         ensures { option_copied result ≡ core_of name.now self.now.group.nodes }
     {
-        core_of(self.nodes(), name)
+        core_of(&self.names, &self.nodes, name)
     }
 
     /// All packets that were ever sent, in their order.

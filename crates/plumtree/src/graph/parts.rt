@@ -4,7 +4,7 @@ ghost use Rattle.std.specs.List.{list_any};
 ghost use Rattle.node_names.specs.Same.{same_origin};
 ghost use Rattle.plumtree.specs.Graph.{lacking_lines_of};
 
-use at_rest::{Branch, tree};
+use at_rest::{Branch, Forest};
 use node_core::PlumCore;
 use node_names::{MsgId, Origin};
 use std::alloc::{AllocError, Allocator};
@@ -17,21 +17,11 @@ pub fn push_trees<A: Allocator + Copy>(
     group: &World<PlumCore<A>, A>,
     messages: &[MsgId],
 ) -> Result<(), AllocError> {
+    let forest = Forest::new(alloc, group)?;
     for id in messages {
-        push_tree(alloc, text, group, id)?;
+        push_part(text, id, forest.tree(id), group.nodes())?;
     }
     Ok(())
-}
-
-/// Appends the part of a message.
-fn push_tree<A: Allocator + Copy>(
-    alloc: A,
-    text: &mut String<A>,
-    group: &World<PlumCore<A>, A>,
-    id: &MsgId,
-) -> Result<(), AllocError> {
-    let branches = tree(alloc, group, id)?;
-    push_part(text, id, branches.as_slice(), group.nodes())
 }
 
 /// Appends the part of a message with this tree.

@@ -1,7 +1,8 @@
 -- A start has the parts of a newcomer, and only the JOIN needs a number.
 use Rattle.std.specs.declared.result.Result.TheVariants.{Err}
-use Rattle.std.proofs.Common.{◌∙◌, ap, arith}
-use Rattle.node_core.specs.Starting.{fit_views}
+use Rattle.std.proofs.Common.{◌∙◌, ap, arith, inl, refl}
+use Rattle.world.specs.declared.protocol.CoreError.TheVariants.{OutOfMemory}
+use Rattle.node_core.specs.Starting.{fit_views, starts_counted}
 use Rattle.node_core.proofs.Openings.{IsRefusal, passed_on, refused_for, started_is}
 use Rattle.node_core.proofs.plum_core.PlumCore.start_counted.Goals as goal
 
@@ -15,4 +16,12 @@ returns-in_err-framed-clause-refused g c =
 
 pub returns-clause-started : goal.returns-clause-started
 returns-clause-started g c =
-    started_is c.args.me c.args.limits c.args.peers.now c.args.contact c.args.seq_spent c.args.frames_spent c.active-allowed.ensures.allowed c.greet.new.membership (c.in_ok-effects.ensures.same ∙ c.in_ok-membership.ensures) c.in_ok-gossip.gossip c.in_ok-gossip.ensures c.in_ok-effects.effects c.in_ok-effects.ensures.opening c.args.out.now c.give.new.out c.in_ok-framed.ensures.ok c.in_ok-framed.framed c.in_ok-framed.ensures.last
+    started_is c.args.me c.args.limits c.args.peers.now c.args.contact c.args.seq_spent c.args.frames_spent c.active-allowed.ensures.allowed c.greet.new.membership (c.in_ok-effects.ensures.same ∙ c.in_ok-membership.ensures) c.in_ok-gossip.gossip c.in_ok-gossip.ensures c.in_ok-effects.effects c.in_ok-effects.ensures.opening c.args.out.now c.append_numbered.new.out c.in_ok-framed.ensures.ok c.in_ok-framed.framed c.in_ok-framed.ensures.last
+
+pub returns-in_err-effects-clause-refused : goal.returns-in_err-effects-clause-refused
+returns-in_err-effects-clause-refused g c = passed_on c.from_residual-in_err-effects.result (IsRefusal c.args.contact c.args.frames_spent) OutOfMemory c.from_residual-in_err-effects.ensures.1 (inl refl)
+
+pub returns-clause-lawful : goal.returns-clause-lawful
+returns-clause-lawful g c =
+    let started = returns-clause-started g c in
+    (started.0, starts_counted c.args.seq_spent c.args.frames_spent c.args.me c.args.limits c.args.peers.now c.args.contact started.0 _ c.requires started.1, started.2)

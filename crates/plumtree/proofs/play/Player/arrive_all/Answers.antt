@@ -15,7 +15,7 @@ returns-in-Err-clause-halted g c has_memory =
       c.loop.counter,
       c.loop-test.true,
       record { rolls = rolls_in c.loop.self.rolls; group = c.loop.self.group },
-      c.loop.invariant.1,
+      c.loop.invariant,
       refused.0,
       subst IsRefused c.roll.ensures.dice refused.1,
     )
@@ -27,7 +27,7 @@ returns-else-is_empty-2-clause-halted g c _ =
       c.loop.counter,
       all,
       record { rolls = rolls_in c.loop.self.rolls; group = c.loop.self.group },
-      c.loop.invariant.1,
+      c.loop.invariant,
       refl,
       λ none.
           let empty : length c.flight-2.result.now ≡ 0 = ap length (c.flight-2.ensures ∙ none) in

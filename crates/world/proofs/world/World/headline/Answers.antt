@@ -11,7 +11,7 @@ use Rattle.world.proofs.world.World.headline.Goals as goal
 pub returns : goal.returns
 returns g c =
     let run : Run g.C.Core.state g.C.Core.starts g.C.Core.steps c.args.self.now.limits (reverse c.args.self.now.log) c.args.self.now.group =
-    subst (λ (w : Logged g.row.C.Denot g.row.C-Note.Denot). Run g.C.Core.state g.C.Core.starts g.C.Core.steps w.limits (reverse w.log) w.group) c.self.view_is c.self.invariant in
+    subst (λ (w : Logged g.row.C.Denot g.row.C-Note.Denot). Run g.C.Core.state g.C.Core.starts g.C.Core.steps w.limits (reverse w.log) w.group) c.self.view_is c.self.invariant.0 in
     record {
       honest = honest g.C.Core.state g.C.Note.Wire.content g.C.Core.is_sound g.C.Core.starts g.C.Core.steps g.met.C.Core.lawful c.args.self.now.limits (reverse c.args.self.now.log) c.args.self.now.group run;
       agreed = one_payload g.C.Core.state g.C.Note.Wire.content g.C.Core.is_sound g.C.Core.starts g.C.Core.steps g.met.C.Core.lawful c.args.self.now.limits (reverse c.args.self.now.log) c.args.self.now.group run;

@@ -9,7 +9,7 @@ use Rattle.world.proofs.world.World.plan_start.Goals as goal
 
 pub returns-clause-tells : goal.returns-clause-tells
 returns-clause-tells g c =
-    let fresh : stale (node_of c.args.name.now c.args.self.now.group.nodes) c.args.incarnation.now ≡ None = rw c.nodes.ensures at c.in_ok-is_fresh.ensures.ok in
+    let fresh : stale (node_of c.args.name.now c.args.self.now.group.nodes) c.args.incarnation.now ≡ None = c.in_ok-is_fresh.ensures.ok in
     let fit : IsTrue (are_peers c.args.self.now.limits c.args.name.now c.args.peers.now c.args.contact.now) = search rules in
     let started : g.C.Core.starts (record { name = c.args.name.now; incarnation = c.args.incarnation.now }) c.args.self.now.limits c.args.peers.now c.args.contact.now c.in_ok-start.start.sends.items c.in_ok-start.start.core = search rules in
     rw c.in_ok-quiet_entry.ensures

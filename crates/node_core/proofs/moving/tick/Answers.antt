@@ -1,6 +1,0 @@
-use Rattle.membership.specs.Event.{Event as event}
-use Rattle.node_core.proofs.Told.{told}
-use Rattle.node_core.proofs.moving.tick.Goals as goal
-
-pub returns : goal.returns
-returns g c = told c.args.membership.now c.args.gossip.now event.Tick c.args.dice.now c.new-moves.result _ c.tick.new.self c.new-moves.ensures c.in_ok-tick.ensures.ok c.tell.new.gossip c.tell.result c.tell.ensures.gossip c.tell.ensures.effects

@@ -1,0 +1,105 @@
+-- Whose a stimulus is: the membership's, the gossip's or nobody's.
+use denote.Ref.{Bor}
+use Rattle.std.specs.Prelude.{◌≡◌, ◌+◌, ℕ, List, Option, Some, length, if◌then◌else◌}
+use Rattle.node_names.specs.NodeName.{Name}
+use Rattle.node_names.specs.Same.{same_name}
+use Rattle.node_names.specs.declared.dice.Dice.{Dice}
+use Rattle.node_names.specs.declared.ids.MsgId.{MsgId}
+use Rattle.node_names.specs.declared.ids.Origin.{Origin}
+use Rattle.world.specs.Stimulus.{Stimulus}
+use Rattle.world.specs.declared.stimulus.StimulusOf.TheVariants.{Broadcast, Arrive, Fire, Flush, Down, Shuffle}
+use Rattle.frames.specs.Body.{Body}
+use Rattle.frames.specs.Frame.{Frame}
+use Rattle.frames.specs.declared.body.BodyOf.TheVariants as body
+use Rattle.membership.specs.Event.{Event, lent as lent_event}
+use Rattle.membership.specs.Membership.{Membership as Member, Turn as MemberTurn, ended, still}
+use Rattle.membership.specs.Table.{table}
+use Rattle.membership.specs.declared.event.EventOf.{EventOf}
+use Rattle.membership.specs.declared.event.EventOf.TheVariants as on
+use Rattle.gossip_core.specs.Refusals.{CanTake, IsSpent, IsTooLong}
+use Rattle.gossip_core.specs.State.{GossipState}
+use Rattle.gossip_core.specs.Table.{Call, lent as lent_call}
+use Rattle.gossip_core.specs.declared.call.CallOf.{CallOf}
+use Rattle.gossip_core.specs.declared.call.CallOf.TheVariants as call
+use Rattle.node_core.specs.Plum.{Plum}
+use Rattle.node_core.specs.Steps.{IsAllowed, Turned, by_gossip, by_membership, idle, turned}
+use Rattle.node_core.specs.declared.dispatch.PartOf.{PartOf}
+use Rattle.node_core.specs.declared.dispatch.PartOf.TheVariants.{Membership, Gossip, Nobody}
+
+-- what a stimulus is to the two parts
+abbrev pub Part : Type 0
+Part = PartOf Event Call Dice
+
+-- the part that is lent
+abbrev pub lent : PartOf (EventOf (Bor (List Name))) (CallOf (Bor (List ℕ)) (Bor (List (MsgId × ℕ)))) (Bor Dice) → Part
+lent (Membership event dice) = Membership (lent_event event) dice.now
+lent (Gossip called) = Gossip (lent_call called)
+lent Nobody = Nobody
+
+-- what a packet with this body is
+abbrev pub part_heard : Name → Body → Dice → Part
+part_heard sender body.Join dice = Membership (on.Join sender) dice
+part_heard sender (body.ForwardJoin new ttl) dice = Membership (on.ForwardJoin sender new ttl) dice
+part_heard sender (body.Neighbor high) dice = Membership (on.Neighbor sender high) dice
+part_heard sender (body.NeighborReply accepted) dice = Membership (on.Reply sender accepted) dice
+part_heard sender body.Disconnect dice = Membership (on.Disconnect sender) dice
+part_heard sender (body.Shuffle origin ttl names) dice = Membership (on.Shuffle sender origin ttl names) dice
+part_heard sender (body.ShuffleReply names) dice = Membership (on.ShuffleReply sender names) dice
+part_heard sender (body.Gossip id round payload) dice = Gossip (call.OnGossip sender id round payload)
+part_heard sender (body.IHave entries) dice = Gossip (call.OnIHave sender entries)
+part_heard sender (body.Graft id round) dice = Gossip (call.OnGraft sender id round)
+part_heard sender body.Prune dice = Gossip (call.OnPrune sender)
+
+-- what each stimulus is; what comes from a sender of the node's own name is nobody's
+abbrev pub part_of : Origin → Stimulus Frame → Part
+part_of me (Broadcast payload) = Gossip (call.Broadcast payload)
+part_of me (Arrive sender frame dice) = if same_name sender.name me.name then Nobody else part_heard sender.name frame.body dice
+part_of me (Fire id) = Gossip (call.Fire id)
+part_of me Flush = Gossip call.Flush
+part_of me (Down peer dice) = Membership (on.Down peer) dice
+part_of me (Shuffle dice) = Membership on.Tick dice
+
+-- What the membership will be, and which links went down and came up.
+pub record Moved : Type 0 where
+  pub membership : Member
+  pub downs : List Name
+  pub ups : List Name
+
+-- what the membership's turn moved
+abbrev pub moved_by : MemberTurn → Moved
+moved_by done = record { membership = ended done; downs = done.downs; ups = done.ups }
+
+-- What is kept between the halves of a step: what the membership's event moved, if it is one, and the last frame number.
+pub record Turn : Type 0 where
+  pub moved : Option Moved
+  pub framed : ℕ
+
+-- what the part does
+abbrev pub by_part : Member → GossipState → Part → Turned
+by_part m g (Membership event dice) = by_membership m g event dice
+by_part m g (Gossip called) = by_gossip m g called
+by_part m g Nobody = idle m g
+
+-- What was moved is what the part takes to go on.
+abbrev pub Takes : Member → GossipState → Part → Option Moved → Type 0
+Takes m g (Membership event dice) moved = moved ≡ Some (moved_by (table event dice (still m)))
+Takes m g (Gossip called) moved = CanTake g called
+Takes m g Nobody moved = Unit {0}
+
+-- The part broadcasts a payload that is too long.
+abbrev pub IsTooLongPart : Part → Type 0
+IsTooLongPart (Membership event dice) = ⊥
+IsTooLongPart (Gossip called) = IsTooLong called
+IsTooLongPart Nobody = ⊥
+
+-- The part broadcasts where the numbers of the messages are used up.
+abbrev pub IsSpentPart : GossipState → Part → Type 0
+IsSpentPart g (Membership event dice) = ⊥
+IsSpentPart g (Gossip called) = IsSpent g called
+IsSpentPart g Nobody = ⊥
+
+-- The turn is what the core keeps of the stimulus, which it does not refuse.
+pub record IsTurn (core : Plum) (stimulus : Stimulus Frame) (turn : Turn) : Type 0 where
+  pub allowed : IsAllowed stimulus
+  pub takes : Takes core.membership core.gossip (part_of core.me stimulus) turn.moved
+  pub framed : turn.framed ≡ core.framed + length (turned core.me core.membership core.gossip stimulus).sends

@@ -1,0 +1,125 @@
+//! Whose a stimulus is: the membership's, the gossip's or nobody's.
+ghost use Rattle.std.specs.Prelude.{◌≡◌};
+ghost use Rattle.world.specs.Stimulus.{lent as told};
+ghost use Rattle.node_core.specs.Parts.{lent, part_heard, part_of};
+
+use frames::{Body, BodyOf, Frame};
+use gossip_core::{Call, CallOf};
+use membership::{Event, EventOf};
+use node_names::{Dice, NodeName, Origin};
+use std::alloc::Allocator;
+use world::{StimulusOf, StimulusRef};
+
+/// What a stimulus is to a node's two parts. `E` is an event of the membership, `C` a call of the gossip.
+#[derive(Drop)]
+pub(crate) enum PartOf<E, C, D> {
+    /// The membership takes it, with these dice.
+    Membership { event: E, dice: D },
+    /// The gossip takes it.
+    Gossip { call: C },
+    /// Nothing happens.
+    Nobody,
+}
+
+/// What a stimulus is, its lists and payloads lent.
+pub(crate) type Part<'a, A> = PartOf<Event<'a>, Call<'a, A>, &'a Dice>;
+
+/// What a packet from the sender is.
+fn part_heard<'a, A: Allocator>(sender: NodeName, body: &'a Body<A>, dice: &'a Dice) -> Part<'a, A>
+    ensures { lent result ≡ part_heard sender body.now dice.now }
+{
+    let event = match body {
+        BodyOf::Join => EventOf::Join { sender },
+        BodyOf::ForwardJoin { new, ttl } => EventOf::ForwardJoin {
+            sender,
+            new: *new,
+            ttl: *ttl,
+        },
+        BodyOf::Neighbor { high } => EventOf::Neighbor {
+            sender,
+            high: *high,
+        },
+        BodyOf::NeighborReply { accepted } => EventOf::Reply {
+            sender,
+            accepted: *accepted,
+        },
+        BodyOf::Disconnect => EventOf::Disconnect { sender },
+        BodyOf::Shuffle { origin, ttl, names } => EventOf::Shuffle {
+            sender,
+            origin: *origin,
+            ttl: *ttl,
+            names: names.as_slice(),
+        },
+        BodyOf::ShuffleReply { names } => EventOf::ShuffleReply {
+            sender,
+            names: names.as_slice(),
+        },
+        BodyOf::Gossip { id, round, payload } => {
+            return PartOf::Gossip {
+                call: CallOf::OnGossip {
+                    sender,
+                    id: *id,
+                    round: *round,
+                    payload,
+                },
+            };
+        }
+        BodyOf::IHave { entries } => {
+            return PartOf::Gossip {
+                call: CallOf::OnIHave {
+                    sender,
+                    entries: entries.as_slice(),
+                },
+            };
+        }
+        BodyOf::Graft { id, round } => {
+            return PartOf::Gossip {
+                call: CallOf::OnGraft {
+                    sender,
+                    id: *id,
+                    round: *round,
+                },
+            };
+        }
+        BodyOf::Prune => {
+            return PartOf::Gossip {
+                call: CallOf::OnPrune { sender },
+            };
+        }
+    };
+    PartOf::Membership { event, dice }
+}
+
+/// What a stimulus is to the node of this origin.
+pub(crate) fn part_of<'a, A: Allocator>(
+    me: &Origin,
+    stimulus: &'a StimulusRef<'a, Frame<A>, A>,
+) -> Part<'a, A>
+    ensures { lent result ≡ part_of me.now (told stimulus.now) }
+{
+    match stimulus {
+        StimulusOf::Broadcast(payload) => PartOf::Gossip {
+            call: CallOf::Broadcast { payload },
+        },
+        StimulusOf::Arrive { sender, note, dice } => {
+            if sender.name == me.name {
+                return PartOf::Nobody;
+            }
+            part_heard(sender.name, note.body(), dice)
+        }
+        StimulusOf::Fire(id) => PartOf::Gossip {
+            call: CallOf::Fire { id: *id },
+        },
+        StimulusOf::Flush => PartOf::Gossip {
+            call: CallOf::Flush,
+        },
+        StimulusOf::Down { peer, dice } => PartOf::Membership {
+            event: EventOf::Down { peer: *peer },
+            dice,
+        },
+        StimulusOf::Shuffle(dice) => PartOf::Membership {
+            event: EventOf::Tick,
+            dice,
+        },
+    }
+}

@@ -1,0 +1,13 @@
+//! Sets of names.
+ghost use Rattle.std.specs.Prelude.{◌↔◌, IsTrue};
+ghost use Rattle.world.specs.Run.{SameNames};
+
+use std::alloc::Allocator;
+use world::NameSet;
+
+/// Whether two sets have the same names.
+pub(crate) fn are_same<A: Allocator>(names: &NameSet<A>, others: &NameSet<A>) -> bool
+    ensures { IsTrue result ↔ SameNames names.now.keys others.now.keys }
+{
+    names.is_subset(others) && others.is_subset(names)
+}

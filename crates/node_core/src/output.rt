@@ -1,0 +1,74 @@
+//! What a step sends and delivers: its packets, numbered, and its delivery.
+ghost use Rattle.std.specs.Prelude.{◌≡◌, ◌<◌, ◌+◌, ◌++◌, IfOk, OnOk, OnErr, IsErrOf, length};
+ghost use Rattle.node_core.specs.Fits.{AreFit};
+ghost use Rattle.node_core.specs.Steps.{numbered, delivered_at};
+
+use crate::numbering::number_all;
+use bytes::Bytes;
+use frames::Frame;
+use gossip_core::Effects;
+use node_names::{MsgId, NodeName, Origin};
+use std::alloc::{AllocError, Allocator};
+use world::{CoreError, Delivery, Out};
+
+/// Puts the delivery last, if there is one.
+fn deliver<A: Allocator + Copy>(
+    me: &Origin,
+    delivered: Option<(MsgId, Bytes<A>)>,
+    out: &mut Out<Frame<A>, A>,
+) -> Result<(), AllocError>
+    ensures ok { OnOk result (out.new ≡ record out.old { deliveries = out.old.deliveries ++ delivered_at me.now delivered }) }
+    ensures err { OnErr result (out.new ≡ out.old) }
+{
+    if let Some((id, payload)) = delivered {
+        out.deliveries.push(Delivery {
+            node: *me,
+            id,
+            payload,
+        })?;
+    }
+    Ok(())
+}
+
+/// Puts the packets and the delivery last.
+fn append<A: Allocator + Copy>(
+    me: &Origin,
+    frames: Vec<(NodeName, Frame<A>), A>,
+    delivered: Option<(MsgId, Bytes<A>)>,
+    out: &mut Out<Frame<A>, A>,
+) -> Result<(), AllocError>
+    ensures ok { OnOk result (out.new ≡ record { sends = out.old.sends ++ frames.items; deliveries = out.old.deliveries ++ delivered_at me.now delivered }) }
+    ensures err { OnErr result (out.new ≡ out.old) }
+{
+    let kept = out.sends.len();
+    out.sends.append(frames)?;
+    if deliver(me, delivered, out).is_err() {
+        out.sends.truncate(kept);
+        return Err(AllocError);
+    }
+    Ok(())
+}
+
+/// Appends the packets, numbered from the number after `framed` on, and the delivery, and returns the last number. Each packet
+/// fits a frame. `SeqSpent`: the packets are more than the numbers that are left.
+pub(crate) fn append_numbered<A: Allocator + Copy>(
+    me: &Origin,
+    framed: u64,
+    effects: Effects<A>,
+    out: &mut Out<Frame<A>, A>,
+) -> Result<u64, CoreError>
+    requires { AreFit effects.sends }
+    ensures last { IfOk result (λ last. last ≡ framed + length effects.sends) }
+    ensures ok { OnOk result (out.new ≡ record { sends = out.old.sends ++ numbered me.now framed effects.sends; deliveries = out.old.deliveries ++ delivered_at me.now effects.delivered }) }
+    ensures no_payload { IsErrOf result CoreError.PayloadTooLong → ⊥ }
+    ensures spent { IsErrOf result CoreError.SeqSpent → u64.MAX < framed + length effects.sends }
+    ensures err { OnErr result (out.new ≡ out.old) }
+{
+    let Effects { sends, delivered } = effects;
+    let Some(last) = framed.checked_add(sends.len() as u64) else {
+        return Err(CoreError::SeqSpent);
+    };
+    let frames = number_all(me, framed, sends)?;
+    append(me, frames, delivered, out)?;
+    Ok(last)
+}

@@ -1,0 +1,128 @@
+//! What a stimulus does to a node's two parts: worked out first, and then made.
+ghost use Rattle.std.specs.Prelude.{◌≡◌, ◌↔◌, false, None, Some, IfOk, OnOk, OnErr, IsErrOf};
+ghost use Rattle.gossip_core.specs.Refusals.{CanTake, IsSpent, IsTooLong};
+ghost use Rattle.gossip_core.specs.Table.{lent as lent_call, outcome};
+ghost use Rattle.membership.specs.Event.{lent as lent_event};
+ghost use Rattle.membership.specs.Membership.{still};
+ghost use Rattle.membership.specs.Table.{table};
+ghost use Rattle.world.specs.Run.{SameNames};
+ghost use Rattle.node_core.specs.Parts.{IsSpentPart, IsTooLongPart, Takes, by_part, lent, moved_by};
+
+use crate::dispatch::{Part, PartOf};
+use crate::names::are_same;
+use crate::turn::Moved;
+use gossip_core::{Call, Effects, Gossip, GossipFault};
+use membership::{Event, Membership, Moves};
+use node_names::Dice;
+use std::alloc::{AllocError, Allocator};
+use world::CoreError;
+
+/// What a part of the node will do.
+#[derive(Drop)]
+pub(crate) struct Worked<A: Allocator> {
+    /// What its membership will be, where that takes the stimulus.
+    pub(crate) moved: Option<Moved<A>>,
+    /// Whether the active view will be another set.
+    pub(crate) is_moved: bool,
+    /// What it sends and delivers.
+    pub(crate) effects: Effects<A>,
+}
+
+/// Works out an event of the membership. The gossip sends nothing when links go down and come up.
+fn work_out_event<A: Allocator + Copy>(
+    membership: &Membership<A>,
+    event: &Event<'_>,
+    dice: &Dice,
+) -> Result<Worked<A>, AllocError>
+    ensures takes { IfOk result (λ worked. worked.moved ≡ Some (moved_by (table (lent_event event.now) dice.now (still membership.now)))) }
+    ensures effects { IfOk result (λ worked. worked.effects ≡ record { sends = (table (lent_event event.now) dice.now (still membership.now)).sends; delivered = None }) }
+    ensures moved { IfOk result (λ worked. (worked.is_moved ≡ false) ↔ SameNames membership.now.views.active (table (lent_event event.now) dice.now (still membership.now)).views.active) }
+{
+    let (next, moves) = membership.prepare(event, dice)?;
+    let is_moved = !are_same(membership.views().active(), next.views().active());
+    let Moves { sends, downs, ups } = moves;
+    Ok(Worked {
+        moved: Some(Moved {
+            membership: next,
+            downs,
+            ups,
+        }),
+        is_moved,
+        effects: Effects {
+            sends,
+            delivered: None,
+        },
+    })
+}
+
+/// Works out a call of the gossip.
+fn work_out_call<A: Allocator + Copy>(
+    gossip: &Gossip<A>,
+    call: &Call<'_, A>,
+) -> Result<Worked<A>, CoreError>
+    ensures takes { OnOk result (CanTake gossip.now (lent_call call.now)) }
+    ensures effects { IfOk result (λ worked. worked.effects ≡ record { sends = (outcome gossip.now (lent_call call.now)).sends; delivered = (outcome gossip.now (lent_call call.now)).delivered }) }
+    ensures still { IfOk result (λ worked. worked.is_moved ≡ false) }
+    ensures too_long { IsErrOf result CoreError.PayloadTooLong ↔ IsTooLong (lent_call call.now) }
+    ensures spent { IsErrOf result CoreError.SeqSpent ↔ IsSpent gossip.now (lent_call call.now) }
+{
+    match gossip.answer(call) {
+        Ok(effects) => Ok(Worked {
+            moved: None,
+            is_moved: false,
+            effects,
+        }),
+        Err(GossipFault::PayloadTooLong) => Err(CoreError::PayloadTooLong),
+        Err(GossipFault::SeqSpent) => Err(CoreError::SeqSpent),
+        Err(GossipFault::OutOfMemory) => Err(CoreError::OutOfMemory),
+    }
+}
+
+/// Works out what the part does. Nothing changes.
+pub(crate) fn work_out<A: Allocator + Copy>(
+    alloc: A,
+    membership: &Membership<A>,
+    gossip: &Gossip<A>,
+    part: &Part<'_, A>,
+) -> Result<Worked<A>, CoreError>
+    ensures takes { IfOk result (λ worked. Takes membership.now gossip.now (lent part.now) worked.moved) }
+    ensures effects { IfOk result (λ worked. worked.effects ≡ record { sends = (by_part membership.now gossip.now (lent part.now)).sends; delivered = (by_part membership.now gossip.now (lent part.now)).delivered }) }
+    ensures moved { IfOk result (λ worked. (worked.is_moved ≡ false) ↔ SameNames membership.now.views.active (by_part membership.now gossip.now (lent part.now)).membership.views.active) }
+    ensures too_long { IsErrOf result CoreError.PayloadTooLong ↔ IsTooLongPart (lent part.now) }
+    ensures spent { IsErrOf result CoreError.SeqSpent ↔ IsSpentPart gossip.now (lent part.now) }
+{
+    match part {
+        PartOf::Membership { event, dice } => Ok(work_out_event(membership, event, dice)?),
+        PartOf::Gossip { call } => work_out_call(gossip, call),
+        PartOf::Nobody => Ok(Worked {
+            moved: None,
+            is_moved: false,
+            effects: Effects::new(alloc),
+        }),
+    }
+}
+
+/// Does what was worked out: all of it, or nothing where an allocation is refused. The gossip hears which links went down and
+/// then which came up.
+pub(crate) fn go_on<A: Allocator + Copy>(
+    membership: &mut Membership<A>,
+    gossip: &mut Gossip<A>,
+    part: &Part<'_, A>,
+    moved: Option<Moved<A>>,
+) -> Result<(), AllocError>
+    requires { Takes membership.old gossip.old (lent part.now) moved }
+    ensures membership { OnOk result (membership.new ≡ (by_part membership.old gossip.old (lent part.now)).membership) }
+    ensures gossip { OnOk result (gossip.new ≡ (by_part membership.old gossip.old (lent part.now)).gossip) }
+    ensures err { OnErr result ((membership.new ≡ membership.old) × (gossip.new ≡ gossip.old)) }
+{
+    match part {
+        PartOf::Membership { .. } => {
+            let Some(moved) = moved else { unreachable!() };
+            gossip.relink(moved.downs.as_slice(), moved.ups.as_slice())?;
+            *membership = moved.membership;
+            Ok(())
+        }
+        PartOf::Gossip { call } => gossip.take(call),
+        PartOf::Nobody => Ok(()),
+    }
+}

@@ -1,0 +1,49 @@
+//! What a core keeps between the two halves of a step.
+use membership::Membership;
+use node_names::{Listed, NodeName};
+use std::alloc::{Allocator, Global};
+use std::marker::Model;
+
+/// What an event of the membership has moved.
+#[derive(Drop)]
+pub(crate) struct Moved<A: Allocator> {
+    /// The membership that goes on.
+    pub(crate) membership: Membership<A>,
+    /// The links that went down.
+    pub(crate) downs: Listed<NodeName, A>,
+    /// The links that came up.
+    pub(crate) ups: Listed<NodeName, A>,
+}
+
+impl<A: Allocator> Model for Moved<A> {
+    ghost use Rattle.std.specs.Prelude.{refl};
+    ghost use Rattle.node_core.specs.Parts.{Moved as Plain};
+
+    ghost Value = { Plain };
+
+    ghost view = { λ m. record { membership = m.membership; downs = m.downs; ups = m.ups } };
+
+    ghost inverse = { λ m. record { membership = m.membership; downs = m.downs; ups = m.ups } };
+
+    ghost inverse_ok = { λ m held. refl };
+}
+
+/// A step of a core that was worked out: what its membership will be, and the last number of its frames.
+#[derive(Drop)]
+pub struct Turn<A: Allocator = Global> {
+    pub(crate) moved: Option<Moved<A>>,
+    pub(crate) framed: u64,
+}
+
+impl<A: Allocator> Model for Turn<A> {
+    ghost use Rattle.std.specs.Prelude.{refl};
+    ghost use Rattle.node_core.specs.Parts.{Turn as Plain};
+
+    ghost Value = { Plain };
+
+    ghost view = { λ t. record { moved = t.moved; framed = t.framed } };
+
+    ghost inverse = { λ t. record { moved = t.moved; framed = t.framed } };
+
+    ghost inverse_ok = { λ t held. refl };
+}

@@ -1,0 +1,104 @@
+//! The packets in flight, the oldest first.
+ghost use Rattle.std.specs.Prelude.{◌≡◌, ◌+◌, ◌-◌, ◌<◌, ◌≤◌, ◌++◌, [], ◌∷◌, OnOk, length, remove, vec_len, vec_capacity};
+ghost use Rattle.world.specs.Flight.{flying};
+ghost use Rattle.world.specs.Lists.{places};
+
+use std::alloc::{AllocError, Allocator};
+
+/// The numbers of the packets in flight.
+///
+/// The oldest packet leaves without moving those behind it: the front keeps what has left until it is as long as the rest.
+#[derive(Drop)]
+pub(crate) struct Flight<A: Allocator> {
+    /// The numbers, behind those that have left.
+    pub(crate) numbers: Vec<usize, A>,
+    /// How many of the front have left.
+    pub(crate) gone: usize,
+}
+
+impl<A: Allocator + Copy> Flight<A> {
+    /// Nothing is in flight.
+    pub(crate) fn new(alloc: A) -> Self
+        ensures numbers { flying result ≡ [] }
+        ensures whole { result.gone ≤ vec_len result.numbers }
+    {
+        Flight {
+            numbers: Vec::new(alloc),
+            gone: 0,
+        }
+    }
+}
+
+impl<A: Allocator> Flight<A> {
+    /// The numbers in flight.
+    pub(crate) fn as_slice(&self) -> &[usize]
+        requires { self.now.gone ≤ vec_len self.now.numbers }
+        ensures { result.now ≡ flying self.now }
+    {
+        &self.numbers[self.gone..]
+    }
+
+    /// Drops the front that has left, once it is as long as the rest.
+    fn forget_gone(&mut self)
+        requires { self.old.gone ≤ vec_len self.old.numbers }
+        ensures numbers { flying self.new ≡ flying self.old }
+        ensures whole { self.new.gone ≤ vec_len self.new.numbers }
+    {
+        if self.gone >= self.numbers.len() - self.gone {
+            self.numbers.drain(..self.gone);
+            self.gone = 0;
+        }
+    }
+
+    /// Makes room for so many more.
+    pub(crate) fn reserve(&mut self, more: usize) -> Result<(), AllocError>
+        requires { self.old.gone ≤ vec_len self.old.numbers }
+        ensures numbers { flying self.new ≡ flying self.old }
+        ensures room { OnOk result (vec_len self.new.numbers + more ≤ vec_capacity self.new.numbers) }
+        ensures whole { self.new.gone ≤ vec_len self.new.numbers }
+    {
+        self.forget_gone();
+        self.numbers.reserve(more)
+    }
+
+    /// Takes the one at the place out of flight.
+    pub(crate) fn remove(&mut self, place: usize)
+        requires whole { self.old.gone ≤ vec_len self.old.numbers }
+        requires place { place < length (flying self.old) }
+        ensures numbers { flying self.new ≡ remove (flying self.old) place }
+        ensures len { vec_len self.new.numbers ≤ vec_len self.old.numbers }
+        ensures capacity { vec_capacity self.old.numbers ≤ vec_capacity self.new.numbers }
+        ensures whole { self.new.gone ≤ vec_len self.new.numbers }
+    {
+        if place == 0 {
+            self.gone += 1;
+        } else {
+            self.numbers.remove(self.gone + place);
+        }
+    }
+
+    /// Puts a packet into flight, in the room that there is.
+    pub(crate) fn push(&mut self, number: usize)
+        requires whole { self.old.gone ≤ vec_len self.old.numbers }
+        requires room { vec_len self.old.numbers < vec_capacity self.old.numbers }
+        ensures numbers { flying self.new ≡ flying self.old ++ number ∷ [] }
+        ensures len { vec_len self.new.numbers ≡ vec_len self.old.numbers + 1 }
+        ensures capacity { vec_capacity self.old.numbers ≤ vec_capacity self.new.numbers }
+        ensures whole { self.new.gone ≤ vec_len self.new.numbers }
+    {
+        self.numbers.push(number).unwrap();
+    }
+
+    /// Puts the packets from one number up to another into flight, in the room that there is.
+    pub(crate) fn launch(&mut self, first: usize, last: usize)
+        requires whole { self.old.gone ≤ vec_len self.old.numbers }
+        requires order { first ≤ last }
+        requires room { vec_len self.old.numbers + (last - first) ≤ vec_capacity self.old.numbers }
+        ensures numbers { flying self.new ≡ flying self.old ++ places first (last - first) }
+        ensures whole { self.new.gone ≤ vec_len self.new.numbers }
+    {
+        for number in first..last {
+            self.push(number);
+        }
+    }
+}
