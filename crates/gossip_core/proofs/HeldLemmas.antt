@@ -1,14 +1,12 @@
 -- What waits to be announced is held.
-use Rattle.std.proofs.Common.{◌≡◌, ◌∙◌, ◌||◌, ℕ, Bool, true, false, not, cond, List, [], ◌∷◌, ◌++◌, Option, map, filter, sym, ap, subst, refl}
-use Rattle.std.specs.List.{AllByRecursion as Each, list_any}
+use Rattle.std.proofs.Common.{◌≡◌, ◌∙◌, ◌||◌, ℕ, Bool, true, false, not, cond, List, [], ◌∷◌, ◌++◌, map, filter, sym, ap, refl}
+use Rattle.std.specs.List.{AllByRecursion as Each}
 use Rattle.std.proofs.lemmas.Bool.{false≢true}
 use Rattle.std.proofs.lemmas.List.{map-append}
 use Rattle.std.proofs.lemmas.List.Folds.{list_any-append}
 use Rattle.node_names.specs.NodeName.{Name}
 use Rattle.node_names.specs.Same.{same_name, same_id, same_id-Decides, has_id}
 use Rattle.node_names.specs.declared.ids.MsgId.{MsgId}
-use Rattle.peer_sets.specs.Members.{lazy_but}
-use Rattle.peer_sets.specs.PeerSets.{PeerSets, relinked}
 use Rattle.peer_sets.specs.Queue.{has_entry_of, is_queued, with_entries, without_entries, without_all_entries}
 use Rattle.gossip_core.specs.Store.{ids, AreHeld}
 

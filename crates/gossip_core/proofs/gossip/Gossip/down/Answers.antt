@@ -1,4 +1,4 @@
-use Rattle.std.proofs.Common.{sym, ap, subst}
+use Rattle.std.proofs.Common.{sym, subst}
 use Rattle.peer_sets.specs.PeerSets.{PeerSets}
 use Rattle.gossip_core.specs.Store.{AreHeld}
 use Rattle.gossip_core.proofs.HeldLemmas.{held-without_entries}

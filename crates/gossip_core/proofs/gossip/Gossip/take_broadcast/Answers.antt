@@ -1,5 +1,5 @@
 -- The next message is not there and does not wait, and it has the next number, so it is counted.
-use Rattle.std.proofs.Common.{◌≡◌, ◌+◌, ◌++◌, ◌∷◌, [], None, ap, sym, refl, subst}
+use Rattle.std.proofs.Common.{◌≡◌, ◌+◌, ◌++◌, ◌∷◌, [], None, sym, refl, subst}
 use Rattle.node_names.specs.declared.ids.MsgId.{MsgId}
 use Rattle.peer_sets.specs.Members.{lazy_but}
 use Rattle.peer_sets.specs.PeerSets.{PeerSets}
