@@ -1,6 +1,7 @@
 -- Whose a stimulus is: the membership's, the gossip's or nobody's.
 use denote.Ref.{Bor}
-use Rattle.std.specs.Prelude.{◌≡◌, ◌+◌, ℕ, List, Option, Some, length, if◌then◌else◌}
+use Rattle.std.specs.Prelude.{◌≡◌, ◌+◌, ℕ, List, Option, None, Some, length, if◌then◌else◌}
+use Rattle.std.specs.declared.boxed.Box.{Box}
 use Rattle.node_names.specs.NodeName.{Name}
 use Rattle.node_names.specs.Same.{same_name}
 use Rattle.node_names.specs.declared.dice.Dice.{Dice}
@@ -64,6 +65,11 @@ pub record Moved : Type 0 where
   pub membership : Member
   pub downs : List Name
   pub ups : List Name
+
+-- what stands in a box, if there is one
+abbrev pub unboxed : {A : Type 0} → Option (Box Moved A) → Option Moved
+unboxed None = None
+unboxed (Some boxed) = Some boxed.value
 
 -- what the membership's turn moved
 abbrev pub moved_by : MemberTurn → Moved

@@ -6,47 +6,57 @@ ghost use Rattle.membership.specs.Event.{lent as lent_event};
 ghost use Rattle.membership.specs.Membership.{still};
 ghost use Rattle.membership.specs.Table.{table};
 ghost use Rattle.world.specs.Run.{SameNames};
-ghost use Rattle.node_core.specs.Parts.{IsSpentPart, IsTooLongPart, Takes, by_part, lent, moved_by};
+ghost use Rattle.node_core.specs.Parts.{IsSpentPart, IsTooLongPart, Takes, by_part, lent, moved_by, unboxed};
 
 use crate::dispatch::{Part, PartOf};
 use crate::names::are_same;
-use crate::turn::Moved;
+use crate::turn::{BoxedMoved, Moved};
 use gossip_core::{Call, Effects, Gossip, GossipFault};
 use membership::{Event, Membership, Moves};
 use node_names::Dice;
 use std::alloc::{AllocError, Allocator};
+use std::boxed::Box;
 use world::CoreError;
 
 /// What a part of the node will do.
 #[derive(Drop)]
 pub(crate) struct Worked<A: Allocator> {
     /// What its membership will be, where that takes the stimulus.
-    pub(crate) moved: Option<Moved<A>>,
+    pub(crate) moved: Option<BoxedMoved<A>>,
     /// Whether the active view will be another set.
     pub(crate) is_moved: bool,
     /// What it sends and delivers.
     pub(crate) effects: Effects<A>,
 }
 
+/// What was moved, in a box.
+fn boxed<A: Allocator>(alloc: A, moved: Moved<A>) -> Result<BoxedMoved<A>, AllocError>
+    ensures { IfOk result (λ boxed. boxed.value ≡ moved) }
+{
+    Ok(Box::new(alloc, moved)?)
+}
+
 /// Works out an event of the membership. The gossip sends nothing when links go down and come up.
 fn work_out_event<A: Allocator + Copy>(
+    alloc: A,
     membership: &Membership<A>,
     event: &Event<'_>,
     dice: &Dice,
 ) -> Result<Worked<A>, AllocError>
-    ensures takes { IfOk result (λ worked. worked.moved ≡ Some (moved_by (table (lent_event event.now) dice.now (still membership.now)))) }
+    ensures takes { IfOk result (λ worked. unboxed worked.moved ≡ Some (moved_by (table (lent_event event.now) dice.now (still membership.now)))) }
     ensures effects { IfOk result (λ worked. worked.effects ≡ record { sends = (table (lent_event event.now) dice.now (still membership.now)).sends; delivered = None }) }
     ensures moved { IfOk result (λ worked. (worked.is_moved ≡ false) ↔ SameNames membership.now.views.active (table (lent_event event.now) dice.now (still membership.now)).views.active) }
 {
     let (next, moves) = membership.prepare(event, dice)?;
     let is_moved = !are_same(membership.views().active(), next.views().active());
     let Moves { sends, downs, ups } = moves;
+    let moved = Moved {
+        membership: next,
+        downs,
+        ups,
+    };
     Ok(Worked {
-        moved: Some(Moved {
-            membership: next,
-            downs,
-            ups,
-        }),
+        moved: Some(boxed(alloc, moved)?),
         is_moved,
         effects: Effects {
             sends,
@@ -85,14 +95,14 @@ pub(crate) fn work_out<A: Allocator + Copy>(
     gossip: &Gossip<A>,
     part: &Part<'_, A>,
 ) -> Result<Worked<A>, CoreError>
-    ensures takes { IfOk result (λ worked. Takes membership.now gossip.now (lent part.now) worked.moved) }
+    ensures takes { IfOk result (λ worked. Takes membership.now gossip.now (lent part.now) (unboxed worked.moved)) }
     ensures effects { IfOk result (λ worked. worked.effects ≡ record { sends = (by_part membership.now gossip.now (lent part.now)).sends; delivered = (by_part membership.now gossip.now (lent part.now)).delivered }) }
     ensures moved { IfOk result (λ worked. (worked.is_moved ≡ false) ↔ SameNames membership.now.views.active (by_part membership.now gossip.now (lent part.now)).membership.views.active) }
     ensures too_long { IsErrOf result CoreError.PayloadTooLong ↔ IsTooLongPart (lent part.now) }
     ensures spent { IsErrOf result CoreError.SeqSpent ↔ IsSpentPart gossip.now (lent part.now) }
 {
     match part {
-        PartOf::Membership { event, dice } => Ok(work_out_event(membership, event, dice)?),
+        PartOf::Membership { event, dice } => Ok(work_out_event(alloc, membership, event, dice)?),
         PartOf::Gossip { call } => work_out_call(gossip, call),
         PartOf::Nobody => Ok(Worked {
             moved: None,
@@ -108,9 +118,9 @@ pub(crate) fn go_on<A: Allocator + Copy>(
     membership: &mut Membership<A>,
     gossip: &mut Gossip<A>,
     part: &Part<'_, A>,
-    moved: Option<Moved<A>>,
+    moved: Option<BoxedMoved<A>>,
 ) -> Result<(), AllocError>
-    requires { Takes membership.old gossip.old (lent part.now) moved }
+    requires { Takes membership.old gossip.old (lent part.now) (unboxed moved) }
     ensures membership { OnOk result (membership.new ≡ (by_part membership.old gossip.old (lent part.now)).membership) }
     ensures gossip { OnOk result (gossip.new ≡ (by_part membership.old gossip.old (lent part.now)).gossip) }
     ensures err { OnErr result ((membership.new ≡ membership.old) × (gossip.new ≡ gossip.old)) }
@@ -118,6 +128,7 @@ pub(crate) fn go_on<A: Allocator + Copy>(
     match part {
         PartOf::Membership { .. } => {
             let Some(moved) = moved else { unreachable!() };
+            let moved = Box::into_inner(moved);
             gossip.relink(moved.downs.as_slice(), moved.ups.as_slice())?;
             *membership = moved.membership;
             Ok(())

@@ -7,7 +7,7 @@ ghost use Rattle.world.specs.Peers.{are_peers};
 ghost use Rattle.world.specs.Run.{SameNames};
 ghost use Rattle.world.specs.Stimulus.{lent};
 ghost use Rattle.node_core.specs.Fits.{AreFit, ComesFit};
-ghost use Rattle.node_core.specs.Parts.{Takes, part_of};
+ghost use Rattle.node_core.specs.Parts.{Takes, part_of, unboxed};
 ghost use Rattle.node_core.specs.Plum.{plum_state};
 ghost use Rattle.node_core.specs.Started.{IsStarted};
 ghost use Rattle.node_core.specs.Steps.{IsAllowed, PlumStartsCounted, opening, turned};
@@ -117,7 +117,7 @@ impl<A: Allocator + Copy> PlumCore<A> {
         stimulus: &StimulusRef<'_, Frame<A>, A>,
     ) -> Result<Worked<A>, CoreError>
         ensures allowed { OnOk result (IsAllowed (lent stimulus.now)) }
-        ensures takes { IfOk result (λ worked. Takes self.now.membership self.now.gossip (part_of self.now.me (lent stimulus.now)) worked.moved) }
+        ensures takes { IfOk result (λ worked. Takes self.now.membership self.now.gossip (part_of self.now.me (lent stimulus.now)) (unboxed worked.moved)) }
         ensures effects { IfOk result (λ worked. worked.effects ≡ record { sends = (turned self.now.me self.now.membership self.now.gossip (lent stimulus.now)).sends; delivered = (turned self.now.me self.now.membership self.now.gossip (lent stimulus.now)).delivered }) }
         ensures fit { OnOk result (AreFit (turned self.now.me self.now.membership self.now.gossip (lent stimulus.now)).sends) }
         ensures moved { IfOk result (λ worked. (worked.is_moved ≡ false) ↔ SameNames self.now.membership.views.active (turned self.now.me self.now.membership self.now.gossip (lent stimulus.now)).membership.views.active) }

@@ -2,6 +2,7 @@
 use membership::Membership;
 use node_names::{Listed, NodeName};
 use std::alloc::{Allocator, Global};
+use std::boxed::Box;
 use std::marker::Model;
 
 /// What an event of the membership has moved.
@@ -28,22 +29,20 @@ impl<A: Allocator> Model for Moved<A> {
     ghost inverse_ok = { λ m held. refl };
 }
 
+/// What an event of the membership has moved, in a box: most steps move nothing, and a step is moved about.
+pub(crate) type BoxedMoved<A> = Box<Moved<A>, A>;
+
 /// A step of a core that was worked out: what its membership will be, and the last number of its frames.
 #[derive(Drop)]
 pub struct Turn<A: Allocator = Global> {
-    pub(crate) moved: Option<Moved<A>>,
+    pub(crate) moved: Option<BoxedMoved<A>>,
     pub(crate) framed: u64,
 }
 
 impl<A: Allocator> Model for Turn<A> {
-    ghost use Rattle.std.specs.Prelude.{refl};
-    ghost use Rattle.node_core.specs.Parts.{Turn as Plain};
+    ghost use Rattle.node_core.specs.Parts.{Turn as Plain, unboxed};
 
     ghost Value = { Plain };
 
-    ghost view = { λ t. record { moved = t.moved; framed = t.framed } };
-
-    ghost inverse = { λ t. record { moved = t.moved; framed = t.framed } };
-
-    ghost inverse_ok = { λ t held. refl };
+    ghost view = { λ t. record { moved = unboxed t.moved; framed = t.framed } };
 }

@@ -70,13 +70,13 @@ stepped_node after (Some node) None = None
 stepped_node after (Some node) (Some told) = Some (record node { core = option_map (λ core. after core told) node.core })
 
 -- the node that a change puts, as it will be
-abbrev pub changed : {C N T : Type 0} → (C → Stimulus N → C) → List (NodeState C) → List (Packet N) → Entry → Change C T → Option (NodeState C)
+abbrev pub changed : {C N T A : Type 0} → (C → Stimulus N → C) → List (NodeState C) → List (Packet N) → Entry → Change C T A → Option (NodeState C)
 changed after nodes sent entry Nothing = None
-changed after nodes sent entry (Put node) = Some node
+changed after nodes sent entry (Put node) = Some node.value
 changed after nodes sent entry (Step at turn) = stepped_node after (slice_get nodes at) (stimulus_by sent entry.event entry.packet)
 
 -- the group after the plan of this entry
-abbrev pub planned : {C N T : Type 0} → (C → Stimulus N → C) → Group C N → Entry → Change C T → List (Packet N) → Option ℕ → Option ℕ → Group C N
+abbrev pub planned : {C N T A : Type 0} → (C → Stimulus N → C) → Group C N → Entry → Change C T A → List (Packet N) → Option ℕ → Option ℕ → Group C N
 planned after group entry change packets leaving again = group_after group (changed after group.nodes group.sent entry change) packets leaving again
 
 -- Under the name runs the node at this place, with this core.
@@ -98,7 +98,7 @@ pub record CanStep {C N T : Type 0} (is_turn : C → Stimulus N → T → Type 0
   pub turns : is_turn core told turn
 
 -- The change can be made.
-abbrev pub IsReady : {C N T : Type 0} → (C → Stimulus N → T → Type 0) → List (NodeState C) → List (Packet N) → Entry → Change C T → Type 0
+abbrev pub IsReady : {C N T A : Type 0} → (C → Stimulus N → T → Type 0) → List (NodeState C) → List (Packet N) → Entry → Change C T A → Type 0
 IsReady is_turn nodes sent entry Nothing = Unit {0}
 IsReady is_turn nodes sent entry (Put node) = Unit {0}
 IsReady is_turn nodes sent entry (Step at turn) = CanStep is_turn nodes sent entry at turn

@@ -1,6 +1,7 @@
 //! Playing events: one, or a whole list.
-ghost use Rattle.std.specs.Prelude.{◌≡◌, ◌<◌, [], ◌∷◌, ◌++◌, Some, None, IfOk, IfErr, OnOk, OnErr, MatchResult, length, slice_get, take};
+ghost use Rattle.std.specs.Prelude.{◌≡◌, ◌<◌, [], ◌∷◌, ◌++◌, List, Some, None, IfOk, IfErr, OnOk, OnErr, MatchResult, length, slice_get, take};
 ghost use Rattle.std.specs.Option.{ForSome};
+ghost use Rattle.world.specs.Delivery.{Delivery as Delivered};
 ghost use Rattle.world.specs.Headline.{Headline};
 ghost use Rattle.world.specs.Play.{Plays, PlaysOn, RefusesAt, given_at};
 ghost use Rattle.world.specs.Plan.{IsReady, planned};
@@ -79,7 +80,7 @@ impl<C: Core<A>, A: Allocator + Copy> World<C, A> {
     {
         let mut given = Vec::new(self.allocator());
         for (at, event) in events.iter().enumerate() {
-            if let Err(why) = self.play(at, event, &mut given) {
+            if let Err(why) = self.play_one(at, event, &mut given) {
                 let given = Listed::from_vec(given);
                 self.headline();
                 return Err(RunFault { at, why, given });
@@ -89,8 +90,20 @@ impl<C: Core<A>, A: Allocator + Copy> World<C, A> {
         Ok(given)
     }
 
+    /// Plays one event. What it delivered stands in the log's last entry. It is `apply` without a copy of the deliveries.
+    pub fn play(&mut self, event: &Event<A>) -> Result<(), WorldError>
+        ensures applied { OnOk result ((given : List Delivered) × Applied C.state C.starts C.steps event.now given self.old self.new) }
+        ensures err { OnErr result (self.new ≡ self.old) }
+        ensures refused { IfErr result (IsRefusal C.is_spent self.old.limits self.old.group event.now) }
+        ensures accepted { OnOk result (refusal self.old.limits self.old.group event.now ≡ None) }
+    {
+        let plan = self.plan(event)?;
+        self.commit(plan)?;
+        Ok(())
+    }
+
     /// Plays one event of a list, and notes what it delivered.
-    fn play(
+    fn play_one(
         &mut self,
         at: usize,
         event: &Event<A>,

@@ -5,7 +5,7 @@ ghost use Rattle.indexmap.specs.IndexSet.{spare};
 ghost use Rattle.node_names.specs.Same.{has_name};
 ghost use Rattle.world.specs.Flight.{flying};
 ghost use Rattle.world.specs.Group.{put_node};
-ghost use Rattle.world.specs.Plan.{CanStep, IsReady, changed, launched, names_of, nodes_after, staying};
+ghost use Rattle.world.specs.Plan.{CanStep, IsReady, changed, launched, names_of, nodes_after, staying, stepped_node, stimulus_by};
 
 use crate::entry::Entry;
 use crate::flight::Flight;
@@ -17,6 +17,7 @@ use crate::plan::{Change, stimulus_by};
 use crate::protocol::Core;
 use node_names::NodeName;
 use std::alloc::{AllocError, Allocator};
+use std::boxed::Box;
 
 /// Makes room for one more entry and one more node, and for so many packets, one at least in flight.
 pub(crate) fn make_room<C, N, A: Allocator + Copy>(
@@ -98,7 +99,7 @@ fn advance<C: Core<A>, A: Allocator + Copy>(
     turn: C::Turn,
 ) -> Result<(), AllocError>
     requires { CanStep C.is_turn nodes.old.items sent.now entry.now at turn }
-    ensures ok { OnOk result (nodes.new.items ≡ nodes_after (changed C.after nodes.old.items sent.now entry.now (Change.Step at turn)) nodes.old.items) }
+    ensures ok { OnOk result (nodes.new.items ≡ nodes_after (stepped_node C.after (slice_get nodes.old.items at) (stimulus_by sent.now entry.now.event entry.now.packet)) nodes.old.items) }
     ensures err { OnErr result (nodes.new.items ≡ nodes.old.items) }
     ensures names { names_of nodes.new.items ≡ names_of nodes.old.items }
 {
@@ -117,7 +118,7 @@ pub(crate) fn make_change<C: Core<A>, A: Allocator + Copy>(
     nodes: &mut Vec<NodeState<C>, A>,
     sent: &[Packet<C::Note>],
     entry: &Entry<A>,
-    change: Change<C, C::Turn>,
+    change: Change<C, C::Turn, A>,
 ) -> Result<(), AllocError>
     requires named { names.old.keys ≡ names_of nodes.old.items }
     requires room { vec_len nodes.old < vec_capacity nodes.old }
@@ -130,7 +131,7 @@ pub(crate) fn make_change<C: Core<A>, A: Allocator + Copy>(
     match change {
         Change::Nothing => Ok(()),
         Change::Put(node) => {
-            put_node(names, nodes, node);
+            put_node(names, nodes, Box::into_inner(node));
             Ok(())
         }
         Change::Step { at, turn } => advance(nodes, sent, entry, at, turn),

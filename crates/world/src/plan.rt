@@ -19,14 +19,15 @@ use crate::stimulus::{StimulusOf, StimulusRef};
 use bytes::Bytes;
 use node_names::{Limits, NodeName, Origin};
 use std::alloc::{AllocError, Allocator};
+use std::boxed::Box;
 
 /// What changes of the nodes.
 #[derive(Drop)]
-pub(crate) enum Change<C, T> {
+pub(crate) enum Change<C, T, A: Allocator> {
     /// Nothing.
     Nothing,
-    /// This node is put in the place of the one of its name, or last.
-    Put(NodeState<C>),
+    /// This node is put in the place of the one of its name, or last. It is boxed, since a plan is moved about and few put one.
+    Put(Box<NodeState<C>, A>),
     /// The core of the node at this place makes the step that was worked out.
     Step { at: usize, turn: T },
 }
@@ -35,7 +36,7 @@ pub(crate) enum Change<C, T> {
 #[derive(Drop)]
 pub(crate) struct Plan<C: Core<A>, A: Allocator> {
     /// What changes of the nodes.
-    pub(crate) change: Change<C, C::Turn>,
+    pub(crate) change: Change<C, C::Turn, A>,
     /// The packets that are sent.
     pub(crate) packets: Vec<Packet<C::Note>, A>,
     /// The place of the flight that is left.
@@ -87,6 +88,16 @@ pub(crate) fn start_core<C: Core<A>, A: Allocator + Copy>(
         core,
         sends: sends.into_vec(),
     })
+}
+
+/// The node in a box.
+pub(crate) fn boxed<C: Drop, A: Allocator>(
+    alloc: A,
+    node: NodeState<C>,
+) -> Result<Box<NodeState<C>, A>, AllocError>
+    ensures { IfOk result (λ boxed. boxed.value ≡ node) }
+{
+    Ok(Box::new(alloc, node)?)
 }
 
 /// Works out a core's step.

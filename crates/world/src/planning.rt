@@ -15,7 +15,7 @@ use crate::event::{Event, EventOf};
 use crate::lookup::{Running, find_running, node_of, number_at, packet_at};
 use crate::names::are_peers;
 use crate::node_state::NodeState;
-use crate::plan::{Change, Plan, keep_event, packets_of, prepare_step, start_core};
+use crate::plan::{Change, Plan, boxed, keep_event, packets_of, prepare_step, start_core};
 use crate::protocol::Core;
 use crate::stimulus::{StimulusOf, StimulusRef};
 use crate::world::World;
@@ -146,12 +146,14 @@ impl<C: Core<A>, A: Allocator + Copy> World<C, A> {
         let alloc = self.allocator();
         let start = start_core::<C, A>(alloc, &me, self.limits(), peers, contact)?;
         let packets = packets_of(alloc, &me, start.sends)?;
+        let node = NodeState {
+            name: *name,
+            highest: *incarnation,
+            core: Some(start.core),
+        };
+        let node = boxed(alloc, node)?;
         Ok(Plan {
-            change: Change::Put(NodeState {
-                name: *name,
-                highest: *incarnation,
-                core: Some(start.core),
-            }),
+            change: Change::Put(node),
             packets,
             leaving: None,
             again: None,
@@ -360,12 +362,14 @@ impl<C: Core<A>, A: Allocator + Copy> World<C, A> {
         ensures accepted { OnOk result (refusal self.now.limits self.now.group event.now ≡ None) }
     {
         let found = self.find_running(name)?;
+        let node = NodeState {
+            name: found.node.name,
+            highest: found.node.highest,
+            core: None,
+        };
+        let node = boxed(self.allocator(), node)?;
         Ok(Plan {
-            change: Change::Put(NodeState {
-                name: found.node.name,
-                highest: found.node.highest,
-                core: None,
-            }),
+            change: Change::Put(node),
             packets: Vec::new(self.allocator()),
             leaving: None,
             again: None,

@@ -7,7 +7,7 @@ use Rattle.world.specs.Run.{SameNames}
 use Rattle.world.specs.Stimulus.{lent}
 use Rattle.world.specs.declared.protocol.CoreError.TheVariants.{SeqSpent}
 use Rattle.node_core.specs.Fits.{AreFit}
-use Rattle.node_core.specs.Parts.{IsSpentPart, IsTooLongPart, Part, Takes, by_part, part_of}
+use Rattle.node_core.specs.Parts.{IsSpentPart, IsTooLongPart, Part, Takes, by_part, part_of, unboxed}
 use Rattle.node_core.specs.Plum.{Plum, plum_state}
 use Rattle.node_core.specs.Steps.{Turned, IsAllowed, turned}
 use Rattle.node_core.proofs.Fitting.{turned_fits}
@@ -22,8 +22,8 @@ returns-clause-allowed g c = ok_allowed c.work_out.result (lent c.args.stimulus.
 
 pub returns-clause-takes : goal.returns-clause-takes
 returns-clause-takes g c =
-    subst (λ (core : Plum). IfOk c.work_out.result (λ worked. Takes core.membership core.gossip (part_of core.me (lent c.args.stimulus.now)) worked.moved)) c.self.view_is
-    (subst (λ (p : Part). IfOk c.work_out.result (λ worked. Takes c.self.inside.membership c.self.inside.gossip p worked.moved)) c.part_of-part.ensures c.work_out.ensures.takes)
+    subst (λ (core : Plum). IfOk c.work_out.result (λ worked. Takes core.membership core.gossip (part_of core.me (lent c.args.stimulus.now)) (unboxed worked.moved))) c.self.view_is
+    (subst (λ (p : Part). IfOk c.work_out.result (λ worked. Takes c.self.inside.membership c.self.inside.gossip p (unboxed worked.moved))) c.part_of-part.ensures c.work_out.ensures.takes)
 
 pub returns-clause-effects : goal.returns-clause-effects
 returns-clause-effects g c =
