@@ -4,6 +4,8 @@
 #[cfg(test)]
 mod act;
 #[cfg(test)]
+mod halves;
+#[cfg(test)]
 mod named;
 #[cfg(test)]
 mod packets;

@@ -85,6 +85,19 @@ fn push_packet<A: Allocator, B: Allocator>(
     write!(text, "; ")
 }
 
+/// Appends packets that a step sends: their numbers among their sender's, whom they go to, and what they say.
+pub(crate) fn push_sends<A: Allocator, B: Allocator>(
+    text: &mut String<B>,
+    sends: &[(NodeName, Frame<A>)],
+) -> Result<(), AllocError> {
+    for (to, frame) in sends {
+        write!(text, "#{} to {to} ", frame.number())?;
+        push_body(text, frame.body())?;
+        write!(text, "; ")?;
+    }
+    Ok(())
+}
+
 /// Appends the packets from the first of these on.
 pub(crate) fn push_packets<A: Allocator, B: Allocator>(
     text: &mut String<B>,

@@ -1,4 +1,4 @@
-//! A node that has no number left for a packet.
+//! A node that has no number left for a packet, or none for a message.
 ghost use Rattle.std.specs.Prelude.{IfOk, IsTrue, not};
 ghost use Rattle.node_names.specs.Same.{same_name};
 
@@ -245,4 +245,78 @@ fn sweep_cases<A: Allocator + Copy>(
 fn refuses_what_needs_a_spent_number(rt: HostRuntime) -> Result<(), Fail> {
     let heap = RefusingAllocator::new(rt.alloc());
     sweep_cases(&rt, &heap, &heap, &CASES)
+}
+
+/// Starts `a` with `b` as its peer, where the numbers of its messages are spent and those of its frames are not.
+fn start_mute<A: Allocator + Copy>(
+    alloc: A,
+    names: (Origin, NodeName),
+    out: &mut Out<Frame<A>, A>,
+) -> Result<PlumCore<A>, CoreError>
+    requires { IsTrue (not (same_name names.0.name names.1)) }
+{
+    let (me, other) = names;
+    PlumCore::start_counted(
+        alloc,
+        me,
+        Limits::STANDARD,
+        &[other],
+        None,
+        u64::MAX,
+        0,
+        out,
+    )
+}
+
+/// Whether a broadcast is refused for want of a number, by both halves at once and by the first alone, though the very next
+/// allocation is refused.
+fn is_mute<A: Allocator + Copy>(
+    heap: &RefusingAllocator,
+    core: &mut PlumCore<A>,
+    stimulus: &Stimulus<Frame<A>, A>,
+    out: &mut Out<Frame<A>, A>,
+) -> bool {
+    heap.refuse(1);
+    let stepped = core.step(stimulus, out);
+    heap.refuse(1);
+    let prepared = core.prepare(&stimulus.as_ref(), out);
+    heap.refuse(0);
+    matches!(stepped, Err(CoreError::SeqSpent)) && matches!(prepared, Err(CoreError::SeqSpent))
+}
+
+/// Starts such a node. Whether its broadcast is refused so, and it is as it was.
+fn is_refused_mute<A: Allocator + Copy>(
+    rt: &impl Abort,
+    heap: &RefusingAllocator,
+    alloc: A,
+    names: (Origin, NodeName),
+    stimulus: &Stimulus<Frame<A>, A>,
+    refused: &MsgId,
+) -> Result<bool, CoreError>
+    requires { IsTrue (not (same_name names.0.name names.1)) }
+{
+    let mut out = Out::new(alloc);
+    let mut core = start_mute(alloc, names, &mut out)?;
+    let is_mute = is_mute(heap, &mut core, stimulus, &mut out);
+    compare(rt, &core, refused, &out, 0);
+    Ok(is_mute)
+}
+
+fn refuse_mute<A: Allocator + Copy>(
+    rt: &impl Abort,
+    heap: &RefusingAllocator,
+    alloc: A,
+) -> Result<bool, Fail> {
+    let refused = id(("a", 1))?;
+    let names = pair(rt)?;
+    let stimulus = broadcast(alloc)?;
+    Ok(is_refused_mute(rt, heap, alloc, names, &stimulus, &refused)?)
+}
+
+#[test]
+fn refuses_for_numbers_before_memory(rt: HostRuntime) -> Result<(), Fail> {
+    let heap = RefusingAllocator::new(rt.alloc());
+    let is_refused = refuse_mute(&rt, &heap, &heap)?;
+    assert!(rt; is_refused);
+    Ok(())
 }

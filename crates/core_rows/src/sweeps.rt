@@ -163,6 +163,7 @@ fn sweep_row<A: Allocator + Copy, B: Allocator>(
     Ok(refused)
 }
 
+/// Does so for all rows that are swept. How many growths they have.
 fn sweep_rows<A: Allocator + Copy, B: Allocator>(
     rt: &impl Abort,
     heap: &RefusingAllocator,
@@ -170,14 +171,16 @@ fn sweep_rows<A: Allocator + Copy, B: Allocator>(
     text: &mut String<B>,
     stood: &mut String<B>,
     rows: &[Row],
-) -> Result<(), Fail> {
+) -> Result<u64, Fail> {
+    let mut refused = 0u64;
     for row in rows {
         if row.is_swept {
-            let refused = sweep_row(rt, heap, alloc, text, stood, row)?;
-            assert!(rt; refused > 20);
+            let growths = sweep_row(rt, heap, alloc, text, stood, row)?;
+            assert!(rt; growths > 5, "few growths were refused: {growths}");
+            refused = refused.saturating_add(growths);
         }
     }
-    Ok(())
+    Ok(refused)
 }
 
 #[test]
@@ -185,5 +188,7 @@ fn each_growth_of_each_event(rt: HostRuntime) -> Result<(), Fail> {
     let heap = RefusingAllocator::new(rt.alloc());
     let mut text = String::new(rt.alloc());
     let mut stood = String::new(rt.alloc());
-    sweep_rows(&rt, &heap, &heap, &mut text, &mut stood, rows())
+    let refused = sweep_rows(&rt, &heap, &heap, &mut text, &mut stood, rows())?;
+    assert!(rt; refused > 200, "few growths were refused: {refused}");
+    Ok(())
 }

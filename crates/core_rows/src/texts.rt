@@ -1,11 +1,12 @@
 //! What a group and its nodes show, as texts.
-use crate::packets::{push_packets, push_payload};
+use crate::packets::{push_packets, push_payload, push_sends};
 use at_rest::{Branch, is_at_rest, tree};
+use frames::Frame;
 use node_core::PlumCore;
 use node_names::{MsgId, NodeName};
 use std::alloc::{AllocError, Allocator};
 use std::fmt::Write;
-use world::{Core, Delivery, NameSet, NodeState, World};
+use world::{Core, Delivery, NameSet, NodeState, Out, World};
 
 /// A group of Plumtree nodes.
 pub(crate) type Group<A> = World<PlumCore<A>, A>;
@@ -251,4 +252,37 @@ pub(crate) fn push_whole<A: Allocator + Copy, B: Allocator>(
     push_standing(text, world, ids)?;
     push_held(text, world.nodes(), &ids[0])?;
     push_held(text, world.nodes(), &ids[1])
+}
+
+/// Appends what a step gives: its deliveries, and the packets that it sends.
+pub(crate) fn push_out<A: Allocator, B: Allocator>(
+    text: &mut String<B>,
+    out: &Out<Frame<A>, A>,
+) -> Result<(), AllocError> {
+    push_deliveries(text, out.deliveries.as_slice())?;
+    push_sends(text, out.sends.as_slice())
+}
+
+/// Appends the peers of a core's gossip.
+fn push_peers<A: Allocator, B: Allocator>(
+    text: &mut String<B>,
+    core: &PlumCore<A>,
+) -> Result<(), AllocError> {
+    for (name, kind) in core.peers().members() {
+        let kind = if kind.is_eager() { "eager" } else { "lazy" };
+        write!(text, "{name} {kind}; ")?;
+    }
+    Ok(())
+}
+
+/// Appends what a core's readers answer: its views, what waits at it, its gossip's peers, and what it holds of a message.
+pub(crate) fn push_core<A: Allocator + Copy, B: Allocator>(
+    text: &mut String<B>,
+    core: &PlumCore<A>,
+    id: &MsgId,
+) -> Result<(), AllocError> {
+    push_views_of(text, core)?;
+    push_waiting_at(text, core)?;
+    push_peers(text, core)?;
+    push_held_at(text, core, id)
 }

@@ -6,6 +6,10 @@ mod act;
 #[cfg(test)]
 mod alike;
 #[cfg(test)]
+mod flight;
+#[cfg(test)]
+mod forest;
+#[cfg(test)]
 mod play;
 #[cfg(test)]
 mod reach;
@@ -15,3 +19,5 @@ mod rest;
 mod rows;
 #[cfg(test)]
 mod sweeps;
+#[cfg(test)]
+mod unrest;

@@ -15,15 +15,15 @@ const MANY: u64 = 20;
 
 /// A run, and what is told of its end.
 #[derive(Clone, Copy)]
-struct Case {
-    name: &'static str,
-    acts: &'static [Act],
+pub(crate) struct Case {
+    pub(crate) name: &'static str,
+    pub(crate) acts: &'static [Act],
     is_symmetric: bool,
     /// A message, by its origin's name and incarnation and its number.
-    id: (&'static str, u64, u64),
-    is_at_rest: bool,
+    pub(crate) id: (&'static str, u64, u64),
+    pub(crate) is_at_rest: bool,
     /// The message's tree, a branch behind the other.
-    tree: &'static str,
+    pub(crate) tree: &'static str,
 }
 
 const CASES: &[Case] = &[
@@ -124,12 +124,15 @@ const CASES: &[Case] = &[
 ];
 
 /// All cases. The table is named here alone, since a function that names it is proved over the whole of it.
-fn cases() -> &'static [Case] {
+pub(crate) fn cases() -> &'static [Case] {
     CASES
 }
 
 /// Plays an event. What it gives stands in the log too.
-fn apply<A: Allocator + Copy>(world: &mut Group<A>, event: Event<A>) -> Result<(), WorldError> {
+pub(crate) fn apply<A: Allocator + Copy>(
+    world: &mut Group<A>,
+    event: Event<A>,
+) -> Result<(), WorldError> {
     let _ = world.apply(event)?;
     Ok(())
 }
@@ -158,7 +161,7 @@ fn push_line<A: Allocator>(text: &mut String<A>, branch: &Branch) -> Result<(), 
 }
 
 /// Whether branches have this text, in place of what the text said.
-fn is_drawn<A: Allocator>(
+pub(crate) fn is_drawn<A: Allocator>(
     text: &mut String<A>,
     branches: &[Branch],
     wanted: &str,
