@@ -1,4 +1,4 @@
-use Rattle.std.proofs.Common.{◌≡◌, ◌*◌, ◌++◌, ◌≤◌, length, take, drop}
+use Rattle.std.proofs.Common.{◌≡◌, ◌*◌, ◌++◌, take, drop}
 use Rattle.std.specs.Prelude.{IsAscii}
 use Rattle.plumtree.specs.Lines.{hexadecimal}
 use Rattle.plumtree.proofs.output.write_digits.Given as goal
