@@ -1,4 +1,5 @@
 pub mod Borrowed
+pub mod Digits
 pub mod Inputs
 pub mod Items
 pub mod Numbers

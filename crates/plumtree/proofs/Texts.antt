@@ -1,18 +1,9 @@
 -- Printed lists, one item longer.
-use Rattle.std.proofs.Common.{◌≡◌, ℕ, ◌+◌, ◌<◌, ◌∙◌, List, [], ◌∷◌, ◌++◌, length, get_or, take, refl, ap, sym, append_assoc, append-nil, Option, Some, None}
+use Rattle.std.proofs.Common.{◌≡◌, ℕ, ◌+◌, ◌<◌, ◌∙◌, List, [], ◌∷◌, ◌++◌, length, get_or, take, ap, sym, append_assoc, append-nil, Option, Some, None}
 use Rattle.std.specs.Io.KnownBytes.{Appends}
 use Rattle.std.proofs.lemmas.List.{take_more}
 use Rattle.at_rest.specs.declared.branch.Branch.{Branch}
-use Rattle.plumtree.specs.Lines.{hexadecimal}
 use Rattle.plumtree.specs.Trees.{branch_line, branch_lines}
-
-hexadecimal-append : (bs cs : List ℕ) → hexadecimal (bs ++ cs) ≡ hexadecimal bs ++ hexadecimal cs
-hexadecimal-append [] cs = refl
-hexadecimal-append (b ∷ bs) cs = rw (hexadecimal-append bs cs) refl
-
--- one byte more
-pub hexadecimal-more : (bs : List ℕ) (i : ℕ) → i < length bs → hexadecimal (take (i + 1) bs) ≡ hexadecimal (take i bs) ++ hexadecimal (get_or bs i 0 ∷ [])
-hexadecimal-more bs i h = ap hexadecimal (take_more bs i 0 h) ∙ hexadecimal-append (take i bs) (get_or bs i 0 ∷ [])
 
 -- what is appended in two steps
 pub joined : (new text old part step whole : List ℕ) → new ≡ text ++ step → text ≡ old ++ part → whole ≡ part ++ step → new ≡ old ++ whole

@@ -1,12 +1,12 @@
 //! The lines that are printed for deliveries.
-ghost use Rattle.std.specs.Prelude.{◌≡◌, ◌<◌, [], ◌∷◌, ◌++◌, map, reverse, IsPermutation, IsSorted, IfOk, OnOk, string_bytes};
+ghost use Rattle.std.specs.Prelude.{◌≡◌, ◌<◌, ◌≤◌, ◌*◌, ◌++◌, length, map, reverse, take, IsAscii, IsPermutation, IsSorted, IfOk, OnOk, string_bytes};
 ghost use Rattle.std.specs.Io.KnownBytes.{Appends};
 ghost use Rattle.world.specs.History.{deliveries as all_deliveries};
 ghost use Rattle.plumtree.specs.Lines.{hex_digit, hexadecimal, payload_text, line_of, lines_of, line_cmp};
 
 use std::alloc::{AllocError, Allocator};
-use std::io;
 use std::io::Write;
+use std::{io, str};
 use thiserror::Error;
 use world::{Delivery, Entry};
 
@@ -110,28 +110,47 @@ fn push_payload<A: Allocator>(text: &mut String<A>, payload: &[u8]) -> Result<()
 fn push_hexadecimal<A: Allocator>(text: &mut String<A>, bytes: &[u8]) -> Result<(), AllocError>
     ensures { OnOk result (string_bytes text.new ≡ string_bytes text.old ++ hexadecimal bytes.now) }
 {
-    for byte in bytes {
-        push_byte(text, *byte)?;
+    for chunk in bytes.chunks(32) {
+        push_chunk(text, chunk)?;
     }
     Ok(())
 }
 
-fn push_byte<A: Allocator>(text: &mut String<A>, byte: u8) -> Result<(), AllocError>
-    ensures { OnOk result (string_bytes text.new ≡ string_bytes text.old ++ hexadecimal (byte ∷ [])) }
+/// Appends the digits of up to 32 bytes together: one append for each byte is slow.
+fn push_chunk<A: Allocator>(text: &mut String<A>, bytes: &[u8]) -> Result<(), AllocError>
+    requires { length bytes.now ≤ 32 }
+    ensures { OnOk result (string_bytes text.new ≡ string_bytes text.old ++ hexadecimal bytes.now) }
 {
-    text.push(hex_digit(byte / 16))?;
-    text.push(hex_digit(byte % 16))
+    let mut digits = [0u8; 64];
+    write_digits(bytes, &mut digits);
+    let Ok(digits) = str::from_utf8(&digits[..2 * bytes.len()]) else {
+        unreachable!();
+    };
+    text.push_str(digits)
+}
+
+/// Writes the digits of bytes to the front of `digits`.
+fn write_digits(bytes: &[u8], digits: &mut [u8])
+    requires { 2 * length bytes.now ≤ length digits.old }
+    ensures value { take (2 * length bytes.now) digits.new ≡ hexadecimal bytes.now }
+    ensures ascii { IsAscii (take (2 * length bytes.now) digits.new) }
+{
+    for i in 0..bytes.len() {
+        let byte = bytes[i];
+        digits[2 * i] = hex_digit(byte / 16);
+        digits[2 * i + 1] = hex_digit(byte % 16);
+    }
 }
 
 /// A digit from 0 to 15.
-fn hex_digit(number: u8) -> char
+fn hex_digit(number: u8) -> u8
     requires { number < 16 }
     ensures value { result ≡ hex_digit number }
     ensures ascii { result < 128 }
 {
     if number < 10 {
-        char::from(b'0' + number)
+        b'0' + number
     } else {
-        char::from(b'a' + (number - 10))
+        b'a' + (number - 10)
     }
 }

@@ -1,7 +1,13 @@
--- A step appends one byte's digits.
-use Rattle.plumtree.proofs.Texts.{hexadecimal-more, joined}
+-- A step appends the digits of one chunk.
+use Rattle.std.proofs.Common.{◌∙◌, rules}
+use Rattle.plumtree.proofs.Digits.{chunk_step}
 use Rattle.plumtree.proofs.output.push_hexadecimal.Goals as goal
 
-pub loop-byte-preserved : goal.loop-byte-preserved
-loop-byte-preserved g c =
-    joined _ _ _ _ _ _ c.in_ok-push_byte.ensures c.loop-byte.invariant (hexadecimal-more c.args.bytes.now c.loop-byte.byte-index c.loop-byte-test.true)
+pub loop-chunk-preserved : goal.loop-chunk-preserved
+loop-chunk-preserved g c =
+    let steps = c.in-Some.ensures.steps in (
+      search rules,
+      tt,
+      steps.0 ∙ c.loop-chunk.invariant.2,
+      chunk_step _ _ _ _ _ _ c.in_ok-push_chunk.ensures steps.1.0 c.loop-chunk.invariant.3,
+    )
