@@ -138,7 +138,7 @@ impl<C: Core<A>, A: Allocator + Copy> Player<C, A> {
         ensures refused { IfErr result (λ why. why ≢ WorldError.OutOfMemory → (self.new.group ≡ self.old.group) × Refuses C.state C.starts C.steps C.is_spent event why self.new.group) }
         ensures rolls { self.new.rolls ≡ self.old.rolls }
     {
-        self.group.apply(event)?;
+        self.group.play(&event)?;
         Ok(())
     }
 }
