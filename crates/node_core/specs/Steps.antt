@@ -22,9 +22,8 @@ use Rattle.membership.specs.Event.{Event}
 use Rattle.membership.specs.declared.event.EventOf.TheVariants as on
 use Rattle.membership.specs.Table.{table}
 use Rattle.peer_sets.specs.Members.{all_eager}
-use Rattle.gossip_core.specs.Effects.{Effects}
 use Rattle.gossip_core.specs.State.{GossipState}
-use Rattle.gossip_core.specs.Table.{Call, Outcome, after_downs, after_ups, outcome}
+use Rattle.gossip_core.specs.Table.{Call, after_downs, after_ups, outcome}
 use Rattle.gossip_core.specs.declared.call.CallOf.TheVariants as call
 use Rattle.node_core.specs.Plum.{Plum, plum_state}
 

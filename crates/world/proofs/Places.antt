@@ -4,7 +4,7 @@ use Rattle.std.proofs.Math.Seq.{map-set_same}
 use Rattle.std.proofs.lemmas.List.{length-map}
 use Rattle.std.proofs.lemmas.Option.{slice_get-get_or}
 use Rattle.std.specs.List.{position, position_or_len}
-use Rattle.std.specs.Prelude.{◌||◌, Bool, Option, Some, None, cond, find, map, nat_lt, not, slice_get, slice_set}
+use Rattle.std.specs.Prelude.{◌||◌, Bool, Some, None, cond, nat_lt, not, slice_get, slice_set}
 use Rattle.node_names.specs.NodeName.{Name}
 use Rattle.node_names.specs.Same.{has_name, same_name}
 use Rattle.world.specs.Group.{node_of}

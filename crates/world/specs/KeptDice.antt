@@ -1,5 +1,5 @@
 -- Dice as the log keeps them.
-use Rattle.std.specs.Prelude.{ℕ, Option, Some, None, replicate}
+use Rattle.std.specs.Prelude.{Option, Some, None, replicate}
 use Rattle.std.specs.declared.boxed.Box.{Box}
 use Rattle.node_names.specs.declared.dice.Dice.{Dice}
 

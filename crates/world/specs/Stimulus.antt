@@ -1,6 +1,6 @@
 -- What makes a core step, and what else such a step speaks of.
 use denote.Ref.{Bor}
-use Rattle.std.specs.Prelude.{◌≡◌, ◌≢◌, ◌≤◌, ◌^◌, ◌-◌, ℕ, List, length}
+use Rattle.std.specs.Prelude.{◌≢◌, ℕ, List}
 use Rattle.node_names.specs.NodeName.{Name}
 use Rattle.world.specs.declared.stimulus.StimulusOf.{StimulusOf}
 use Rattle.world.specs.declared.stimulus.StimulusOf.TheVariants.{Broadcast, Arrive, Fire, Flush, Down, Shuffle}

@@ -1,7 +1,6 @@
 -- The place of the node of this name is the first where the names are the same.
-use Rattle.std.proofs.Common.{◌≡◌, ap, refl, sym, ◌∙◌}
+use Rattle.std.proofs.Common.{ap, refl, sym, ◌∙◌}
 use Rattle.std.specs.List.{position}
-use Rattle.std.specs.Prelude.{Some, None}
 use Rattle.node_names.specs.Same.{same_name}
 use Rattle.world.proofs.NodeLemmas.{put_node-at, put_node-last}
 use Rattle.world.proofs.Places.{name_nowhere, position-names, same_names}

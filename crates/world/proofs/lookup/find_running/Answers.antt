@@ -1,5 +1,5 @@
 -- The node of a name stands where the name does.
-use Rattle.std.proofs.Common.{◌≡◌, ◌∙◌, sym, ap, refl}
+use Rattle.std.proofs.Common.{◌∙◌, sym, ap, refl}
 use Rattle.world.specs.Refusals.{absent}
 use Rattle.world.proofs.Places.{node_nowhere, node_there, runs_there}
 use Rattle.world.proofs.lookup.find_running.Goals as goal

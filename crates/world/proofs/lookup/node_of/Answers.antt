@@ -1,5 +1,5 @@
 -- The node of a name stands where the name does.
-use Rattle.std.proofs.Common.{◌≡◌, ◌∙◌, sym}
+use Rattle.std.proofs.Common.{◌∙◌, sym}
 use Rattle.world.proofs.Places.{node_nowhere, node_there}
 use Rattle.world.proofs.lookup.node_of.Goals as goal
 

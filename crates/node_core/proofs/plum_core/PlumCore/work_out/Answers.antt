@@ -1,6 +1,6 @@
 -- What a stimulus does is what its part does.
 use Rattle.std.proofs.Common.{◌≡◌, sym, ◌∙◌, ap, subst}
-use Rattle.std.specs.Prelude.{◌↔◌, IfOk, IsErrOf, OnOk, false}
+use Rattle.std.specs.Prelude.{◌↔◌, IfOk, IsErrOf, false}
 use Rattle.views.specs.Views.{AreSound}
 use Rattle.world.specs.IdentityLaw.{IsOutOfNumbers, IsTooLong}
 use Rattle.world.specs.Run.{SameNames}

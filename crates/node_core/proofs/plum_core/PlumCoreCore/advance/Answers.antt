@@ -1,7 +1,6 @@
 -- What the parts do, the stimulus does.
 use Rattle.std.proofs.Common.{◌≡◌, ◌+◌, length, sym, ◌∙◌, ap, subst}
 use Rattle.views.specs.Views.{AreSound}
-use Rattle.gossip_core.specs.State.{GossipState}
 use Rattle.world.specs.Stimulus.{lent}
 use Rattle.node_core.specs.Fits.{FitsFrames}
 use Rattle.node_core.specs.Parts.{Turn, by_part, lent as lent_part}

@@ -1,6 +1,5 @@
 -- What refuses the working out refuses the step, and what it gives is given.
-use Rattle.std.proofs.Common.{◌≡◌, ◌<◌, ◌+◌, ◌-◌, ◌^◌, ◌++◌, length, sym, ◌∙◌, ap, subst, inl, inr}
-use Rattle.std.specs.Prelude.{◌↔◌, IsErrOf}
+use Rattle.std.proofs.Common.{◌<◌, ◌+◌, ◌-◌, ◌^◌, ◌++◌, length, sym, ◌∙◌, ap, subst, inl, inr}
 use Rattle.std.specs.declared.result.Result.TheVariants.{Err}
 use Rattle.gossip_core.specs.Effects.{Effects}
 use Rattle.world.specs.IdentityLaw.{IsOutOfNumbers, IsTooLong}

@@ -1,5 +1,5 @@
 -- What leaves from the front is only counted, and what leaves behind it is taken out.
-use Rattle.std.proofs.Common.{◌≡◌, ◌+◌, ◌∙◌, ap, drop, refl}
+use Rattle.std.proofs.Common.{◌+◌, ◌∙◌, ap, drop, refl}
 use Rattle.world.proofs.Flights.{front_leaves, one_leaves}
 use Rattle.world.proofs.flight.Flight.remove.Goals as goal
 

@@ -1,5 +1,5 @@
 -- Firings, flushes and ticks do nothing, and a failed link takes its peer out.
-use Rattle.std.proofs.Common.{◌≡◌, ap, sym, ◌∙◌, inl, inr}
+use Rattle.std.proofs.Common.{ap, ◌∙◌}
 use Rattle.node_names.specs.Same.{has_name}
 use Rattle.world.specs.Stimulus.{lent}
 use Rattle.world.proofs.FloodMoves.{loses_peer, moves_by_peer, stays_idle}

@@ -1,6 +1,5 @@
 -- The log's new entry says what happened to the group, so the longer log is a run too.
-use Rattle.std.proofs.Common.{◌≡◌, ◌<◌, ◌++◌, [], ◌∷◌, ℕ, length, sym, ◌∙◌, ap, subst}
-use Rattle.std.specs.Option.{ForSome}
+use Rattle.std.proofs.Common.{◌≡◌, ◌<◌, ◌++◌, [], ◌∷◌, length, sym, ◌∙◌, ap, subst}
 use Rattle.world.specs.Flight.{flying}
 use Rattle.world.specs.Group.{Group, Logged}
 use Rattle.world.specs.Plan.{IsReady, changed, launched, nodes_after, planned, staying}

@@ -1,6 +1,6 @@
 -- The packet is the one at the place of the flight, and its receiver is the node that was found.
 use Rattle.std.proofs.Common.{◌≡◌, rules, sym, ◌∙◌}
-use Rattle.std.specs.Prelude.{Some, slice_get, remove}
+use Rattle.std.specs.Prelude.{Some, slice_get}
 use Rattle.world.specs.Refusals.{IsRefusal}
 use Rattle.world.proofs.PlanLemmas.{arrival_refused, tells_arrival, found_within}
 use Rattle.world.proofs.world.World.plan_arrive.Goals as goal
