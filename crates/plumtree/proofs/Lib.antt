@@ -4,7 +4,10 @@ pub mod Inputs
 pub mod Items
 pub mod Numbers
 pub mod Oks
+pub mod Orders
 pub mod Plays
+pub mod Ranking
+pub mod Sorting
 pub mod Telling
 pub mod Texts
 pub mod Zips

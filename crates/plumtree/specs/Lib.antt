@@ -4,6 +4,7 @@ pub mod Graph
 pub mod Key
 pub mod Lines
 pub mod Play
+pub mod Ranks
 pub mod Reading
 pub mod Rolls
 pub mod Scenario

@@ -8,6 +8,7 @@ mod graph;
 mod output;
 mod play;
 mod program;
+mod ranks;
 mod read;
 mod rolls;
 mod scenario;

@@ -4,6 +4,7 @@ ghost use Rattle.std.specs.Io.KnownBytes.{Appends};
 ghost use Rattle.world.specs.History.{deliveries as all_deliveries};
 ghost use Rattle.plumtree.specs.Lines.{hex_digit, hexadecimal, payload_text, line_of, lines_of, line_cmp};
 
+use crate::ranks::{messages, nodes, rank_of_message, rank_of_node};
 use std::alloc::{AllocError, Allocator};
 use std::io::Write;
 use std::{io, str};
@@ -61,11 +62,17 @@ fn push_each<'a, A: Allocator>(
 }
 
 /// Sorts deliveries by node, and those of one node by message.
-pub fn sort<A: Allocator>(deliveries: &mut Vec<&Delivery<A>, A>) -> Result<(), AllocError>
+///
+/// It sorts by ranks, by that of the message first: nodes and ids are slow to compare and to move.
+pub fn sort<A: Allocator + Copy>(deliveries: &mut Vec<&Delivery<A>, A>) -> Result<(), AllocError>
     ensures permutation { OnOk result (IsPermutation (map (λ d. d.now) deliveries.old.items) (map (λ d. d.now) deliveries.new.items)) }
     ensures sorted { OnOk result (IsSorted line_cmp (map (λ d. d.now) deliveries.new.items)) }
 {
-    deliveries.sort_by_cached_key(|delivery| (delivery.node, delivery.id))
+    let alloc = *deliveries.allocator();
+    let nodes = nodes(alloc, deliveries.as_slice())?;
+    let ids = messages(alloc, deliveries.as_slice())?;
+    deliveries.sort_by_cached_key(|delivery| rank_of_message(&ids, &delivery.id))?;
+    deliveries.sort_by_cached_key(|delivery| rank_of_node(&nodes, &delivery.node))
 }
 
 /// Writes a line for each delivery, in one write each. `text` is room for a line.

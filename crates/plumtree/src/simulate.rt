@@ -19,6 +19,7 @@ use crate::{graph, output, trees};
 use node_core::PlumCore;
 use std::alloc::{Allocator, Global};
 use std::io::Write;
+use std::mem;
 use world::{Core, World};
 
 /// The room for a line: the longest payload in hexadecimal, and what stands before it.
@@ -81,6 +82,7 @@ fn play_and_print<C: Core<A>, A: Allocator + Copy, W: Write>(
     let mut player = Player::<C, A>::new(alloc, scenario.seed, scenario.limits);
     let played = player.play(alloc, scenario.actions.as_slice());
     let printed = print(alloc, &mut text, player.group(), out);
+    leave(player);
     ended(played, printed)
 }
 
@@ -96,7 +98,13 @@ fn play_and_draw<A: Allocator + Copy, W: Write>(
     let mut player = Player::<PlumCore<A>, A>::new(alloc, scenario.seed, scenario.limits);
     let played = player.play(alloc, scenario.actions.as_slice());
     let drawn = draw_group(alloc, player.group(), out);
+    leave(player);
     ended(played, drawn)
+}
+
+/// Leaves the memory of a group to the system: the program ends next, and freeing each packet and entry takes time.
+fn leave<C: Core<A>, A: Allocator + Copy>(player: Player<C, A>) {
+    mem::forget(player);
 }
 
 /// Draws the group, with the tree of each message.

@@ -1,0 +1,6 @@
+-- The rank of a value among distinct values that are in order: its place, and 0 of a value that is not there.
+use Rattle.std.specs.Prelude.{ℕ, Bool, List, position}
+use Rattle.std.specs.Option.{unwrap_or}
+
+abbrev pub rank_in : {T : Type 0} → (T → T → Bool) → List T → T → ℕ
+rank_in eq values value = unwrap_or (position (eq value) values) 0
