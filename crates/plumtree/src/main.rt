@@ -5,6 +5,7 @@ mod arguments;
 mod code;
 mod failure;
 mod graph;
+mod origins;
 mod output;
 mod play;
 mod program;

@@ -4,6 +4,7 @@ ghost use Rattle.std.specs.Io.KnownBytes.{Appends};
 ghost use Rattle.world.specs.History.{deliveries as all_deliveries};
 ghost use Rattle.plumtree.specs.Lines.{hex_digit, hexadecimal, payload_text, line_of, lines_of, line_cmp};
 
+use crate::origins::{push_id, push_origin};
 use crate::ranks::{messages, nodes, rank_of_message, rank_of_node};
 use std::alloc::{AllocError, Allocator};
 use std::io::Write;
@@ -95,11 +96,13 @@ pub fn write_lines<A: Allocator, W: Write>(
 fn push_line<A: Allocator>(text: &mut String<A>, delivery: &Delivery<A>) -> Result<(), AllocError>
     ensures { OnOk result (string_bytes text.new ≡ string_bytes text.old ++ line_of delivery.now) }
 {
-    let node = delivery.node;
-    let id = delivery.id;
     let payload = delivery.payload.as_slice();
     let length = payload.len();
-    write!(text, "deliver {node} {id} {length} ")?;
+    text.push_str("deliver ")?;
+    push_origin(text, &delivery.node)?;
+    text.push(' ')?;
+    push_id(text, &delivery.id)?;
+    write!(text, " {length} ")?;
     push_payload(text, payload)?;
     text.push('\n')
 }

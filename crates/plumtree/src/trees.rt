@@ -4,6 +4,7 @@ ghost use Rattle.std.specs.Io.KnownBytes.{Appends};
 ghost use Rattle.node_names.specs.Order.{id_cmp};
 ghost use Rattle.plumtree.specs.Trees.{branch_line, branch_lines, broadcasts_of, rest_word, tree_lines, TellsTrees};
 
+use crate::origins::push_origin;
 use crate::output::OutputFault;
 use at_rest::{Branch, Forest, Unrest};
 use node_names::MsgId;
@@ -119,9 +120,14 @@ fn push_branches<A: Allocator>(text: &mut String<A>, branches: &[Branch]) -> Res
 fn push_branch<A: Allocator>(text: &mut String<A>, branch: &Branch) -> Result<(), AllocError>
     ensures { OnOk result (string_bytes text.new ≡ string_bytes text.old ++ branch_line branch.now) }
 {
-    let node = branch.node;
-    match branch.parent {
-        Some(parent) => write!(text, "  {node} <- {parent}\n"),
-        None => write!(text, "  {node} <- -\n"),
+    text.push_str("  ")?;
+    push_origin(text, &branch.node)?;
+    match &branch.parent {
+        Some(parent) => {
+            text.push_str(" <- ")?;
+            push_origin(text, parent)?;
+            text.push('\n')
+        }
+        None => text.push_str(" <- -\n"),
     }
 }
