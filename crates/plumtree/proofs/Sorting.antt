@@ -30,6 +30,7 @@ module _ (nodes : List Origin) (ids : List MsgId) (nodes_sorted : IsSortedBy (λ
     where
       not_lower : is_lt (origin_cmp b.node a.node) ≡ false
       not_lower = rank-lower same_origin (λ x y. (same_origin-Decides x y).0) same_origin-laws.refl origin_cmp origin_total nodes b.node a.node nodes_sorted node_b node_a by_node
+
       by : (o : Ordering) → origin_cmp b.node a.node ≡ o → is_lt (line_cmp b a) ≡ false
       by Less e = absurd (cc (not_lower, ap is_lt e))
       by Equal e =
@@ -55,7 +56,7 @@ module _ (nodes : List Origin) (ids : List MsgId) (nodes_sorted : IsSortedBy (λ
       (All-get_or (λ (x : Bor Delivery). Contains ids x.now.id) new (k + 1) d within all_ids)
       (by_node k d low within)
       (λ same. ties_stay_sorted IdBefore NodeBefore (ranks_by nat_cmp_total (λ (x : Bor Delivery). id_rank x.now)) (ranks_by nat_cmp_total (λ (x : Bor Delivery). node_rank x.now)) mid new by_id stable k d within
-        (tie (node_rank a.now) (node_rank b.now) (ap (rank_in same_origin nodes) same)))
+      (tie (node_rank a.now) (node_rank b.now) (ap (rank_in same_origin nodes) same)))
     where
       tie : (m n : ℕ) → m ≡ n → not (is_lt (nat_cmp m n)) && not (is_lt (nat_cmp n m)) ≡ true
       tie m n e = grind arith
