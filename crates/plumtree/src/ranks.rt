@@ -1,5 +1,5 @@
 //! The ranks of the nodes and messages that occur: small numbers to sort by.
-ghost use Rattle.std.specs.Prelude.{◌≡◌, map, All, Contains, IsSorted, IfOk, OnOk};
+ghost use Rattle.std.specs.Prelude.{◌≡◌, All, Contains, IsSorted, IfOk, OnOk};
 ghost use Rattle.indexmap.specs.IndexSet.{insert_key};
 ghost use Rattle.plumtree.specs.Lines.{msg_id_cmp, origin_cmp};
 ghost use Rattle.plumtree.specs.Ranks.{rank_in};
@@ -8,7 +8,7 @@ ghost use Rattle.node_names.specs.Same.{same_id, same_origin};
 use indexmap::IndexSet;
 use node_names::{MsgId, Origin};
 use std::alloc::{AllocError, Allocator};
-use std::hash::{BuildHasherDefault, FoldHasher, Hash};
+use std::hash::{BuildHasherDefault, FoldHasher};
 use world::Delivery;
 
 /// Distinct values in their order, so that a value's place is its rank.
