@@ -1,13 +1,13 @@
 //! What a step sends and delivers: its packets, numbered, and its delivery.
-ghost use Rattle.std.specs.Prelude.{◌≡◌, ◌<◌, ◌+◌, ◌++◌, IfOk, OnOk, OnErr, IsErrOf, length};
+ghost use Rattle.std.specs.Prelude.{◌≡◌, ◌<◌, ◌≤◌, ◌+◌, ◌++◌, IfOk, OnOk, OnErr, IsErrOf, length};
 ghost use Rattle.node_core.specs.Fits.{AreFit};
 ghost use Rattle.node_core.specs.Steps.{numbered, delivered_at};
 
 use crate::numbering::number_all;
 use bytes::Bytes;
-use frames::Frame;
+use frames::{Body, Frame};
 use gossip_core::Effects;
-use node_names::{MsgId, NodeName, Origin};
+use node_names::{Listed, MsgId, NodeName, Origin};
 use std::alloc::{AllocError, Allocator};
 use world::{CoreError, Delivery, Out};
 
@@ -30,18 +30,24 @@ fn deliver<A: Allocator + Copy>(
     Ok(())
 }
 
-/// Puts the packets and the delivery last.
+/// Puts the packets, numbered, and the delivery last.
 fn append<A: Allocator + Copy>(
     me: &Origin,
-    frames: Vec<(NodeName, Frame<A>), A>,
+    framed: u64,
+    sends: Listed<(NodeName, Body<A>), A>,
     delivered: Option<(MsgId, Bytes<A>)>,
     out: &mut Out<Frame<A>, A>,
 ) -> Result<(), AllocError>
-    ensures ok { OnOk result (out.new ≡ record { sends = out.old.sends ++ frames.items; deliveries = out.old.deliveries ++ delivered_at me.now delivered }) }
+    requires fit { AreFit sends }
+    requires left { framed + length sends ≤ u64.MAX }
+    ensures ok { OnOk result (out.new ≡ record { sends = out.old.sends ++ numbered me.now framed sends; deliveries = out.old.deliveries ++ delivered_at me.now delivered }) }
     ensures err { OnErr result (out.new ≡ out.old) }
 {
     let kept = out.sends.len();
-    out.sends.append(frames)?;
+    if number_all(me, framed, sends, &mut out.sends).is_err() {
+        out.sends.truncate(kept);
+        return Err(AllocError);
+    }
     if deliver(me, delivered, out).is_err() {
         out.sends.truncate(kept);
         return Err(AllocError);
@@ -68,7 +74,6 @@ pub(crate) fn append_numbered<A: Allocator + Copy>(
     let Some(last) = framed.checked_add(sends.len() as u64) else {
         return Err(CoreError::SeqSpent);
     };
-    let frames = number_all(me, framed, sends)?;
-    append(me, frames, delivered, out)?;
+    append(me, framed, sends, delivered, out)?;
     Ok(last)
 }

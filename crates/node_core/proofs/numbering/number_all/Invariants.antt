@@ -9,4 +9,4 @@ invariant-loop-to g l =
     (goal.iterator-loop-to g).is_finite l.to-iterator ×
     (l.yielded ++ l.to-iterator.rest.items ≡ l.fn.bodies) ×
     (l.number ≡ l.framed + length l.yielded) ×
-    (l.frames.items ≡ numbered l.me l.framed l.yielded)
+    (l.frames ≡ l.initial.frames ++ numbered l.me l.framed l.yielded)

@@ -15,4 +15,4 @@ returns-clause-last g c =
 
 pub returns-clause-ok : goal.returns-clause-ok
 returns-clause-ok g c =
-    c.in_ok-append.ensures.ok ∙ ap (λ (frames : _). record { sends = c.args.out.now.sends ++ frames; deliveries = c.args.out.now.deliveries ++ delivered_at c.args.me.now c.effects.inside.delivered }) c.in_ok-frames.ensures ∙ ap (λ (e : Effects). record { sends = c.args.out.now.sends ++ numbered c.args.me.now c.args.framed e.sends; deliveries = c.args.out.now.deliveries ++ delivered_at c.args.me.now e.delivered }) c.effects.view_is
+    c.in_ok-append.ensures.ok ∙ ap (λ (e : Effects). record { sends = c.args.out.now.sends ++ numbered c.args.me.now c.args.framed e.sends; deliveries = c.args.out.now.deliveries ++ delivered_at c.args.me.now e.delivered }) c.effects.view_is
