@@ -9,14 +9,13 @@ use Rattle.node_names.specs.Order.{id_cmp}
 use Rattle.node_names.specs.Same.{same_id, same_id-Decides, has_id}
 use Rattle.node_names.specs.declared.ids.Origin.{Origin}
 use Rattle.node_names.specs.declared.ids.MsgId.{MsgId}
-use Rattle.missing.specs.Missing.{Missing, got}
+use Rattle.missing.specs.Missing.{Missing, got, without_all}
 use Rattle.peer_sets.specs.Members.{lazy_but, with_kind, with_members, without_members}
 use Rattle.peer_sets.specs.PeerSets.{PeerSets, relinked}
 use Rattle.peer_sets.specs.Queue.{with_entries, without_all_entries}
 use Rattle.peer_sets.specs.declared.kind.PeerKind.TheVariants.{Eager}
 use Rattle.gossip_core.proofs.IdOrder.{contains-ids, id_antisymmetric, id_total}
 use Rattle.gossip_core.proofs.StoreLemmas.{is_some-lookup}
-use Rattle.gossip_core.specs.Links.{without_each}
 use Rattle.gossip_core.specs.State.{GossipState, IsSound}
 use Rattle.gossip_core.specs.Store.{ids, AreCounted}
 use Rattle.gossip_core.specs.Table.{outcome, first_copy, next_round, after_downs, after_ups}
@@ -112,7 +111,7 @@ module _ (me : Origin) (spent : ℕ) (peers : PeerSets) (missing : Missing) (hel
 
 -- ---- links go down and come up
 
-pub after_downs-is : (downs : List Name) (g : GossipState) → after_downs downs g ≡ record g { peers = record { members = without_members downs g.peers.members; queued = without_all_entries downs g.peers.queued }; missing = without_each downs g.missing }
+pub after_downs-is : (downs : List Name) (g : GossipState) → after_downs downs g ≡ record g { peers = record { members = without_members downs g.peers.members; queued = without_all_entries downs g.peers.queued }; missing = without_all downs g.missing }
 after_downs-is [] g = refl
 after_downs-is (name ∷ names) g = after_downs-is names (outcome g (Down name)).state
 
@@ -120,5 +119,5 @@ pub after_ups-is : (ups : List Name) (g : GossipState) → after_ups ups g ≡ r
 after_ups-is [] g = refl
 after_ups-is (name ∷ names) g = after_ups-is names (outcome g (Up name)).state
 
-pub after_links : (downs ups : List Name) (g : GossipState) → record g { peers = relinked downs ups g.peers; missing = without_each downs g.missing } ≡ after_ups ups (after_downs downs g)
-after_links downs ups g = sym (ap (after_ups ups) (after_downs-is downs g) ∙ after_ups-is ups (record g { peers = record { members = without_members downs g.peers.members; queued = without_all_entries downs g.peers.queued }; missing = without_each downs g.missing }))
+pub after_links : (downs ups : List Name) (g : GossipState) → record g { peers = relinked downs ups g.peers; missing = without_all downs g.missing } ≡ after_ups ups (after_downs downs g)
+after_links downs ups g = sym (ap (after_ups ups) (after_downs-is downs g) ∙ after_ups-is ups (record g { peers = record { members = without_members downs g.peers.members; queued = without_all_entries downs g.peers.queued }; missing = without_all downs g.missing }))

@@ -3,5 +3,4 @@ pub mod IdOrder
 pub mod PacketLemmas
 pub mod StoreLemmas
 pub mod EffectLemmas
-pub mod LinkLemmas
 pub mod HeldLemmas

@@ -5,4 +5,3 @@ pub mod Announcements
 pub mod Store
 pub mod Table
 pub mod Refusals
-pub mod Links

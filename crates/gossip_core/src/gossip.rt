@@ -15,7 +15,6 @@ use crate::answers::answers;
 use crate::call::{Call, CallOf};
 use crate::effects::Effects;
 use crate::fault::GossipFault;
-use crate::links::down_all;
 use crate::store::{self, Held};
 use bytes::Bytes;
 use indexmap::IndexMap;
@@ -408,7 +407,7 @@ impl<A: Allocator + Copy> Gossip<A> {
         ensures err { OnErr result (self.new ≡ self.old) }
     {
         self.peers.relink(downs, ups)?;
-        down_all(&mut self.missing, downs);
+        self.missing.down_all(downs);
         Ok(())
     }
 

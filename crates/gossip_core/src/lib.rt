@@ -7,7 +7,6 @@ mod call;
 mod effects;
 mod fault;
 mod gossip;
-mod links;
 mod spread;
 mod store;
 

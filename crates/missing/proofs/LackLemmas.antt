@@ -1,23 +1,19 @@
 -- An id that is not armed has no announcement.
-use Rattle.std.proofs.Common.{◌≡◌, ◌∙◌, ◌||◌, ◌&&◌, ℕ, Bool, true, false, not, cond, List, [], ◌∷◌, None, Some, sym, ap, subst, refl}
+use Rattle.std.proofs.Common.{◌≡◌, ◌∙◌, ◌||◌, ℕ, Bool, true, false, not, cond, List, [], ◌∷◌, None, Some, sym, ap, subst, refl}
 use Rattle.std.specs.Prelude.{if◌then◌else◌}
 use Rattle.std.specs.List.{AllByRecursion as Each, IsDistinct}
 use Rattle.std.specs.Set.{remove_key}
 use Rattle.std.proofs.lemmas.Bool.{false≢true}
 use Rattle.std.proofs.lemmas.Map.Keys.{IsDistinct-head, IsDistinct-tail}
 use Rattle.node_names.specs.NodeName.{Name}
-use Rattle.node_names.specs.Same.{same_name, same_id, same_id-Decides, has_id}
+use Rattle.node_names.specs.Same.{same_id, same_id-Decides, has_id}
 use Rattle.node_names.specs.declared.ids.MsgId.{MsgId}
 use Rattle.missing.specs.Timers.{without_timer}
-use Rattle.missing.specs.Wants.{is_wanted, first_want, without_first, without_id}
+use Rattle.missing.specs.Wants.{first_want, without_first, without_id}
 
 -- ---- where no entry is of the id
 
 module _ (id : MsgId) where
-  pub is_wanted-none : (peer : Name) (wants : List (MsgId × Name × ℕ)) → Each (λ (entry : MsgId × Name × ℕ). same_id id entry.0 ≡ false) wants → is_wanted id peer wants ≡ false
-  is_wanted-none peer [] none = refl
-  is_wanted-none peer (entry ∷ wants) none = ap (λ b. b && same_name peer entry.1 || is_wanted id peer wants) none.0 ∙ is_wanted-none peer wants none.1
-
   pub first_want-none : (wants : List (MsgId × Name × ℕ)) → Each (λ (entry : MsgId × Name × ℕ). same_id id entry.0 ≡ false) wants → first_want id wants ≡ None
   first_want-none [] none = refl
   first_want-none (entry ∷ wants) none = ap (λ b. if b then Some (entry.1, entry.2) else first_want id wants) none.0 ∙ first_want-none wants none.1

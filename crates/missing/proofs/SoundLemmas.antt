@@ -2,7 +2,7 @@
 use Rattle.std.specs.Prelude.{◌≡◌, ◌||◌, ℕ, Bool, true, false, not, List, [], ◌∷◌, ◌++◌, Some, is_some, map, filter, refl, if◌then◌else◌, cond}
 use Rattle.std.specs.Bool.{Decides}
 use Rattle.std.specs.Cmp.{IsEquivalence, decided}
-use Rattle.std.specs.List.{AllByRecursion as Each, IsDistinct, list_any}
+use Rattle.std.specs.List.{AllByRecursion as Each, IsDistinct}
 use Rattle.std.proofs.Common.{ap, sym, subst, ◌∙◌}
 use Rattle.std.proofs.lemmas.Bool.{true≢false}
 use Rattle.std.proofs.lemmas.Bool.Decides.{Decides-like, Decides-and}
@@ -14,7 +14,8 @@ use Rattle.node_names.specs.NodeName.{Name}
 use Rattle.node_names.specs.Same.{same_name, same_name-Decides, same_id, same_id-Decides, same_id-laws, has_id}
 use Rattle.node_names.specs.declared.ids.MsgId.{MsgId}
 use Rattle.missing.proofs.Distinct.{each-weaker, each-map, each-append, each-filter, distinct-filter}
-use Rattle.missing.specs.Missing.{Missing, IsSound, announced, announced_all, taken_first, got, without}
+use Rattle.missing.proofs.PlaceLemmas.{is_wanted-places}
+use Rattle.missing.specs.Missing.{Missing, IsSound, announced, announced_all, taken_first, got, without, without_all}
 use Rattle.missing.specs.Timers.{with_timer, without_timer}
 use Rattle.missing.specs.Wants.{place_of, same_place, is_wanted, first_want, without_first}
 
@@ -63,11 +64,6 @@ stays_without id timers other is apart =
     ∙ is
 
 -- ---- entries
-
--- whether an entry stands there is whether its place does
-is_wanted-places : (id : MsgId) (peer : Name) (wants : List (MsgId × Name × ℕ)) → list_any (same_place (id, peer)) (map place_of wants) ≡ is_wanted id peer wants
-is_wanted-places id peer [] = refl
-is_wanted-places id peer (entry ∷ wants) = ap (λ b. same_place (id, peer) (place_of entry) || b) (is_wanted-places id peer wants)
 
 once-filter : (test : MsgId × Name × ℕ → Bool) (wants : List (MsgId × Name × ℕ)) → IsDistinct same_place (map place_of wants) → IsDistinct same_place (map place_of (filter test wants))
 once-filter test [] once = once
@@ -154,6 +150,10 @@ module _ (peer : Name) where
         armed = each-filter (λ entry. has_id missing.timers entry.0 ≡ true) (λ entry. has_id missing.timers entry.0 ≡ true) (λ entry. not (same_name peer entry.1)) (λ entry is passes. is) missing.wants sound.armed;
         distinct = sound.distinct;
       }
+
+pub sound-without_all : (peers : List Name) (missing : Missing) → IsSound missing → IsSound (without_all peers missing)
+sound-without_all [] missing sound = sound
+sound-without_all (peer ∷ peers) missing sound = sound-without_all peers (without peer missing) (sound-without peer missing sound)
 
 pub sound-got : (id : MsgId) (missing : Missing) → IsSound missing → IsSound (got id missing)
 sound-got id missing sound =

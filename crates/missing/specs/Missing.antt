@@ -5,7 +5,7 @@ use Rattle.node_names.specs.NodeName.{Name}
 use Rattle.node_names.specs.Same.{same_id, has_id}
 use Rattle.node_names.specs.declared.ids.MsgId.{MsgId}
 use Rattle.missing.specs.Timers.{with_timer, with_timers, without_timer}
-use Rattle.missing.specs.Wants.{place_of, same_place, first_want, with_want, with_wants, without_first, without_id, without_peer}
+use Rattle.missing.specs.Wants.{place_of, same_place, first_want, with_want, with_wants, without_first, without_id, without_peer, without_peers}
 
 -- The announcements, oldest first, and the ids whose timers are armed, in order of arming.
 pub record Missing : Type 0 where
@@ -41,3 +41,7 @@ got id missing = record { wants = without_id id missing.wants; timers = without_
 -- after the peer went down: its announcements go, and the timers stay
 abbrev pub without : Name → Missing → Missing
 without peer missing = record missing { wants = without_peer peer missing.wants }
+
+-- after these peers went down: their announcements go, and the timers stay
+abbrev pub without_all : List Name → Missing → Missing
+without_all peers missing = record missing { wants = without_peers peers missing.wants }

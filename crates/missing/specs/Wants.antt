@@ -43,3 +43,8 @@ without_id id wants = filter (λ entry. not (same_id id entry.0)) wants
 -- the entries but those of the peer
 abbrev pub without_peer : Name → List (MsgId × Name × ℕ) → List (MsgId × Name × ℕ)
 without_peer peer wants = filter (λ entry. not (same_name peer entry.1)) wants
+
+-- the entries but those of these peers, taken out in turn
+abbrev pub without_peers : List Name → List (MsgId × Name × ℕ) → List (MsgId × Name × ℕ)
+without_peers [] wants = wants
+without_peers (peer ∷ peers) wants = without_peers peers (without_peer peer wants)

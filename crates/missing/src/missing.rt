@@ -1,13 +1,13 @@
 //! The messages that a node knows of and lacks.
-ghost use Rattle.std.specs.Prelude.{◌≡◌, ◌+◌, ◌<◌, ◌≤◌, [], not, is_some, length, vec_len, vec_capacity, if◌then◌else◌, IfOk, OnOk, OnErr};
+ghost use Rattle.std.specs.Prelude.{◌≡◌, ◌+◌, ◌<◌, ◌≤◌, [], not, is_some, length, map, vec_len, vec_capacity, if◌then◌else◌, IfOk, OnOk, OnErr};
 ghost use Rattle.indexmap.specs.IndexSet.{spare};
 ghost use Rattle.node_names.specs.Same.{has_id};
-ghost use Rattle.missing.specs.Missing.{IsSound, announced, announced_all, taken_first, got, without};
-ghost use Rattle.missing.specs.Wants.{with_want, with_wants, first_want, without_first, without_id};
+ghost use Rattle.missing.specs.Missing.{IsSound, announced, announced_all, taken_first, got, without, without_all};
+ghost use Rattle.missing.specs.Wants.{place_of, with_want, with_wants, first_want, without_first, without_id};
 ghost use Rattle.missing.specs.Timers.{with_timer, with_timers, without_timer};
 
 use crate::timers::{self, Timers};
-use crate::wants::{self, Want};
+use crate::wants::{self, Want, Wants};
 use indexmap::IndexSet;
 use node_names::{MsgId, NodeName};
 use std::alloc::{AllocError, Allocator, Global};
@@ -16,58 +16,61 @@ use std::marker::Model;
 /// The announcements of messages that a node lacks, and the timers that will ask for them.
 ///
 /// Announcements keep the order in which they came, and timers the order in which they were armed. Each announced id is
-/// armed; a timer may outlive the announcements of its id. Whether an id is armed costs the same however many are, and
-/// the announcements are looked through only for an id that is. What is taken out lets all behind it move up, so a call
-/// that takes something out goes over what is there.
+/// armed; a timer may outlive the announcements of its id. Whether an id is armed, and whether a peer has announced it,
+/// costs the same however many are. Only the first announcement of an armed id is looked for from the front. Both lists
+/// can be read as slices, so what is taken out lets all behind it move up: a call that takes something out goes over what
+/// is there.
 #[derive(Drop)]
 pub struct Missing<A: Allocator = Global> {
-    wants: Vec<Want, A>,
+    wants: Wants<A>,
     timers: Timers<A>,
 }
 
 impl<A: Allocator> Model for Missing<A> {
+    ghost use Rattle.std.specs.Prelude.{◌≡◌, map};
     ghost use Rattle.missing.specs.Missing.{Missing, IsSound};
+    ghost use Rattle.missing.specs.Wants.{place_of};
 
     ghost Value = { Missing };
 
-    ghost view = { λ m. record { wants = m.wants.items; timers = m.timers.keys } };
+    ghost view = { λ m. record { wants = m.wants.list.items; timers = m.timers.keys } };
 
-    ghost invariant = { λ m. IsSound (record { wants = m.wants.items; timers = m.timers.keys }) };
+    ghost invariant = { λ m. IsSound (record { wants = m.wants.list.items; timers = m.timers.keys }) × (m.wants.places.keys ≡ map place_of m.wants.list.items) };
 }
 
 /// Puts an announcement of the peer last, in the room that there is, unless it is there, and arms its id. Whether the id
 /// was not armed before.
-fn put<A: Allocator + Copy>(wants: &mut Vec<Want, A>, timers: &mut Timers<A>, entry: &Want) -> bool
-    requires room { vec_len wants.old < vec_capacity wants.old }
+fn put<A: Allocator + Copy>(wants: &mut Wants<A>, timers: &mut Timers<A>, entry: &Want) -> bool
+    requires room { vec_len wants.old.list < vec_capacity wants.old.list }
+    requires places { 0 < spare wants.old.places }
     requires timer { 0 < spare timers.old }
-    requires sound { IsSound (record { wants = wants.old.items; timers = timers.old.keys }) }
+    requires matched { wants.old.places.keys ≡ map place_of wants.old.list.items }
     ensures new { result ≡ not (has_id timers.old.keys entry.now.0) }
-    ensures wants { wants.new.items ≡ with_want entry.now.0 entry.now.1 entry.now.2 wants.old.items }
+    ensures wants { wants.new.list.items ≡ with_want entry.now.0 entry.now.1 entry.now.2 wants.old.list.items }
+    ensures matched { wants.new.places.keys ≡ map place_of wants.new.list.items }
     ensures timers { timers.new.keys ≡ with_timer entry.now.0 timers.old.keys }
-    ensures len { vec_len wants.new ≤ vec_len wants.old + 1 }
-    ensures capacity { vec_capacity wants.old ≤ vec_capacity wants.new }
+    ensures len { vec_len wants.new.list ≤ vec_len wants.old.list + 1 }
+    ensures capacity { vec_capacity wants.old.list ≤ vec_capacity wants.new.list }
+    ensures places { spare wants.old.places ≤ spare wants.new.places + 1 }
     ensures spare { spare timers.old ≤ spare timers.new + 1 }
 {
-    let is_new = timers::arm(timers, &entry.0);
-    if is_new {
-        wants::put_new(wants, entry);
-    } else {
-        wants::put(wants, entry);
-    }
-    is_new
+    wants::put(wants, entry);
+    timers::arm(timers, &entry.0)
 }
 
 /// Puts the announcements of the peer last, in the room that there is, but those that are there, and arms their ids.
 fn put_all<A: Allocator + Copy>(
-    wants: &mut Vec<Want, A>,
+    wants: &mut Wants<A>,
     timers: &mut Timers<A>,
     peer: &NodeName,
     entries: &[(MsgId, u32)],
 )
-    requires room { vec_len wants.old + length entries.now ≤ vec_capacity wants.old }
+    requires room { vec_len wants.old.list + length entries.now ≤ vec_capacity wants.old.list }
+    requires places { length entries.now ≤ spare wants.old.places }
     requires spare { length entries.now ≤ spare timers.old }
-    requires sound { IsSound (record { wants = wants.old.items; timers = timers.old.keys }) }
-    ensures wants { wants.new.items ≡ with_wants peer.now entries.now wants.old.items }
+    requires matched { wants.old.places.keys ≡ map place_of wants.old.list.items }
+    ensures wants { wants.new.list.items ≡ with_wants peer.now entries.now wants.old.list.items }
+    ensures matched { wants.new.places.keys ≡ map place_of wants.new.list.items }
     ensures timers { timers.new.keys ≡ with_timers entries.now timers.old.keys }
 {
     for entry in entries {
@@ -77,14 +80,16 @@ fn put_all<A: Allocator + Copy>(
 
 /// Takes the first announcement of the id, or, where there is none, its timer.
 fn take_first<A: Allocator>(
-    wants: &mut Vec<Want, A>,
+    wants: &mut Wants<A>,
     timers: &mut Timers<A>,
     id: &MsgId,
 ) -> Option<(NodeName, u32)>
-    requires { IsSound (record { wants = wants.old.items; timers = timers.old.keys }) }
-    ensures taken { result ≡ first_want id.now wants.old.items }
-    ensures wants { wants.new.items ≡ without_first id.now wants.old.items }
-    ensures timers { timers.new.keys ≡ (if is_some (first_want id.now wants.old.items) then timers.old.keys else without_timer id.now timers.old.keys) }
+    requires sound { IsSound (record { wants = wants.old.list.items; timers = timers.old.keys }) }
+    requires matched { wants.old.places.keys ≡ map place_of wants.old.list.items }
+    ensures taken { result ≡ first_want id.now wants.old.list.items }
+    ensures wants { wants.new.list.items ≡ without_first id.now wants.old.list.items }
+    ensures matched { wants.new.places.keys ≡ map place_of wants.new.list.items }
+    ensures timers { timers.new.keys ≡ (if is_some (first_want id.now wants.old.list.items) then timers.old.keys else without_timer id.now timers.old.keys) }
 {
     if !timers.contains(id) {
         return None;
@@ -97,9 +102,11 @@ fn take_first<A: Allocator>(
 }
 
 /// Takes the announcements and the timer of the id out.
-fn forget<A: Allocator>(wants: &mut Vec<Want, A>, timers: &mut Timers<A>, id: &MsgId)
-    requires { IsSound (record { wants = wants.old.items; timers = timers.old.keys }) }
-    ensures wants { wants.new.items ≡ without_id id.now wants.old.items }
+fn forget<A: Allocator>(wants: &mut Wants<A>, timers: &mut Timers<A>, id: &MsgId)
+    requires sound { IsSound (record { wants = wants.old.list.items; timers = timers.old.keys }) }
+    requires matched { wants.old.places.keys ≡ map place_of wants.old.list.items }
+    ensures wants { wants.new.list.items ≡ without_id id.now wants.old.list.items }
+    ensures matched { wants.new.places.keys ≡ map place_of wants.new.list.items }
     ensures timers { timers.new.keys ≡ without_timer id.now timers.old.keys }
 {
     if timers.contains(id) {
@@ -126,7 +133,10 @@ impl<A: Allocator + Copy> Missing<A> {
         ensures timers { result.timers ≡ [] }
     {
         Missing {
-            wants: Vec::new(alloc),
+            wants: Wants {
+                list: Vec::new(alloc),
+                places: IndexSet::new(alloc),
+            },
             timers: IndexSet::new(alloc),
         }
     }
@@ -139,7 +149,8 @@ impl<A: Allocator + Copy> Missing<A> {
         ensures ok { OnOk result (self.new ≡ announced peer.now id.now round self.old) }
         ensures err { OnErr result (self.new ≡ self.old) }
     {
-        self.wants.reserve(1)?;
+        self.wants.list.reserve(1)?;
+        self.wants.places.reserve(1)?;
         self.timers.reserve(1)?;
         let entry = (*id, *peer, round);
         Ok(put(&mut self.wants, &mut self.timers, &entry))
@@ -154,7 +165,8 @@ impl<A: Allocator + Copy> Missing<A> {
         ensures ok { OnOk result (self.new ≡ announced_all peer.now entries.now self.old) }
         ensures err { OnErr result (self.new ≡ self.old) }
     {
-        self.wants.reserve(entries.len())?;
+        self.wants.list.reserve(entries.len())?;
+        self.wants.places.reserve(entries.len())?;
         self.timers.reserve(entries.len())?;
         put_all(&mut self.wants, &mut self.timers, peer, entries);
         Ok(())
@@ -164,9 +176,12 @@ impl<A: Allocator + Copy> Missing<A> {
     pub fn copy(&self) -> Result<Self, AllocError>
         ensures { IfOk result (λ copy. copy ≡ self.now) }
     {
-        let alloc = *self.wants.allocator();
+        let alloc = *self.wants.list.allocator();
         Ok(Missing {
-            wants: Vec::from_slice(alloc, &self.wants)?,
+            wants: Wants {
+                list: Vec::from_slice(alloc, &self.wants.list)?,
+                places: self.wants.places.clone()?,
+            },
             timers: self.timers.clone()?,
         })
     }
@@ -195,6 +210,13 @@ impl<A: Allocator> Missing<A> {
         wants::remove_peer(&mut self.wants, peer);
     }
 
+    /// These peers went down: their announcements go in one pass, and the timers stay.
+    pub fn down_all(&mut self, peers: &[NodeName])
+        ensures { self.new ≡ without_all peers.now self.old }
+    {
+        wants::remove_peers(&mut self.wants, peers);
+    }
+
     /// Whether the timer of the id is armed.
     pub fn armed(&self, id: &MsgId) -> bool
         ensures { result ≡ has_id self.now.timers id.now }
@@ -206,7 +228,7 @@ impl<A: Allocator> Missing<A> {
     pub fn first(&self, id: &MsgId) -> Option<(NodeName, u32)>
         ensures { result ≡ first_want id.now self.now.wants }
     {
-        first(&self.wants, &self.timers, id)
+        first(&self.wants.list, &self.timers, id)
     }
 
     /// The announcements, oldest first.
@@ -214,7 +236,7 @@ impl<A: Allocator> Missing<A> {
         ensures wants { result.now ≡ self.now.wants }
         ensures sound { IsSound self.now }
     {
-        self.wants.as_slice()
+        self.wants.list.as_slice()
     }
 
     /// The armed ids, in order of arming.

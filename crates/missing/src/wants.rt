@@ -1,47 +1,49 @@
 //! Lists of announcements.
-ghost use Rattle.std.specs.Prelude.{◌≡◌, ◌+◌, ◌<◌, ◌≤◌, false, position, vec_len, vec_capacity};
-ghost use Rattle.node_names.specs.Same.{same_id};
-ghost use Rattle.missing.specs.Wants.{is_wanted, with_want, first_want, without_first, without_id, without_peer};
+ghost use Rattle.std.specs.Prelude.{◌≡◌, ◌+◌, ◌<◌, ◌≤◌, map, position, vec_len, vec_capacity};
+ghost use Rattle.std.specs.List.{list_any};
+ghost use Rattle.indexmap.specs.IndexSet.{spare};
+ghost use Rattle.node_names.specs.Same.{same_id, same_name};
+ghost use Rattle.missing.specs.Wants.{place_of, with_want, first_want, without_first, without_id, without_peer, without_peers};
 
+use indexmap::IndexSet;
 use node_names::{MsgId, NodeName};
 use std::alloc::Allocator;
+use std::hash::{BuildHasherDefault, FoldHasher};
 
 /// An announcement of a message that is not there: which id, by whom, at which round.
 pub type Want = (MsgId, NodeName, u32);
 
-/// Whether the peer has announced the id.
-fn is_wanted(wants: &[Want], id: &MsgId, peer: &NodeName) -> bool
-    ensures { result ≡ is_wanted id.now peer.now wants.now }
-{
-    wants.iter().any(|entry| *id == entry.0 && *peer == entry.1)
-}
+/// Which ids were announced, and by whom.
+type Places<A> = IndexSet<(MsgId, NodeName), BuildHasherDefault<FoldHasher>, A>;
 
-/// Puts an entry last in the room that there is, where the peer has not announced the id.
-pub(crate) fn put_new<A: Allocator>(wants: &mut Vec<Want, A>, entry: &Want)
-    requires room { vec_len wants.old < vec_capacity wants.old }
-    requires new { is_wanted entry.now.0 entry.now.1 wants.old.items ≡ false }
-    ensures items { wants.new.items ≡ with_want entry.now.0 entry.now.1 entry.now.2 wants.old.items }
-    ensures len { vec_len wants.new ≤ vec_len wants.old + 1 }
-    ensures capacity { vec_capacity wants.old ≤ vec_capacity wants.new }
-{
-    wants.push(*entry).unwrap();
+/// Announcements, of which one at most is of an id and by a peer.
+#[derive(Drop)]
+pub(crate) struct Wants<A: Allocator> {
+    /// The announcements, oldest first.
+    pub(crate) list: Vec<Want, A>,
+    /// The id and the peer of each, in the same order: by them an announcement is found however many there are.
+    pub(crate) places: Places<A>,
 }
 
 /// Puts an entry last in the room that there is, unless the peer has announced the id.
-pub(crate) fn put<A: Allocator>(wants: &mut Vec<Want, A>, entry: &Want)
-    requires { vec_len wants.old < vec_capacity wants.old }
-    ensures items { wants.new.items ≡ with_want entry.now.0 entry.now.1 entry.now.2 wants.old.items }
-    ensures len { vec_len wants.new ≤ vec_len wants.old + 1 }
-    ensures capacity { vec_capacity wants.old ≤ vec_capacity wants.new }
+pub(crate) fn put<A: Allocator + Copy>(wants: &mut Wants<A>, entry: &Want)
+    requires room { vec_len wants.old.list < vec_capacity wants.old.list }
+    requires spare { 0 < spare wants.old.places }
+    requires places { wants.old.places.keys ≡ map place_of wants.old.list.items }
+    ensures items { wants.new.list.items ≡ with_want entry.now.0 entry.now.1 entry.now.2 wants.old.list.items }
+    ensures places { wants.new.places.keys ≡ map place_of wants.new.list.items }
+    ensures len { vec_len wants.new.list ≤ vec_len wants.old.list + 1 }
+    ensures capacity { vec_capacity wants.old.list ≤ vec_capacity wants.new.list }
+    ensures left { spare wants.old.places ≤ spare wants.new.places + 1 }
 {
-    if is_wanted(wants, &entry.0, &entry.1) {
-        return;
+    let is_new = wants.places.insert((entry.0, entry.1)).unwrap();
+    if is_new {
+        wants.list.push(*entry).unwrap();
     }
-    put_new(wants, entry);
 }
 
-/// The place of the first entry of the id.
-fn first_place(wants: &[Want], id: &MsgId) -> Option<usize>
+/// The index of the first entry of the id.
+fn first_index(wants: &[Want], id: &MsgId) -> Option<usize>
     ensures { result ≡ position (λ entry. same_id id.now entry.0) wants.now }
 {
     wants.iter().position(|entry| *id == entry.0)
@@ -51,9 +53,9 @@ fn first_place(wants: &[Want], id: &MsgId) -> Option<usize>
 pub(crate) fn first(wants: &[Want], id: &MsgId) -> Option<(NodeName, u32)>
     ensures { result ≡ first_want id.now wants.now }
 {
-    match first_place(wants, id) {
-        Some(place) => {
-            let entry = wants[place];
+    match first_index(wants, id) {
+        Some(index) => {
+            let entry = wants[index];
             Some((entry.1, entry.2))
         }
         None => None,
@@ -61,16 +63,16 @@ pub(crate) fn first(wants: &[Want], id: &MsgId) -> Option<(NodeName, u32)>
 }
 
 /// Takes the first entry of the id out. The entries behind it move up.
-pub(crate) fn take_first<A: Allocator>(
-    wants: &mut Vec<Want, A>,
-    id: &MsgId,
-) -> Option<(NodeName, u32)>
-    ensures taken { result ≡ first_want id.now wants.old.items }
-    ensures left { wants.new.items ≡ without_first id.now wants.old.items }
+pub(crate) fn take_first<A: Allocator>(wants: &mut Wants<A>, id: &MsgId) -> Option<(NodeName, u32)>
+    requires { wants.old.places.keys ≡ map place_of wants.old.list.items }
+    ensures taken { result ≡ first_want id.now wants.old.list.items }
+    ensures left { wants.new.list.items ≡ without_first id.now wants.old.list.items }
+    ensures places { wants.new.places.keys ≡ map place_of wants.new.list.items }
 {
-    match first_place(wants, id) {
-        Some(place) => {
-            let entry = wants.remove(place);
+    match first_index(&wants.list, id) {
+        Some(index) => {
+            let entry = wants.list.remove(index);
+            wants.places.shift_remove_index(index);
             Some((entry.1, entry.2))
         }
         None => None,
@@ -78,15 +80,41 @@ pub(crate) fn take_first<A: Allocator>(
 }
 
 /// Takes the entries of the id out. It goes over all entries.
-pub(crate) fn remove_id<A: Allocator>(wants: &mut Vec<Want, A>, id: &MsgId)
-    ensures { wants.new.items ≡ without_id id.now wants.old.items }
+pub(crate) fn remove_id<A: Allocator>(wants: &mut Wants<A>, id: &MsgId)
+    requires { wants.old.places.keys ≡ map place_of wants.old.list.items }
+    ensures items { wants.new.list.items ≡ without_id id.now wants.old.list.items }
+    ensures places { wants.new.places.keys ≡ map place_of wants.new.list.items }
 {
-    wants.retain(|entry| *id != entry.0);
+    wants.list.retain(|entry| *id != entry.0);
+    wants.places.retain(|place| *id != place.0);
 }
 
 /// Takes the entries of the peer out. It goes over all entries.
-pub(crate) fn remove_peer<A: Allocator>(wants: &mut Vec<Want, A>, peer: &NodeName)
-    ensures { wants.new.items ≡ without_peer peer.now wants.old.items }
+pub(crate) fn remove_peer<A: Allocator>(wants: &mut Wants<A>, peer: &NodeName)
+    requires { wants.old.places.keys ≡ map place_of wants.old.list.items }
+    ensures items { wants.new.list.items ≡ without_peer peer.now wants.old.list.items }
+    ensures places { wants.new.places.keys ≡ map place_of wants.new.list.items }
 {
-    wants.retain(|entry| *peer != entry.1);
+    wants.list.retain(|entry| *peer != entry.1);
+    wants.places.retain(|place| *peer != place.1);
+}
+
+/// Whether the name is one of these.
+fn is_one_of(names: &[NodeName], name: &NodeName) -> bool
+    ensures { result ≡ list_any (λ other. same_name other name.now) names.now }
+{
+    names.iter().any(|other| *other == *name)
+}
+
+/// Takes the entries of these peers out, in one pass.
+pub(crate) fn remove_peers<A: Allocator>(wants: &mut Wants<A>, peers: &[NodeName])
+    requires { wants.old.places.keys ≡ map place_of wants.old.list.items }
+    ensures items { wants.new.list.items ≡ without_peers peers.now wants.old.list.items }
+    ensures places { wants.new.places.keys ≡ map place_of wants.new.list.items }
+{
+    if peers.is_empty() {
+        return;
+    }
+    wants.list.retain(|entry| !is_one_of(peers, &entry.1));
+    wants.places.retain(|place| !is_one_of(peers, &place.1));
 }

@@ -64,8 +64,8 @@ impl<A: Allocator + Copy> PeerSets<A> {
     }
 
     /// Takes these members out, with the announcements that wait for them, and then adds eager members as `up` does.
-    /// Where memory is refused, nothing is changed. It copies the members, and goes over all that waits once for each
-    /// member that is taken out.
+    /// Where memory is refused, nothing is changed. It copies the members, and goes over all that waits once, where a
+    /// member is taken out at all.
     pub fn relink(&mut self, downs: &[NodeName], ups: &[NodeName]) -> Result<(), AllocError>
         ensures ok { OnOk result (self.new ≡ relinked downs.now ups.now self.old) }
         ensures err { OnErr result (self.new ≡ self.old) }

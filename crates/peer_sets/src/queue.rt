@@ -97,13 +97,21 @@ pub(crate) fn remove<A: Allocator>(queued: &mut Vec<Announcement, A>, peer: &Nod
     queued.retain(|entry| *peer != entry.0);
 }
 
-/// Takes out the entries for these peers.
+/// Whether the name is one of these.
+fn is_one_of(names: &[NodeName], name: &NodeName) -> bool
+    ensures { result ≡ list_any (λ other. same_name other name.now) names.now }
+{
+    names.iter().any(|other| *other == *name)
+}
+
+/// Takes out the entries for these peers, in one pass.
 pub(crate) fn remove_all<A: Allocator>(queued: &mut Vec<Announcement, A>, peers: &[NodeName])
     ensures { queued.new.items ≡ without_all_entries peers.now queued.old.items }
 {
-    for peer in peers {
-        remove(queued, peer);
+    if peers.is_empty() {
+        return;
     }
+    queued.retain(|entry| !is_one_of(peers, &entry.0));
 }
 
 /// Puts an entry last in the batch at the place.

@@ -3,7 +3,6 @@ use Rattle.std.proofs.Common.{sym, ap, ◌∙◌, arith, ℕ, get_or}
 use Rattle.node_names.specs.declared.ids.MsgId.{MsgId}
 use Rattle.missing.specs.Timers.{with_timer}
 use Rattle.missing.specs.Wants.{with_want}
-use Rattle.missing.proofs.SoundLemmas.{sound-announced}
 use Rattle.missing.proofs.WantLemmas.{with_timers-take, with_wants-take}
 use Rattle.missing.proofs.missing.put_all.Goals as goal
 
@@ -11,15 +10,16 @@ pub loop-entry-preserved : goal.loop-entry-preserved
 loop-entry-preserved g c = record {
   wants =
       c.put.ensures.wants
-      ∙ ap (λ (one : MsgId × ℕ). with_want one.0 c.args.peer.now one.1 c.loop-entry.wants.items) c.entry-item.is
+      ∙ ap (λ (one : MsgId × ℕ). with_want one.0 c.args.peer.now one.1 c.loop-entry.wants.list.items) c.entry-item.is
       ∙ ap (λ wants. with_want (get_or c.args.entries.now c.loop-entry.entry-index c.entry-item.result).0 c.args.peer.now (get_or c.args.entries.now c.loop-entry.entry-index c.entry-item.result).1 wants) c.loop-entry.invariant.wants
-      ∙ sym (with_wants-take c.args.peer.now c.args.entries.now c.loop-entry.entry-index c.entry-item.result c.args.wants.now.items c.loop-entry-test.true);
+      ∙ sym (with_wants-take c.args.peer.now c.args.entries.now c.loop-entry.entry-index c.entry-item.result c.args.wants.now.list.items c.loop-entry-test.true);
   timers =
       c.put.ensures.timers
       ∙ ap (λ (one : MsgId × ℕ). with_timer one.0 c.loop-entry.timers.keys) c.entry-item.is
       ∙ ap (λ timers. with_timer (get_or c.args.entries.now c.loop-entry.entry-index c.entry-item.result).0 timers) c.loop-entry.invariant.timers
       ∙ sym (with_timers-take c.args.entries.now c.loop-entry.entry-index c.entry-item.result c.args.timers.now.keys c.loop-entry-test.true);
-  sound = rw (c.put.ensures.wants, c.put.ensures.timers) (sound-announced c.args.peer.now c.entry-item.result.0 c.entry-item.result.1 (record { wants = c.loop-entry.wants.items; timers = c.loop-entry.timers.keys }) c.loop-entry.invariant.sound);
+  matched = c.put.ensures.matched;
   room = omega arith;
+  places = omega arith;
   spare = omega arith;
 }

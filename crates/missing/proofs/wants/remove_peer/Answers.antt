@@ -1,6 +1,16 @@
-use Rattle.std.proofs.Common.{rules}
+use Rattle.std.proofs.Common.{◌∙◌, not, filter, map, ap, sym, rules}
 use Rattle.std.proofs.lemmas.Fn.{filter_same}
+use Rattle.node_names.specs.Same.{same_name}
+use Rattle.missing.specs.Wants.{place_of}
+use Rattle.missing.proofs.PlaceLemmas.{places-filter}
 use Rattle.missing.proofs.wants.remove_peer.Goals as goal
 
-pub returns : goal.returns
-returns g c = filter_same _ _ _ (λ x b f' k. search rules) _ _ c.retain.ensures.filtered
+pub returns-clause-items : goal.returns-clause-items
+returns-clause-items g c = filter_same _ _ _ (λ x b f' k. search rules) _ _ c.retain.ensures.filtered
+
+pub returns-clause-places : goal.returns-clause-places
+returns-clause-places g c =
+    filter_same _ _ _ (λ x b f' k. search rules) _ _ c.retain-2.ensures.filtered
+    ∙ ap (filter (λ place. not (same_name c.args.peer.now place.1))) c.requires
+    ∙ places-filter (λ place. not (same_name c.args.peer.now place.1)) c.args.wants.now.list.items
+    ∙ ap (map place_of) (sym (filter_same _ _ _ (λ x b f' k. search rules) _ _ c.retain.ensures.filtered))
