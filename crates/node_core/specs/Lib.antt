@@ -13,4 +13,5 @@ pub mod Moving
 pub mod Whole
 pub mod Started
 pub mod Starting
+pub mod PlumDelivers
 pub mod PlumLaws

@@ -29,7 +29,7 @@ use world::{Core, CoreError, NameSet, Out, Prepared, StimulusOf, StimulusRef};
 /// One run of one node.
 ///
 /// A step costs what it sends and changes: an event of the membership copies its views, of at most 80 names, and a call of the
-/// gossip finds what it needs by hashes. Only `copy` costs as much as the node holds.
+/// gossip finds ids by hashes. Only `copy` costs as much as the node holds.
 #[derive(Drop)]
 pub struct PlumCore<A: Allocator = Global> {
     me: Origin,
@@ -142,6 +142,7 @@ fn heed<A: Allocator + Copy>(stimulus: &StimulusRef<'_, Frame<A>, A>)
 
 impl<A: Allocator + Copy> Core<A> for PlumCore<A> {
     ghost use Rattle.node_core.specs.Plum.{IsSoundPlum, plum_state};
+    ghost use Rattle.node_core.specs.PlumDelivers.{plum_delivers_one};
     ghost use Rattle.node_core.specs.PlumLaws.{plum_lawful};
     ghost use Rattle.node_core.specs.Parts.{IsTurn};
     ghost use Rattle.node_core.specs.Steps.{PlumStarts, PlumSteps, PlumIsSpent, plum_after};
@@ -165,6 +166,8 @@ impl<A: Allocator + Copy> Core<A> for PlumCore<A> {
     ghost is_turn = { IsTurn };
 
     ghost lawful = { plum_lawful };
+
+    ghost delivers_one = { plum_delivers_one };
 
     fn start(
         alloc: A,

@@ -8,6 +8,7 @@ pub mod ErrorText
 pub mod Event
 pub mod Flight
 pub mod FloodCore
+pub mod FloodDelivers
 pub mod FloodLaws
 pub mod FloodLists
 pub mod FloodSpread
@@ -23,6 +24,7 @@ pub mod KeptDice
 pub mod Laws
 pub mod Links
 pub mod Lists
+pub mod OneDelivery
 pub mod Output
 pub mod PayloadLaw
 pub mod Parents
@@ -31,11 +33,13 @@ pub mod Plan
 pub mod Play
 pub mod QueueLaw
 pub mod Refusals
+pub mod Replay
 pub mod Rest
 pub mod Run
 pub mod SoundViews
 pub mod SpreadLaw
 pub mod Stimulus
+pub mod Trace
 pub mod UnderWay
 pub mod ViewLaw
 pub mod WantLaw

@@ -238,6 +238,7 @@ impl<A: Allocator + Copy> FloodCore<A> {
 
 impl<A: Allocator + Copy> Core<A> for FloodCore<A> {
     ghost use Rattle.world.specs.FloodCore.{flood_after, flood_state, FloodStarts, FloodSteps, FloodIsSpent, IsFloodTurn, IsSoundFlooding};
+    ghost use Rattle.world.specs.FloodDelivers.{flood_delivers_one};
     ghost use Rattle.world.specs.FloodLaws.{flood_lawful};
 
     type Note = FloodNote<A>;
@@ -259,6 +260,8 @@ impl<A: Allocator + Copy> Core<A> for FloodCore<A> {
     ghost is_turn = { IsFloodTurn };
 
     ghost lawful = { flood_lawful };
+
+    ghost delivers_one = { flood_delivers_one };
 
     fn start(
         alloc: A,

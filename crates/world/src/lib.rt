@@ -21,6 +21,7 @@ mod plan;
 mod planning;
 mod protocol;
 mod stimulus;
+mod trace;
 mod wire;
 mod world;
 
@@ -38,6 +39,7 @@ pub use out::Out;
 pub use packet::Packet;
 pub use protocol::{Core, CoreError, Prepared};
 pub use stimulus::{Stimulus, StimulusOf, StimulusRef};
+pub use trace::{Step, Trace};
 pub use wire::Wire;
 pub use world::World;
 

@@ -7,6 +7,7 @@ ghost use Rattle.world.specs.CoreState.{CoreState};
 ghost use Rattle.world.specs.Delivery.{Delivery};
 ghost use Rattle.world.specs.IdentityLaw.{IsOutOfNumbers, IsTooLong};
 ghost use Rattle.world.specs.Laws.{Laws};
+ghost use Rattle.world.specs.OneDelivery.{OneDelivery};
 ghost use Rattle.world.specs.Output.{Stepped};
 ghost use Rattle.world.specs.Peers.{are_peers};
 ghost use Rattle.world.specs.Run.{SameNames};
@@ -29,7 +30,7 @@ pub enum CoreError {
     PayloadTooLong,
     /// A number that the step needs is used up: of the messages or of the packets of this incarnation.
     SeqSpent,
-    /// A growth was refused.
+    /// An allocation is refused.
     OutOfMemory,
 }
 
@@ -99,7 +100,7 @@ pub trait Core<A: Allocator>: Sized + Drop {
     /// The turn is what the core keeps of this stimulus, which it does not refuse.
     ghost is_turn: { Self → Stimulus Self.Note → Self.Turn → Type 0 };
 
-    /// Starts a node with `peers` as its active view. Its only refusal is for want of memory.
+    /// Starts a node with `peers` as its active view. It is refused only where an allocation is.
     fn start(
         alloc: A,
         me: Origin,
@@ -200,4 +201,7 @@ pub trait Core<A: Allocator>: Sized + Drop {
 
     /// The nine laws: identity, payload, delivery, view, spread, queue, want, ask and hold.
     ghost lawful: { Laws state Self.Note.content is_sound starts steps };
+
+    /// No step delivers more than one message, and a broadcast delivers its own.
+    ghost delivers_one: { OneDelivery state steps };
 }

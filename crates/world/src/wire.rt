@@ -27,7 +27,7 @@ pub trait Wire<A: Allocator>: Sized + Drop {
     fn is_membership(&self) -> bool
         ensures { result ≡ (content self.now).is_membership };
 
-    /// The same packet once more.
+    /// A copy of the packet.
     fn copy(&self) -> Result<Self, AllocError>
         ensures { IfOk result (λ copy. copy ≡ self.now) };
 }
