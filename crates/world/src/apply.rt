@@ -9,11 +9,11 @@ ghost use Rattle.world.specs.Refusals.{IsRefusal, refusal};
 ghost use Rattle.world.specs.Run.{Applied, Happens};
 
 use crate::commit::{make_change, make_room, post, put_last};
-use crate::delivery::Delivery;
+use crate::delivery::{Delivery, copy_deliveries};
 use crate::error::WorldError;
 use crate::event::Event;
 use crate::given::{Given, RunFault};
-use crate::plan::{Plan, copy_deliveries, copy_delivery};
+use crate::plan::Plan;
 use crate::protocol::Core;
 use crate::world::World;
 use node_names::Listed;
@@ -148,7 +148,7 @@ fn given_of<A: Allocator + Copy>(
 {
     let mut given = Vec::new(alloc);
     for delivery in deliveries {
-        let delivery = copy_delivery(delivery)?;
+        let delivery = delivery.copy()?;
         given.push(Given { at, delivery })?;
     }
     Ok(given)

@@ -1,7 +1,9 @@
 //! What a node hands to its application.
+ghost use Rattle.std.specs.Prelude.{◌≡◌, IfOk};
+
 use bytes::Bytes;
 use node_names::{MsgId, Origin};
-use std::alloc::{Allocator, Global};
+use std::alloc::{AllocError, Allocator, Global};
 use std::marker::Model;
 
 /// A message that one run of a node has delivered.
@@ -26,4 +28,31 @@ impl<A: Allocator> Model for Delivery<A> {
     ghost inverse = { λ d. record { node = d.node; id = d.id; payload = d.payload } };
 
     ghost inverse_ok = { λ a h. refl };
+}
+
+impl<A: Allocator> Delivery<A> {
+    /// A copy, which shares the payload.
+    pub fn copy(&self) -> Result<Delivery<A>, AllocError>
+        ensures { IfOk result (λ copy. copy ≡ self.now) }
+    {
+        Ok(Delivery {
+            node: self.node,
+            id: self.id,
+            payload: self.payload.clone()?,
+        })
+    }
+}
+
+/// A copy of the deliveries, which shares their payloads.
+pub fn copy_deliveries<A: Allocator + Copy>(
+    alloc: A,
+    given: &[Delivery<A>],
+) -> Result<Vec<Delivery<A>, A>, AllocError>
+    ensures { IfOk result (λ copies. copies.items ≡ given.now) }
+{
+    let mut copies = Vec::new(alloc);
+    for delivery in given {
+        copies.push(delivery.copy()?)?;
+    }
+    Ok(copies)
 }

@@ -25,7 +25,7 @@ mod trace;
 mod wire;
 mod world;
 
-pub use delivery::Delivery;
+pub use delivery::{Delivery, copy_deliveries};
 pub use entry::Entry;
 pub use error::WorldError;
 pub use event::{Event, EventOf, KeptEvent};

@@ -172,31 +172,6 @@ pub(crate) fn packets_of<N: Drop, A: Allocator + Copy>(
         .collect(alloc)
 }
 
-/// A copy of the deliveries.
-pub(crate) fn copy_deliveries<A: Allocator + Copy>(
-    alloc: A,
-    given: &[Delivery<A>],
-) -> Result<Vec<Delivery<A>, A>, AllocError>
-    ensures { IfOk result (λ copies. copies.items ≡ given.now) }
-{
-    let mut copies = Vec::new(alloc);
-    for delivery in given {
-        copies.push(copy_delivery(delivery)?)?;
-    }
-    Ok(copies)
-}
-
-/// A copy of the delivery, which shares its payload.
-pub(crate) fn copy_delivery<A: Allocator>(delivery: &Delivery<A>) -> Result<Delivery<A>, AllocError>
-    ensures { IfOk result (λ copy. copy ≡ delivery.now) }
-{
-    Ok(Delivery {
-        node: delivery.node,
-        id: delivery.id,
-        payload: delivery.payload.clone()?,
-    })
-}
-
 /// The event as the log keeps it, which shares its payload.
 pub(crate) fn keep_event<A: Allocator + Copy>(
     alloc: A,

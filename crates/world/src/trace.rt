@@ -1,7 +1,6 @@
 //! What one run of a node did.
-ghost use Rattle.std.specs.Prelude.{◌≡◌, [], ◌∷◌, ◌++◌, ◌↔◌, length, IsTrue, IsNone, OnOk, OnErr, option_copied};
+ghost use Rattle.std.specs.Prelude.{◌≡◌, [], ◌∷◌, ◌++◌, ◌↔◌, length, take, IsTrue, OnOk, OnErr, option_copied};
 ghost use Rattle.std.specs.List.{slice_get};
-ghost use Rattle.std.specs.Option.{option_to_list};
 
 use crate::out::Out;
 use crate::stimulus::Stimulus;
@@ -126,12 +125,10 @@ impl<N: Drop, A: Allocator> Trace<N, A> {
         self.steps.push(step)
     }
 
-    /// Takes the last step away: it was recorded, and then could not be made.
-    pub fn pop(&mut self) -> Option<Step<N, A>>
-        ensures start { self.new ≡ record self.old { steps = self.new.steps } }
-        ensures last { self.old.steps ≡ self.new.steps ++ option_to_list result }
-        ensures none { IsNone result ↔ (self.old.steps ≡ []) }
+    /// Forgets all steps but the first `len`: a step that is recorded before it is made may turn out not to be.
+    pub fn truncate(&mut self, len: usize)
+        ensures { self.new ≡ record self.old { steps = take len self.old.steps } }
     {
-        self.steps.pop()
+        self.steps.truncate(len);
     }
 }
