@@ -31,13 +31,7 @@ fn work_on(alloc: Global, stream: &Stream, work: Work, enough: u64) -> Result<Th
     }
 }
 
-fn print(
-    rt: &impl Print,
-    stream: &Stream,
-    work: Work,
-    bytes: u64,
-    frames: u64,
-) -> Result<()> {
+fn print(rt: &impl Print, stream: &Stream, work: Work, bytes: u64, frames: u64) -> Result<()> {
     let name = stream.name;
     match work {
         Work::Write => println!(rt; "{name:6} written             {bytes:12} {frames:10}")?,
