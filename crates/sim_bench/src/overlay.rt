@@ -1,33 +1,34 @@
 //! A connected overlay in which each of 64 nodes has five peers.
+use anyhow::Result;
 use node_core::PlumCore;
-use node_names::{Incarnation, Limits, Listed, NodeName};
+use node_names::{Incarnation, Limits, Listed, NameFault, NodeName};
 use std::alloc::Global;
-use std::test::Fail;
 use world::{EventOf, World};
 
 /// How many nodes there are, in a ring.
-pub(crate) const NODES: usize = 64;
+const NODES: usize = 64;
 
 /// How far on a node's peers are: its neighbours in the ring, two that are further, and the one that is farthest.
 const STEPS: [usize; 5] = [1, 63, 8, 56, 32];
 
-/// The name of the node at this place.
-pub(crate) fn name_of(place: usize) -> Result<NodeName, Fail> {
+/// The name of the node at this place, counted round the ring.
+pub(crate) fn name_of(place: usize) -> Result<NodeName, NameFault> {
     let digit = |number: usize| b'0' + (number % 10) as u8;
-    Ok(NodeName::parse(&[b'n', digit(place / 10), digit(place)])?)
+    let place = place % NODES;
+    NodeName::parse(&[b'n', digit(place / 10), digit(place)])
 }
 
 /// The peers of the node at this place.
-fn peers_of(alloc: Global, place: usize) -> Result<Listed<NodeName>, Fail> {
+fn peers_of(alloc: Global, place: usize) -> Result<Listed<NodeName>> {
     let mut peers = Listed::new(alloc);
     for step in STEPS {
-        peers.push(name_of((place % NODES + step) % NODES)?)?;
+        peers.push(name_of(place % NODES + step)?)?;
     }
     Ok(peers)
 }
 
 /// The group with all nodes started.
-pub(crate) fn started(alloc: Global) -> Result<World<PlumCore>, Fail> {
+pub(crate) fn started(alloc: Global) -> Result<World<PlumCore>> {
     let mut group = World::new(alloc, Limits::STANDARD);
     for place in 0..NODES {
         group.apply(EventOf::Start {

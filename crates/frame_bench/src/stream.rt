@@ -1,9 +1,9 @@
 //! Streams of frames.
+use anyhow::Result;
 use bytes::Bytes;
 use frames::{Body, Frame, encode};
 use node_names::{Incarnation, Listed, MsgId, NodeName, Origin};
 use std::alloc::Global;
-use std::test::Fail;
 
 /// Frames, and the bytes that they stand as.
 #[derive(Drop)]
@@ -21,14 +21,14 @@ fn empty(alloc: Global, name: &'static str) -> Stream {
     }
 }
 
-fn sender() -> Result<Origin, Fail> {
+fn sender() -> Result<Origin> {
     Ok(Origin {
         name: NodeName::parse(b"a")?,
         incarnation: Incarnation(1),
     })
 }
 
-fn push(alloc: Global, stream: &mut Stream, body: Body) -> Result<(), Fail> {
+fn push(alloc: Global, stream: &mut Stream, body: Body) -> Result<()> {
     let frame = Frame::new(sender()?, 1, body)?;
     stream
         .bytes
@@ -38,7 +38,7 @@ fn push(alloc: Global, stream: &mut Stream, body: Body) -> Result<(), Fail> {
 }
 
 /// Puts three frames of 40 bytes each last, of three kinds.
-fn push_short(alloc: Global, stream: &mut Stream) -> Result<(), Fail> {
+fn push_short(alloc: Global, stream: &mut Stream) -> Result<()> {
     let new = NodeName::parse(b"fourteen-bytes")?;
     let origin = NodeName::parse(b"origin")?;
     let four = NodeName::parse(b"four")?;
@@ -59,7 +59,7 @@ fn push_short(alloc: Global, stream: &mut Stream) -> Result<(), Fail> {
 }
 
 /// Puts a GOSSIP of 32,768 bytes last.
-fn push_long(alloc: Global, stream: &mut Stream) -> Result<(), Fail> {
+fn push_long(alloc: Global, stream: &mut Stream) -> Result<()> {
     let id = MsgId {
         origin: sender()?,
         seq: 1,
@@ -70,7 +70,7 @@ fn push_long(alloc: Global, stream: &mut Stream) -> Result<(), Fail> {
 }
 
 /// Frames of 40 bytes.
-pub(crate) fn short(alloc: Global) -> Result<Stream, Fail> {
+pub(crate) fn short(alloc: Global) -> Result<Stream> {
     let mut stream = empty(alloc, "short");
     for _ in 0..64 {
         push_short(alloc, &mut stream)?;
@@ -79,7 +79,7 @@ pub(crate) fn short(alloc: Global) -> Result<Stream, Fail> {
 }
 
 /// Frames of 32 KiB.
-pub(crate) fn long(alloc: Global) -> Result<Stream, Fail> {
+pub(crate) fn long(alloc: Global) -> Result<Stream> {
     let mut stream = empty(alloc, "long");
     for _ in 0..8 {
         push_long(alloc, &mut stream)?;
@@ -88,7 +88,7 @@ pub(crate) fn long(alloc: Global) -> Result<Stream, Fail> {
 }
 
 /// Twelve frames of 40 bytes for each of 32 KiB.
-pub(crate) fn mixed(alloc: Global) -> Result<Stream, Fail> {
+pub(crate) fn mixed(alloc: Global) -> Result<Stream> {
     let mut stream = empty(alloc, "mixed");
     for _ in 0..8 {
         for _ in 0..4 {

@@ -1,0 +1,74 @@
+//! Broadcasts in a group of 64 Plumtree nodes. Without an argument it prints how many packets each of the first few takes, and
+//! with a count how long so many take.
+#![tactic(auto)]
+
+mod overlay;
+mod play;
+
+use crate::overlay::started;
+use crate::play::broadcast;
+use anyhow::Result;
+use bytes::Bytes;
+use node_core::PlumCore;
+use std::alloc::{AllocError, Global};
+use std::env;
+use std::io::Print;
+use std::time::{Clock, Instant};
+use world::World;
+
+/// The bytes of each message.
+const LENGTH: usize = 100;
+
+/// As many broadcasts are told of: the first makes the tree, and the others go along it.
+const TOLD: usize = 4;
+
+fn payload(alloc: Global) -> Result<Bytes, AllocError> {
+    Ok(Bytes::from_vec(vec![in alloc; b'x'; LENGTH]?)?)
+}
+
+/// Prints how many packets each of the first broadcasts takes.
+fn tell(rt: &impl Print, group: &mut World<PlumCore>, payload: &Bytes) -> Result<()> {
+    println!(rt; "broadcast    packets")?;
+    for place in 0..TOLD {
+        let number = place + 1;
+        let packets = broadcast(group, place, payload)?;
+        println!(rt; "{number:9} {packets:10}")?;
+    }
+    Ok(())
+}
+
+fn broadcast_all(group: &mut World<PlumCore>, payload: &Bytes, count: usize) -> Result<()> {
+    for place in 0..count {
+        broadcast(group, place, payload)?;
+    }
+    Ok(())
+}
+
+/// Prints how long so many broadcasts take.
+fn measure<R: Print + Clock>(
+    rt: &R,
+    group: &mut World<PlumCore>,
+    payload: &Bytes,
+    count: usize,
+) -> Result<()> {
+    let start = Instant::now(rt)?;
+    broadcast_all(group, payload, count)?;
+    let millis = u64::try_from(start.elapsed(rt)?.as_millis()).unwrap_or(u64::MAX);
+    let events = group.log().len();
+    let packets = group.sent().len();
+    let speed = (events as u64).saturating_mul(1_000) / millis.max(1);
+    println!(rt; "broadcasts     events    packets         ms  events / s")?;
+    println!(rt; "{count:10} {events:10} {packets:10} {millis:10} {speed:11}")?;
+    Ok(())
+}
+
+fn main(rt: HostRuntime) -> Result<()> {
+    let alloc = rt.alloc();
+    let words: Vec<String> = env::args(&rt)?.collect(alloc)?;
+    let mut group = started(alloc)?;
+    let payload = payload(alloc)?;
+    match words.get(1) {
+        Some(count) => measure(&rt, &mut group, &payload, count.parse()?),
+        None => tell(&rt, &mut group, &payload),
+    }
+}
