@@ -17,9 +17,9 @@ loop-to-preserved g c = (
   append_assoc c.loop-to.yielded ((c.in-Some.to, c.in-Some.body) ∷ []) c.next.new.self.rest.items ∙ ap (λ rest. c.loop-to.yielded ++ rest) (sym c.in-Some.ensures.steps.0) ∙ c.loop-to.invariant.2,
   omega (arith, c.loop-to.invariant.3, length-append c.loop-to.yielded ((c.in-Some.to, c.in-Some.body) ∷ [])),
   c.in_ok-push_frame.ensures.ok
-  ∙ ap (λ frames. frames ++ (c.in-Some.to, record { sender = c.args.me.now; number = c.loop-to.number + 1; body = c.in-Some.body }) ∷ []) c.loop-to.invariant.4
-  ∙ append_assoc c.args.frames.now (numbered c.args.me.now c.args.framed c.loop-to.yielded) ((c.in-Some.to, record { sender = c.args.me.now; number = c.loop-to.number + 1; body = c.in-Some.body }) ∷ [])
-  ∙ ap (λ frames. c.args.frames.now ++ frames) (sym (numbered-push c.args.me.now c.args.framed c.loop-to.yielded (c.in-Some.to, c.in-Some.body) c.loop-to.number c.loop-to.invariant.3)),
+      ∙ ap (λ frames. frames ++ (c.in-Some.to, record { sender = c.args.me.now; number = c.loop-to.number + 1; body = c.in-Some.body }) ∷ []) c.loop-to.invariant.4
+      ∙ append_assoc c.args.frames.now (numbered c.args.me.now c.args.framed c.loop-to.yielded) ((c.in-Some.to, record { sender = c.args.me.now; number = c.loop-to.number + 1; body = c.in-Some.body }) ∷ [])
+      ∙ ap (λ frames. c.args.frames.now ++ frames) (sym (numbered-push c.args.me.now c.args.framed c.loop-to.yielded (c.in-Some.to, c.in-Some.body) c.loop-to.number c.loop-to.invariant.3)),
 )
 
 on_err : {T E : Type 0} (r : Result T E) (P : Type 0) → P → OnErr r P
