@@ -1,0 +1,4 @@
+pub mod Keeping
+pub mod Links
+pub mod Putting
+pub mod Made

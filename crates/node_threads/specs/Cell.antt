@@ -1,0 +1,59 @@
+-- A running node, as its lock keeps it.
+use Rattle.std.specs.Prelude.{◌≡◌, ◌≤◌, ℕ, Bool, List, Option, drop, length, map}
+use Rattle.std.specs.List.{AllByRecursion as Each, IsDistinct, list_any}
+use Rattle.node_names.specs.NodeName.{Name}
+use Rattle.node_names.specs.Limits.{Limits}
+use Rattle.node_names.specs.Same.{same_name}
+use Rattle.node_names.specs.declared.ids.Origin.{Origin}
+use Rattle.world.specs.Delivery.{Delivery}
+use Rattle.world.specs.Replay.{Replays}
+use Rattle.world.specs.Stimulus.{Stimulus}
+use Rattle.world.specs.Trace.{Trace, delivered}
+use Rattle.frames.specs.Frame.{Frame}
+use Rattle.node_threads.specs.LinkText.{link_text, spelling}
+
+-- An open link: the name that it goes to, how many steps the trace had when it was opened, and the frames that were put
+-- into its ring, each as its bytes.
+pub record Link : Type 0 where
+  pub peer : Name
+  pub opened : ℕ
+  pub pushed : List (List ℕ)
+
+-- The core; its history, and the most steps that this may have; the open links; the deliveries that were not handed out
+-- yet, and how many were; and whether the node was shut.
+pub record Cell (C : Type 0) : Type 0 where
+  pub core : C
+  pub trace : Trace Frame
+  pub limit : ℕ
+  pub links : List Link
+  pub pending : List Delivery
+  pub handed_out : ℕ
+  pub is_shut : Bool
+
+-- The ring got the link's text, spelled, since the link was opened.
+pub record FollowsText (trace : Trace Frame) (link : Link) : Type 0 where
+  pub opened_before : link.opened ≤ length trace.steps
+  pub pushed_text : link.pushed ≡ map spelling (link_text trace link.peer link.opened)
+
+-- whether one of these links goes to the name
+abbrev pub is_linked : List Link → Name → Bool
+is_linked links name = list_any (λ link. same_name name link.peer) links
+
+-- the names of links
+abbrev pub peers_of : List Link → List Name
+peers_of links = map (λ link. link.peer) links
+
+-- What a lock keeps, whatever happened: the trace replays and the core is the state at its end; what was not handed out is
+-- what the trace delivered after what was; and there is at most one link to a name, which follows its text.
+pub record IsKept
+    {C : Type 0}
+    (starts : Origin → Limits → List Name → Option Name → List (Name × Frame) → C → Type 0)
+    (steps : C → Stimulus Frame → List (Name × Frame) → List Delivery → C → Type 0)
+    (cell : Cell C)
+    : Type 0 where
+  pub limits : Limits
+  pub replays : Replays starts steps limits cell.trace cell.core
+  pub handed : cell.handed_out ≤ length (delivered cell.trace.steps)
+  pub waiting : cell.pending ≡ drop cell.handed_out (delivered cell.trace.steps)
+  pub distinct : IsDistinct same_name (peers_of cell.links)
+  pub texts : Each (FollowsText cell.trace) cell.links

@@ -1,0 +1,20 @@
+-- What opening a link does.
+use Rattle.std.specs.Prelude.{ℕ, ◌==◌, not, List, [], ◌∷◌, ◌++◌, filter, length, nat_le, if◌then◌else◌}
+use Rattle.node_names.specs.NodeName.{Name}
+use Rattle.node_names.specs.Same.{same_name}
+use Rattle.node_threads.specs.Applying.{mail_for}
+use Rattle.node_threads.specs.Cell.{Cell, Link}
+
+-- the links to other names
+abbrev pub without : Name → List Link → List Link
+without name links = filter (λ link. not (same_name name link.peer)) links
+
+-- what a link that is opened now begins with: where the node has made no step, what its opening sent to the name
+abbrev pub first_mail : {C : Type 0} → Cell C → Name → List (List ℕ)
+first_mail cell name = if length cell.trace.steps == 0 then mail_for cell.trace.opening.sends name else []
+
+-- the links after one to this name was opened, with a ring for so many frames: it is open if what it begins with fits the ring
+abbrev pub linked_to : {C : Type 0} → Cell C → Name → ℕ → List Link
+linked_to cell name ring =
+    let mail = first_mail cell name in
+    without name cell.links ++ (if nat_le (length mail) ring then record { peer = name; opened = length cell.trace.steps; pushed = mail } ∷ [] else [])

@@ -1,0 +1,33 @@
+-- When a running node refuses a step.
+use Rattle.std.specs.Prelude.{◌≡◌, ◌<◌, ◌≤◌, true, false, length}
+use Rattle.world.specs.IdentityLaw.{IsTooLong}
+use Rattle.world.specs.Stimulus.{Stimulus}
+use Rattle.world.specs.declared.protocol.CoreError.{CoreError}
+use Rattle.world.specs.declared.protocol.CoreError.TheVariants.{PayloadTooLong, SeqSpent, OutOfMemory}
+use Rattle.frames.specs.Frame.{Frame}
+use Rattle.node_threads.specs.Cell.{Cell}
+use Rattle.node_threads.specs.declared.error.HostError.{HostError}
+use Rattle.node_threads.specs.declared.error.HostError.TheVariants as host
+
+-- The node was not shut, and its trace may have one more step.
+abbrev pub HasRoom : {C : Type 0} → Cell C → Type 0
+HasRoom cell = (cell.is_shut ≡ false) × (length cell.trace.steps < cell.limit)
+
+-- The core refuses the step so: a payload that is too long is refused as such, and numbers are used up only where the core
+-- says so.
+abbrev pub CoreRefuses : {C : Type 0} → (C → Stimulus Frame → Type 0) → C → Stimulus Frame → HostError → Type 0
+CoreRefuses is_spent core stimulus host.Closed = ⊥
+CoreRefuses is_spent core stimulus host.TraceFull = ⊥
+CoreRefuses is_spent core stimulus (host.Refused PayloadTooLong) = IsTooLong stimulus
+CoreRefuses is_spent core stimulus (host.Refused SeqSpent) = (IsTooLong stimulus → ⊥) × is_spent core stimulus
+CoreRefuses is_spent core stimulus (host.Refused OutOfMemory) = ⊥
+CoreRefuses is_spent core stimulus host.GateShut = ⊥
+CoreRefuses is_spent core stimulus host.OutOfMemory = IsTooLong stimulus → ⊥
+
+-- The node refuses the step so, in this order: it was shut; its trace is full; the core refuses; an allocation is refused.
+abbrev pub Refuses : {C : Type 0} → (C → Stimulus Frame → Type 0) → Cell C → Stimulus Frame → HostError → Type 0
+Refuses is_spent cell stimulus host.Closed = cell.is_shut ≡ true
+Refuses is_spent cell stimulus host.TraceFull = (cell.is_shut ≡ false) × (cell.limit ≤ length cell.trace.steps)
+Refuses is_spent cell stimulus (host.Refused error) = HasRoom cell × CoreRefuses is_spent cell.core stimulus (host.Refused error)
+Refuses is_spent cell stimulus host.GateShut = ⊥
+Refuses is_spent cell stimulus host.OutOfMemory = HasRoom cell × (IsTooLong stimulus → ⊥)

@@ -1,0 +1,226 @@
+//! What the lock of a running node keeps.
+ghost use Rattle.std.specs.Prelude.{◌≡◌, ◌↔◌, ◌≤◌, ◌<◌, ◌+◌, [], ◌∷◌, ◌++◌, true, false, IfOk, IfErr, OnOk, OnErr, length, vec_len, vec_capacity};
+ghost use Rattle.world.specs.IdentityLaw.{IsTooLong};
+ghost use Rattle.node_threads.specs.Applying.{Applies, id_given};
+ghost use Rattle.node_threads.specs.Opening.{IsFresh, first_receiver};
+ghost use Rattle.node_threads.specs.Refusal.{CoreRefuses, HasRoom, Refuses};
+
+use crate::applied::Applied;
+use crate::cores::NodeCore;
+use crate::error::HostError;
+use crate::link::Link;
+use crate::posting::{Posting, post_all, posting_for};
+use crate::recording::record;
+use frames::Frame;
+use node_core::Turn;
+use node_names::{Listed, MsgId, NodeName};
+use std::alloc::{AllocError, Allocator, Global};
+use std::marker::Model;
+use std::mem;
+use world::{CoreError, Delivery, Out, Prepared, Step, Stimulus, StimulusOf, Trace};
+
+/// A running node: its core, all that it did, the links that are open, and what waits for the application.
+///
+/// One thread at a time calls it, under the node's lock. Nothing here waits.
+#[derive(Drop)]
+pub struct NodeCell<C: NodeCore<A> + Drop, A: Allocator = Global> {
+    core: C,
+    pub(crate) trace: Trace<Frame<A>, A>,
+    limit: usize,
+    pub(crate) links: Vec<Link<A>, A>,
+    pending: Listed<Delivery<A>, A>,
+    handed_out: usize,
+    is_shut: bool,
+}
+
+impl<C: NodeCore<A> + Drop, A: Allocator> Model for NodeCell<C, A> {
+    ghost use Rattle.node_threads.specs.Cell.{Cell, IsKept};
+
+    ghost Value = { Cell C };
+
+    ghost view = { λ c. record { core = c.core; trace = c.trace; limit = c.limit; links = c.links.items; pending = c.pending; handed_out = c.handed_out; is_shut = c.is_shut } };
+
+    ghost invariant = { λ c. IsKept C.starts C.steps (record { core = c.core; trace = c.trace; limit = c.limit; links = c.links.items; pending = c.pending; handed_out = c.handed_out; is_shut = c.is_shut }) };
+}
+
+/// The id of the message that was broadcast, if the step was a broadcast.
+fn broadcast_id<A: Allocator>(
+    stimulus: &Stimulus<Frame<A>, A>,
+    given: &[Delivery<A>],
+) -> Option<MsgId>
+    ensures { result ≡ id_given stimulus.now given.now }
+{
+    match stimulus {
+        StimulusOf::Broadcast(_) => given.first().map(|delivery| delivery.id),
+        _ => None,
+    }
+}
+
+/// Works a step out: what it leaves to be made, and what it sends and delivers.
+fn prepare<C: NodeCore<A>, A: Allocator + Copy>(
+    alloc: A,
+    core: &C,
+    stimulus: &Stimulus<Frame<A>, A>,
+) -> Result<(Turn<A>, Out<Frame<A>, A>), HostError>
+    ensures turn { IfOk result (λ r. C.is_turn core.now stimulus.now r.0) }
+    ensures stepped { IfOk result (λ r. C.steps core.now stimulus.now r.1.sends r.1.deliveries (C.after core.now stimulus.now)) }
+    ensures accepted { OnOk result (IsTooLong stimulus.now → ⊥) }
+    ensures refused { IfErr result (CoreRefuses C.is_spent core.now stimulus.now) }
+{
+    let mut out = Out::new(alloc);
+    match core.prepare(&stimulus.as_ref(), &mut out) {
+        Ok(Prepared { turn, .. }) => Ok((turn, out)),
+        Err(CoreError::OutOfMemory) => Err(HostError::OutOfMemory),
+        Err(CoreError::PayloadTooLong) => Err(HostError::Refused(CoreError::PayloadTooLong)),
+        Err(CoreError::SeqSpent) => Err(HostError::Refused(CoreError::SeqSpent)),
+    }
+}
+
+/// Who gets the first of these frames.
+fn first_receiver<A: Allocator>(sends: &[(NodeName, Frame<A>)]) -> Option<NodeName>
+    ensures { result ≡ first_receiver sends.now }
+{
+    match sends.first() {
+        Some(send) => Some(send.0),
+        None => None,
+    }
+}
+
+/// The trace of a core that has just started and made no step.
+fn fresh_trace<C: NodeCore<A>, A: Allocator + Copy>(
+    alloc: A,
+    core: &C,
+    opening: Out<Frame<A>, A>,
+) -> Result<Trace<Frame<A>, A>, AllocError>
+    ensures { IfOk result (λ trace. trace ≡ record { origin = (C.state core.now).me; peers = (C.state core.now).active; contact = first_receiver opening.sends; opening = opening; steps = [] }) }
+{
+    let contact = first_receiver(opening.sends.as_slice());
+    let peers = Vec::from_slice(alloc, core.active().as_slice())?;
+    Ok(Trace::new(alloc, core.me(), Listed::from_vec(peers), contact, opening))
+}
+
+impl<C: NodeCore<A> + Drop, A: Allocator + Copy> NodeCell<C, A> {
+    /// A node that has just started: `opening` is what its start gave. Its trace may have `trace_limit` steps.
+    pub fn new(
+        alloc: A,
+        core: C,
+        opening: Out<Frame<A>, A>,
+        trace_limit: usize,
+    ) -> Result<NodeCell<C, A>, HostError>
+        requires { IsFresh C.starts core opening }
+        ensures ok { IfOk result (λ cell. cell ≡ record {
+          core = core;
+          trace = record { origin = (C.state core).me; peers = (C.state core).active; contact = first_receiver opening.sends; opening = opening; steps = [] };
+          limit = trace_limit;
+          links = [];
+          pending = [];
+          handed_out = 0;
+          is_shut = false;
+        }) }
+        ensures err { IfErr result (λ e. e ≡ HostError.OutOfMemory) }
+    {
+        let trace = fresh_trace(alloc, &core, opening)?;
+        Ok(NodeCell {
+            core,
+            trace,
+            limit: trace_limit,
+            links: Vec::new(alloc),
+            pending: Listed::new(alloc),
+            handed_out: 0,
+            is_shut: false,
+        })
+    }
+
+    /// Lets the core take one stimulus, records the step, and puts its frames into the rings of the open links.
+    ///
+    /// `Closed`: the node was shut. `TraceFull`: the trace has as many steps as it may have. `Refused`: the core refused the
+    /// step. `OutOfMemory` comes last. A link whose ring has no room is closed and listed, and the step stands.
+    pub fn apply(&mut self, stimulus: Stimulus<Frame<A>, A>) -> Result<Applied<A>, HostError>
+        ensures applied { IfOk result (λ applied. Applies C.state C.steps self.old stimulus self.new applied.id applied.place applied.full applied.unlinked) }
+        ensures accepted { OnOk result (HasRoom self.old × (IsTooLong stimulus → ⊥)) }
+        ensures refused { IfErr result (Refuses C.is_spent self.old stimulus) }
+        ensures err { OnErr result (self.new ≡ self.old) }
+    {
+        if self.is_shut {
+            return Err(HostError::Closed);
+        }
+        let place = self.trace.len();
+        if place >= self.limit {
+            return Err(HostError::TraceFull);
+        }
+        let alloc = *self.links.allocator();
+        let (turn, out) = prepare(alloc, &self.core, &stimulus)?;
+        let Posting {
+            mails,
+            live,
+            mut full,
+            unlinked,
+            copies,
+        } = posting_for(alloc, &self.links, &out)?;
+        let id = broadcast_id(&stimulus, out.deliveries.as_slice());
+        let step = Step { stimulus, out };
+        record(
+            &mut self.core,
+            &mut self.trace,
+            &mut self.pending,
+            copies,
+            step,
+            turn,
+        )?;
+        let links = mem::replace(&mut self.links, live);
+        post_all(links, mails, &mut self.links, &mut full);
+        Ok(Applied {
+            id,
+            place,
+            full: Listed::from_vec(full),
+            unlinked: Listed::from_vec(unlinked),
+        })
+    }
+
+    /// The deliveries that were not handed out yet, in order. They are handed out with this call.
+    pub fn take_deliveries(&mut self) -> Vec<Delivery<A>, A>
+        ensures given { result.items ≡ self.old.pending }
+        ensures handed_out { self.new ≡ record self.old { pending = []; handed_out = self.old.handed_out + length self.old.pending } }
+    {
+        let _bound = self.trace.len();
+        let alloc = *self.links.allocator();
+        let given = mem::replace(&mut self.pending, Listed::new(alloc));
+        self.handed_out += given.len();
+        given.into_vec()
+    }
+
+    /// The number of deliveries that were handed out.
+    pub fn handed_out(&self) -> u64
+        ensures { result ≡ self.now.handed_out }
+    {
+        self.handed_out as u64
+    }
+
+    /// Ends the node: from now on no step is made.
+    pub fn shut(&mut self)
+        ensures { self.new ≡ record self.old { is_shut = true } }
+    {
+        self.is_shut = true;
+    }
+
+    /// Whether the node was shut.
+    pub fn is_shut(&self) -> bool
+        ensures { result ≡ self.now.is_shut }
+    {
+        self.is_shut
+    }
+
+    /// The core.
+    pub fn core(&self) -> &C
+        ensures { result.now ≡ self.now.core }
+    {
+        &self.core
+    }
+
+    /// All that the node did.
+    pub fn trace(&self) -> &Trace<Frame<A>, A>
+        ensures { result.now ≡ self.now.trace }
+    {
+        &self.trace
+    }
+}

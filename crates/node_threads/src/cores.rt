@@ -1,0 +1,136 @@
+//! The cores that a node can run.
+ghost use Rattle.std.specs.Prelude.{◌≡◌, ◌↔◌, List, Option, IsErrOf, IsSome, IfOk, IfSome, OnOk, OnErr};
+ghost use Rattle.node_names.specs.NodeName.{Name};
+ghost use Rattle.node_names.specs.Limits.{Limits};
+ghost use Rattle.node_names.specs.declared.ids.Origin.{Origin};
+ghost use Rattle.world.specs.CoreState.{CoreState};
+ghost use Rattle.world.specs.Delivery.{Delivery};
+ghost use Rattle.world.specs.IdentityLaw.{IsTooLong};
+ghost use Rattle.world.specs.OneDelivery.{OneDelivery};
+ghost use Rattle.world.specs.Output.{Stepped};
+ghost use Rattle.world.specs.Stimulus.{Stimulus, lent};
+ghost use Rattle.frames.specs.Frame.{Frame as Sent};
+ghost use Rattle.node_core.specs.Parts.{Turn as Kept};
+ghost use Rattle.node_threads.specs.Opening.{TellsItsStart};
+
+use frames::Frame;
+use node_core::{PlumCore, Turn};
+use node_names::{MsgId, Origin};
+use std::alloc::{AllocError, Allocator};
+use world::{Core, CoreError, NameSet, Out, Prepared, StimulusRef};
+
+/// A core whose packets are frames. What a node calls is as in `world::Core`, where each function is explained.
+pub trait NodeCore<A: Allocator>: Sized {
+    /// What it shows of itself.
+    ghost state: { Self → CoreState };
+
+    /// From this origin, limits, peers and contact it may start with these frames, as this core.
+    ghost starts: { Origin → Limits → List Name → Option Name → List (Name × Sent) → Self → Type 0 };
+
+    /// At this stimulus it may send these frames, deliver these messages and go on as the second core.
+    ghost steps: { Self → Stimulus Sent → List (Name × Sent) → List Delivery → Self → Type 0 };
+
+    /// Some number that this step needs is used up.
+    ghost is_spent: { Self → Stimulus Sent → Type 0 };
+
+    /// The core that goes on after the stimulus.
+    ghost after: { Self → Stimulus Sent → Self };
+
+    /// The turn is what the core keeps of this stimulus, which it does not refuse.
+    ghost is_turn: { Self → Stimulus Sent → Kept → Type 0 };
+
+    /// Works a step out, and changes nothing of the core.
+    fn prepare(
+        &self,
+        stimulus: &StimulusRef<'_, Frame<A>, A>,
+        out: &mut Out<Frame<A>, A>,
+    ) -> Result<Prepared<Turn<A>>, CoreError>
+        ensures turn { IfOk result (λ prepared. is_turn self.now (lent stimulus.now) prepared.turn) }
+        ensures stepped { OnOk result (Stepped steps self.now (lent stimulus.now) out.old (after self.now (lent stimulus.now)) out.new) }
+        ensures too_long { IsErrOf result CoreError.PayloadTooLong ↔ IsTooLong (lent stimulus.now) }
+        ensures spent { IsErrOf result CoreError.SeqSpent → is_spent self.now (lent stimulus.now) };
+
+    /// Makes a step that was worked out, whose turn it takes: all of it, or nothing where an allocation is refused.
+    fn advance(
+        &mut self,
+        stimulus: &StimulusRef<'_, Frame<A>, A>,
+        turn: &mut Option<Turn<A>>,
+    ) -> Result<(), AllocError>
+        requires some { IsSome turn.old }
+        requires turn { IfSome turn.old (λ turn. is_turn self.old (lent stimulus.now) turn) }
+        ensures ok { OnOk result (self.new ≡ after self.old (lent stimulus.now)) }
+        ensures err { OnErr result (self.new ≡ self.old) };
+
+    /// Who it is: its name and incarnation.
+    fn me(&self) -> Origin
+        ensures { result ≡ (state self.now).me };
+
+    /// The names that it keeps links to.
+    fn active(&self) -> &NameSet<A>
+        ensures { result.now.keys ≡ (state self.now).active };
+
+    /// The ids whose timers are armed, in order of arming.
+    fn timers(&self) -> &[MsgId]
+        ensures { result.now ≡ (state self.now).timers };
+
+    /// No step delivers more than one message, and a broadcast delivers its own.
+    ghost delivers_one: { OneDelivery state steps };
+
+    /// A start shows who started, with which peers, and by which contact.
+    ghost tells_its_start: { TellsItsStart state starts };
+}
+
+impl<A: Allocator + Copy> NodeCore<A> for PlumCore<A> {
+    ghost use Rattle.node_core.specs.Plum.{plum_state};
+    ghost use Rattle.node_core.specs.Parts.{IsTurn};
+    ghost use Rattle.node_core.specs.PlumDelivers.{plum_delivers_one};
+    ghost use Rattle.node_core.specs.Steps.{PlumStarts, PlumSteps, PlumIsSpent, plum_after};
+    ghost use Rattle.node_threads.specs.PlumOpening.{plum_tells_its_start};
+
+    ghost state = { plum_state };
+
+    ghost starts = { PlumStarts };
+
+    ghost steps = { PlumSteps };
+
+    ghost is_spent = { PlumIsSpent };
+
+    ghost after = { plum_after };
+
+    ghost is_turn = { IsTurn };
+
+    ghost delivers_one = { plum_delivers_one };
+
+    ghost tells_its_start = { plum_tells_its_start };
+
+    fn prepare(
+        &self,
+        stimulus: &StimulusRef<'_, Frame<A>, A>,
+        out: &mut Out<Frame<A>, A>,
+    ) -> Result<Prepared<Turn<A>>, CoreError> {
+        Core::prepare(self, stimulus, out)
+    }
+
+    fn advance(
+        &mut self,
+        stimulus: &StimulusRef<'_, Frame<A>, A>,
+        turn: &mut Option<Turn<A>>,
+    ) -> Result<(), AllocError> {
+        let Some(turn) = turn.take() else {
+            unreachable!()
+        };
+        Core::advance(self, stimulus, turn)
+    }
+
+    fn me(&self) -> Origin {
+        Core::me(self)
+    }
+
+    fn active(&self) -> &NameSet<A> {
+        Core::active(self)
+    }
+
+    fn timers(&self) -> &[MsgId] {
+        Core::timers(self)
+    }
+}

@@ -1,0 +1,19 @@
+//! A running node: one core under a lock, between the links that bring frames and those that take them.
+#![tactic(auto)]
+
+mod applied;
+mod cell;
+mod cores;
+mod error;
+mod link;
+mod opening;
+mod outlet;
+mod posting;
+mod recording;
+mod spelled;
+
+pub use applied::Applied;
+pub use cell::NodeCell;
+pub use cores::NodeCore;
+pub use error::HostError;
+pub use outlet::Outlet;

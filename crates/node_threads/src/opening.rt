@@ -1,0 +1,111 @@
+//! Links are opened and closed.
+ghost use Rattle.std.specs.Prelude.{◌≡◌, ◌≤◌, ◌<◌, ◌+◌, ◌++◌, [], ◌∷◌, not, nat_le, if◌then◌else◌, IfOk, IfErr, OnOk, OnErr, length, vec_len, vec_capacity};
+ghost use Rattle.node_names.specs.Same.{same_name};
+ghost use Rattle.rtrb.specs.Ring.{sent, known_free};
+ghost use Rattle.node_threads.specs.Applying.{mail_for};
+ghost use Rattle.node_threads.specs.Cell.{is_linked};
+ghost use Rattle.node_threads.specs.Opened.{first_mail, linked_to, without};
+
+use crate::cell::NodeCell;
+use crate::cores::NodeCore;
+use crate::error::HostError;
+use crate::link::{Link, Mail};
+use crate::outlet::Outlet;
+use crate::posting::{has_link, mail_for};
+use crate::spelled::Spelled;
+use node_names::{Listed, NodeName};
+use rtrb::{Producer, RingBuffer};
+use std::alloc::{AllocError, Allocator};
+
+/// Puts the frames into a ring that has room for them.
+fn fill<A: Allocator>(ring: &mut Producer<Spelled<A>, A>, mail: Mail<A>)
+    requires { length mail ≤ known_free ring.old }
+    ensures { sent ring.new ≡ sent ring.old ++ mail }
+{
+    for frame in mail.into_vec() {
+        ring.push_reserved(frame);
+    }
+}
+
+/// Closes the link to the name, if one is open.
+fn close<A: Allocator>(links: &mut Vec<Link<A>, A>, name: &NodeName)
+    ensures links { links.new.items ≡ without name.now links.old.items }
+    ensures len { vec_len links.new ≤ vec_len links.old }
+    ensures capacity { vec_capacity links.new ≡ vec_capacity links.old }
+{
+    links.retain(
+        |link: &Link<A>| -> bool
+            ensures { result ≡ not (same_name name.entry.now link.now.peer) }
+        { *name != link.peer() },
+    );
+}
+
+/// Puts a link to the name in place of the one that there is, if what it begins with fits its ring, which has room for so many
+/// frames.
+fn link<A: Allocator>(
+    links: &mut Vec<Link<A>, A>,
+    peer: NodeName,
+    opened: usize,
+    mut ring: Producer<Spelled<A>, A>,
+    mail: Mail<A>,
+    room: usize,
+)
+    requires place { vec_len links.old < vec_capacity links.old }
+    requires empty { sent ring ≡ [] }
+    requires free { known_free ring ≡ room }
+    ensures { links.new.items ≡ without peer links.old.items ++ (if nat_le (length mail) room then record { peer = peer; opened = opened; pushed = mail } ∷ [] else []) }
+{
+    close(links, &peer);
+    if mail.len() <= room {
+        fill(&mut ring, mail);
+        links.push(Link { peer, opened, ring }).unwrap();
+    }
+}
+
+impl<C: NodeCore<A> + Drop, A: Allocator + Copy> NodeCell<C, A> {
+    /// What a link to the name begins with: the frames of the opening to it, where the node has made no step.
+    fn first_mail(&self, alloc: A, name: &NodeName) -> Result<Mail<A>, AllocError>
+        ensures { IfOk result (λ mail. mail ≡ first_mail self.now name.now) }
+    {
+        if !self.trace.is_empty() {
+            return Ok(Listed::new(alloc));
+        }
+        mail_for(alloc, name, self.trace.opening().sends.as_slice())
+    }
+
+    /// Opens a link to the name, whose ring has room for so many frames, and closes the one that there was.
+    ///
+    /// Where what the opening sent to the name does not fit the ring, the link is closed at once. Its only refusal is
+    /// `OutOfMemory`.
+    pub fn open_link(&mut self, name: NodeName, ring: usize) -> Result<Outlet<A>, HostError>
+        ensures outlet { IfOk result (λ outlet. outlet ≡ record { peer = name; opened = length self.old.trace.steps; given = [] }) }
+        ensures linked { OnOk result (self.new ≡ record self.old { links = linked_to self.old name ring }) }
+        ensures refused { IfErr result (λ e. e ≡ HostError.OutOfMemory) }
+        ensures err { OnErr result (self.new ≡ self.old) }
+    {
+        let alloc = *self.links.allocator();
+        let opened = self.trace.len();
+        let mail = self.first_mail(alloc, &name)?;
+        let (producer, consumer) = RingBuffer::new(alloc, ring)?;
+        self.links.reserve(1)?;
+        link(&mut self.links, name, opened, producer, mail, ring);
+        Ok(Outlet::new(alloc, name, opened, consumer))
+    }
+
+    /// Whether a link to the name is open.
+    pub fn link_is_open(&self, name: &NodeName) -> bool
+        ensures { result ≡ is_linked self.now.links name.now }
+    {
+        has_link(&self.links, name)
+    }
+
+    /// Closes the link to the name: nothing more is put into its ring. Answers whether one was open.
+    pub fn close_link(&mut self, name: &NodeName) -> bool
+        ensures open { result ≡ is_linked self.old.links name.now }
+        ensures closed { self.new ≡ record self.old { links = without name.now self.old.links } }
+    {
+        let was_open = has_link(&self.links, name);
+        close(&mut self.links, name);
+        was_open
+    }
+}
