@@ -1,4 +1,5 @@
 pub mod Keeping
 pub mod Links
 pub mod Putting
+pub mod Receipting
 pub mod Made

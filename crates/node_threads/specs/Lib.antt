@@ -1,8 +1,10 @@
 pub mod Applying
 pub mod Cell
 pub mod LinkText
+pub mod Marks
 pub mod Opened
 pub mod Opening
 pub mod Outlet
 pub mod PlumOpening
+pub mod Receipts
 pub mod Refusal

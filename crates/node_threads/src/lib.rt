@@ -9,6 +9,8 @@ mod link;
 mod opening;
 mod outlet;
 mod posting;
+mod receipt;
+mod receipts;
 mod recording;
 mod spelled;
 
@@ -17,3 +19,4 @@ pub use cell::NodeCell;
 pub use cores::NodeCore;
 pub use error::HostError;
 pub use outlet::Outlet;
+pub use receipt::{Call, Receipt};
