@@ -3,3 +3,4 @@ pub mod Links
 pub mod Putting
 pub mod Receipting
 pub mod Made
+pub mod Stripping

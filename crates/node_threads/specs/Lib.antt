@@ -8,3 +8,4 @@ pub mod Outlet
 pub mod PlumOpening
 pub mod Receipts
 pub mod Refusal
+pub mod Report

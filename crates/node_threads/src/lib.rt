@@ -12,6 +12,8 @@ mod posting;
 mod receipt;
 mod receipts;
 mod recording;
+mod remainder;
+mod report;
 mod spelled;
 
 pub use applied::Applied;
@@ -20,3 +22,4 @@ pub use cores::NodeCore;
 pub use error::HostError;
 pub use outlet::Outlet;
 pub use receipt::{Call, Receipt};
+pub use report::LinkReport;

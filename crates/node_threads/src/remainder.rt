@@ -1,0 +1,119 @@
+//! What came out of a link is held against what the node sent, a packet at a time.
+ghost use Rattle.std.specs.Prelude.{◌≡◌, ◌==◌, ◌∷◌, [], IfOk, drop, map, nat_eq, option_copied, if◌then◌else◌};
+ghost use Rattle.std.specs.Cmp.Lexicographic.{pointwise};
+ghost use Rattle.node_threads.specs.Applying.{mail_for};
+ghost use Rattle.node_threads.specs.LinkText.{link_text, spelling, text_of};
+ghost use Rattle.node_threads.specs.Report.{Leaves};
+
+use crate::spelled::spell;
+use bytes::Bytes;
+use frames::Frame;
+use node_names::NodeName;
+use std::alloc::{AllocError, Allocator};
+use world::Trace;
+
+/// Whether the bytes spell the frame. The spelling is freed again.
+fn spells<A: Allocator + Copy>(
+    alloc: A,
+    frame: &Frame<A>,
+    bytes: &Bytes<A>,
+) -> Result<bool, AllocError>
+    ensures { IfOk result (λ same. same ≡ pointwise nat_eq bytes.now (spelling frame.now)) }
+{
+    let spelled = spell(alloc, frame)?;
+    Ok(bytes.as_slice() == spelled.bytes().as_slice())
+}
+
+/// What is left of these frames after a packet, which counts if it goes to the peer. None: it is another frame than the first.
+fn strip_packet<'a, A: Allocator + Copy>(
+    alloc: A,
+    peer: &NodeName,
+    send: &(NodeName, Frame<A>),
+    given: &'a [Bytes<A>],
+) -> Result<Option<&'a [Bytes<A>]>, AllocError>
+    ensures { IfOk result (λ left. Leaves given.now (mail_for (send.now ∷ []) peer.now) (option_copied left)) }
+{
+    if send.0 != *peer {
+        return Ok(Some(given));
+    }
+    let Some((first, rest)) = given.split_first() else {
+        return Ok(Some(given));
+    };
+    if !spells(alloc, &send.1, first)? {
+        return Ok(None);
+    }
+    Ok(Some(rest))
+}
+
+/// What is left of these frames after the packets of a step. Where nothing is left, the packets that remain are passed over.
+fn strip<'a, A: Allocator + Copy>(
+    alloc: A,
+    peer: &NodeName,
+    sends: &[(NodeName, Frame<A>)],
+    mut given: &'a [Bytes<A>],
+) -> Result<Option<&'a [Bytes<A>]>, AllocError>
+    ensures { IfOk result (λ left. Leaves given.now (mail_for sends.now peer.now) (option_copied left)) }
+{
+    for send in sends {
+        if given.is_empty() {
+            return Ok(Some(given));
+        }
+        match strip_packet(alloc, peer, send, given)? {
+            Some(rest) => given = rest,
+            None => return Ok(None),
+        }
+    }
+    Ok(Some(given))
+}
+
+/// What is left of these frames after the steps from a place on. Where nothing is left, the steps that remain are passed over.
+fn strip_steps<'a, A: Allocator + Copy>(
+    alloc: A,
+    trace: &Trace<Frame<A>, A>,
+    peer: &NodeName,
+    opened: usize,
+    mut given: &'a [Bytes<A>],
+) -> Result<Option<&'a [Bytes<A>]>, AllocError>
+    ensures { IfOk result (λ left. Leaves given.now (map spelling (text_of peer.now (drop opened trace.now.steps))) (option_copied left)) }
+{
+    for place in opened..trace.len() {
+        if given.is_empty() {
+            return Ok(Some(given));
+        }
+        let Some(step) = trace.step(place) else {
+            unreachable!()
+        };
+        match strip(alloc, peer, step.out.sends.as_slice(), given)? {
+            Some(rest) => given = rest,
+            None => return Ok(None),
+        }
+    }
+    Ok(Some(given))
+}
+
+/// The packets of the opening, where a link was opened before any step, and else none.
+fn opening_of<A: Allocator>(trace: &Trace<Frame<A>, A>, opened: usize) -> &[(NodeName, Frame<A>)]
+    ensures { result.now ≡ (if opened == 0 then trace.now.opening.sends else []) }
+{
+    if opened == 0 {
+        trace.opening().sends.as_slice()
+    } else {
+        &[]
+    }
+}
+
+/// What is left of these frames after all that the node sent to the peer since the link was opened.
+pub(crate) fn strip_text<'a, A: Allocator + Copy>(
+    alloc: A,
+    trace: &Trace<Frame<A>, A>,
+    peer: &NodeName,
+    opened: usize,
+    given: &'a [Bytes<A>],
+) -> Result<Option<&'a [Bytes<A>]>, AllocError>
+    ensures { IfOk result (λ left. Leaves given.now (map spelling (link_text trace.now peer.now opened)) (option_copied left)) }
+{
+    let Some(rest) = strip(alloc, peer, opening_of(trace, opened), given)? else {
+        return Ok(None);
+    };
+    strip_steps(alloc, trace, peer, opened, rest)
+}

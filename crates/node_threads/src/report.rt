@@ -1,0 +1,54 @@
+//! What came out of a link is compared with the trace.
+ghost use Rattle.std.specs.Prelude.{◌≡◌, None, Ok, IfOk, IfErr, IfSome, length};
+ghost use Rattle.node_threads.specs.Report.{BeginsText};
+
+use crate::cell::NodeCell;
+use crate::cores::NodeCore;
+use crate::error::HostError;
+use crate::outlet::Outlet;
+use crate::remainder::strip_text;
+use node_names::NodeName;
+use std::alloc::Allocator;
+
+/// How far the frames of a link came, where they came out as the node sent them.
+#[derive(Drop)]
+pub struct LinkReport {
+    /// The name that the link goes to.
+    pub peer: NodeName,
+    /// The number of steps that the trace had when the link was opened.
+    pub opened: usize,
+    /// The number of frames that came out.
+    pub taken: u64,
+}
+
+impl<C: NodeCore<A> + Drop, A: Allocator + Copy> NodeCell<C, A> {
+    /// How far the frames of a link came, if they came out as the node sent them to its peer since the link was opened: each as
+    /// its bytes, in order, with none left out. None says that they did not, or that the link was opened after more steps than
+    /// the trace has, so that the outlet is another node's.
+    ///
+    /// It goes over the steps since the link was opened until the frames that came out are used up, and spells one frame at a
+    /// time. Its only refusal is `OutOfMemory`.
+    pub fn report(&self, outlet: &Outlet<A>) -> Result<Option<LinkReport>, HostError>
+        ensures begins { IfOk result (λ r. IfSome r (λ report. BeginsText self.now.trace outlet.now)) }
+        ensures report { IfOk result (λ r. IfSome r (λ report. report ≡ record { peer = outlet.now.peer; opened = outlet.now.opened; taken = length outlet.now.given })) }
+        ensures none { result ≡ Ok None → BeginsText self.now.trace outlet.now → ⊥ }
+        ensures refused { IfErr result (λ e. e ≡ HostError.OutOfMemory) }
+    {
+        let (peer, opened) = (outlet.peer(), outlet.opened());
+        if opened > self.trace.len() {
+            return Ok(None);
+        }
+        let alloc = *self.links.allocator();
+        let Some(rest) = strip_text(alloc, &self.trace, &peer, opened, outlet.given())? else {
+            return Ok(None);
+        };
+        if !rest.is_empty() {
+            return Ok(None);
+        }
+        Ok(Some(LinkReport {
+            peer,
+            opened,
+            taken: outlet.taken(),
+        }))
+    }
+}
