@@ -1,6 +1,6 @@
 -- What a node keeps is kept by a step.
 use Rattle.std.specs.Prelude.{◌≡◌, ◌≤◌, ◌==◌, ℕ, false, List, [], ◌∷◌, ◌++◌, Option, drop, length, map, if◌then◌else◌, refl}
-use Rattle.std.specs.List.{AllByRecursion as Each, IsDistinct, flat_map}
+use Rattle.std.specs.List.{AllByRecursion as Each, IsDistinct}
 use Rattle.std.proofs.Common.{◌∙◌, ap, arith, inl, inr, subst, sym, append_assoc}
 use Rattle.std.proofs.lemmas.Grind.{flat_map-append}
 use Rattle.std.proofs.lemmas.List.{append-nil, drop-append-le, length-append, map-append}

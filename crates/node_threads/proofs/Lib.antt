@@ -1,6 +1,8 @@
+pub mod DownSteps
 pub mod Keeping
 pub mod Links
+pub mod Made
 pub mod Putting
 pub mod Receipting
-pub mod Made
 pub mod Stripping
+pub mod Within

@@ -1,5 +1,5 @@
 -- What a node keeps is kept where it starts, and where links are opened and closed.
-use Rattle.std.specs.Prelude.{◌≡◌, ◌≤◌, ◌+◌, ◌-◌, ◌==◌, ℕ, Bool, true, false, not, List, [], ◌∷◌, ◌++◌, Option, drop, filter, length, map, nat_le, if◌then◌else◌, refl, IsTrue}
+use Rattle.std.specs.Prelude.{◌≡◌, ◌≤◌, ◌+◌, ◌-◌, ◌==◌, ℕ, Bool, true, false, not, List, [], ◌∷◌, ◌++◌, Option, drop, length, map, nat_le, if◌then◌else◌, refl, IsTrue}
 use Rattle.std.specs.List.{AllByRecursion as Each, IsDistinct}
 use Rattle.std.proofs.Common.{◌∙◌, ap, arith, length-append, subst, sym, zero-le}
 use Rattle.std.proofs.Math.Nat.{le_refl}
@@ -15,7 +15,7 @@ use Rattle.world.specs.FloodLists.{either_way}
 use Rattle.world.specs.OneDelivery.{OneDelivery}
 use Rattle.world.specs.Output.{Output}
 use Rattle.world.specs.Peers.{are_peers}
-use Rattle.world.specs.Replay.{Leads, Replays}
+use Rattle.world.specs.Replay.{Leads}
 use Rattle.world.specs.Stimulus.{Stimulus}
 use Rattle.world.specs.Trace.{Step, Trace, delivered}
 use Rattle.frames.specs.Frame.{Frame}

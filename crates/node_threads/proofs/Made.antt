@@ -1,5 +1,5 @@
 -- A step that was made does what a node's step does.
-use Rattle.std.specs.Prelude.{◌≡◌, ◌<◌, ℕ, Bool, false, List, [], ◌∷◌, ◌++◌, Option, Some, None, Result, Ok, Err, IfErr, OnErr, IsErrAnd, length, map, option_map, slice_get, refl}
+use Rattle.std.specs.Prelude.{◌≡◌, ℕ, false, List, [], ◌∷◌, ◌++◌, Option, Result, Ok, Err, IfErr, OnErr, IsErrAnd, length, map, option_map, slice_get, refl}
 use Rattle.std.proofs.Common.{◌∙◌, ap, sym, subst}
 use Rattle.node_names.specs.NodeName.{Name}
 use Rattle.node_names.specs.declared.ids.MsgId.{MsgId}
@@ -9,7 +9,7 @@ use Rattle.world.specs.DeliveryLaw.{ids}
 use Rattle.world.specs.OneDelivery.{OneDelivery}
 use Rattle.world.specs.Output.{Output}
 use Rattle.world.specs.Stimulus.{Stimulus}
-use Rattle.world.specs.Trace.{Step, Trace}
+use Rattle.world.specs.Trace.{Trace}
 use Rattle.world.specs.declared.stimulus.StimulusOf.TheVariants.{Broadcast, Arrive, Fire, Flush, Down, Shuffle}
 use Rattle.frames.specs.Frame.{Frame}
 use Rattle.node_threads.specs.Applying.{Applies, Puts, broadcast_id, id_given, mail_to, unlinked}

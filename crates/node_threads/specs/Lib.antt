@@ -1,5 +1,8 @@
 pub mod Applying
 pub mod Cell
+pub mod Closing
+pub mod Downs
+pub mod History
 pub mod LinkText
 pub mod Marks
 pub mod Opened

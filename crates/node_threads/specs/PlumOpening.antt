@@ -1,5 +1,5 @@
 -- A start of the node's core shows itself: a proof, and nothing to believe.
-use Rattle.std.specs.Prelude.{◌≡◌, List, Option, None, Some, refl}
+use Rattle.std.specs.Prelude.{◌≡◌, Option, None, Some, refl}
 use Rattle.std.proofs.Common.{ap, ◌∙◌}
 use Rattle.node_names.specs.NodeName.{Name}
 use Rattle.node_names.specs.declared.ids.Origin.{Origin}

@@ -2,7 +2,6 @@
 use Rattle.std.specs.Prelude.{◌≡◌, ◌<◌, ◌≤◌, true, false, length}
 use Rattle.world.specs.IdentityLaw.{IsTooLong}
 use Rattle.world.specs.Stimulus.{Stimulus}
-use Rattle.world.specs.declared.protocol.CoreError.{CoreError}
 use Rattle.world.specs.declared.protocol.CoreError.TheVariants.{PayloadTooLong, SeqSpent, OutOfMemory}
 use Rattle.frames.specs.Frame.{Frame}
 use Rattle.node_threads.specs.Cell.{Cell}

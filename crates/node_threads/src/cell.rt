@@ -2,6 +2,7 @@
 ghost use Rattle.std.specs.Prelude.{◌≡◌, ◌↔◌, ◌≤◌, ◌<◌, ◌+◌, [], ◌∷◌, ◌++◌, true, false, IfOk, IfErr, OnOk, OnErr, length, vec_len, vec_capacity};
 ghost use Rattle.world.specs.IdentityLaw.{IsTooLong};
 ghost use Rattle.node_threads.specs.Applying.{Applies, id_given};
+ghost use Rattle.node_threads.specs.History.{IsHistory};
 ghost use Rattle.node_threads.specs.Opening.{IsFresh, first_receiver};
 ghost use Rattle.node_threads.specs.Refusal.{CoreRefuses, HasRoom, Refuses};
 
@@ -189,6 +190,13 @@ impl<C: NodeCore<A> + Drop, A: Allocator + Copy> NodeCell<C, A> {
         given.into_vec()
     }
 
+    /// The deliveries that were not handed out yet, in order.
+    pub fn pending(&self) -> &[Delivery<A>]
+        ensures { result.now ≡ self.now.pending }
+    {
+        self.pending.as_slice()
+    }
+
     /// The number of deliveries that were handed out.
     pub fn handed_out(&self) -> u64
         ensures { result ≡ self.now.handed_out }
@@ -222,5 +230,26 @@ impl<C: NodeCore<A> + Drop, A: Allocator + Copy> NodeCell<C, A> {
         ensures { result.now ≡ self.now.trace }
     {
         &self.trace
+    }
+    /// The allocator of all that it keeps.
+    pub(crate) fn alloc(&self) -> A {
+        *self.links.allocator()
+    }
+
+    /// All that the node did, which is taken out of it.
+    pub fn into_trace(self) -> Trace<Frame<A>, A>
+        ensures same { result ≡ self.trace }
+        ensures history { IsHistory C.starts C.steps result }
+    {
+        let NodeCell {
+            core: _,
+            trace,
+            limit: _,
+            links: _,
+            pending: _,
+            handed_out: _,
+            is_shut: _,
+        } = self;
+        trace
     }
 }

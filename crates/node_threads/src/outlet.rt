@@ -83,6 +83,13 @@ impl<A: Allocator> Outlet<A> {
         self.given.len() as u64
     }
 
+    /// Whether a frame is there to be popped.
+    pub fn has_next(&mut self) -> bool
+        ensures { self.new ≡ self.old }
+    {
+        self.ring.slots() > 0
+    }
+
     /// The bytes of the next frame, or none as long as there is none. It waits for nobody.
     pub fn pop(&mut self) -> Result<Option<Bytes<A>>, AllocError>
         ensures some { (item : List ℕ) → result ≡ Ok (Some item) → (self.new ≡ record self.old { given = self.old.given ++ item ∷ [] }) × (length item ≤ 32880) }

@@ -1,4 +1,4 @@
-use Rattle.std.proofs.Common.{◌≡◌, ◌≤◌, ◌+◌, ◌++◌, length, vec_len}
+use Rattle.std.proofs.Common.{◌≡◌, ◌≤◌, ◌+◌, length, vec_len}
 use Rattle.std.specs.Prelude.{vec_capacity}
 use Rattle.node_threads.proofs.Putting.{GoesOn}
 use Rattle.node_threads.proofs.posting.post_all.Given as goal

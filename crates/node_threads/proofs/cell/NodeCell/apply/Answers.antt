@@ -1,10 +1,8 @@
 -- Every refusal leaves the node as it was, and a step that is made is recorded and posted.
-use Rattle.std.proofs.Common.{◌≡◌, ◌∙◌, ◌++◌, [], ◌∷◌, rules, ap, length, map, subst, sym}
+use Rattle.std.proofs.Common.{◌≡◌, ◌∙◌, ◌++◌, rules, ap, length, map, subst, sym}
 use Rattle.std.proofs.lemmas.List.{length-map}
-use Rattle.world.specs.Trace.{Trace}
-use Rattle.frames.specs.Frame.{Frame}
 use Rattle.node_threads.specs.Applying.{Applies, Puts, id_given, mail_to, unlinked}
-use Rattle.node_threads.specs.Cell.{Cell, IsKept, Link}
+use Rattle.node_threads.specs.Cell.{Cell}
 use Rattle.node_threads.specs.Refusal.{HasRoom, Refuses}
 use Rattle.node_threads.specs.declared.error.HostError.TheVariants.{OutOfMemory}
 use Rattle.node_threads.proofs.Keeping.{applied_keeps}

@@ -1,4 +1,4 @@
-use Rattle.std.proofs.Common.{arith, ap, sym, ◌∙◌, length}
+use Rattle.std.proofs.Common.{arith, ap, ◌∙◌, length}
 use Rattle.node_threads.proofs.Links.{counts_few, taken_kept}
 use Rattle.node_threads.proofs.cell.NodeCell.take_deliveries.Goals as goal
 

@@ -1,0 +1,43 @@
+-- A step of a running node, and the links that turn out to be down by it.
+use Rattle.std.specs.Prelude.{◌≡◌, ◌⊎◌, ℕ, List, [], ◌∷◌, Option, replicate}
+use Rattle.node_names.specs.NodeName.{Name}
+use Rattle.node_names.specs.declared.dice.Dice.{Dice}
+use Rattle.node_names.specs.declared.ids.MsgId.{MsgId}
+use Rattle.world.specs.CoreState.{CoreState}
+use Rattle.world.specs.Delivery.{Delivery}
+use Rattle.world.specs.Stimulus.{Stimulus}
+use Rattle.world.specs.declared.stimulus.StimulusOf.TheVariants.{Down}
+use Rattle.frames.specs.Frame.{Frame}
+use Rattle.node_threads.specs.Applying.{Applies}
+use Rattle.node_threads.specs.Cell.{Cell}
+use Rattle.node_threads.specs.Refusal.{Refuses}
+use Rattle.node_threads.specs.declared.error.HostError.{HostError}
+
+-- the dice of a Down that a node tells itself
+abbrev pub no_dice : Dice
+no_dice = record { 0 = replicate 16 0 }
+
+module _
+    {C : Type 0}
+    (state : C → CoreState)
+    (steps : C → Stimulus Frame → List (Name × Frame) → List Delivery → C → Type 0)
+    (is_spent : C → Stimulus Frame → Type 0)
+  where
+    -- The node makes a step at the Down of this peer, or refuses it and stays as it was.
+    abbrev pub TakesDown : Cell C → Name → Cell C → Type 0
+    TakesDown old peer new =
+        ((id : Option MsgId) × (place : ℕ) × (full : List Name) × (lacking : List Name) × Applies state steps old (Down peer no_dice) new id place full lacking)
+        ⊎ ((error : HostError) × Refuses is_spent old (Down peer no_dice) error × (new ≡ old))
+
+    -- The node takes the Downs of these peers, one after the other.
+    abbrev pub TakesDowns : Cell C → List Name → Cell C → Type 0
+    TakesDowns old [] new = new ≡ old
+    TakesDowns old (peer ∷ peers) new = (mid : Cell C) × TakesDown old peer mid × TakesDowns mid peers new
+
+    -- The node makes a step, and then takes the Downs of the peers whose links were full, and then of those without a link.
+    pub record AppliesWithDowns (old : Cell C) (stimulus : Stimulus Frame) (new : Cell C) (id : Option MsgId) (place : ℕ) (full lacking : List Name) : Type 0 where
+      pub stepped : Cell C
+      pub told_full : Cell C
+      pub applies : Applies state steps old stimulus stepped id place full lacking
+      pub downs_full : TakesDowns stepped full told_full
+      pub downs_lacking : TakesDowns told_full lacking new

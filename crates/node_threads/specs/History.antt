@@ -1,0 +1,21 @@
+-- When a trace is the history of some core.
+use Rattle.std.specs.Prelude.{List, Option}
+use Rattle.node_names.specs.NodeName.{Name}
+use Rattle.node_names.specs.Limits.{Limits}
+use Rattle.node_names.specs.declared.ids.Origin.{Origin}
+use Rattle.world.specs.Delivery.{Delivery}
+use Rattle.world.specs.Replay.{Replays}
+use Rattle.world.specs.Stimulus.{Stimulus}
+use Rattle.world.specs.Trace.{Trace}
+use Rattle.frames.specs.Frame.{Frame}
+
+-- The trace replays: it is the history of a core, within some limits.
+pub record IsHistory
+    {C : Type 0}
+    (starts : Origin → Limits → List Name → Option Name → List (Name × Frame) → C → Type 0)
+    (steps : C → Stimulus Frame → List (Name × Frame) → List Delivery → C → Type 0)
+    (trace : Trace Frame)
+    : Type 0 where
+  pub limits : Limits
+  pub last : C
+  pub replays : Replays starts steps limits trace last

@@ -1,0 +1,52 @@
+//! What a node leaves when it is closed, and why it can't be closed.
+use crate::cores::NodeCore;
+use crate::host::Host;
+use crate::port::Port;
+use crate::report::LinkReport;
+use crate::worker::Worker;
+use frames::Frame;
+use node_names::NodeName;
+use std::alloc::{Allocator, Global};
+use thiserror::Error;
+use world::Trace;
+
+/// What a node that was closed leaves.
+#[derive(Drop)]
+pub struct Closed<A: Allocator = Global> {
+    /// All that it did.
+    pub trace: Trace<Frame<A>, A>,
+    /// How many of its deliveries were handed out: the first ones.
+    pub handed_out: u64,
+    /// A report for each outlet that its workers had.
+    pub links: Vec<LinkReport, A>,
+}
+
+/// Why a node can't be closed, or what it leaves is not as it should be.
+#[derive(Drop, Error)]
+pub enum CloseError<C: NodeCore<A> + Drop, A: Allocator = Global> {
+    /// Not as many ports or workers came back as were made. Nothing was stopped, and all are handed back.
+    #[error("a port or worker is missing")]
+    PortMissing {
+        host: Host<C, A>,
+        ports: Vec<Port<C, A>, A>,
+        workers: Vec<Worker<A>, A>,
+    },
+    /// The receipts of the port at this place are not those of its broadcasts in the trace. At the number of the ports: the
+    /// trace has a broadcast of no port.
+    #[error("the receipts of port {port} are not as in the trace")]
+    Unlike {
+        port: usize,
+        trace: Trace<Frame<A>, A>,
+    },
+    /// What came out of a link to this peer is not what the node sent to it.
+    #[error("what came out of a link to {peer} is not what was sent")]
+    Torn {
+        peer: NodeName,
+        trace: Trace<Frame<A>, A>,
+    },
+    /// An allocation is refused. The node is stopped.
+    #[error("out of memory")]
+    OutOfMemory {
+        trace: Trace<Frame<A>, A>,
+    },
+}

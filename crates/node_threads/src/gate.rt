@@ -1,0 +1,44 @@
+//! Who lets a worker make its next step.
+
+/// What a worker asks before each step that it makes, and tells of each step that it made.
+///
+/// A test orders workers by it, and a program that needs no order takes `OpenGate`. Its methods are called from the
+/// workers' threads, and never under the node's lock.
+pub trait Gate {
+    /// Whether the worker of this number may make its next step now.
+    fn pass(&self, worker: usize) -> bool;
+
+    /// The worker of this number made a step.
+    fn applied(&self, worker: usize);
+
+    /// Waits a little, since the gate did not let a worker pass.
+    fn pause(&self);
+}
+
+/// A gate that lets everyone pass.
+#[derive(Clone, Copy, Debug, Drop)]
+pub struct OpenGate;
+
+impl Gate for OpenGate {
+    fn pass(&self, _worker: usize) -> bool {
+        true
+    }
+
+    fn applied(&self, _worker: usize) {}
+
+    fn pause(&self) {}
+}
+
+/// How often a worker asks before one step.
+const ASKINGS: u32 = 1_000;
+
+/// Asks until the gate lets the worker pass, and answers whether it did.
+pub(crate) fn passes<G: Gate>(gate: &G, worker: usize) -> bool {
+    for _ in 0..ASKINGS {
+        if gate.pass(worker) {
+            return true;
+        }
+        gate.pause();
+    }
+    false
+}

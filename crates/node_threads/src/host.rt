@@ -1,0 +1,146 @@
+//! A node that runs: how it starts and how it stops.
+ghost use Rattle.std.specs.Prelude.{◌≡◌, [], ◌∷◌, ◌++◌, IfOk, IfErr, OnOk, map, vec_len, replicate};
+ghost use Rattle.node_threads.specs.Opening.{IsFresh};
+ghost use Rattle.node_threads.specs.Outlet.{fresh_outlet};
+
+use crate::cell::NodeCell;
+use crate::cores::NodeCore;
+use crate::error::HostError;
+use crate::gate::Gate;
+use crate::outlet::Outlet;
+use crate::port::Port;
+use crate::shared::Shared;
+use crate::stepper::Stepper;
+use crate::worker::{Outlets, Worker};
+use frames::Frame;
+use node_names::NodeName;
+use std::alloc::{AllocError, Allocator, Global};
+use std::marker::Model;
+use std::sync::{Arc, Wait};
+use std::thread::JoinHandle;
+use world::Out;
+
+/// A running node. Its ports are the application's, and its workers move frames and deliveries.
+///
+/// Dropping it stops nothing: `close` does.
+#[derive(Drop)]
+pub struct Host<C: NodeCore<A> + Drop, A: Allocator = Global> {
+    pub(crate) shared: Arc<Shared<C, A>, A>,
+    /// How many ports were made.
+    pub(crate) ports: usize,
+}
+
+impl<C: NodeCore<A> + Drop, A: Allocator> Model for Host<C, A> {
+    ghost use Rattle.std.specs.Prelude.{ℕ};
+
+    ghost Value = { ℕ };
+
+    ghost view = { λ h. h.ports };
+}
+
+/// So many ports of one node.
+fn new_ports<C: NodeCore<A> + Drop, A: Allocator + Copy>(
+    alloc: A,
+    shared: &Arc<Shared<C, A>, A>,
+    count: usize,
+) -> Result<Vec<Port<C, A>, A>, AllocError>
+    ensures { IfOk result (λ ports. ports.items ≡ replicate count []) }
+{
+    let mut ports = Vec::new(alloc);
+    for _ in 0..count {
+        ports.push(Port::new(alloc, Arc::try_clone(shared)?))?;
+    }
+    Ok(ports)
+}
+
+/// Puts an outlet last.
+fn keep<A: Allocator>(outlets: &mut Vec<Outlet<A>, A>, outlet: Outlet<A>) -> Result<(), AllocError>
+    ensures { OnOk result (outlets.new.items ≡ outlets.old.items ++ outlet ∷ []) }
+{
+    outlets.push(outlet)?;
+    Ok(())
+}
+
+/// Opens a link to each of the names, in order, with rings for so many frames.
+fn open_links<C: NodeCore<A> + Drop, A: Allocator + Copy>(
+    alloc: A,
+    cell: &mut NodeCell<C, A>,
+    names: &[NodeName],
+    ring: usize,
+) -> Result<Vec<Outlet<A>, A>, HostError>
+    requires { cell.old.trace.steps ≡ [] }
+    ensures outlets { IfOk result (λ outlets. outlets.items ≡ map fresh_outlet names.now) }
+    ensures err { IfErr result (λ e. e ≡ HostError.OutOfMemory) }
+{
+    let mut outlets = Vec::new(alloc);
+    for name in names {
+        let outlet = cell.open_link(*name, ring)?;
+        keep(&mut outlets, outlet)?;
+    }
+    Ok(outlets)
+}
+
+/// Puts the cell under a lock, which several threads can hold.
+fn share<C: NodeCore<A> + Drop, A: Allocator + Copy>(
+    alloc: A,
+    cell: NodeCell<C, A>,
+    ring: usize,
+) -> Result<Arc<Shared<C, A>, A>, AllocError> {
+    Ok(Arc::new(alloc, Shared::new(alloc, cell, ring))?)
+}
+
+impl<C: NodeCore<A> + Drop, A: Allocator + Copy> Host<C, A> {
+    /// Runs a node that has just started, `opening` being what its start gave, and opens a link to each of the names before
+    /// any step. It answers the host, its ports, and the outlets of the links in the order of the names.
+    ///
+    /// `ring` is how many frames the ring of each link has room for, and `trace_limit` how many steps the trace may have. The
+    /// names are to be distinct and other than the node's own: of two links to one name only the last is open, and a node
+    /// sends nothing to itself. A link whose ring has no room for what the start sent is closed. Its only refusal is
+    /// `OutOfMemory`.
+    pub fn start(
+        alloc: A,
+        core: C,
+        opening: Out<Frame<A>, A>,
+        names: &[NodeName],
+        ports: usize,
+        ring: usize,
+        trace_limit: usize,
+    ) -> Result<(Host<C, A>, Vec<Port<C, A>, A>, Vec<Outlet<A>, A>), HostError>
+        requires { IsFresh C.starts core opening }
+        ensures host { IfOk result (λ started. started.0 ≡ ports) }
+        ensures ports { IfOk result (λ started. started.1.items ≡ replicate ports []) }
+        ensures outlets { IfOk result (λ started. started.2.items ≡ map fresh_outlet names.now) }
+        ensures err { IfErr result (λ e. e ≡ HostError.OutOfMemory) }
+    {
+        let mut cell = NodeCell::new(alloc, core, opening, trace_limit)?;
+        let outlets = open_links(alloc, &mut cell, names, ring)?;
+        let shared = share(alloc, cell, ring)?;
+        let given = new_ports(alloc, &shared, ports)?;
+        Ok((Host { shared, ports }, given, outlets))
+    }
+
+    /// Stops the node: from now on no step is made. Its workers come to their ends.
+    pub fn stop<R: Wait>(&self, rt: &R) {
+        self.shared.stop(rt);
+    }
+
+    /// A worker's way to the node's steps.
+    pub(crate) fn stepper<R: Wait, G: Gate + Drop>(
+        &self,
+        rt: &R,
+        gate: G,
+        number: usize,
+    ) -> Result<Stepper<C, A, G>, HostError> {
+        if self.shared.is_stopped(rt) {
+            return Err(HostError::Closed);
+        }
+        let shared = Arc::try_clone(&self.shared)?;
+        Ok(Stepper::new(shared, gate, number))
+    }
+
+    /// The worker of a thread, which is to come back when the node is closed.
+    pub(crate) fn employ(&self, thread: JoinHandle<Outlets<A>>) -> Worker<A> {
+        self.shared.count_worker();
+        Worker::new(thread)
+    }
+}

@@ -1,0 +1,94 @@
+//! Where the application broadcasts.
+ghost use Rattle.std.specs.Prelude.{◌≡◌, [], ◌∷◌, ◌++◌, ◌<◌, IfOk, OnErr, vec_len, vec_capacity};
+
+use crate::cores::NodeCore;
+use crate::error::HostError;
+use crate::receipt::{Call, Receipt};
+use crate::shared::Shared;
+use bytes::Bytes;
+use node_names::Listed;
+use std::alloc::{Allocator, Global};
+use std::marker::Model;
+use std::sync::{Arc, Wait};
+
+/// A port of a running node, for one thread of the application.
+///
+/// It keeps each payload that it broadcast, with its receipt, so that closing the node can compare them with the trace.
+#[derive(Drop)]
+pub struct Port<C: NodeCore<A> + Drop, A: Allocator = Global> {
+    shared: Arc<Shared<C, A>, A>,
+    calls: Vec<Call<A>, A>,
+}
+
+impl<C: NodeCore<A> + Drop, A: Allocator> Model for Port<C, A> {
+    ghost use Rattle.std.specs.Prelude.{List};
+    ghost use Rattle.node_threads.specs.Receipts.{Call};
+
+    ghost Value = { List Call };
+
+    ghost view = { λ p. p.calls.items };
+}
+
+/// Puts a call last, for which there is room.
+fn keep<A: Allocator>(calls: &mut Vec<Call<A>, A>, payload: Bytes<A>, receipt: &Receipt)
+    requires { vec_len calls.old < vec_capacity calls.old }
+    ensures { calls.new.items ≡ calls.old.items ++ record { payload = payload; receipt = receipt.now } ∷ [] }
+{
+    let receipt = *receipt;
+    calls.push(Call { payload, receipt }).unwrap();
+}
+
+/// Broadcasts a payload and keeps the call.
+fn broadcast<R: Wait, C: NodeCore<A> + Drop, A: Allocator + Copy>(
+    rt: &R,
+    shared: &Shared<C, A>,
+    calls: &mut Vec<Call<A>, A>,
+    payload: Bytes<A>,
+) -> Result<Receipt, HostError>
+    ensures ok { IfOk result (λ receipt. calls.new.items ≡ calls.old.items ++ record { payload = payload; receipt = receipt } ∷ []) }
+    ensures err { OnErr result (calls.new.items ≡ calls.old.items) }
+{
+    let kept = payload.clone()?;
+    calls.reserve(1)?;
+    let receipt = shared.broadcast(rt, payload)?;
+    keep(calls, kept, &receipt);
+    Ok(receipt)
+}
+
+impl<C: NodeCore<A> + Drop, A: Allocator + Copy> Port<C, A> {
+    /// A port without calls.
+    pub(crate) fn new(alloc: A, shared: Arc<Shared<C, A>, A>) -> Port<C, A>
+        ensures { result ≡ [] }
+    {
+        Port {
+            shared,
+            calls: Vec::new(alloc),
+        }
+    }
+
+    /// Broadcasts a payload of at most 32,768 bytes, and answers under which id and at which place of the trace.
+    ///
+    /// `OutOfMemory` may come before the other refusals, for the room that the port takes to keep the call; else they come as
+    /// those of `NodeCell::apply`.
+    pub fn broadcast<R: Wait>(&mut self, rt: &R, payload: Bytes<A>) -> Result<Receipt, HostError>
+        ensures ok { IfOk result (λ receipt. self.new ≡ self.old ++ record { payload = payload; receipt = receipt } ∷ []) }
+        ensures err { OnErr result (self.new ≡ self.old) }
+    {
+        broadcast(rt, &self.shared, &mut self.calls, payload)
+    }
+
+    /// Its calls, in order.
+    pub fn calls(&self) -> &[Call<A>]
+        ensures { result.now ≡ self.now }
+    {
+        self.calls.as_slice()
+    }
+
+    /// Its calls, in order.
+    pub(crate) fn into_calls(self) -> Listed<Call<A>, A>
+        ensures { result ≡ self }
+    {
+        let Port { calls, shared: _ } = self;
+        Listed::from_vec(calls)
+    }
+}

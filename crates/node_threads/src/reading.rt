@@ -1,0 +1,118 @@
+//! The worker that brings a link's frames to a node.
+use crate::basket::Basket;
+use crate::cores::NodeCore;
+use crate::error::HostError;
+use crate::gate::Gate;
+use crate::host::Host;
+use crate::stepper::Stepper;
+use crate::worker::{Outlets, Worker, start};
+use frames::{Cutter, Frame};
+use links::{LinkEnd, MeteredRead, pump};
+use node_names::{Dice, NodeName};
+use rand_core::SeedableRng;
+use rand_pcg::Lcg128Xsl64;
+use std::alloc::Allocator;
+use std::sync::Wait;
+use std::thread::Threads;
+use world::StimulusOf;
+
+/// What a reader knows of its link.
+#[derive(Drop)]
+struct Incoming<A: Allocator> {
+    /// The bytes of a frame that is not whole yet.
+    cutter: Cutter<A>,
+    /// Who sent the last frame.
+    sender: Option<NodeName>,
+    generator: Lcg128Xsl64,
+}
+
+/// Lets the node take frames, one step each.
+fn take_frames<R: Wait, C: NodeCore<A> + Drop, A: Allocator + Copy, G: Gate + Drop>(
+    rt: &R,
+    steps: &Stepper<C, A, G>,
+    frames: Vec<Frame<A>, A>,
+    link: &mut Incoming<A>,
+) -> Result<(), HostError> {
+    for note in frames {
+        let sender = note.sender();
+        link.sender = Some(sender.name);
+        let dice = Dice::draw(&mut link.generator);
+        steps.apply(rt, StimulusOf::Arrive { sender, note, dice })?;
+    }
+    Ok(())
+}
+
+/// Tells the node that the link is down, if a frame came over it.
+fn end_link<R: Wait, C: NodeCore<A> + Drop, A: Allocator + Copy, G: Gate + Drop>(
+    rt: &R,
+    steps: &Stepper<C, A, G>,
+    link: &mut Incoming<A>,
+) -> Result<(), HostError> {
+    let Some(peer) = link.sender else {
+        return Ok(());
+    };
+    let dice = Dice::draw(&mut link.generator);
+    steps.apply(rt, StimulusOf::Down { peer, dice })
+}
+
+/// Brings frames to the node until the link ends or a step is refused.
+fn read_frames<R, C, A, G, D>(
+    rt: &R,
+    steps: &Stepper<C, A, G>,
+    mut reader: D,
+    mut link: Incoming<A>,
+) -> Result<(), HostError>
+where
+    R: Wait,
+    C: NodeCore<A> + Drop,
+    A: Allocator + Copy,
+    G: Gate + Drop,
+    D: MeteredRead + Drop,
+{
+    for _ in rt.forever() {
+        let mut basket = Basket::new(steps.shared.alloc);
+        let end = pump(&mut reader, &mut link.cutter, &mut basket, 1);
+        take_frames(rt, steps, basket.into_frames(), &mut link)?;
+        if end != LinkEnd::TurnLimit {
+            return end_link(rt, steps, &mut link);
+        }
+        if steps.shared.is_stopped(rt) {
+            return Err(HostError::Closed);
+        }
+    }
+    unreachable!()
+}
+
+/// Starts the worker that brings the frames of a link to the node. Bytes come from the reader, each frame is one step, and its
+/// dice are those of the generator that this seed starts.
+///
+/// It ends with the link, of which the core is told as a Down of whoever sent the last frame; with the node; and at the first
+/// refusal. Bytes that are no frame end the link. `Closed`: the node was stopped. `OutOfMemory`: an allocation is refused, or
+/// no thread can be made.
+pub fn read_link<R, C, A, G, D>(
+    rt: R,
+    host: &Host<C, A>,
+    gate: G,
+    number: usize,
+    reader: D,
+    seed: u64,
+) -> Result<Worker<A>, HostError>
+where
+    R: Threads + Wait + Copy + Send + 'static,
+    C: NodeCore<A> + Drop + Send + 'static,
+    A: Allocator + Copy + Send + Sync + 'static,
+    G: Gate + Drop + Send + 'static,
+    D: MeteredRead + Drop + Send + 'static,
+{
+    let steps = host.stepper(&rt, gate, number)?;
+    let link = Incoming {
+        cutter: Cutter::new(steps.shared.alloc),
+        sender: None,
+        generator: Lcg128Xsl64::seed_from_u64(seed),
+    };
+    let thread = start(&rt, move || {
+        let _ = read_frames(&rt, &steps, reader, link);
+        Outlets::none(steps.shared.alloc)
+    })?;
+    Ok(host.employ(thread))
+}

@@ -1,0 +1,195 @@
+//! What the threads of a running node share: the cell under its lock, and who waits for it.
+ghost use Rattle.std.specs.Prelude.{◌≡◌, IfOk, IfSome, IsSome};
+
+use crate::applied::Applied;
+use crate::cell::NodeCell;
+use crate::cores::NodeCore;
+use crate::error::HostError;
+use crate::outlet::Outlet;
+use crate::receipt::Receipt;
+use bytes::Bytes;
+use crossbeam_utils::CachePadded;
+use frames::Frame;
+use node_names::MsgId;
+use std::alloc::Allocator;
+use std::sync::atomic::{AtomicUsize, Ordering};
+use std::sync::{Condvar, Mutex, Wait};
+use world::{Delivery, Stimulus, StimulusOf};
+
+/// A node that runs. The lock holds the cell until the node is closed.
+///
+/// Waiting threads are told of each step and of the stop.
+#[derive(Drop)]
+pub(crate) struct Shared<C: NodeCore<A> + Drop, A: Allocator> {
+    cell: CachePadded<Mutex<Option<NodeCell<C, A>>>>,
+    moved: Condvar,
+    /// How many workers were started.
+    workers: AtomicUsize,
+    /// How many frames a link's ring has room for.
+    pub(crate) ring: usize,
+    pub(crate) alloc: A,
+}
+
+/// What a worker that writes is to do next.
+pub(crate) enum Writing {
+    /// Its outlet has a frame.
+    Frames,
+    /// Its link is closed, and its outlet empty.
+    LinkClosed,
+    /// The node was stopped, and its outlet is empty.
+    Stopped,
+}
+
+/// What a worker that writes is to do next; none if it is to wait.
+fn next_writing<C: NodeCore<A> + Drop, A: Allocator + Copy>(
+    cell: &Option<NodeCell<C, A>>,
+    outlet: &mut Outlet<A>,
+) -> Option<Writing> {
+    if outlet.has_next() {
+        return Some(Writing::Frames);
+    }
+    match cell {
+        None => Some(Writing::Stopped),
+        Some(cell) if cell.is_shut() => Some(Writing::Stopped),
+        Some(cell) if !cell.link_is_open(&outlet.peer()) => Some(Writing::LinkClosed),
+        Some(_) => None,
+    }
+}
+
+/// Whether nothing waits for the application, and something may still come.
+fn is_idle<C: NodeCore<A> + Drop, A: Allocator + Copy>(cell: &Option<NodeCell<C, A>>) -> bool {
+    match cell {
+        Some(cell) => cell.pending().is_empty() && !cell.is_shut(),
+        None => false,
+    }
+}
+
+impl<C: NodeCore<A> + Drop, A: Allocator + Copy> Shared<C, A> {
+    /// A node whose links have rings for so many frames.
+    pub(crate) fn new(alloc: A, cell: NodeCell<C, A>, ring: usize) -> Shared<C, A> {
+        Shared {
+            cell: CachePadded::new(Mutex::new(Some(cell))),
+            moved: Condvar::new(),
+            workers: AtomicUsize::new(0),
+            ring,
+            alloc,
+        }
+    }
+
+    /// Applies the stimulus with its Downs under one hold of the lock, and tells those that wait.
+    pub(crate) fn apply<R: Wait>(
+        &self,
+        rt: &R,
+        stimulus: Stimulus<Frame<A>, A>,
+    ) -> Result<Applied<A>, HostError> {
+        let mut guard = self.cell.lock(rt);
+        let Some(cell) = &mut *guard else {
+            return Err(HostError::Closed);
+        };
+        let applied = cell.apply_with_downs(stimulus)?;
+        drop(guard);
+        self.moved.notify_all();
+        Ok(applied)
+    }
+
+    /// Broadcasts a payload.
+    pub(crate) fn broadcast<R: Wait>(
+        &self,
+        rt: &R,
+        payload: Bytes<A>,
+    ) -> Result<Receipt, HostError> {
+        let mut guard = self.cell.lock(rt);
+        let Some(cell) = &mut *guard else {
+            return Err(HostError::Closed);
+        };
+        let Applied {
+            id,
+            place,
+            full: _,
+            unlinked: _,
+        } = cell.apply_with_downs(StimulusOf::Broadcast(payload))?;
+        let Some(id) = id else { unreachable!() };
+        drop(guard);
+        self.moved.notify_all();
+        Ok(Receipt { id, place })
+    }
+
+    /// Opens a link to the outlet's peer in place of its own, and answers the outlet of the new one.
+    pub(crate) fn open_again<R: Wait>(
+        &self,
+        rt: &R,
+        outlet: &Outlet<A>,
+    ) -> Result<Outlet<A>, HostError> {
+        let mut guard = self.cell.lock(rt);
+        match &mut *guard {
+            Some(cell) => cell.open_link(outlet.peer(), self.ring),
+            None => Err(HostError::Closed),
+        }
+    }
+
+    /// Ends the node: from now on no step is made, and nobody waits for one.
+    pub(crate) fn stop<R: Wait>(&self, rt: &R) {
+        if let Some(cell) = &mut *self.cell.lock(rt) {
+            cell.shut();
+        }
+        self.moved.notify_all();
+    }
+
+    /// Whether the node was stopped.
+    pub(crate) fn is_stopped<R: Wait>(&self, rt: &R) -> bool {
+        match &*self.cell.lock(rt) {
+            Some(cell) => cell.is_shut(),
+            None => true,
+        }
+    }
+
+    /// Takes the cell out of the lock. If it is not there it waits until it is.
+    pub(crate) fn take<R: Wait>(&self, rt: &R) -> NodeCell<C, A> {
+        let mut guard = self
+            .moved
+            .wait_while(rt, self.cell.lock(rt), |cell| cell.is_none());
+        let Some(cell) = guard.take() else {
+            unreachable!()
+        };
+        cell
+    }
+
+    /// Waits for what a worker that writes is to do next.
+    pub(crate) fn wait_for_writing<R: Wait>(&self, rt: &R, outlet: &mut Outlet<A>) -> Writing {
+        let mut guard = self.cell.lock(rt);
+        for _ in rt.forever() {
+            if let Some(writing) = next_writing(&guard, outlet) {
+                return writing;
+            }
+            guard = self.moved.wait(rt, guard);
+        }
+        unreachable!()
+    }
+
+    /// Waits for deliveries and hands them out; none when the node was stopped and all are handed out.
+    pub(crate) fn wait_for_deliveries<R: Wait>(&self, rt: &R) -> Option<Vec<Delivery<A>, A>> {
+        let mut guard = self
+            .moved
+            .wait_while(rt, self.cell.lock(rt), |cell| is_idle(cell));
+        let given = guard.as_mut()?.take_deliveries();
+        if given.is_empty() { None } else { Some(given) }
+    }
+
+    /// The ids whose timers are armed.
+    pub(crate) fn timers<R: Wait>(&self, rt: &R) -> Result<Vec<MsgId, A>, HostError> {
+        match &*self.cell.lock(rt) {
+            Some(cell) => Ok(Vec::from_slice(self.alloc, cell.core().timers())?),
+            None => Err(HostError::Closed),
+        }
+    }
+
+    /// Counts a worker that was started.
+    pub(crate) fn count_worker(&self) {
+        self.workers.fetch_add(1, Ordering::SeqCst);
+    }
+
+    /// How many workers were started.
+    pub(crate) fn workers(&self) -> usize {
+        self.workers.load(Ordering::SeqCst)
+    }
+}

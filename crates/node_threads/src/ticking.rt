@@ -1,0 +1,91 @@
+//! The worker that keeps a node's time.
+use crate::cores::NodeCore;
+use crate::error::HostError;
+use crate::gate::Gate;
+use crate::host::Host;
+use crate::stepper::Stepper;
+use crate::worker::{Outlets, Worker, start};
+use node_names::Dice;
+use rand_core::SeedableRng;
+use rand_pcg::Lcg128Xsl64;
+use std::alloc::Allocator;
+use std::sync::Wait;
+use std::thread::Threads;
+use world::StimulusOf;
+
+/// What a node's time comes from.
+pub trait Ticker {
+    /// Waits for the next tick. False ends the worker.
+    fn next(&mut self) -> bool;
+}
+
+/// The node shuffles its passive view at every tick of this number's multiples.
+const SHUFFLE_EVERY: u64 = 10;
+
+/// One tick: queued announcements are flushed, and each timer that is armed fires; and at every tenth tick the passive view is
+/// shuffled.
+fn make_tick<R: Wait, C: NodeCore<A> + Drop, A: Allocator + Copy, G: Gate + Drop>(
+    rt: &R,
+    steps: &Stepper<C, A, G>,
+    shuffles: bool,
+    generator: &mut Lcg128Xsl64,
+) -> Result<(), HostError> {
+    steps.apply(rt, StimulusOf::Flush)?;
+    for id in steps.shared.timers(rt)? {
+        steps.apply(rt, StimulusOf::Fire(id))?;
+    }
+    if shuffles {
+        steps.apply(rt, StimulusOf::Shuffle(Dice::draw(generator)))?;
+    }
+    Ok(())
+}
+
+/// Makes ticks until the ticker or the node ends.
+fn make_ticks<
+    R: Wait,
+    C: NodeCore<A> + Drop,
+    A: Allocator + Copy,
+    G: Gate + Drop,
+    T: Ticker + Drop,
+>(rt: &R, steps: &Stepper<C, A, G>, mut ticker: T, mut generator: Lcg128Xsl64) {
+    let mut ticks: u64 = 0;
+    for _ in rt.forever() {
+        if !ticker.next() {
+            return;
+        }
+        ticks = ticks.wrapping_add(1);
+        let shuffles = ticks % SHUFFLE_EVERY == 0;
+        if make_tick(rt, steps, shuffles, &mut generator).is_err() {
+            return;
+        }
+    }
+}
+
+/// Starts the worker that keeps the node's time. At each tick it applies Flush, then Fire for each id whose timer is armed, and
+/// at every tenth tick Shuffle, with dice of the generator that this seed starts.
+///
+/// It ends when the ticker does, and at the first refusal. `Closed`: the node was stopped. `OutOfMemory`: an allocation is
+/// refused, or no thread can be made.
+pub fn tick<R, C, A, G, T>(
+    rt: R,
+    host: &Host<C, A>,
+    gate: G,
+    number: usize,
+    ticker: T,
+    seed: u64,
+) -> Result<Worker<A>, HostError>
+where
+    R: Threads + Wait + Copy + Send + 'static,
+    C: NodeCore<A> + Drop + Send + 'static,
+    A: Allocator + Copy + Send + Sync + 'static,
+    G: Gate + Drop + Send + 'static,
+    T: Ticker + Drop + Send + 'static,
+{
+    let steps = host.stepper(&rt, gate, number)?;
+    let generator = Lcg128Xsl64::seed_from_u64(seed);
+    let thread = start(&rt, move || {
+        make_ticks(&rt, &steps, ticker, generator);
+        Outlets::none(steps.shared.alloc)
+    })?;
+    Ok(host.employ(thread))
+}
