@@ -1,0 +1,110 @@
+//! The known numbers of one origin.
+ghost use Rattle.std.specs.Prelude.{◌≡◌, ℕ, ◌+◌, ◌<◌, ◌||◌, [], false, length, nat_eq, IfOk, OnOk, OnErr};
+ghost use Rattle.known_ids.specs.Span.{Ascends, has_number, HasRoomFor};
+
+use crate::past::{absorb, put};
+use std::alloc::{AllocError, Allocator};
+use std::collections::VecDeque;
+use std::marker::Model;
+
+/// The numbers of one origin that are known.
+///
+/// Of the numbers from 1 on that are known without a gap only the last is kept, and those past the gap are kept in order.
+/// Messages count from 1; 0 is kept apart, since a caller may name it.
+#[derive(Drop)]
+pub(crate) struct Span<A: Allocator> {
+    zero: bool,
+    unbroken: u64,
+    past: VecDeque<u64, A>,
+}
+
+impl<A: Allocator> Model for Span<A> {
+    ghost use Rattle.std.specs.Prelude.{◌+◌, ◌-◌};
+    ghost use Rattle.std.specs.VecDeque.{deque_len, deque_capacity};
+    ghost use Rattle.known_ids.specs.Span.{Span, Ascends};
+
+    ghost Value = { Span };
+
+    ghost view = { λ s. record { zero = s.zero; unbroken = s.unbroken; past = s.past.items; room = deque_capacity s.past - deque_len s.past } };
+
+    ghost invariant = { λ s. Ascends (s.unbroken + 1) s.past.items };
+}
+
+impl<A: Allocator + Copy> Span<A> {
+    /// No number is known. It takes no memory.
+    pub(crate) fn new(alloc: A) -> Self
+        ensures zero { result.zero ≡ false }
+        ensures unbroken { result.unbroken ≡ 0 }
+        ensures past { result.past ≡ [] }
+    {
+        Span {
+            zero: false,
+            unbroken: 0,
+            past: VecDeque::new(alloc),
+        }
+    }
+}
+
+impl<A: Allocator> Span<A> {
+    /// Whether the number is known.
+    pub(crate) fn contains(&self, n: u64) -> bool
+        ensures { result ≡ has_number self.now n }
+    {
+        if n == 0 {
+            return self.zero;
+        }
+        n <= self.unbroken || self.past.binary_search(&n).is_ok()
+    }
+
+    /// How many numbers from 1 on are known without a gap, and how many past it.
+    pub(crate) fn counts(&self) -> (u64, usize)
+        ensures unbroken { result.0 ≡ self.now.unbroken }
+        ensures past { result.1 ≡ length self.now.past }
+        ensures order { Ascends (self.now.unbroken + 1) self.now.past }
+        ensures last { self.now.unbroken ≡ u64.MAX → self.now.past ≡ [] }
+    {
+        (self.unbroken, self.past.len())
+    }
+
+    /// Makes room for the number.
+    pub(crate) fn make_room(&mut self, n: u64) -> Result<(), AllocError>
+        ensures room { OnOk result (HasRoomFor self.new n) }
+        ensures same { self.new ≡ record self.old { room = self.new.room } }
+    {
+        if n > self.unbroken && n - 1 > self.unbroken {
+            self.past.reserve(1)?;
+        }
+        Ok(())
+    }
+
+    /// Makes the number known, in the room that there is.
+    pub(crate) fn insert(&mut self, n: u64)
+        requires { HasRoomFor self.old n }
+        ensures { (m : ℕ) → has_number self.new m ≡ (nat_eq m n || has_number self.old m) }
+    {
+        if n == 0 {
+            self.zero = true;
+            return;
+        }
+        if n <= self.unbroken {
+            return;
+        }
+        if n - 1 == self.unbroken {
+            self.unbroken = absorb(n, &mut self.past);
+        } else {
+            put(&mut self.past, n);
+        }
+    }
+}
+
+impl<A: Allocator + Copy> Clone for Span<A> {
+    ghost is_clone = { λ s c. c ≡ record s { room = c.room } };
+
+    fn clone(&self) -> Result<Self, AllocError> {
+        Ok(Span {
+            zero: self.zero,
+            unbroken: self.unbroken,
+            past: self.past.clone()?,
+        })
+    }
+}
