@@ -1,12 +1,9 @@
 -- The gossip of a node, by what it holds.
-use Rattle.std.proofs.Common.{◌≡◌, ◌≢◌, ◌⊎◌, inl, inr, ◌∙◌, ◌+◌, ◌<◌, ◌≤◌, ◌||◌, ℕ, Bool, true, false, List, [], ◌∷◌, ◌++◌, None, Some, sym, ap, subst, refl, arith}
+use Rattle.std.proofs.Common.{◌≡◌, ◌≢◌, inl, inr, ◌∙◌, ◌+◌, ◌<◌, ◌≤◌, ℕ, Bool, true, false, List, [], ◌∷◌, ◌++◌, None, Some, sym, ap, subst, refl, arith}
 use Rattle.std.specs.FinSet as set
 use Rattle.std.proofs.lemmas.Bool.{false≢true}
-use Rattle.std.proofs.lemmas.List.{map-append}
-use Rattle.std.proofs.lemmas.List.Folds.{list_any-append}
 use Rattle.node_names.specs.NodeName.{Name}
 use Rattle.node_names.specs.Order.{id_cmp}
-use Rattle.node_names.specs.Same.{same_id, same_id-Decides, has_id}
 use Rattle.node_names.specs.declared.ids.Origin.{Origin}
 use Rattle.node_names.specs.declared.ids.MsgId.{MsgId}
 use Rattle.missing.specs.Missing.{Missing, got, without_all}
@@ -14,98 +11,83 @@ use Rattle.peer_sets.specs.Members.{lazy_but, with_kind, with_members, without_m
 use Rattle.peer_sets.specs.PeerSets.{PeerSets, relinked}
 use Rattle.peer_sets.specs.Queue.{with_entries, without_all_entries}
 use Rattle.peer_sets.specs.declared.kind.PeerKind.TheVariants.{Eager}
-use Rattle.gossip_core.proofs.IdOrder.{contains-ids, id_antisymmetric, id_total}
-use Rattle.gossip_core.proofs.StoreLemmas.{is_some-lookup}
+use Rattle.gossip_core.proofs.KnownLemmas.{found_in_insert}
 use Rattle.gossip_core.specs.State.{GossipState, IsSound}
-use Rattle.gossip_core.specs.Store.{ids, AreCounted}
+use Rattle.gossip_core.specs.Store.{AreCounted, AreKnown}
 use Rattle.gossip_core.specs.Table.{outcome, first_copy, next_round, after_downs, after_ups}
 use Rattle.gossip_core.specs.declared.call.CallOf.TheVariants.{Broadcast, Down, Up}
 
 -- what contracts see of these fields
-abbrev pub state_of : Origin → ℕ → PeerSets → Missing → List (MsgId × List ℕ) → GossipState
-state_of me spent peers missing held = record { me = me; spent = spent; peers = peers; missing = missing; known = set.from_list (ids held); held = held }
+abbrev pub state_of : Origin → ℕ → PeerSets → Missing → set.FinSet id_cmp → List (MsgId × List ℕ) → GossipState
+state_of me spent peers missing known held = record { me = me; spent = spent; peers = peers; missing = missing; known = known; held = held }
 
-pub sound_state : (me : Origin) (spent : ℕ) (peers : PeerSets) (missing : Missing) (held : List (MsgId × List ℕ)) → AreCounted me held spent → IsSound (state_of me spent peers missing held)
-sound_state me spent peers missing held are =
-    record {
-      counted = λ id is. are.each id (sym (contains-ids (ids held) id) ∙ is);
-      held_is_known = λ id is. contains-ids (ids held) id ∙ sym (is_some-lookup id held) ∙ is;
-    }
+pub sound_state : (me : Origin) (spent : ℕ) (peers : PeerSets) (missing : Missing) (known : set.FinSet id_cmp) (held : List (MsgId × List ℕ)) → AreCounted me known spent → AreKnown known held peers.queued → IsSound (state_of me spent peers missing known held)
+sound_state me spent peers missing known held counted are = record { counted = counted.each; held_is_known = are.each_held }
 
 -- the node's next message is not there
-pub lacks_next : (held : List (MsgId × List ℕ)) (me : Origin) (spent : ℕ) → AreCounted me held spent → has_id (ids held) (record { origin = me; seq = spent + 1 }) ≡ false
-lacks_next held me spent are = go (has_id (ids held) (record { origin = me; seq = spent + 1 })) refl
+pub lacks_next : (known : set.FinSet id_cmp) (me : Origin) (spent : ℕ) → AreCounted me known spent → set.contains known (record { origin = me; seq = spent + 1 }) ≡ false
+lacks_next known me spent are = go (set.contains known (record { origin = me; seq = spent + 1 })) refl
   where
-    go : (b : Bool) → has_id (ids held) (record { origin = me; seq = spent + 1 }) ≡ b → b ≡ false
+    go : (b : Bool) → set.contains known (record { origin = me; seq = spent + 1 }) ≡ b → b ≡ false
     go false is = refl
     go true is = absurd (beyond ((are.each (record { origin = me; seq = spent + 1 }) is refl).1))
       where
         beyond : spent + 1 ≤ spent → ⊥
         beyond h = omega (arith, h)
 
+-- nothing is known
+pub counts_none : (me : Origin) (spent : ℕ) → AreCounted me set.empty spent
+counts_none me spent = record { each = λ id is mine. absurd (false≢true (sym (set.contains-empty id_cmp id) ∙ is)) }
+
 -- ---- one more message
 
-module _ (held : List (MsgId × List ℕ)) (id : MsgId) (payload : List ℕ) where
-  -- it is known, beside the others
-  pub known-push : set.from_list {R = id_cmp} (ids (held ++ (id, payload) ∷ [])) ≡ set.insert (set.from_list (ids held)) id
-  known-push = ap (set.from_list {R = id_cmp}) (map-append (λ (m : MsgId × List ℕ). m.0) held ((id, payload) ∷ [])) ∙ set.from_list_push id_total id_antisymmetric (ids held) id
+module _ (known : set.FinSet id_cmp) (id : MsgId) (me : Origin) (spent : ℕ) (are : AreCounted me known spent) where
+  -- a message of another origin is not counted, and the next own one is
+  pub counts_foreign : id.origin ≢ me → AreCounted me (set.insert known id) spent
+  counts_foreign foreign = record { each = λ q is mine. elim (found_in_insert known id q is) [ inl was ↦ are.each q was mine | inr same ↦ absurd (foreign (sym (ap (λ (i : MsgId). i.origin) same) ∙ mine)) ] }
 
-  found_in_push : (q : MsgId) → has_id (ids (held ++ (id, payload) ∷ [])) q ≡ true → (has_id (ids held) q ≡ true) ⊎ (q ≡ id)
-  found_in_push q is = go (has_id (ids held) q) (same_id q id) refl refl (sym (ap (λ ks. has_id ks q) (map-append (λ (m : MsgId × List ℕ). m.0) held ((id, payload) ∷ [])) ∙ list_any-append (same_id q) (ids held) (id ∷ [])) ∙ is)
+  pub counts_next : id.seq ≡ spent + 1 → AreCounted me (set.insert known id) (spent + 1)
+  counts_next next = record { each = λ q is mine. elim (found_in_insert known id q is) [ inl was ↦ older (are.each q was mine) | inr same ↦ newest (ap (λ (i : MsgId). i.seq) same ∙ next) ] }
     where
-      go : (b c : Bool) → has_id (ids held) q ≡ b → same_id q id ≡ c → (b || (c || false)) ≡ true → (has_id (ids held) q ≡ true) ⊎ (q ≡ id)
-      go true c is_b is_c e = inl is_b
-      go false true is_b is_c e = inr ((same_id-Decides q id).0 is_c)
-      go false false is_b is_c e = absurd (false≢true e)
+      older : {n : ℕ} → (0 < n) × (n ≤ spent) → (0 < n) × (n ≤ spent + 1)
+      older h = (h.0, omega (arith, h.1))
 
-  module _ (me : Origin) (spent : ℕ) (are : AreCounted me held spent) where
-    -- a message of another origin is not counted, and the next own one is
-    pub counts_foreign : id.origin ≢ me → AreCounted me (held ++ (id, payload) ∷ []) spent
-    counts_foreign foreign = record { each = λ q is mine. elim (found_in_push q is) [ inl was ↦ are.each q was mine | inr same ↦ absurd (foreign (sym (ap (λ (i : MsgId). i.origin) same) ∙ mine)) ] }
-
-    pub counts_next : id.seq ≡ spent + 1 → AreCounted me (held ++ (id, payload) ∷ []) (spent + 1)
-    counts_next next = record { each = λ q is mine. elim (found_in_push q is) [ inl was ↦ older (are.each q was mine) | inr same ↦ newest (ap (λ (i : MsgId). i.seq) same ∙ next) ] }
-      where
-        older : {n : ℕ} → (0 < n) × (n ≤ spent) → (0 < n) × (n ≤ spent + 1)
-        older h = (h.0, omega (arith, h.1))
-
-        newest : {n : ℕ} → n ≡ spent + 1 → (0 < n) × (n ≤ spent + 1)
-        newest e = (omega (arith, e), omega (arith, e))
+      newest : {n : ℕ} → n ≡ spent + 1 → (0 < n) × (n ≤ spent + 1)
+      newest e = (omega (arith, e), omega (arith, e))
 
 -- ---- the rows of the table
 
-module _ (me : Origin) (spent : ℕ) (peers : PeerSets) (missing : Missing) (held : List (MsgId × List ℕ)) where
+module _ (me : Origin) (spent : ℕ) (peers : PeerSets) (missing : Missing) (known : set.FinSet id_cmp) (held : List (MsgId × List ℕ)) where
   -- the message that is broadcast
   abbrev Broadcasts : ℕ → Type 0
   Broadcasts seq =
-      (payload : List ℕ) (peers' : PeerSets) (held' : List (MsgId × List ℕ))
+      (payload : List ℕ) (peers' : PeerSets) (known' : set.FinSet id_cmp) (held' : List (MsgId × List ℕ))
+      → known' ≡ set.insert known (record { origin = me; seq = seq })
       → held' ≡ held ++ (record { origin = me; seq = seq }, payload) ∷ []
       → peers' ≡ record peers { queued = with_entries (lazy_but None peers.members) (record { origin = me; seq = seq }) 0 peers.queued }
-      → state_of me seq peers' missing held' ≡ (outcome (state_of me spent peers missing held) (Broadcast payload)).state
+      → state_of me seq peers' missing known' held' ≡ (outcome (state_of me spent peers missing known held) (Broadcast payload)).state
 
   pub after_broadcast : (seq : ℕ) → seq ≡ spent + 1 → Broadcasts seq
   after_broadcast seq next =
       subst Broadcasts (sym next)
-      (λ payload peers' held' is_held is_peers.
-      let id : MsgId = record { origin = me; seq = spent + 1 } in
-      let is_known : set.from_list {R = id_cmp} (ids held') ≡ set.insert (set.from_list (ids held)) id = ap (λ h. set.from_list (ids h)) is_held ∙ known-push held id payload in
+      (λ payload peers' known' held' is_known is_held is_peers.
       λ i. record { me = me; spent = spent + 1; peers = is_peers i; missing = missing; known = is_known i; held = is_held i })
 
   -- the first copy of a message
   abbrev Takes : ℕ → ℕ → Type 0
   Takes round next =
-      (sender : Name) (id : MsgId) (payload : List ℕ) (peers' peers'' : PeerSets) (missing' : Missing) (held' : List (MsgId × List ℕ))
+      (sender : Name) (id : MsgId) (payload : List ℕ) (peers' peers'' : PeerSets) (missing' : Missing) (known' : set.FinSet id_cmp) (held' : List (MsgId × List ℕ))
+      → known' ≡ set.insert known id
       → held' ≡ held ++ (id, payload) ∷ []
       → peers' ≡ record peers { queued = with_entries (lazy_but (Some sender) peers.members) id next peers.queued }
       → missing' ≡ got id missing
       → peers'' ≡ record peers' { members = with_kind sender Eager peers'.members }
-      → state_of me spent peers'' missing' held' ≡ (first_copy sender id round payload (state_of me spent peers missing held)).state
+      → state_of me spent peers'' missing' known' held' ≡ (first_copy sender id round payload (state_of me spent peers missing known held)).state
 
   pub after_first_copy : (round next : ℕ) → next ≡ next_round round → Takes round next
   after_first_copy round next is_next =
       subst (Takes round) (sym is_next)
-      (λ sender id payload peers' peers'' missing' held' is_held is_peers is_missing is_eager.
-      let is_known : set.from_list {R = id_cmp} (ids held') ≡ set.insert (set.from_list (ids held)) id = ap (λ h. set.from_list (ids h)) is_held ∙ known-push held id payload in
+      (λ sender id payload peers' peers'' missing' known' held' is_known is_held is_peers is_missing is_eager.
       let are_peers : peers'' ≡ record { members = with_kind sender Eager peers.members; queued = with_entries (lazy_but (Some sender) peers.members) id (next_round round) peers.queued } = is_eager ∙ ap (λ (p : PeerSets). record p { members = with_kind sender Eager p.members }) is_peers in
       λ i. record { me = me; spent = spent; peers = are_peers i; missing = is_missing i; known = is_known i; held = is_held i })
 

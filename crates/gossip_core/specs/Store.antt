@@ -1,19 +1,19 @@
--- The messages that a node holds.
-use Rattle.std.specs.Prelude.{◌≡◌, ℕ, ◌<◌, ◌≤◌, true, List, map}
+-- What holds of the messages that a node knows and holds.
+use Rattle.std.specs.Prelude.{◌≡◌, ℕ, ◌<◌, ◌≤◌, true, List, is_some}
+use Rattle.std.specs.FinSet as set
 use Rattle.std.specs.List.{AllByRecursion as Each}
+use Rattle.std.specs.Map.{lookup}
 use Rattle.node_names.specs.NodeName.{Name}
-use Rattle.node_names.specs.Same.{has_id}
+use Rattle.node_names.specs.Order.{id_cmp}
+use Rattle.node_names.specs.Same.{same_id}
 use Rattle.node_names.specs.declared.ids.Origin.{Origin}
 use Rattle.node_names.specs.declared.ids.MsgId.{MsgId}
 
--- the ids of the messages, in their order
-abbrev pub ids : List (MsgId × List ℕ) → List MsgId
-ids held = map (λ message. message.0) held
+-- Of this run's own messages only those that were counted are known.
+pub record AreCounted (me : Origin) (known : set.FinSet id_cmp) (spent : ℕ) : Type 0 where
+  pub each : (id : MsgId) → set.contains known id ≡ true → id.origin ≡ me → (0 < id.seq) × (id.seq ≤ spent)
 
--- Of this run's own messages only those that were counted are there.
-pub record AreCounted (me : Origin) (held : List (MsgId × List ℕ)) (spent : ℕ) : Type 0 where
-  pub each : (id : MsgId) → has_id (ids held) id ≡ true → id.origin ≡ me → (0 < id.seq) × (id.seq ≤ spent)
-
--- What waits to be announced is there.
-pub record AreHeld (held : List (MsgId × List ℕ)) (queued : List (Name × MsgId × ℕ)) : Type 0 where
-  pub each : Each (λ entry. has_id (ids held) entry.1 ≡ true) queued
+-- What is held is known, and so is what waits to be announced.
+pub record AreKnown (known : set.FinSet id_cmp) (held : List (MsgId × List ℕ)) (queued : List (Name × MsgId × ℕ)) : Type 0 where
+  pub each_held : (id : MsgId) → is_some (lookup (same_id id) held) ≡ true → set.contains known id ≡ true
+  pub each_queued : Each (λ entry. set.contains known entry.1 ≡ true) queued

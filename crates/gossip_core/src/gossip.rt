@@ -5,6 +5,7 @@ ghost use Rattle.std.specs.List.{IsDistinct};
 ghost use Rattle.std.specs.Map.{lookup};
 ghost use Rattle.std.specs.Option.{option_copied};
 ghost use Rattle.node_names.specs.Same.{same_id, same_name};
+ghost use Rattle.known_ids.specs.Known.{IsSpan};
 ghost use Rattle.peer_sets.specs.Members.{all_eager};
 ghost use Rattle.gossip_core.specs.Refusals.{CanTake, IsTooLong, IsSpent};
 ghost use Rattle.gossip_core.specs.State.{GossipState, IsSound};
@@ -18,6 +19,7 @@ use crate::fault::GossipFault;
 use crate::store::{self, Held};
 use bytes::Bytes;
 use indexmap::IndexMap;
+use known_ids::KnownIds;
 use missing::Missing;
 use node_names::{MsgId, NodeName, Origin};
 use peer_sets::PeerSets;
@@ -29,20 +31,23 @@ use world::MAX_PAYLOAD;
 ///
 /// A call has two halves: `answer` says what it will send and deliver, and `take` changes the state. A caller who makes
 /// room for the answer in between has nothing left that can be refused after `take`. The other calls are both halves in
-/// one. Looking a message up costs the same however many are held. A copy costs their number.
+/// one. Looking a message up costs the same however many are held. A copy costs their number. Which messages are known takes
+/// memory by their origins and the gaps in their numbers, and not by the messages.
 #[derive(Drop)]
 pub struct Gossip<A: Allocator = Global> {
     me: Origin,
     spent: u64,
     peers: PeerSets<A>,
     missing: Missing<A>,
+    known: KnownIds<A>,
     held: Held<A>,
 }
 
 impl<A: Allocator> Model for Gossip<A> {
     ghost use Rattle.std.specs.FinSet as set;
     ghost use Rattle.gossip_core.specs.State.{GossipState};
-    ghost use Rattle.gossip_core.specs.Store.{AreCounted, AreHeld, ids};
+    ghost use Rattle.gossip_core.specs.Store.{AreCounted, AreKnown};
+    ghost use Rattle.known_ids.specs.Known.{ids};
 
     ghost Value = { GossipState };
 
@@ -52,9 +57,9 @@ impl<A: Allocator> Model for Gossip<A> {
 
     ghost coded = { Prim.hlevel (codes, set.code {R = id_cmp} id.the_row.coded) };
 
-    ghost view = { λ g. record { me = g.me; spent = g.spent; peers = g.peers; missing = g.missing; known = set.from_list (ids g.held.entries); held = g.held.entries } };
+    ghost view = { λ g. record { me = g.me; spent = g.spent; peers = g.peers; missing = g.missing; known = ids g.known; held = g.held.entries } };
 
-    ghost invariant = { λ g. AreCounted g.me g.held.entries g.spent × AreHeld g.held.entries g.peers.queued };
+    ghost invariant = { λ g. AreCounted g.me (ids g.known) g.spent × AreKnown (ids g.known) g.held.entries g.peers.queued };
 }
 
 impl<A: Allocator + Copy> Gossip<A> {
@@ -76,6 +81,7 @@ impl<A: Allocator + Copy> Gossip<A> {
             spent: seq_spent,
             peers: PeerSets::new(alloc, peers)?,
             missing: Missing::new(alloc),
+            known: KnownIds::new(alloc),
             held: IndexMap::new(alloc),
         })
     }
@@ -177,7 +183,15 @@ impl<A: Allocator + Copy> Gossip<A> {
             origin: self.me,
             seq,
         };
-        store::keep(&mut self.held, &mut self.peers, &None, &id, 0, payload)?;
+        store::keep(
+            &mut self.known,
+            &mut self.held,
+            &mut self.peers,
+            &None,
+            &id,
+            0,
+            payload,
+        )?;
         self.spent = seq;
         Ok(())
     }
@@ -227,6 +241,7 @@ impl<A: Allocator + Copy> Gossip<A> {
         ensures err { OnErr result (self.new ≡ self.old) }
     {
         store::keep(
+            &mut self.known,
             &mut self.held,
             &mut self.peers,
             &Some(*sender),
@@ -420,6 +435,7 @@ impl<A: Allocator + Copy> Gossip<A> {
             spent: self.spent,
             peers: self.peers.copy()?,
             missing: self.missing.copy()?,
+            known: self.known.copy()?,
             held: self.held.clone()?,
         })
     }
@@ -430,7 +446,16 @@ impl<A: Allocator> Gossip<A> {
     pub fn knows(&self, id: &MsgId) -> bool
         ensures { result ≡ set.contains self.now.known id.now }
     {
-        self.held.contains_key(id)
+        self.known.contains(id)
+    }
+
+    /// The highest number for which 1 to it are all known of the origin, and how many known numbers stand past it. Both are
+    /// 0 for an origin of which nothing is known.
+    pub fn span(&self, origin: &Origin) -> (u64, usize)
+        ensures span { IsSpan self.now.known origin.now result.0 result.1 }
+        ensures last { result.0 ≡ u64.MAX → result.1 ≡ 0 }
+    {
+        self.known.span(origin)
     }
 
     /// The payload of the message, if it is held.
