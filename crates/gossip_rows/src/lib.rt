@@ -20,6 +20,8 @@ mod play;
 #[cfg(test)]
 mod rows;
 #[cfg(test)]
+mod spans;
+#[cfg(test)]
 mod sweeps;
 #[cfg(test)]
 mod texts;

@@ -1,5 +1,5 @@
 //! What a node refuses, and how much a frame takes.
-use crate::named::{name, origin};
+use crate::named::{id, name, origin};
 use crate::play::start;
 use bytes::Bytes;
 use frames::BodyOf;
@@ -76,7 +76,12 @@ fn are_answers<A: Allocator + Copy>(
     Ok(out.sends.is_empty())
 }
 
-/// Whether they do so at a node that can broadcast one message more.
+/// Whether the node knows of its own messages the last one alone.
+fn knows_last_alone<A: Allocator>(rt: &impl Abort, gossip: &Gossip<A>) -> bool {
+    gossip.span(&origin(rt, "a")) == (0, 1) && !gossip.knows(&id(rt, ("a", 1)))
+}
+
+/// Whether they do so at a node that can broadcast one message more, and it knows that message alone then.
 fn are_last_answers<A: Allocator + Copy>(
     rt: &impl Abort,
     alloc: A,
@@ -84,7 +89,8 @@ fn are_last_answers<A: Allocator + Copy>(
 ) -> Result<bool, AllocError> {
     let mut gossip = lone(rt, alloc, u64::MAX - 1)?;
     let mut out = Effects::new(alloc);
-    are_answers(alloc, &mut gossip, &mut out, broadcasts)
+    let are_right = are_answers(alloc, &mut gossip, &mut out, broadcasts)?;
+    Ok(are_right && knows_last_alone(rt, &gossip))
 }
 
 #[test]

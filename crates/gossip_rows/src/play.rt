@@ -11,7 +11,7 @@ use std::process::Abort;
 use std::test::Fail;
 
 /// The messages that the readers are asked about.
-pub(crate) fn asked(rt: &impl Abort) -> [MsgId; 6] {
+pub(crate) fn asked(rt: &impl Abort) -> [MsgId; 8] {
     ASKED.map(|message| id(rt, message))
 }
 

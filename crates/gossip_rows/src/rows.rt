@@ -19,12 +19,16 @@ const A1: Id = ("a", 1);
 
 const A2: Id = ("a", 2);
 
+const A3: Id = ("a", 3);
+
+const A5: Id = ("a", 5);
+
 const C1: Id = ("c", 1);
 
 const C7: Id = ("c", 7);
 
 /// The messages that the readers are asked about.
-pub(crate) const ASKED: [Id; 6] = [A1, A2, ("b", 1), C1, ("c", 2), C7];
+pub(crate) const ASKED: [Id; 8] = [A1, A2, A3, A5, ("b", 1), C1, ("c", 2), C7];
 
 /// A message is announced, asked for, comes twice, and another goes out.
 const REPAIR: &[Turn] = &[
@@ -173,6 +177,35 @@ const LAZY: &[Turn] = &[
     ),
 ];
 
+/// Messages come out of their order, and one of them twice.
+const GAPS: &[Turn] = &[
+    (
+        Act::OnGossip("a", A1, 0, "m"),
+        "deliver a/1/1 m; to b gossip a/1/1 1 m; ",
+        "a+ b+ | | | | a/1/1=m ",
+    ),
+    (
+        Act::OnGossip("a", A3, 0, "o"),
+        "deliver a/1/3 o; to b gossip a/1/3 1 o; ",
+        "a+ b+ | | | | a/1/1=m a/1/3=o ",
+    ),
+    (
+        Act::OnGossip("a", A2, 0, "n"),
+        "deliver a/1/2 n; to b gossip a/1/2 1 n; ",
+        "a+ b+ | | | | a/1/1=m a/1/2=n a/1/3=o ",
+    ),
+    (
+        Act::OnGossip("a", A5, 0, "q"),
+        "deliver a/1/5 q; to b gossip a/1/5 1 q; ",
+        "a+ b+ | | | | a/1/1=m a/1/2=n a/1/3=o a/1/5=q ",
+    ),
+    (
+        Act::OnGossip("b", A3, 1, "o"),
+        "to b prune; ",
+        "a+ b- | | | | a/1/1=m a/1/2=n a/1/3=o a/1/5=q ",
+    ),
+];
+
 const ROWS: &[Row] = &[
     Row {
         name: "a message is repaired, and another goes out",
@@ -189,6 +222,10 @@ const ROWS: &[Row] = &[
     Row {
         name: "a lazy peer is eager again",
         turns: LAZY,
+    },
+    Row {
+        name: "messages come out of their order",
+        turns: GAPS,
     },
 ];
 

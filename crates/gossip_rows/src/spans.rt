@@ -1,0 +1,221 @@
+//! What is known of an origin, as a span of its numbers, and each allocation of adding an id refused in turn.
+use crate::named::{id, name, origin};
+use crate::play::start;
+use bytes::Bytes;
+use gossip_core::{Effects, Gossip};
+use known_ids::KnownIds;
+use node_names::{MsgId, NodeName};
+use refusing_allocator::RefusingAllocator;
+use std::alloc::{AllocError, Allocator};
+use std::process::Abort;
+use std::test::Fail;
+
+/// A message of `a` by its number, whether it was not known before, and the span of `a` after it.
+type Step = (u64, bool, (u64, usize));
+
+/// Steps before one, and those from it on.
+type Parts<'a> = (&'a [Step], &'a [Step]);
+
+const STEPS: &[Step] = &[
+    (1, true, (1, 0)),
+    (3, true, (1, 1)),
+    (2, true, (3, 0)),
+    (5, true, (3, 1)),
+    (3, false, (3, 1)),
+    // 0 stands before all.
+    (0, true, (3, 1)),
+    (0, false, (3, 1)),
+    // Numbers past the gap keep their order, and some follow when it is closed.
+    (9, true, (3, 2)),
+    (7, true, (3, 3)),
+    (7, false, (3, 3)),
+    (4, true, (5, 2)),
+    (6, true, (7, 1)),
+    // Behind the greatest number there is none.
+    (u64::MAX, true, (7, 2)),
+    (8, true, (9, 1)),
+];
+
+/// All steps. The table is named here alone, since a function that names it is proved over the whole of it.
+fn steps() -> &'static [Step] {
+    STEPS
+}
+
+/// More allocations than adding an id has.
+const MANY: u64 = 20;
+
+/// Whether the span of `a` is this, and nothing is known of `b`.
+fn is_span<A: Allocator>(rt: &impl Abort, gossip: &Gossip<A>, wanted: &(u64, usize)) -> bool {
+    gossip.span(&origin(rt, "a")) == *wanted && gossip.span(&origin(rt, "b")) == (0, 0)
+}
+
+/// Whether a copy says the same.
+fn is_span_of_copy<A: Allocator + Copy>(
+    rt: &impl Abort,
+    gossip: &Gossip<A>,
+    wanted: &(u64, usize),
+) -> Result<bool, AllocError> {
+    let copy = gossip.copy()?;
+    Ok(is_span(rt, &copy, wanted))
+}
+
+/// Brings a message. Whether it is delivered if it is new, and known then, with the span that it should leave.
+fn is_delivered<A: Allocator + Copy>(
+    rt: &impl Abort,
+    gossip: &mut Gossip<A>,
+    sender: &NodeName,
+    payload: &Bytes<A>,
+    out: &mut Effects<A>,
+    step: &Step,
+) -> Result<bool, AllocError> {
+    let message = id(rt, ("a", step.0));
+    gossip.on_gossip(sender, &message, 0, payload, out)?;
+    let is_new = out.delivered.is_some();
+    let is_right = is_new == step.1 && gossip.knows(&message) && is_span(rt, gossip, &step.2);
+    Ok(is_right && is_span_of_copy(rt, gossip, &step.2)?)
+}
+
+/// Brings a message with a payload and effects of its own. Whether it does so.
+fn is_step<A: Allocator + Copy>(
+    rt: &impl Abort,
+    alloc: A,
+    gossip: &mut Gossip<A>,
+    step: &Step,
+) -> Result<bool, AllocError> {
+    let payload = Bytes::copy_from_slice(alloc, b"m")?;
+    let mut out = Effects::new(alloc);
+    is_delivered(rt, gossip, &name(rt, "b"), &payload, &mut out, step)
+}
+
+/// Brings messages to a fresh node. Whether each of them does so.
+fn are_steps<A: Allocator + Copy>(
+    rt: &impl Abort,
+    alloc: A,
+    steps: &[Step],
+) -> Result<bool, AllocError> {
+    let mut gossip = start(rt, alloc)?;
+    let mut are_right = is_span(rt, &gossip, &(0, 0));
+    for step in steps {
+        are_right = is_step(rt, alloc, &mut gossip, step)? && are_right;
+    }
+    Ok(are_right)
+}
+
+#[test]
+fn tells_spans(rt: HostRuntime) -> Result<(), Fail> {
+    assert!(rt; are_steps(&rt, rt.alloc(), steps())?);
+    Ok(())
+}
+
+/// Adds an id.
+fn add<A: Allocator + Copy>(known: &mut KnownIds<A>, id: &MsgId) -> Result<(), AllocError> {
+    known.make_room(id)?;
+    known.insert(id);
+    Ok(())
+}
+
+/// Adds ids.
+fn add_all<A: Allocator + Copy>(
+    rt: &impl Abort,
+    known: &mut KnownIds<A>,
+    steps: &[Step],
+) -> Result<(), AllocError> {
+    for step in steps {
+        add(known, &id(rt, ("a", step.0)))?;
+    }
+    Ok(())
+}
+
+/// The span that these steps leave.
+fn left(steps: &[Step]) -> (u64, usize) {
+    match steps.last() {
+        Some(step) => step.2,
+        None => (0, 0),
+    }
+}
+
+/// Whether an id is known, with this span of its origin.
+fn is_known<A: Allocator>(
+    known: &KnownIds<A>,
+    id: &MsgId,
+    wanted: bool,
+    span: &(u64, usize),
+) -> bool {
+    known.contains(id) == wanted && known.span(&id.origin) == *span
+}
+
+/// Adds an id while the allocation with this number is refused, and then without. Whether there is such an allocation.
+fn refuse_add<A: Allocator + Copy>(
+    rt: &impl Abort,
+    heap: &RefusingAllocator,
+    known: &mut KnownIds<A>,
+    stood: &(u64, usize),
+    step: &Step,
+    n: u64,
+) -> Result<bool, AllocError> {
+    let message = id(rt, ("a", step.0));
+    heap.refuse(n);
+    let is_refused = known.make_room(&message).is_err();
+    let is_spent = heap.is_spent();
+    heap.refuse(0);
+    let stands = is_known(known, &message, !step.1, stood);
+    assert!(rt; stands && is_refused == is_spent);
+    add(known, &message)?;
+    assert!(rt; is_known(known, &message, true, &step.2));
+    Ok(is_spent)
+}
+
+/// Adds the ids up to one, and does so with that. Whether there is such an allocation.
+fn refuse_step<A: Allocator + Copy>(
+    rt: &impl Abort,
+    heap: &RefusingAllocator,
+    alloc: A,
+    parts: Parts<'_>,
+    n: u64,
+) -> Result<bool, AllocError> {
+    let mut known = KnownIds::new(alloc);
+    add_all(rt, &mut known, parts.0)?;
+    match parts.1.first() {
+        Some(step) => refuse_add(rt, heap, &mut known, &left(parts.0), step, n),
+        None => Ok(false),
+    }
+}
+
+/// Refuses each allocation of adding an id in turn. How many it has.
+fn sweep<A: Allocator + Copy>(
+    rt: &impl Abort,
+    heap: &RefusingAllocator,
+    alloc: A,
+    parts: Parts<'_>,
+) -> Result<u64, AllocError> {
+    for n in 1..MANY {
+        if !refuse_step(rt, heap, alloc, parts, n)? {
+            return Ok(n - 1);
+        }
+    }
+    assert!(rt; false, "the sweep did not end");
+    Ok(MANY)
+}
+
+/// Does so for each id. How many allocations they have.
+fn sweep_all<A: Allocator + Copy>(
+    rt: &impl Abort,
+    heap: &RefusingAllocator,
+    alloc: A,
+    steps: &[Step],
+) -> Result<u64, AllocError> {
+    let mut refused = 0u64;
+    for at in 0..steps.len() {
+        let growths = sweep(rt, heap, alloc, steps.split_at(at))?;
+        refused = refused.saturating_add(growths);
+    }
+    Ok(refused)
+}
+
+#[test]
+fn each_growth_of_each_id(rt: HostRuntime) -> Result<(), Fail> {
+    let heap = RefusingAllocator::new(rt.alloc());
+    let refused = sweep_all(&rt, &heap, &heap, steps())?;
+    assert!(rt; refused > 1, "few growths were refused: {refused}");
+    Ok(())
+}
