@@ -1,0 +1,13 @@
+//! The cell of a running node as tests: what it answers, what comes out of its links, and where memory runs out.
+#![tactic(auto)]
+
+#[cfg(test)]
+mod calls;
+#[cfg(test)]
+mod node;
+#[cfg(test)]
+mod refusals;
+#[cfg(test)]
+mod rings;
+#[cfg(test)]
+mod sweeps;
