@@ -1,0 +1,10 @@
+//! What several test crates share.
+#![tactic(auto)]
+
+mod ids;
+mod letters;
+mod refusals;
+
+pub use ids::{first_run, message};
+pub use letters::push_letters;
+pub use refusals::stop_refusing;
