@@ -2,15 +2,15 @@
 use crate::named::{Id, id, name};
 use bytes::Bytes;
 use node_names::{Dice, Incarnation, Listed, NodeName};
-use std::alloc::Allocator;
-use std::test::Fail;
+use std::alloc::{AllocError, Allocator};
+use std::process::Abort;
 use world::{Event, EventOf};
 
 /// An event in plain texts and numbers. Nodes start under incarnation 1, and all dice are zeros.
 #[derive(Clone, Copy)]
 pub(crate) enum Act {
-    /// A node starts with these peers.
-    Start(&'static str, &'static [&'static str]),
+    /// A node starts with these peers, between blanks.
+    Start(&'static str, &'static str),
     /// A node without peers starts at a contact.
     Join(&'static str, &'static str),
     /// A node broadcasts a text.
@@ -29,37 +29,53 @@ pub(crate) enum Act {
     Shuffle(&'static str),
 }
 
-/// The names of these texts.
-fn names<A: Allocator>(alloc: A, texts: &[&str]) -> Result<Listed<NodeName, A>, Fail> {
+/// The names of a text.
+fn names<A: Allocator>(
+    rt: &impl Abort,
+    alloc: A,
+    text: &str,
+) -> Result<Listed<NodeName, A>, AllocError> {
     let mut names = Listed::new(alloc);
-    for text in texts {
-        names.push(name(text)?)?;
+    for word in text.split_whitespace() {
+        names.push(name(rt, word))?;
     }
     Ok(names)
 }
 
-fn start<A: Allocator>(alloc: A, node: &str, peers: &[&str]) -> Result<Event<A>, Fail> {
+fn start<A: Allocator>(
+    rt: &impl Abort,
+    alloc: A,
+    node: &str,
+    peers: &str,
+) -> Result<Event<A>, AllocError> {
+    let peers = names(rt, alloc, peers)?;
     Ok(EventOf::Start {
-        name: name(node)?,
+        name: name(rt, node),
         incarnation: Incarnation(1),
-        peers: names(alloc, peers)?,
+        peers,
         contact: None,
     })
 }
 
-fn join<A: Allocator>(alloc: A, node: &str, contact: &str) -> Result<Event<A>, Fail> {
-    Ok(EventOf::Start {
-        name: name(node)?,
+fn join<A: Allocator>(rt: &impl Abort, alloc: A, node: &str, contact: &str) -> Event<A> {
+    EventOf::Start {
+        name: name(rt, node),
         incarnation: Incarnation(1),
-        contact: Some(name(contact)?),
+        contact: Some(name(rt, contact)),
         peers: Listed::new(alloc),
-    })
+    }
 }
 
-fn broadcast<A: Allocator + Copy>(alloc: A, node: &str, text: &str) -> Result<Event<A>, Fail> {
+fn broadcast<A: Allocator + Copy>(
+    rt: &impl Abort,
+    alloc: A,
+    node: &str,
+    text: &str,
+) -> Result<Event<A>, AllocError> {
+    let payload = Bytes::copy_from_slice(alloc, text.as_bytes())?;
     Ok(EventOf::Broadcast {
-        name: name(node)?,
-        payload: Bytes::copy_from_slice(alloc, text.as_bytes())?,
+        name: name(rt, node),
+        payload,
     })
 }
 
@@ -70,44 +86,50 @@ fn arrive<A: Allocator>(place: usize) -> Event<A> {
     }
 }
 
-fn fire<A: Allocator>(node: &str, message: Id) -> Result<Event<A>, Fail> {
-    Ok(EventOf::Fire {
-        name: name(node)?,
-        id: id(message)?,
-    })
+fn fire<A: Allocator>(rt: &impl Abort, node: &str, message: Id) -> Event<A> {
+    EventOf::Fire {
+        name: name(rt, node),
+        id: id(rt, message),
+    }
 }
 
-fn flush<A: Allocator>(node: &str) -> Result<Event<A>, Fail> {
-    Ok(EventOf::Flush { name: name(node)? })
+fn flush<A: Allocator>(rt: &impl Abort, node: &str) -> Event<A> {
+    EventOf::Flush {
+        name: name(rt, node),
+    }
 }
 
-fn down<A: Allocator>(node: &str, peer: &str) -> Result<Event<A>, Fail> {
-    Ok(EventOf::Down {
-        name: name(node)?,
-        peer: name(peer)?,
+fn down<A: Allocator>(rt: &impl Abort, node: &str, peer: &str) -> Event<A> {
+    EventOf::Down {
+        name: name(rt, node),
+        peer: name(rt, peer),
         dice: Dice::ZEROS,
-    })
+    }
 }
 
-fn shuffle<A: Allocator>(node: &str) -> Result<Event<A>, Fail> {
-    Ok(EventOf::Shuffle {
-        name: name(node)?,
+fn shuffle<A: Allocator>(rt: &impl Abort, node: &str) -> Event<A> {
+    EventOf::Shuffle {
+        name: name(rt, node),
         dice: Dice::ZEROS,
-    })
+    }
 }
 
 /// The event.
-pub(crate) fn event<A: Allocator + Copy>(alloc: A, act: &Act) -> Result<Event<A>, Fail> {
+pub(crate) fn event<A: Allocator + Copy>(
+    rt: &impl Abort,
+    alloc: A,
+    act: &Act,
+) -> Result<Event<A>, AllocError> {
     match *act {
-        Act::Start(node, peers) => start(alloc, node, peers),
-        Act::Join(node, contact) => join(alloc, node, contact),
-        Act::Broadcast(node, text) => broadcast(alloc, node, text),
+        Act::Start(node, peers) => start(rt, alloc, node, peers),
+        Act::Join(node, contact) => Ok(join(rt, alloc, node, contact)),
+        Act::Broadcast(node, text) => broadcast(rt, alloc, node, text),
         Act::Arrive(place) => Ok(arrive(place)),
         Act::Lose(place) => Ok(EventOf::Lose { place }),
         Act::Again(number) => Ok(EventOf::Again { number }),
-        Act::Fire(node, message) => fire(node, message),
-        Act::Flush(node) => flush(node),
-        Act::Down(node, peer) => down(node, peer),
-        Act::Shuffle(node) => shuffle(node),
+        Act::Fire(node, message) => Ok(fire(rt, node, message)),
+        Act::Flush(node) => Ok(flush(rt, node)),
+        Act::Down(node, peer) => Ok(down(rt, node, peer)),
+        Act::Shuffle(node) => Ok(shuffle(rt, node)),
     }
 }

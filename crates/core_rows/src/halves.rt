@@ -1,8 +1,8 @@
 //! Steps of a node in two halves: what is prepared is what a step gives, preparing changes nothing, and advancing leaves what the
 //! step leaves. Each allocation of the second half is refused in turn: the node is then as before, and the step can be made again.
-use crate::act::{Act, event};
+use crate::act::Act;
 use crate::named::{Id, id, name};
-use crate::play::apply;
+use crate::play::happen;
 use crate::texts::{Group, push_core, push_out};
 use bytes::Bytes;
 use frames::Frame;
@@ -12,7 +12,8 @@ use refusing_allocator::RefusingAllocator;
 use std::alloc::{AllocError, Allocator};
 use std::process::Abort;
 use std::test::Fail;
-use world::{Core, CoreError, Out, Prepared, Stimulus, StimulusOf, StimulusRef, Wire};
+use test_support::stop_refusing;
+use world::{Core, CoreError, Out, Prepared, Stimulus, StimulusOf, StimulusRef, Wire, WorldError};
 
 /// More allocations than a half has.
 const MANY: u64 = 60;
@@ -40,17 +41,17 @@ struct Case {
 
 /// Three nodes know each other.
 const CORNERS: &[Act] = &[
-    Act::Start("a", &["b", "c"]),
-    Act::Start("b", &["a", "c"]),
-    Act::Start("c", &["a", "b"]),
+    Act::Start("a", "b c"),
+    Act::Start("b", "a c"),
+    Act::Start("c", "a b"),
     Act::Broadcast("a", "m"),
 ];
 
 /// In a line a repeated packet makes c lazy to b, so that c hears of the next message, waits, and asks for it.
 const ASKING: &[Act] = &[
-    Act::Start("a", &["b"]),
-    Act::Start("b", &["a", "c"]),
-    Act::Start("c", &["b"]),
+    Act::Start("a", "b"),
+    Act::Start("b", "a c"),
+    Act::Start("c", "b"),
     Act::Broadcast("a", "m"),
     Act::Arrive(0),
     Act::Arrive(0),
@@ -66,9 +67,9 @@ const ASKING: &[Act] = &[
 
 /// In a line a's shuffle walks on to c, which takes a into its passive view.
 const WALK: &[Act] = &[
-    Act::Start("a", &["b"]),
-    Act::Start("b", &["a", "c"]),
-    Act::Start("c", &["b"]),
+    Act::Start("a", "b"),
+    Act::Start("b", "a c"),
+    Act::Start("c", "b"),
     Act::Shuffle("a"),
     Act::Arrive(0),
     Act::Arrive(0),
@@ -165,7 +166,7 @@ const CASES: &[Case] = &[
     },
     Case {
         name: "a JOIN",
-        acts: &[Act::Start("a", &[]), Act::Join("b", "a")],
+        acts: &[Act::Start("a", ""), Act::Join("b", "a")],
         before: 2,
         node: "a",
         act: Act::Arrive(0),
@@ -205,16 +206,16 @@ fn stimulus<A: Allocator + Copy>(
     alloc: A,
     world: &Group<A>,
     act: &Act,
-) -> Result<Stimulus<Frame<A>, A>, Fail> {
+) -> Result<Stimulus<Frame<A>, A>, AllocError> {
     match *act {
         Act::Broadcast(_, text) => {
             let payload = Bytes::copy_from_slice(alloc, text.as_bytes())?;
             Ok(StimulusOf::Broadcast(payload))
         }
-        Act::Arrive(place) => Ok(arrival(rt, world, place)?),
-        Act::Fire(_, message) => Ok(StimulusOf::Fire(id(message)?)),
+        Act::Arrive(place) => arrival(rt, world, place),
+        Act::Fire(_, message) => Ok(StimulusOf::Fire(id(rt, message))),
         Act::Down(_, peer) => Ok(StimulusOf::Down {
-            peer: name(peer)?,
+            peer: name(rt, peer),
             dice: Dice::ZEROS,
         }),
         Act::Shuffle(_) => Ok(StimulusOf::Shuffle(Dice::ZEROS)),
@@ -224,7 +225,7 @@ fn stimulus<A: Allocator + Copy>(
 
 /// Whether a step gave this.
 fn is_given<A: Allocator>(
-    text: &mut String<A>,
+    text: &mut String,
     out: &Out<Frame<A>, A>,
     wanted: &str,
 ) -> Result<bool, AllocError> {
@@ -235,7 +236,7 @@ fn is_given<A: Allocator>(
 
 /// Whether the readers of a core answer this.
 fn is_shown<A: Allocator + Copy>(
-    text: &mut String<A>,
+    text: &mut String,
     core: &PlumCore<A>,
     message: &MsgId,
     wanted: &str,
@@ -245,45 +246,54 @@ fn is_shown<A: Allocator + Copy>(
     Ok(text.as_str() == wanted)
 }
 
-/// Prepares a step. Whether it gives what it should and leaves the core as it was.
-fn is_prepared<A: Allocator + Copy>(
-    alloc: A,
-    text: &mut String<A>,
+/// Whether a step gave this, and the readers of the core answer that.
+fn is_left<A: Allocator + Copy>(
+    text: &mut String,
+    core: &PlumCore<A>,
+    out: &Out<Frame<A>, A>,
+    message: &MsgId,
+    given: &str,
+    shown: &str,
+) -> Result<bool, AllocError> {
+    Ok(is_given(text, out, given)? && is_shown(text, core, message, shown)?)
+}
+
+/// Prepares a step, and does not take it.
+fn prepare<A: Allocator + Copy>(
     core: &PlumCore<A>,
     stimulus: &StimulusRef<'_, Frame<A>, A>,
+    out: &mut Out<Frame<A>, A>,
+) -> Result<(), CoreError> {
+    let _ = core.prepare(stimulus, out)?;
+    Ok(())
+}
+
+/// Does so into an empty output. Whether it gives what it should and leaves the core as it was.
+fn is_prepared<A: Allocator + Copy>(
+    text: &mut String,
+    core: &PlumCore<A>,
+    stimulus: &StimulusRef<'_, Frame<A>, A>,
+    out: &mut Out<Frame<A>, A>,
     message: &MsgId,
     case: &Case,
 ) -> Result<bool, CoreError> {
-    let mut out = Out::new(alloc);
-    let _ = core.prepare(stimulus, &mut out)?;
-    Ok(is_given(text, &out, case.given)? && is_shown(text, core, message, case.stood)?)
+    prepare(core, stimulus, out)?;
+    Ok(is_left(text, core, out, message, case.given, case.stood)?)
 }
 
-/// Takes a step. Whether it gives and leaves what it should.
+/// Takes a step, whose output takes the place of what was there. Whether it gives and leaves what it should.
 fn is_stepped<A: Allocator + Copy>(
-    alloc: A,
-    text: &mut String<A>,
+    text: &mut String,
     core: &mut PlumCore<A>,
     stimulus: &Stimulus<Frame<A>, A>,
+    out: &mut Out<Frame<A>, A>,
     message: &MsgId,
     case: &Case,
 ) -> Result<bool, CoreError> {
-    let mut out = Out::new(alloc);
-    core.step(stimulus, &mut out)?;
-    Ok(is_given(text, &out, case.given)? && is_shown(text, core, message, case.left)?)
-}
-
-/// Does so with a copy.
-fn is_copy_stepped<A: Allocator + Copy>(
-    alloc: A,
-    text: &mut String<A>,
-    core: &PlumCore<A>,
-    stimulus: &Stimulus<Frame<A>, A>,
-    message: &MsgId,
-    case: &Case,
-) -> Result<bool, CoreError> {
-    let mut copy = core.copy()?;
-    is_stepped(alloc, text, &mut copy, stimulus, message, case)
+    out.sends.truncate(0);
+    out.deliveries.truncate(0);
+    core.step(stimulus, out)?;
+    Ok(is_left(text, core, out, message, case.given, case.left)?)
 }
 
 /// Prepares a step, and advances while the allocation with this number is refused. Whether there is such an allocation, and
@@ -298,108 +308,131 @@ fn try_advance<A: Allocator + Copy>(
     let Prepared { turn, .. } = core.prepare(stimulus, out)?;
     heap.refuse(n);
     let answer = core.advance(stimulus, turn);
-    let is_spent = heap.is_spent();
-    heap.refuse(0);
+    let is_spent = stop_refusing(heap);
     Ok((is_spent, answer.is_err()))
-}
-
-/// Does so with an output of its own.
-fn try_halves<A: Allocator + Copy>(
-    heap: &RefusingAllocator,
-    alloc: A,
-    core: &mut PlumCore<A>,
-    stimulus: &StimulusRef<'_, Frame<A>, A>,
-    n: u64,
-) -> Result<(bool, bool), CoreError> {
-    let mut out = Out::new(alloc);
-    try_advance(heap, core, stimulus, &mut out, n)
 }
 
 /// Does so, and takes the step again if it is refused. Whether there is such an allocation, or none if something is wrong.
 fn refuse_allocation<A: Allocator + Copy>(
     heap: &RefusingAllocator,
-    alloc: A,
-    text: &mut String<A>,
+    text: &mut String,
     core: &mut PlumCore<A>,
     stimulus: &Stimulus<Frame<A>, A>,
+    out: &mut Out<Frame<A>, A>,
     message: &MsgId,
     case: &Case,
     n: u64,
 ) -> Result<Option<bool>, CoreError> {
-    let (is_spent, is_refused) = try_halves(heap, alloc, core, &stimulus.as_ref(), n)?;
+    let (is_spent, is_refused) = try_advance(heap, core, &stimulus.as_ref(), out, n)?;
     let is_right = if is_refused {
         is_shown(text, core, message, case.stood)?
-            && is_stepped(alloc, text, core, stimulus, message, case)?
+            && is_stepped(text, core, stimulus, out, message, case)?
     } else {
         is_shown(text, core, message, case.left)?
     };
     Ok((is_right && is_refused == is_spent).then_some(is_spent))
 }
 
-/// Does so with a copy.
-fn refuse_of_copy<A: Allocator + Copy>(
+/// At 0 takes the step at once, and else refuses an allocation of its second half. Whether there is more to try, or none if
+/// something is wrong.
+fn try_step<A: Allocator + Copy>(
     heap: &RefusingAllocator,
-    alloc: A,
-    text: &mut String<A>,
-    core: &PlumCore<A>,
+    text: &mut String,
+    core: &mut PlumCore<A>,
     stimulus: &Stimulus<Frame<A>, A>,
+    out: &mut Out<Frame<A>, A>,
     message: &MsgId,
     case: &Case,
     n: u64,
 ) -> Result<Option<bool>, CoreError> {
-    let mut copy = core.copy()?;
-    refuse_allocation(heap, alloc, text, &mut copy, stimulus, message, case, n)
+    if n == 0 {
+        let is_right = is_stepped(text, core, stimulus, out, message, case)?;
+        Ok(is_right.then_some(true))
+    } else {
+        refuse_allocation(heap, text, core, stimulus, out, message, case, n)
+    }
 }
 
-/// Refuses each allocation of the second half in turn, and at last none. How many there are, or none if something is wrong.
-fn sweep<A: Allocator + Copy>(
+/// Does so with a copy.
+fn try_copy<A: Allocator + Copy>(
     heap: &RefusingAllocator,
-    alloc: A,
-    text: &mut String<A>,
+    text: &mut String,
     core: &PlumCore<A>,
     stimulus: &Stimulus<Frame<A>, A>,
+    out: &mut Out<Frame<A>, A>,
+    message: &MsgId,
+    case: &Case,
+    n: u64,
+) -> Result<Option<bool>, CoreError> {
+    let mut made = core.copy();
+    match &mut made {
+        Ok(copy) => try_step(heap, text, copy, stimulus, out, message, case, n),
+        Err(_) => Err(CoreError::OutOfMemory),
+    }
+}
+
+/// Takes the step at once, then refuses each allocation of the second half in turn, and at last none. How many there are, or none
+/// if something is wrong.
+fn sweep<A: Allocator + Copy>(
+    heap: &RefusingAllocator,
+    text: &mut String,
+    core: &PlumCore<A>,
+    stimulus: &Stimulus<Frame<A>, A>,
+    out: &mut Out<Frame<A>, A>,
     message: &MsgId,
     case: &Case,
 ) -> Result<Option<u64>, CoreError> {
-    for n in 1..MANY {
-        match refuse_of_copy(heap, alloc, text, core, stimulus, message, case, n)? {
+    for n in 0..MANY {
+        match try_copy(heap, text, core, stimulus, out, message, case, n)? {
             Some(true) => {}
-            Some(false) => return Ok(Some(n - 1)),
+            Some(false) => return Ok(Some(n.saturating_sub(1))),
             None => return Ok(None),
         }
     }
     Ok(None)
 }
 
-/// Prepares and takes the step, and then sweeps it.
+/// Prepares the step, and then sweeps it.
 fn sweep_step<A: Allocator + Copy>(
     heap: &RefusingAllocator,
-    alloc: A,
-    text: &mut String<A>,
+    text: &mut String,
     core: &PlumCore<A>,
     stimulus: &Stimulus<Frame<A>, A>,
+    out: &mut Out<Frame<A>, A>,
     message: &MsgId,
     case: &Case,
 ) -> Result<Option<u64>, CoreError> {
-    let is_right = is_prepared(alloc, text, core, &stimulus.as_ref(), message, case)?
-        && is_copy_stepped(alloc, text, core, stimulus, message, case)?;
-    if is_right {
-        sweep(heap, alloc, text, core, stimulus, message, case)
+    if is_prepared(text, core, &stimulus.as_ref(), out, message, case)? {
+        sweep(heap, text, core, stimulus, out, message, case)
     } else {
         Ok(None)
     }
 }
 
+/// Does so with an output of its own.
+fn sweep_alone<A: Allocator + Copy>(
+    heap: &RefusingAllocator,
+    alloc: A,
+    text: &mut String,
+    core: &PlumCore<A>,
+    stimulus: &Stimulus<Frame<A>, A>,
+    message: &MsgId,
+    case: &Case,
+) -> Result<Option<u64>, CoreError> {
+    let mut out = Out::new(alloc);
+    sweep_step(heap, text, core, stimulus, &mut out, message, case)
+}
+
 /// Plays the first of these acts, so many of them.
 fn play_acts<A: Allocator + Copy>(
+    rt: &impl Abort,
     alloc: A,
     world: &mut Group<A>,
     acts: &[Act],
     count: usize,
-) -> Result<(), Fail> {
+) -> Result<(), WorldError> {
     for act in acts.iter().take(count) {
-        let event = event(alloc, act)?;
-        apply(world, event)?;
+        happen(rt, alloc, world, act)?;
     }
     Ok(())
 }
@@ -409,15 +442,28 @@ fn sweep_node<A: Allocator + Copy>(
     rt: &impl Abort,
     heap: &RefusingAllocator,
     alloc: A,
-    text: &mut String<A>,
+    text: &mut String,
     world: &Group<A>,
     case: &Case,
-) -> Result<Option<u64>, Fail> {
-    let node = name(case.node)?;
-    let message = id(case.message)?;
+) -> Result<Option<u64>, CoreError> {
+    let node = name(rt, case.node);
+    let message = id(rt, case.message);
     let stimulus = stimulus(rt, alloc, world, &case.act)?;
     let core = world.core(&node).expect(rt, "a node that runs");
-    Ok(sweep_step(heap, alloc, text, core, &stimulus, &message, case)?)
+    sweep_alone(heap, alloc, text, core, &stimulus, &message, case)
+}
+
+/// Does so in a group that a case's acts are played in.
+fn sweep_group<A: Allocator + Copy>(
+    rt: &impl Abort,
+    heap: &RefusingAllocator,
+    alloc: A,
+    text: &mut String,
+    world: &mut Group<A>,
+    case: &Case,
+) -> Result<Option<u64>, WorldError> {
+    play_acts(rt, alloc, world, case.acts, case.before)?;
+    Ok(sweep_node(rt, heap, alloc, text, world, case)?)
 }
 
 /// Does so in a fresh group.
@@ -425,18 +471,17 @@ fn sweep_case<A: Allocator + Copy>(
     rt: &impl Abort,
     heap: &RefusingAllocator,
     alloc: A,
-    text: &mut String<A>,
+    text: &mut String,
     case: &Case,
-) -> Result<Option<u64>, Fail> {
+) -> Result<Option<u64>, WorldError> {
     let mut world = Group::<A>::new(alloc, Limits::STANDARD);
-    play_acts(alloc, &mut world, case.acts, case.before)?;
-    sweep_node(rt, heap, alloc, text, &world, case)
+    sweep_group(rt, heap, alloc, text, &mut world, case)
 }
 
 #[test]
 fn steps_in_two_halves(rt: HostRuntime) -> Result<(), Fail> {
     let heap = RefusingAllocator::new(rt.alloc());
-    let mut text = String::new(&heap);
+    let mut text = String::new(rt.alloc());
     let mut refused = 0u64;
     for case in cases() {
         let allocations = sweep_case(&rt, &heap, &heap, &mut text, case)?;

@@ -1,27 +1,12 @@
 //! What packets say, as texts.
-use bytes::Bytes;
 use frames::{Body, BodyOf, Frame};
 use node_names::{MsgId, NodeName};
 use std::alloc::{AllocError, Allocator};
 use std::fmt::Write;
 use world::Packet;
 
-/// Appends the letters of a payload.
-pub(crate) fn push_payload<A: Allocator, B: Allocator>(
-    text: &mut String<B>,
-    payload: &Bytes<A>,
-) -> Result<(), AllocError> {
-    for byte in payload.as_slice() {
-        text.push(char::from(*byte))?;
-    }
-    Ok(())
-}
-
 /// Appends ids with their rounds.
-fn push_entries<B: Allocator>(
-    text: &mut String<B>,
-    entries: &[(MsgId, u32)],
-) -> Result<(), AllocError> {
+fn push_entries(text: &mut String, entries: &[(MsgId, u32)]) -> Result<(), AllocError> {
     for (id, round) in entries {
         write!(text, " {id} {round}")?;
     }
@@ -29,7 +14,7 @@ fn push_entries<B: Allocator>(
 }
 
 /// Appends names.
-fn push_names<B: Allocator>(text: &mut String<B>, names: &[NodeName]) -> Result<(), AllocError> {
+fn push_names(text: &mut String, names: &[NodeName]) -> Result<(), AllocError> {
     for name in names {
         write!(text, " {name}")?;
     }
@@ -37,10 +22,7 @@ fn push_names<B: Allocator>(text: &mut String<B>, names: &[NodeName]) -> Result<
 }
 
 /// Appends what a packet about membership says.
-fn push_membership<A: Allocator, B: Allocator>(
-    text: &mut String<B>,
-    body: &Body<A>,
-) -> Result<(), AllocError> {
+fn push_membership<A: Allocator>(text: &mut String, body: &Body<A>) -> Result<(), AllocError> {
     match body {
         BodyOf::Join => write!(text, "JOIN"),
         BodyOf::Neighbor { high } => write!(text, "NEIGHBOR {high}"),
@@ -58,10 +40,7 @@ fn push_membership<A: Allocator, B: Allocator>(
 }
 
 /// Appends what a packet says.
-fn push_body<A: Allocator, B: Allocator>(
-    text: &mut String<B>,
-    body: &Body<A>,
-) -> Result<(), AllocError> {
+fn push_body<A: Allocator>(text: &mut String, body: &Body<A>) -> Result<(), AllocError> {
     match body {
         BodyOf::Gossip { id, round, .. } => write!(text, "GOSSIP {id} {round}"),
         BodyOf::IHave { entries } => {
@@ -75,8 +54,8 @@ fn push_body<A: Allocator, B: Allocator>(
 }
 
 /// Appends a packet: its number, who sent it to whom, and what it says.
-fn push_packet<A: Allocator, B: Allocator>(
-    text: &mut String<B>,
+fn push_packet<A: Allocator>(
+    text: &mut String,
     number: usize,
     packet: &Packet<Frame<A>>,
 ) -> Result<(), AllocError> {
@@ -86,8 +65,8 @@ fn push_packet<A: Allocator, B: Allocator>(
 }
 
 /// Appends packets that a step sends: their numbers among their sender's, whom they go to, and what they say.
-pub(crate) fn push_sends<A: Allocator, B: Allocator>(
-    text: &mut String<B>,
+pub(crate) fn push_sends<A: Allocator>(
+    text: &mut String,
     sends: &[(NodeName, Frame<A>)],
 ) -> Result<(), AllocError> {
     for (to, frame) in sends {
@@ -99,8 +78,8 @@ pub(crate) fn push_sends<A: Allocator, B: Allocator>(
 }
 
 /// Appends the packets from the first of these on.
-pub(crate) fn push_packets<A: Allocator, B: Allocator>(
-    text: &mut String<B>,
+pub(crate) fn push_packets<A: Allocator>(
+    text: &mut String,
     packets: &[Packet<Frame<A>>],
     first: usize,
 ) -> Result<(), AllocError> {

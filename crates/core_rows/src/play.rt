@@ -24,9 +24,9 @@ fn compare_text(rt: &impl Abort, text: &str, wanted: &str) {
 }
 
 /// Compares what an event gave and left.
-pub(crate) fn compare<A: Allocator + Copy, B: Allocator>(
+pub(crate) fn compare<A: Allocator + Copy>(
     rt: &impl Abort,
-    text: &mut String<B>,
+    text: &mut String,
     world: &Group<A>,
     ids: &[MsgId],
     turn: &Turn,
@@ -44,9 +44,9 @@ pub(crate) fn compare<A: Allocator + Copy, B: Allocator>(
 }
 
 /// Compares what all readers answer.
-pub(crate) fn compare_whole<A: Allocator + Copy, B: Allocator>(
+pub(crate) fn compare_whole<A: Allocator + Copy>(
     rt: &impl Abort,
-    text: &mut String<B>,
+    text: &mut String,
     world: &Group<A>,
     ids: &[MsgId; 2],
     wanted: &str,
@@ -58,87 +58,102 @@ pub(crate) fn compare_whole<A: Allocator + Copy, B: Allocator>(
 }
 
 /// Plays an event over ample memory.
-fn happen<A: Allocator + Copy>(world: &mut Group<A>, alloc: A, act: &Act) -> Result<(), Fail> {
-    let event = event(alloc, act)?;
-    Ok(apply(world, event)?)
+pub(crate) fn happen<A: Allocator + Copy>(
+    rt: &impl Abort,
+    alloc: A,
+    world: &mut Group<A>,
+    act: &Act,
+) -> Result<(), WorldError> {
+    let event = event(rt, alloc, act)?;
+    apply(world, event)
 }
 
 /// Plays events over ample memory, and compares what each gives and leaves.
-pub(crate) fn play<A: Allocator + Copy, B: Allocator>(
+pub(crate) fn play<A: Allocator + Copy>(
     rt: &impl Abort,
     alloc: A,
-    text: &mut String<B>,
+    text: &mut String,
     world: &mut Group<A>,
     ids: &[MsgId],
     turns: &[Turn],
-) -> Result<(), Fail> {
+) -> Result<(), WorldError> {
     for turn in turns {
-        happen(world, alloc, &turn.0)?;
+        happen(rt, alloc, world, &turn.0)?;
         compare(rt, text, world, ids, turn)?;
     }
     Ok(())
 }
 
 /// The ids of the two messages that a row asks about.
-pub(crate) fn asked(row: &Row) -> Result<[MsgId; 2], Fail> {
-    let first = id(row.first.0)?;
-    let second = id(row.second.0)?;
-    Ok([first, second])
+pub(crate) fn asked(rt: &impl Abort, row: &Row) -> [MsgId; 2] {
+    let first = id(rt, row.first.0);
+    let second = id(rt, row.second.0);
+    [first, second]
+}
+
+/// Compares what is told of a message at the end.
+fn compare_told<A: Allocator + Copy>(
+    rt: &impl Abort,
+    alloc: A,
+    text: &mut String,
+    world: &Group<A>,
+    id: &MsgId,
+    wanted: &str,
+) -> Result<(), AllocError> {
+    text.clear();
+    push_told(text, alloc, world, id)?;
+    compare_text(rt, text.as_str(), wanted);
+    Ok(())
 }
 
 /// Compares the end of a row with what it should be.
-fn compare_end<A: Allocator + Copy, B: Allocator>(
+fn compare_end<A: Allocator + Copy>(
     rt: &impl Abort,
     alloc: A,
-    text: &mut String<B>,
+    text: &mut String,
     world: &Group<A>,
     ids: &[MsgId; 2],
     row: &Row,
 ) -> Result<(), AllocError> {
     assert!(rt; world.sent().len() == row.sent);
-    text.clear();
-    push_told(text, alloc, world, &ids[0])?;
-    compare_text(rt, text.as_str(), row.first.1);
-    text.clear();
-    push_told(text, alloc, world, &ids[1])?;
-    compare_text(rt, text.as_str(), row.second.1);
-    Ok(())
+    compare_told(rt, alloc, text, world, &ids[0], row.first.1)?;
+    compare_told(rt, alloc, text, world, &ids[1], row.second.1)
 }
 
 /// Plays a row, and compares its end with what it should be.
-fn play_group<A: Allocator + Copy, B: Allocator>(
+fn play_group<A: Allocator + Copy>(
     rt: &impl Abort,
     alloc: A,
-    text: &mut String<B>,
+    text: &mut String,
     world: &mut Group<A>,
     ids: &[MsgId; 2],
     row: &Row,
-) -> Result<(), Fail> {
+) -> Result<(), WorldError> {
     play(rt, alloc, text, world, ids, row.before)?;
     play(rt, alloc, text, world, ids, row.turns)?;
     Ok(compare_end(rt, alloc, text, world, ids, row)?)
 }
 
 /// Plays a row in a fresh group.
-fn play_row<A: Allocator + Copy, B: Allocator>(
+fn play_row<A: Allocator + Copy>(
     rt: &impl Abort,
     alloc: A,
-    text: &mut String<B>,
+    text: &mut String,
     ids: &[MsgId; 2],
     row: &Row,
-) -> Result<(), Fail> {
+) -> Result<(), WorldError> {
     let mut world = Group::<A>::new(alloc, Limits::STANDARD);
     play_group(rt, alloc, text, &mut world, ids, row)
 }
 
-fn play_rows<A: Allocator + Copy, B: Allocator>(
+fn play_rows<A: Allocator + Copy>(
     rt: &impl Abort,
     alloc: A,
-    text: &mut String<B>,
+    text: &mut String,
     rows: &[Row],
-) -> Result<(), Fail> {
+) -> Result<(), WorldError> {
     for row in rows {
-        let ids = asked(row)?;
+        let ids = asked(rt, row);
         play_row(rt, alloc, text, &ids, row)?;
     }
     Ok(())
@@ -147,5 +162,5 @@ fn play_rows<A: Allocator + Copy, B: Allocator>(
 #[test]
 fn plays_rows(rt: HostRuntime) -> Result<(), Fail> {
     let mut text = String::new(rt.alloc());
-    play_rows(&rt, rt.alloc(), &mut text, rows())
+    Ok(play_rows(&rt, rt.alloc(), &mut text, rows())?)
 }

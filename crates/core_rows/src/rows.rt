@@ -45,14 +45,9 @@ const TRIANGLE: Row = Row {
     second: (A2, "a <- -; b <- a; c <- b; | a=n b=n c=n "),
     before: &[],
     turns: &[
-        (Act::Start("a", &["b", "c"]), "", "a: b c /; ", "| | "),
-        (
-            Act::Start("b", &["a", "c"]),
-            "",
-            "a: b c /; b: a c /; ",
-            "| | ",
-        ),
-        (Act::Start("c", &["a", "b"]), "", CORNERS, "| | "),
+        (Act::Start("a", "b c"), "", "a: b c /; ", "| | "),
+        (Act::Start("b", "a c"), "", "a: b c /; b: a c /; ", "| | "),
+        (Act::Start("c", "a b"), "", CORNERS, "| | "),
         (
             Act::Broadcast("a", "m"),
             "a delivers a/1/1 m; #0 a to b GOSSIP a/1/1 0; #1 a to c GOSSIP a/1/1 0; ",
@@ -125,14 +120,9 @@ const TRIANGLE: Row = Row {
 
 /// In a line a repeated packet makes c lazy to b, so that c hears of the next message, waits, and asks for it.
 const ASKING: &[Turn] = &[
-    (Act::Start("a", &["b"]), "", "a: b /; ", "| | "),
-    (
-        Act::Start("b", &["a", "c"]),
-        "",
-        "a: b /; b: a c /; ",
-        "| | ",
-    ),
-    (Act::Start("c", &["b"]), "", LINE, "| | "),
+    (Act::Start("a", "b"), "", "a: b /; ", "| | "),
+    (Act::Start("b", "a c"), "", "a: b /; b: a c /; ", "| | "),
+    (Act::Start("c", "b"), "", LINE, "| | "),
     (
         Act::Broadcast("a", "m"),
         "a delivers a/1/1 m; #0 a to b GOSSIP a/1/1 0; ",
@@ -242,7 +232,7 @@ const JOIN: Row = Row {
     second: (A1, "| "),
     before: &[],
     turns: &[
-        (Act::Start("a", &[]), "", "a: /; ", "| | "),
+        (Act::Start("a", ""), "", "a: /; ", "| | "),
         (
             Act::Join("b", "a"),
             "#0 b to a JOIN; ",
@@ -289,8 +279,8 @@ const ONE_PEER: Row = Row {
     second: (A2, "| "),
     before: &[],
     turns: &[
-        (Act::Start("a", &["b"]), "", "a: b /; ", "| | "),
-        (Act::Start("b", &["a"]), "", PAIR, "| | "),
+        (Act::Start("a", "b"), "", "a: b /; ", "| | "),
+        (Act::Start("b", "a"), "", PAIR, "| | "),
         (
             Act::Broadcast("a", "m"),
             "a delivers a/1/1 m; #0 a to b GOSSIP a/1/1 0; ",
@@ -309,8 +299,8 @@ const HELLO: Row = Row {
     second: (A2, "| "),
     before: &[],
     turns: &[
-        (Act::Start("a", &["b"]), "", "a: b /; ", "| | "),
-        (Act::Start("b", &["a"]), "", PAIR, "| | "),
+        (Act::Start("a", "b"), "", "a: b /; ", "| | "),
+        (Act::Start("b", "a"), "", PAIR, "| | "),
         (
             Act::Broadcast("a", "hello"),
             "a delivers a/1/1 hello; #0 a to b GOSSIP a/1/1 0; ",

@@ -1,16 +1,17 @@
 //! A node that has no number left for a packet, or none for a message.
-ghost use Rattle.std.specs.Prelude.{IfOk, IsTrue, not};
+ghost use Rattle.std.specs.Prelude.{IsTrue, not};
 ghost use Rattle.node_names.specs.Same.{same_name};
 
-use crate::named::{Id, id, name, origin};
+use crate::named::{Id, id, name};
 use bytes::Bytes;
 use frames::Frame;
 use node_core::PlumCore;
 use node_names::{Limits, MsgId, NodeName, Origin};
 use refusing_allocator::RefusingAllocator;
-use std::alloc::Allocator;
+use std::alloc::{AllocError, Allocator};
 use std::process::Abort;
 use std::test::Fail;
+use test_support::{first_run, stop_refusing};
 use world::{Core, CoreError, Out, Stimulus, StimulusOf};
 
 /// More growths than any step has.
@@ -29,7 +30,7 @@ struct Case {
     refused: Id,
 }
 
-const CASES: [Case; 3] = [
+const CASES: &[Case] = &[
     Case {
         spent: u64::MAX,
         is_joining: true,
@@ -50,14 +51,19 @@ const CASES: [Case; 3] = [
     },
 ];
 
+/// All cases. The table is named here alone, since a function that names it is proved over the whole of it.
+fn cases() -> &'static [Case] {
+    CASES
+}
+
 /// Two names that differ, the first in its first incarnation.
-fn pair(rt: &impl Abort) -> Result<(Origin, NodeName), Fail>
-    ensures { IfOk result (λ pair. IsTrue (not (same_name pair.0.name pair.1))) }
+fn pair(rt: &impl Abort) -> (Origin, NodeName)
+    ensures { IsTrue (not (same_name result.0.name result.1)) }
 {
-    let me = origin("a")?;
-    let other = name("b")?;
+    let me = first_run(name(rt, "a"));
+    let other = name(rt, "b");
     assert!(rt; me.name != other);
-    Ok((me, other))
+    (me, other)
 }
 
 /// Starts the node of a case.
@@ -79,7 +85,7 @@ fn start<A: Allocator + Copy>(
     }
 }
 
-fn broadcast<A: Allocator + Copy>(alloc: A) -> Result<Stimulus<Frame<A>, A>, Fail> {
+fn broadcast<A: Allocator + Copy>(alloc: A) -> Result<Stimulus<Frame<A>, A>, AllocError> {
     Ok(StimulusOf::Broadcast(Bytes::copy_from_slice(alloc, b"x")?))
 }
 
@@ -119,8 +125,7 @@ fn refuse_step<A: Allocator + Copy>(
 ) -> bool {
     heap.refuse(n);
     let answer = core.step(stimulus, out);
-    let is_spent = heap.is_spent();
-    heap.refuse(0);
+    let is_spent = stop_refusing(heap);
     assert!(rt; is_refusal(answer, is_spent));
     is_spent
 }
@@ -221,9 +226,9 @@ fn sweep_case<A: Allocator + Copy>(
     heap: &RefusingAllocator,
     alloc: A,
     case: &Case,
-) -> Result<(), Fail> {
-    let refused = id(case.refused)?;
-    let names = pair(rt)?;
+) -> Result<(), AllocError> {
+    let refused = id(rt, case.refused);
+    let names = pair(rt);
     let stimulus = broadcast(alloc)?;
     sweep_out(rt, heap, alloc, names, &stimulus, &refused, case);
     Ok(())
@@ -234,7 +239,7 @@ fn sweep_cases<A: Allocator + Copy>(
     heap: &RefusingAllocator,
     alloc: A,
     cases: &[Case],
-) -> Result<(), Fail> {
+) -> Result<(), AllocError> {
     for case in cases {
         sweep_case(rt, heap, alloc, case)?;
     }
@@ -244,7 +249,7 @@ fn sweep_cases<A: Allocator + Copy>(
 #[test]
 fn refuses_what_needs_a_spent_number(rt: HostRuntime) -> Result<(), Fail> {
     let heap = RefusingAllocator::new(rt.alloc());
-    sweep_cases(&rt, &heap, &heap, &CASES)
+    Ok(sweep_cases(&rt, &heap, &heap, cases())?)
 }
 
 /// Starts `a` with `b` as its peer, where the numbers of its messages are spent and those of its frames are not.
@@ -306,11 +311,11 @@ fn refuse_mute<A: Allocator + Copy>(
     rt: &impl Abort,
     heap: &RefusingAllocator,
     alloc: A,
-) -> Result<bool, Fail> {
-    let refused = id(("a", 1))?;
-    let names = pair(rt)?;
+) -> Result<bool, CoreError> {
+    let refused = id(rt, ("a", 1));
+    let names = pair(rt);
     let stimulus = broadcast(alloc)?;
-    Ok(is_refused_mute(rt, heap, alloc, names, &stimulus, &refused)?)
+    is_refused_mute(rt, heap, alloc, names, &stimulus, &refused)
 }
 
 #[test]

@@ -1,7 +1,7 @@
 //! Rows in which each growth is refused in turn: the refusal is for want of memory, all readers answer as before the refused
 //! event, and the event made again answers as if nothing had been refused.
 use crate::act::{Act, event};
-use crate::play::{apply, asked, compare, compare_whole, play};
+use crate::play::{apply, asked, compare, compare_whole, happen, play};
 use crate::rows::{Row, Turn, rows};
 use crate::texts::{Group, push_whole};
 use node_names::{Limits, MsgId};
@@ -9,6 +9,7 @@ use refusing_allocator::RefusingAllocator;
 use std::alloc::Allocator;
 use std::process::Abort;
 use std::test::Fail;
+use test_support::stop_refusing;
 use world::WorldError;
 
 /// More growths than any event has.
@@ -22,12 +23,11 @@ fn try_event<A: Allocator + Copy>(
     world: &mut Group<A>,
     act: &Act,
     n: u64,
-) -> Result<(bool, bool), Fail> {
-    let event = event(alloc, act)?;
+) -> Result<(bool, bool), WorldError> {
+    let event = event(rt, alloc, act)?;
     heap.refuse(n);
     let answer = apply(world, event);
-    let is_spent = heap.is_spent();
-    heap.refuse(0);
+    let is_spent = stop_refusing(heap);
     if let Err(why) = answer {
         assert_eq!(rt; why, WorldError::OutOfMemory);
     }
@@ -35,38 +35,38 @@ fn try_event<A: Allocator + Copy>(
 }
 
 /// Plays an event whose growth with this number is refused, and makes it again if it is refused. Whether it had so many.
-fn refuse_event<A: Allocator + Copy, B: Allocator>(
+fn refuse_event<A: Allocator + Copy>(
     rt: &impl Abort,
     heap: &RefusingAllocator,
     alloc: A,
-    text: &mut String<B>,
+    text: &mut String,
     stood: &str,
     world: &mut Group<A>,
     ids: &[MsgId; 2],
     act: &Act,
     n: u64,
-) -> Result<bool, Fail> {
+) -> Result<bool, WorldError> {
     let (is_spent, is_refused) = try_event(rt, heap, alloc, world, act, n)?;
     if is_refused {
         assert!(rt; is_spent);
         compare_whole(rt, text, world, ids, stood)?;
-        let _ = try_event(rt, heap, alloc, world, act, 0)?;
+        happen(rt, alloc, world, act)?;
     }
     Ok(is_spent)
 }
 
 /// Does so, and compares what the event gives and leaves.
-fn sweep_turn<A: Allocator + Copy, B: Allocator>(
+fn sweep_turn<A: Allocator + Copy>(
     rt: &impl Abort,
     heap: &RefusingAllocator,
     alloc: A,
-    text: &mut String<B>,
-    stood: &mut String<B>,
+    text: &mut String,
+    stood: &mut String,
     world: &mut Group<A>,
     ids: &[MsgId; 2],
     turn: &Turn,
     n: u64,
-) -> Result<bool, Fail> {
+) -> Result<bool, WorldError> {
     stood.clear();
     push_whole(stood, world, ids)?;
     let is_spent = refuse_event(
@@ -85,18 +85,18 @@ fn sweep_turn<A: Allocator + Copy, B: Allocator>(
 }
 
 /// Plays turns up to one, and refuses its event's growth with this number. Whether it had so many.
-fn sweep_world<A: Allocator + Copy, B: Allocator>(
+fn sweep_world<A: Allocator + Copy>(
     rt: &impl Abort,
     heap: &RefusingAllocator,
     alloc: A,
-    text: &mut String<B>,
-    stood: &mut String<B>,
+    text: &mut String,
+    stood: &mut String,
     world: &mut Group<A>,
     ids: &[MsgId; 2],
     before: &[Turn],
     turns: (&[Turn], &[Turn]),
     n: u64,
-) -> Result<bool, Fail> {
+) -> Result<bool, WorldError> {
     play(rt, alloc, text, world, ids, before)?;
     play(rt, alloc, text, world, ids, turns.0)?;
     match turns.1.first() {
@@ -106,17 +106,17 @@ fn sweep_world<A: Allocator + Copy, B: Allocator>(
 }
 
 /// Does so in a fresh group.
-fn sweep_event<A: Allocator + Copy, B: Allocator>(
+fn sweep_event<A: Allocator + Copy>(
     rt: &impl Abort,
     heap: &RefusingAllocator,
     alloc: A,
-    text: &mut String<B>,
-    stood: &mut String<B>,
+    text: &mut String,
+    stood: &mut String,
     ids: &[MsgId; 2],
     before: &[Turn],
     turns: (&[Turn], &[Turn]),
     n: u64,
-) -> Result<bool, Fail> {
+) -> Result<bool, WorldError> {
     let mut world = Group::<A>::new(alloc, Limits::STANDARD);
     sweep_world(
         rt, heap, alloc, text, stood, &mut world, ids, before, turns, n,
@@ -124,16 +124,16 @@ fn sweep_event<A: Allocator + Copy, B: Allocator>(
 }
 
 /// Refuses each growth of one event in turn. How many it has.
-fn sweep<A: Allocator + Copy, B: Allocator>(
+fn sweep<A: Allocator + Copy>(
     rt: &impl Abort,
     heap: &RefusingAllocator,
     alloc: A,
-    text: &mut String<B>,
-    stood: &mut String<B>,
+    text: &mut String,
+    stood: &mut String,
     ids: &[MsgId; 2],
     before: &[Turn],
     turns: (&[Turn], &[Turn]),
-) -> Result<u64, Fail> {
+) -> Result<u64, WorldError> {
     for n in 1..MANY {
         if !sweep_event(rt, heap, alloc, text, stood, ids, before, turns, n)? {
             return Ok(n - 1);
@@ -144,15 +144,15 @@ fn sweep<A: Allocator + Copy, B: Allocator>(
 }
 
 /// Refuses each growth of each of a row's own events in turn. How many they have.
-fn sweep_row<A: Allocator + Copy, B: Allocator>(
+fn sweep_row<A: Allocator + Copy>(
     rt: &impl Abort,
     heap: &RefusingAllocator,
     alloc: A,
-    text: &mut String<B>,
-    stood: &mut String<B>,
+    text: &mut String,
+    stood: &mut String,
     row: &Row,
-) -> Result<u64, Fail> {
-    let ids = asked(row)?;
+) -> Result<u64, WorldError> {
+    let ids = asked(rt, row);
     let mut refused = 0u64;
     for at in 0..row.turns.len() {
         let turns = row.turns.split_at(at.min(row.turns.len()));
@@ -164,14 +164,14 @@ fn sweep_row<A: Allocator + Copy, B: Allocator>(
 }
 
 /// Does so for all rows that are swept. How many growths they have.
-fn sweep_rows<A: Allocator + Copy, B: Allocator>(
+fn sweep_rows<A: Allocator + Copy>(
     rt: &impl Abort,
     heap: &RefusingAllocator,
     alloc: A,
-    text: &mut String<B>,
-    stood: &mut String<B>,
+    text: &mut String,
+    stood: &mut String,
     rows: &[Row],
-) -> Result<u64, Fail> {
+) -> Result<u64, WorldError> {
     let mut refused = 0u64;
     for row in rows {
         if row.is_swept {

@@ -1,32 +1,33 @@
 //! What a group and its nodes show, as texts.
-use crate::packets::{push_packets, push_payload, push_sends};
+use crate::packets::{push_packets, push_sends};
 use at_rest::{Branch, is_at_rest, tree};
 use frames::Frame;
 use node_core::PlumCore;
 use node_names::{MsgId, NodeName};
 use std::alloc::{AllocError, Allocator};
 use std::fmt::Write;
+use test_support::push_letters;
 use world::{Core, Delivery, NameSet, NodeState, Out, World};
 
 /// A group of Plumtree nodes.
 pub(crate) type Group<A> = World<PlumCore<A>, A>;
 
 /// Appends deliveries.
-fn push_deliveries<A: Allocator, B: Allocator>(
-    text: &mut String<B>,
+fn push_deliveries<A: Allocator>(
+    text: &mut String,
     deliveries: &[Delivery<A>],
 ) -> Result<(), AllocError> {
     for delivery in deliveries {
         write!(text, "{} delivers {} ", delivery.node.name, delivery.id)?;
-        push_payload(text, &delivery.payload)?;
+        push_letters(text, delivery.payload.as_slice())?;
         write!(text, "; ")?;
     }
     Ok(())
 }
 
 /// Appends what the last event gave: its deliveries, and the packets that it sent.
-pub(crate) fn push_given<A: Allocator + Copy, B: Allocator>(
-    text: &mut String<B>,
+pub(crate) fn push_given<A: Allocator + Copy>(
+    text: &mut String,
     world: &Group<A>,
 ) -> Result<(), AllocError> {
     let Some(entry) = world.log().last() else {
@@ -37,10 +38,7 @@ pub(crate) fn push_given<A: Allocator + Copy, B: Allocator>(
 }
 
 /// Appends the names of a set.
-fn push_set<A: Allocator, B: Allocator>(
-    text: &mut String<B>,
-    names: &NameSet<A>,
-) -> Result<(), AllocError> {
+fn push_set<A: Allocator>(text: &mut String, names: &NameSet<A>) -> Result<(), AllocError> {
     for name in names.iter() {
         write!(text, " {name}")?;
     }
@@ -48,8 +46,8 @@ fn push_set<A: Allocator, B: Allocator>(
 }
 
 /// Appends a node's views.
-fn push_views_of<A: Allocator + Copy, B: Allocator>(
-    text: &mut String<B>,
+fn push_views_of<A: Allocator + Copy>(
+    text: &mut String,
     core: &PlumCore<A>,
 ) -> Result<(), AllocError> {
     write!(text, "{}:", core.me().name)?;
@@ -60,8 +58,8 @@ fn push_views_of<A: Allocator + Copy, B: Allocator>(
 }
 
 /// Appends the views of the nodes that run: the active one, and, behind a stroke, the passive one.
-pub(crate) fn push_views<A: Allocator + Copy, B: Allocator>(
-    text: &mut String<B>,
+pub(crate) fn push_views<A: Allocator + Copy>(
+    text: &mut String,
     nodes: &[NodeState<PlumCore<A>>],
 ) -> Result<(), AllocError> {
     for node in nodes {
@@ -73,7 +71,7 @@ pub(crate) fn push_views<A: Allocator + Copy, B: Allocator>(
 }
 
 /// Appends the numbers of packets.
-fn push_numbers<B: Allocator>(text: &mut String<B>, numbers: &[usize]) -> Result<(), AllocError> {
+fn push_numbers(text: &mut String, numbers: &[usize]) -> Result<(), AllocError> {
     for number in numbers {
         write!(text, "{number} ")?;
     }
@@ -81,8 +79,8 @@ fn push_numbers<B: Allocator>(text: &mut String<B>, numbers: &[usize]) -> Result
 }
 
 /// Appends the announcements that a node is to send.
-fn push_queued<B: Allocator>(
-    text: &mut String<B>,
+fn push_queued(
+    text: &mut String,
     node: &NodeName,
     queued: &[(NodeName, MsgId, u32)],
 ) -> Result<(), AllocError> {
@@ -93,8 +91,8 @@ fn push_queued<B: Allocator>(
 }
 
 /// Appends the announcements that a node has heard.
-fn push_wants<B: Allocator>(
-    text: &mut String<B>,
+fn push_wants(
+    text: &mut String,
     node: &NodeName,
     wants: &[(MsgId, NodeName, u32)],
 ) -> Result<(), AllocError> {
@@ -105,11 +103,7 @@ fn push_wants<B: Allocator>(
 }
 
 /// Appends the ids whose timers are armed at a node.
-fn push_timers<B: Allocator>(
-    text: &mut String<B>,
-    node: &NodeName,
-    timers: &[MsgId],
-) -> Result<(), AllocError> {
+fn push_timers(text: &mut String, node: &NodeName, timers: &[MsgId]) -> Result<(), AllocError> {
     for id in timers {
         write!(text, "{node} times {id}; ")?;
     }
@@ -117,8 +111,8 @@ fn push_timers<B: Allocator>(
 }
 
 /// Appends what waits at a node.
-fn push_waiting_at<A: Allocator + Copy, B: Allocator>(
-    text: &mut String<B>,
+fn push_waiting_at<A: Allocator + Copy>(
+    text: &mut String,
     core: &PlumCore<A>,
 ) -> Result<(), AllocError> {
     let node = core.me().name;
@@ -128,8 +122,8 @@ fn push_waiting_at<A: Allocator + Copy, B: Allocator>(
 }
 
 /// Appends what waits at the nodes that run.
-fn push_waiting<A: Allocator + Copy, B: Allocator>(
-    text: &mut String<B>,
+fn push_waiting<A: Allocator + Copy>(
+    text: &mut String,
     nodes: &[NodeState<PlumCore<A>>],
 ) -> Result<(), AllocError> {
     for node in nodes {
@@ -141,8 +135,8 @@ fn push_waiting<A: Allocator + Copy, B: Allocator>(
 }
 
 /// Appends those of these messages that the group is not at rest for.
-fn push_restless<A: Allocator + Copy, B: Allocator>(
-    text: &mut String<B>,
+fn push_restless<A: Allocator + Copy>(
+    text: &mut String,
     world: &Group<A>,
     ids: &[MsgId],
 ) -> Result<(), AllocError> {
@@ -156,8 +150,8 @@ fn push_restless<A: Allocator + Copy, B: Allocator>(
 
 /// Appends what stands between events: the numbers of the packets in flight, what waits at the nodes, and those of these
 /// messages that the group is not at rest for.
-pub(crate) fn push_standing<A: Allocator + Copy, B: Allocator>(
-    text: &mut String<B>,
+pub(crate) fn push_standing<A: Allocator + Copy>(
+    text: &mut String,
     world: &Group<A>,
     ids: &[MsgId],
 ) -> Result<(), AllocError> {
@@ -169,8 +163,8 @@ pub(crate) fn push_standing<A: Allocator + Copy, B: Allocator>(
 }
 
 /// Appends the payload that a node holds of a message that it has delivered.
-fn push_held_at<A: Allocator + Copy, B: Allocator>(
-    text: &mut String<B>,
+fn push_held_at<A: Allocator + Copy>(
+    text: &mut String,
     core: &PlumCore<A>,
     id: &MsgId,
 ) -> Result<(), AllocError> {
@@ -179,14 +173,14 @@ fn push_held_at<A: Allocator + Copy, B: Allocator>(
     }
     write!(text, "{}=", core.me().name)?;
     if let Some(payload) = core.payload(id) {
-        push_payload(text, payload)?;
+        push_letters(text, payload.as_slice())?;
     }
     write!(text, " ")
 }
 
 /// Appends who holds a message, and the payload that it holds.
-fn push_held<A: Allocator + Copy, B: Allocator>(
-    text: &mut String<B>,
+fn push_held<A: Allocator + Copy>(
+    text: &mut String,
     nodes: &[NodeState<PlumCore<A>>],
     id: &MsgId,
 ) -> Result<(), AllocError> {
@@ -199,7 +193,7 @@ fn push_held<A: Allocator + Copy, B: Allocator>(
 }
 
 /// Appends a branch of a tree.
-fn push_branch<B: Allocator>(text: &mut String<B>, branch: &Branch) -> Result<(), AllocError> {
+fn push_branch(text: &mut String, branch: &Branch) -> Result<(), AllocError> {
     let node = branch.node.name;
     match branch.parent {
         Some(parent) => write!(text, "{node} <- {}; ", parent.name),
@@ -208,10 +202,7 @@ fn push_branch<B: Allocator>(text: &mut String<B>, branch: &Branch) -> Result<()
 }
 
 /// Appends the branches of a tree.
-fn push_branches<B: Allocator>(
-    text: &mut String<B>,
-    branches: &[Branch],
-) -> Result<(), AllocError> {
+fn push_branches(text: &mut String, branches: &[Branch]) -> Result<(), AllocError> {
     for branch in branches {
         push_branch(text, branch)?;
     }
@@ -219,8 +210,8 @@ fn push_branches<B: Allocator>(
 }
 
 /// Appends the tree of a message.
-fn push_tree<A: Allocator + Copy, B: Allocator>(
-    text: &mut String<B>,
+fn push_tree<A: Allocator + Copy>(
+    text: &mut String,
     alloc: A,
     world: &Group<A>,
     id: &MsgId,
@@ -230,8 +221,8 @@ fn push_tree<A: Allocator + Copy, B: Allocator>(
 }
 
 /// Appends the tree of a message, and who holds it.
-pub(crate) fn push_told<A: Allocator + Copy, B: Allocator>(
-    text: &mut String<B>,
+pub(crate) fn push_told<A: Allocator + Copy>(
+    text: &mut String,
     alloc: A,
     world: &Group<A>,
     id: &MsgId,
@@ -242,8 +233,8 @@ pub(crate) fn push_told<A: Allocator + Copy, B: Allocator>(
 }
 
 /// Appends all of these, and who holds each of two messages.
-pub(crate) fn push_whole<A: Allocator + Copy, B: Allocator>(
-    text: &mut String<B>,
+pub(crate) fn push_whole<A: Allocator + Copy>(
+    text: &mut String,
     world: &Group<A>,
     ids: &[MsgId; 2],
 ) -> Result<(), AllocError> {
@@ -255,8 +246,8 @@ pub(crate) fn push_whole<A: Allocator + Copy, B: Allocator>(
 }
 
 /// Appends what a step gives: its deliveries, and the packets that it sends.
-pub(crate) fn push_out<A: Allocator, B: Allocator>(
-    text: &mut String<B>,
+pub(crate) fn push_out<A: Allocator>(
+    text: &mut String,
     out: &Out<Frame<A>, A>,
 ) -> Result<(), AllocError> {
     push_deliveries(text, out.deliveries.as_slice())?;
@@ -264,10 +255,7 @@ pub(crate) fn push_out<A: Allocator, B: Allocator>(
 }
 
 /// Appends the peers of a core's gossip.
-fn push_peers<A: Allocator, B: Allocator>(
-    text: &mut String<B>,
-    core: &PlumCore<A>,
-) -> Result<(), AllocError> {
+fn push_peers<A: Allocator>(text: &mut String, core: &PlumCore<A>) -> Result<(), AllocError> {
     for (name, kind) in core.peers().members() {
         let kind = if kind.is_eager() { "eager" } else { "lazy" };
         write!(text, "{name} {kind}; ")?;
@@ -276,8 +264,8 @@ fn push_peers<A: Allocator, B: Allocator>(
 }
 
 /// Appends what a core's readers answer: its views, what waits at it, its gossip's peers, and what it holds of a message.
-pub(crate) fn push_core<A: Allocator + Copy, B: Allocator>(
-    text: &mut String<B>,
+pub(crate) fn push_core<A: Allocator + Copy>(
+    text: &mut String,
     core: &PlumCore<A>,
     id: &MsgId,
 ) -> Result<(), AllocError> {
