@@ -353,6 +353,20 @@ fn try_step<A: Allocator + Copy>(
     }
 }
 
+/// Does so with a core of its own.
+fn try_owned<A: Allocator + Copy>(
+    heap: &RefusingAllocator,
+    text: &mut String,
+    mut core: PlumCore<A>,
+    stimulus: &Stimulus<Frame<A>, A>,
+    out: &mut Out<Frame<A>, A>,
+    message: &MsgId,
+    case: &Case,
+    n: u64,
+) -> Result<Option<bool>, CoreError> {
+    try_step(heap, text, &mut core, stimulus, out, message, case, n)
+}
+
 /// Does so with a copy.
 fn try_copy<A: Allocator + Copy>(
     heap: &RefusingAllocator,
@@ -364,11 +378,8 @@ fn try_copy<A: Allocator + Copy>(
     case: &Case,
     n: u64,
 ) -> Result<Option<bool>, CoreError> {
-    let mut made = core.copy();
-    match &mut made {
-        Ok(copy) => try_step(heap, text, copy, stimulus, out, message, case, n),
-        Err(_) => Err(CoreError::OutOfMemory),
-    }
+    let copy = core.copy()?;
+    try_owned(heap, text, copy, stimulus, out, message, case, n)
 }
 
 /// Takes the step at once, then refuses each allocation of the second half in turn, and at last none. How many there are, or none

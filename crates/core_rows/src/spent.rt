@@ -167,15 +167,15 @@ fn accept<A: Allocator + Copy>(
 fn sweep_core<A: Allocator + Copy>(
     rt: &impl Abort,
     heap: &RefusingAllocator,
-    core: &mut PlumCore<A>,
+    mut core: PlumCore<A>,
     stimulus: &Stimulus<Frame<A>, A>,
     refused: &MsgId,
     out: &mut Out<Frame<A>, A>,
     case: &Case,
 ) {
     assert!(rt; !case.is_joining);
-    accept(rt, core, stimulus, out, case.accepted);
-    sweep(rt, heap, core, stimulus, refused, out, case.accepted);
+    accept(rt, &mut core, stimulus, out, case.accepted);
+    sweep(rt, heap, &mut core, stimulus, refused, out, case.accepted);
 }
 
 /// Compares a start that was refused.
@@ -193,15 +193,15 @@ fn compare_start<A: Allocator>(
 fn sweep_start<A: Allocator + Copy>(
     rt: &impl Abort,
     heap: &RefusingAllocator,
-    mut started: Result<PlumCore<A>, CoreError>,
+    started: Result<PlumCore<A>, CoreError>,
     stimulus: &Stimulus<Frame<A>, A>,
     refused: &MsgId,
     out: &mut Out<Frame<A>, A>,
     case: &Case,
 ) {
-    match &mut started {
+    match started {
         Ok(core) => sweep_core(rt, heap, core, stimulus, refused, out, case),
-        Err(why) => compare_start(rt, *why, out, case),
+        Err(why) => compare_start(rt, why, out, case),
     }
 }
 
@@ -289,7 +289,21 @@ fn is_mute<A: Allocator + Copy>(
     matches!(stepped, Err(CoreError::SeqSpent)) && matches!(prepared, Err(CoreError::SeqSpent))
 }
 
-/// Starts such a node. Whether its broadcast is refused so, and it is as it was.
+/// Whether a node that started refuses a broadcast so, and is as it was.
+fn is_started_mute<A: Allocator + Copy>(
+    rt: &impl Abort,
+    heap: &RefusingAllocator,
+    mut core: PlumCore<A>,
+    stimulus: &Stimulus<Frame<A>, A>,
+    refused: &MsgId,
+    out: &mut Out<Frame<A>, A>,
+) -> bool {
+    let is_mute = is_mute(heap, &mut core, stimulus, out);
+    compare(rt, &core, refused, out, 0);
+    is_mute
+}
+
+/// Starts such a node. Whether it does so.
 fn is_refused_mute<A: Allocator + Copy>(
     rt: &impl Abort,
     heap: &RefusingAllocator,
@@ -301,10 +315,8 @@ fn is_refused_mute<A: Allocator + Copy>(
     requires { IsTrue (not (same_name names.0.name names.1)) }
 {
     let mut out = Out::new(alloc);
-    let mut core = start_mute(alloc, names, &mut out)?;
-    let is_mute = is_mute(heap, &mut core, stimulus, &mut out);
-    compare(rt, &core, refused, &out, 0);
-    Ok(is_mute)
+    let core = start_mute(alloc, names, &mut out)?;
+    Ok(is_started_mute(rt, heap, core, stimulus, refused, &mut out))
 }
 
 fn refuse_mute<A: Allocator + Copy>(
