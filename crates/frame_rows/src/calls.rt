@@ -7,6 +7,7 @@ use links::{LinkEnd, TapeReader, TapeWriter, drain, pump};
 use refusing_allocator::RefusingAllocator;
 use std::alloc::{AllocError, Allocator};
 use std::io::Read;
+use test_support::stop_refusing;
 
 /// What a pump is called with: a tape, the pieces in which it is read, the call that fails, how many frames the sink takes, and
 /// the turns.
@@ -63,8 +64,7 @@ fn pump_between<A: Allocator + Copy>(
 ) -> Pumped {
     heap.refuse(n);
     let end = pump(reader, cutter, sink, call.turns);
-    let is_refused = heap.is_spent();
-    heap.refuse(0);
+    let is_refused = stop_refusing(heap);
     let is_front = are_front(alloc, call.bytes, sink.frames.as_slice());
     Pumped {
         end,
@@ -160,8 +160,7 @@ fn drain_between<A: Allocator + Copy, B: Allocator>(
 ) -> Drained {
     heap.refuse(n);
     let answer = drain(source, writer, frames);
-    let is_refused = heap.is_spent();
-    heap.refuse(0);
+    let is_refused = stop_refusing(heap);
     let written = writer.as_slice();
     Drained {
         answer,

@@ -1,27 +1,26 @@
 //! Calls that take no memory: they succeed where the next growth is refused, and leave the refusal unspent.
 use bytes::Bytes;
 use frames::{Body, Cutter, Frame, FrameFault};
-use node_names::{Incarnation, Listed, MsgId, NodeName, Origin};
+use node_names::{Listed, MsgId, NodeName, Origin};
 use refusing_allocator::RefusingAllocator;
 use std::alloc::{AllocError, Allocator};
 use std::process::Abort;
 use std::test::Fail;
+use test_support::{first_run, message, stop_refusing};
 use world::Wire;
+
+fn name(rt: &impl Abort) -> NodeName {
+    NodeName::parse(b"a").expect(rt, "a name")
+}
 
 /// The run a/1.
 fn origin(rt: &impl Abort) -> Origin {
-    Origin {
-        name: NodeName::parse(b"a").expect(rt, "a name"),
-        incarnation: Incarnation(1),
-    }
+    first_run(name(rt))
 }
 
 /// The id a/1/1.
 fn id(rt: &impl Abort) -> MsgId {
-    MsgId {
-        origin: origin(rt),
-        seq: 1,
-    }
+    message(name(rt), 1)
 }
 
 /// Whether a frame is about messages.
@@ -61,8 +60,7 @@ fn is_calm<A: Allocator + Copy>(
     if let Ok(frame) = made {
         let _ = frame.into_body();
     }
-    let is_spent = heap.is_spent();
-    heap.refuse(0);
+    let is_spent = stop_refusing(heap);
     is_told && !is_spent
 }
 
@@ -106,8 +104,7 @@ fn is_payload_calm<A: Allocator + Copy>(
 fn is_cutter_calm<A: Allocator + Copy>(heap: &RefusingAllocator, alloc: A) -> bool {
     heap.refuse(1);
     let left = Cutter::new(alloc).left();
-    let is_spent = heap.is_spent();
-    heap.refuse(0);
+    let is_spent = stop_refusing(heap);
     left == 0 && !is_spent
 }
 

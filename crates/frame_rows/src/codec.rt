@@ -6,6 +6,7 @@ use frames::{Frame, FrameFault, decode, encode};
 use refusing_allocator::RefusingAllocator;
 use std::alloc::{AllocError, Allocator};
 use std::test::Fail;
+use test_support::stop_refusing;
 use world::Wire;
 
 /// More growths than any call has.
@@ -24,8 +25,7 @@ fn refuse_decode<A: Allocator + Copy>(
 ) -> Option<bool> {
     heap.refuse(n);
     let read = read_as(alloc, bytes);
-    let is_spent = heap.is_spent();
-    heap.refuse(0);
+    let is_spent = stop_refusing(heap);
     let first = if is_spent && wanted.is_ok() {
         Err(FrameFault::OutOfMemory)
     } else {
@@ -47,8 +47,7 @@ fn refuse_encode<A: Allocator + Copy>(
 ) -> Option<bool> {
     heap.refuse(n);
     let is_refused = encode(alloc, frame).is_err();
-    let is_spent = heap.is_spent();
-    heap.refuse(0);
+    let is_spent = stop_refusing(heap);
     let is_right = is_refused == is_spent;
     let is_again = is_written(alloc, frame, bytes);
     (is_right && is_again).then_some(is_spent)
@@ -71,8 +70,7 @@ fn refuse_copy<A: Allocator + Copy>(
 ) -> Option<bool> {
     heap.refuse(n);
     let copied = is_copied(frame);
-    let is_spent = heap.is_spent();
-    heap.refuse(0);
+    let is_spent = stop_refusing(heap);
     let is_right = copied.unwrap_or(is_spent);
     let is_again = is_copied(frame) == Some(true);
     (is_right && is_again).then_some(is_spent)

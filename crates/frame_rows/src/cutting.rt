@@ -6,6 +6,7 @@ use frames::{Cutter, Frame, FrameFault};
 use refusing_allocator::RefusingAllocator;
 use std::alloc::Allocator;
 use std::test::Fail;
+use test_support::stop_refusing;
 
 /// More growths than any call has, and more pieces and frames than any row.
 const MANY: u64 = 120;
@@ -34,8 +35,7 @@ fn feed_refused<A: Allocator + Copy>(
     let left = cutter.left();
     heap.refuse(n);
     let is_refused = cutter.feed(piece).is_err();
-    let is_spent = heap.is_spent();
-    heap.refuse(0);
+    let is_spent = stop_refusing(heap);
     let mut is_right = is_refused == is_spent;
     if is_spent {
         let is_same = cutter.left() == left;
@@ -90,8 +90,7 @@ fn next_refused<A: Allocator + Copy>(
 ) -> (Option<bool>, bool) {
     heap.refuse(n);
     let answer = cutter.next();
-    let is_spent = heap.is_spent();
-    heap.refuse(0);
+    let is_spent = stop_refusing(heap);
     (is_given(alloc, row, &answer, so_far), is_spent)
 }
 

@@ -3,10 +3,11 @@ use crate::compare::{is_read, is_written, read_as, write_gossip};
 use crate::doubles::PRUNE;
 use bytes::Bytes;
 use frames::{Body, Cutter, Frame, FrameFault, encode};
-use node_names::{Incarnation, Listed, MsgId, NodeName, Origin};
+use node_names::{Listed, MsgId, NodeName, Origin};
 use std::alloc::{AllocError, Global};
 use std::process::Abort;
 use std::test::Fail;
+use test_support::{first_run, message};
 
 /// PRUNE of a/1, number 2, and then GOSSIP of a/1, number 1: a/1/1, round 0, without payload.
 const BOTH: [u8; 74] = *b"\0\0\0\x14\x01\x0b\x01a\0\0\0\0\0\0\0\x01\0\0\0\0\0\0\0\x02\
@@ -17,17 +18,11 @@ fn name(rt: &impl Abort, bytes: &[u8]) -> NodeName {
 }
 
 fn origin(rt: &impl Abort) -> Origin {
-    Origin {
-        name: name(rt, b"a"),
-        incarnation: Incarnation(1),
-    }
+    first_run(name(rt, b"a"))
 }
 
 fn id(rt: &impl Abort) -> MsgId {
-    MsgId {
-        origin: origin(rt),
-        seq: 1,
-    }
+    message(name(rt, b"a"), 1)
 }
 
 /// Writes a frame of a/1, number 1, of a kind and with fields, in place of what was there; the length of the body is that of a
