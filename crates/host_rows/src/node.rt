@@ -1,0 +1,121 @@
+//! Nodes that have just started.
+ghost use Rattle.std.specs.Prelude.{◌≡◌, None, IsTrue, not};
+ghost use Rattle.node_names.specs.Same.{same_name};
+ghost use Rattle.world.specs.Peers.{are_peers};
+
+use node_core::PlumCore;
+use node_names::{Incarnation, Limits, NodeName, Origin};
+use node_threads::{Host, HostError, NodeCore, Outlet, Port};
+use std::alloc::{AllocError, Global};
+use std::process::Abort;
+use world::{Core, Out};
+
+/// How many frames a link has room for: more than any test sends.
+const RING: usize = 10_000;
+
+/// How many steps a node may make: more than any test makes.
+const STEPS: usize = 1_000_000;
+
+/// How often a test looks whether what it waits for has come, five milliseconds after each look.
+pub(crate) const LOOKS: u32 = 4_000;
+
+/// A host, its ports and its outlets.
+#[derive(Drop)]
+pub(crate) struct Started<C: NodeCore<Global> + Drop> {
+    pub(crate) host: Host<C>,
+    pub(crate) ports: Vec<Port<C>>,
+    pub(crate) outlets: Vec<Outlet>,
+}
+
+/// Puts an item last.
+pub(crate) fn keep<T: Drop>(list: &mut Vec<T>, item: T) -> Result<(), AllocError> {
+    list.push(item)?;
+    Ok(())
+}
+
+/// A node and two others.
+#[derive(Clone, Copy)]
+struct Names {
+    me: Origin,
+    first: NodeName,
+    second: NodeName,
+}
+
+/// The first incarnation of a name.
+pub(crate) fn first_run(name: NodeName) -> Origin
+    ensures { result.name ≡ name }
+{
+    Origin {
+        name,
+        incarnation: Incarnation(1),
+    }
+}
+
+/// The name of this text.
+pub(crate) fn name(rt: &impl Abort, text: &str) -> NodeName {
+    NodeName::parse(text.as_bytes()).expect(rt, "a name")
+}
+
+/// The names of these texts, which are distinct.
+fn parse_names(rt: &impl Abort, me: &str, first: &str, second: &str) -> Names
+    ensures first { IsTrue (not (same_name result.me.name result.first)) }
+    ensures second { IsTrue (not (same_name result.me.name result.second)) }
+    ensures others { IsTrue (not (same_name result.first result.second)) }
+{
+    let (me, first, second) = (name(rt, me), name(rt, first), name(rt, second));
+    assert!(rt; me != first);
+    assert!(rt; me != second);
+    assert!(rt; first != second);
+    Names {
+        me: first_run(me),
+        first,
+        second,
+    }
+}
+
+/// Starts a node with these peers and so many ports.
+fn start_among(
+    alloc: Global,
+    me: Origin,
+    limits: Limits,
+    peers: &[NodeName],
+    ports: usize,
+) -> Result<Started<PlumCore>, HostError>
+    requires { IsTrue (are_peers limits me.name peers.now None) }
+{
+    let mut opening = Out::new(alloc);
+    let core = match PlumCore::start(alloc, me, limits, peers, None, &mut opening) {
+        Ok(core) => core,
+        Err(error) => return Err(HostError::Refused(error)),
+    };
+    let (host, ports, outlets) = Host::start(alloc, core, opening, peers, ports, RING, STEPS)?;
+    Ok(Started {
+        host,
+        ports,
+        outlets,
+    })
+}
+
+/// Starts a node without peers.
+pub(crate) fn start_alone(
+    rt: &impl Abort,
+    alloc: Global,
+    me: &str,
+    ports: usize,
+) -> Result<Started<PlumCore>, HostError> {
+    let me = first_run(name(rt, me));
+    start_among(alloc, me, Limits::STANDARD, &[], ports)
+}
+
+/// Starts a node with two peers. Two of the three names are never the same.
+pub(crate) fn start_with_two(
+    rt: &impl Abort,
+    alloc: Global,
+    me: &str,
+    peers: [&str; 2],
+    ports: usize,
+) -> Result<Started<PlumCore>, HostError> {
+    let names = parse_names(rt, me, peers[0], peers[1]);
+    let limits = Limits::STANDARD;
+    start_among(alloc, names.me, limits, &[names.first, names.second], ports)
+}
