@@ -3,16 +3,22 @@
 
 mod draining;
 mod ends;
+mod loopback;
 mod metered;
 mod pumping;
 mod sink;
 mod tape_reader;
 mod tape_writer;
+mod tcp_reader;
+mod tcp_writer;
 
 pub use draining::drain;
 pub use ends::LinkEnd;
+pub use loopback::{accept, dial, listen};
 pub use metered::{MeteredRead, MeteredWrite};
 pub use pumping::pump;
 pub use sink::{Sink, Source};
 pub use tape_reader::TapeReader;
 pub use tape_writer::TapeWriter;
+pub use tcp_reader::TcpReader;
+pub use tcp_writer::TcpWriter;
