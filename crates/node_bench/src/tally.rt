@@ -1,0 +1,34 @@
+//! A count that threads add to and one waits for.
+use std::sync::{Condvar, Mutex, Wait};
+
+/// How much there has been so far.
+#[derive(Drop)]
+pub(crate) struct Tally {
+    count: Mutex<u64>,
+    changed: Condvar,
+}
+
+impl Tally {
+    /// Nothing yet.
+    pub(crate) fn new() -> Tally {
+        Tally {
+            count: Mutex::new(0),
+            changed: Condvar::new(),
+        }
+    }
+
+    /// Adds so much.
+    pub(crate) fn add<R: Wait>(&self, rt: &R, more: u64) {
+        let mut count = self.count.lock(rt);
+        *count = count.saturating_add(more);
+        drop(count);
+        self.changed.notify_all();
+    }
+
+    /// Waits until there has been so much.
+    pub(crate) fn wait_for<R: Wait>(&self, rt: &R, wanted: u64) {
+        let _ = self
+            .changed
+            .wait_while(rt, self.count.lock(rt), |count| *count < wanted);
+    }
+}
