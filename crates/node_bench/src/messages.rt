@@ -38,12 +38,7 @@ pub(crate) fn request(peer: Origin) -> Result<Frame> {
 }
 
 /// The message of this number as its origin sends it, or passes it on in a frame of its own.
-pub(crate) fn message(
-    sender: Origin,
-    origin: Origin,
-    seq: u64,
-    payload: &Bytes,
-) -> Result<Frame> {
+pub(crate) fn message(sender: Origin, origin: Origin, seq: u64, payload: &Bytes) -> Result<Frame> {
     let id = MsgId { origin, seq };
     let payload = payload.clone()?;
     let number = seq.saturating_add(1);

@@ -138,10 +138,7 @@ fn put<R: Wait + Drop>(alloc: Global, writer: &mut PipeWriter<R>, frame: &Frame)
 }
 
 /// A stream of the requests of all peers, and the end of it that is still open.
-fn requests<R: Wait + Copy + Drop>(
-    rt: R,
-    alloc: Global,
-) -> Result<(PipeReader<R>, PipeWriter<R>)> {
+fn requests<R: Wait + Copy + Drop>(rt: R, alloc: Global) -> Result<(PipeReader<R>, PipeWriter<R>)> {
     let (reader, mut writer) = new_pipe(rt, alloc)?;
     for peer in PEERS {
         put(alloc, &mut writer, &request(first_run(peer)?)?)?;
@@ -149,20 +146,29 @@ fn requests<R: Wait + Copy + Drop>(
     Ok((reader, writer))
 }
 
-/// A stream of so many messages of one peer, and the end of it that is still open.
-fn messages<R: Wait + Copy + Drop>(
-    rt: R,
+/// Writes the message of this number of a peer into a pipe.
+fn put_message<R: Wait + Drop>(
     alloc: Global,
-    peer: Origin,
+    writer: &mut PipeWriter<R>,
+    peer: &Origin,
+    seq: u64,
     payload: &Bytes,
+) -> Result<()> {
+    put(alloc, writer, &message(*peer, *peer, seq, payload)?)
+}
+
+/// Writes so many messages of a peer into a pipe.
+fn put_messages<R: Wait + Drop>(
+    alloc: Global,
+    writer: &mut PipeWriter<R>,
+    peer: &Origin,
     count: u64,
-) -> Result<(PipeReader<R>, PipeWriter<R>)> {
-    let (reader, mut writer) = new_pipe(rt, alloc)?;
+    payload: &Bytes,
+) -> Result<()> {
     for k in 0..count {
-        let frame = message(peer, peer, k.saturating_add(1), payload)?;
-        put(alloc, &mut writer, &frame)?;
+        put_message(alloc, writer, peer, k.saturating_add(1), payload)?;
     }
-    Ok((reader, writer))
+    Ok(())
 }
 
 /// How many bytes the node writes, once it has taken the requests, broadcast so many messages and passed so many on.
@@ -172,11 +178,70 @@ fn bytes_out(alloc: Global, payload: &Bytes, held: u64, passed: u64) -> Result<u
     let reply = size(alloc, &reply)?;
     let gossip = size(alloc, &message(me, me, 1, payload)?)?;
     let replies = reply.saturating_mul(4);
-    let gossips = held.saturating_mul(4).saturating_add(passed.saturating_mul(3));
+    let gossips = held
+        .saturating_mul(4)
+        .saturating_add(passed.saturating_mul(3));
     Ok(replies.saturating_add(gossip.saturating_mul(gossips)))
 }
 
+/// Lets a node take its peers, and then broadcast so many messages. The stream of the peers' requests stays open.
+fn prepare<R: Threads + Wait + Copy + Send + Drop + 'static>(
+    rt: R,
+    alloc: Global,
+    node: &mut Running,
+    open: &mut Vec<PipeWriter<R>>,
+    payload: &Bytes,
+    held: u64,
+) -> Result<()> {
+    let (reader, writer) = requests(rt, alloc)?;
+    open.push(writer)?;
+    node.read(rt, reader)?;
+    node.written.wait_for(&rt, bytes_out(alloc, payload, 0, 0)?);
+    node.broadcast(&rt, payload, held)?;
+    node.written
+        .wait_for(&rt, bytes_out(alloc, payload, held, 0)?);
+    Ok(())
+}
+
+/// A stream of so many messages of each peer. The streams stay open.
+fn streams<R: Wait + Copy + Drop>(
+    rt: R,
+    alloc: Global,
+    open: &mut Vec<PipeWriter<R>>,
+    payload: &Bytes,
+    share: u64,
+) -> Result<Vec<PipeReader<R>>> {
+    let mut readers = Vec::new(alloc);
+    for peer in PEERS {
+        let (reader, mut writer) = new_pipe(rt, alloc)?;
+        put_messages(alloc, &mut writer, &first_run(peer)?, share, payload)?;
+        open.push(writer)?;
+        readers.push(reader)?;
+    }
+    Ok(readers)
+}
+
+/// Lets a node read streams, and waits until it has delivered so many messages and written so many bytes. Returns how many
+/// microseconds that took.
+fn pass<R: Clock + Threads + Wait + Copy + Send + Drop + 'static>(
+    rt: R,
+    node: &mut Running,
+    readers: Vec<PipeReader<R>>,
+    delivered: u64,
+    written: u64,
+) -> Result<u64> {
+    let start = Instant::now(&rt)?;
+    for reader in readers {
+        node.read(rt, reader)?;
+    }
+    node.delivered.wait_for(&rt, delivered);
+    node.written.wait_for(&rt, written);
+    Ok(u64::try_from(start.elapsed(&rt)?.as_micros()).unwrap_or(u64::MAX))
+}
+
 /// Lets a node read so many messages of its peers, which it delivers and passes on, once it has broadcast so many others.
+///
+/// A stream that ends takes the peer down that wrote to it last, so all stay open until the node is stopped.
 pub(crate) fn run<R: Clock + Threads + Wait + Copy + Send + Drop + 'static>(
     rt: R,
     alloc: Global,
@@ -184,30 +249,14 @@ pub(crate) fn run<R: Clock + Threads + Wait + Copy + Send + Drop + 'static>(
     held: u64,
 ) -> Result<Sent> {
     let payload = payload(alloc)?;
-    let mut node = Running::start(rt, alloc)?;
-    // A stream that ends takes the peer down that wrote to it last: all stay open until the node is stopped.
     let mut open = Vec::new(alloc);
-    let (reader, writer) = requests(rt, alloc)?;
-    node.read(rt, reader)?;
-    open.push(writer)?;
-    node.written.wait_for(&rt, bytes_out(alloc, &payload, 0, 0)?);
-    node.broadcast(&rt, &payload, held)?;
-    node.written.wait_for(&rt, bytes_out(alloc, &payload, held, 0)?);
-    let share = count / 4;
-    let mut streams = Vec::new(alloc);
-    for peer in PEERS {
-        let (reader, writer) = messages(rt, alloc, first_run(peer)?, &payload, share)?;
-        streams.push(reader)?;
-        open.push(writer)?;
-    }
-    let frames_in = share.saturating_mul(4);
-    let start = Instant::now(&rt)?;
-    for reader in streams {
-        node.read(rt, reader)?;
-    }
-    node.delivered.wait_for(&rt, held.saturating_add(frames_in));
-    node.written.wait_for(&rt, bytes_out(alloc, &payload, held, frames_in)?);
-    let micros = u64::try_from(start.elapsed(&rt)?.as_micros()).unwrap_or(u64::MAX);
+    let mut node = Running::start(rt, alloc)?;
+    prepare(rt, alloc, &mut node, &mut open, &payload, held)?;
+    let readers = streams(rt, alloc, &mut open, &payload, count / 4)?;
+    let frames_in = (count / 4).saturating_mul(4);
+    let delivered = held.saturating_add(frames_in);
+    let written = bytes_out(alloc, &payload, held, frames_in)?;
+    let micros = pass(rt, &mut node, readers, delivered, written)?;
     node.host.stop(&rt);
     drop(open);
     node.close(&rt)?;
