@@ -1,0 +1,11 @@
+use Rattle.std.proofs.Common.{◌≡◌, ◌<◌, ℕ}
+use Rattle.std.specs.Prelude.{Some, slice_get}
+use Rattle.world.specs.Trace.{Trace}
+use Rattle.frames.specs.Frame.{Frame}
+use Rattle.trace_merge.specs.Held.{IsEarlier}
+use Rattle.trace_merge.specs.Merging.{IsOut, place_at}
+use Rattle.trace_merge.proofs.readiness.is_ready.Given as goal
+
+-- the earlier runs so far are played out
+abbrev pub invariant-loop-at : goal.invariant-loop-at
+invariant-loop-at g l = (i : ℕ) (t : Trace Frame) → i < l.at → slice_get l.traces i ≡ Some t → IsEarlier t.origin l.origin → IsOut t (place_at l.places i)

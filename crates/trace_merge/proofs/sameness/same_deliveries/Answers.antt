@@ -1,0 +1,12 @@
+-- Each pair is compared.
+use Rattle.std.proofs.Common.{rules, tests}
+use Rattle.std.proofs.lemmas.Iterator.{YieldsList-from_slice, YieldsList-from_zip, same_from_all}
+use Rattle.trace_merge.proofs.sameness.same_deliveries.Goals as goal
+
+pub returns-then-given-others : goal.returns-then-given-others
+returns-then-given-others g c =
+    same_from_all c.all.new.self _ _ _ _ c.all.ensures.ran
+    (YieldsList-from_zip (YieldsList-from_slice c.args.given.now cc) (YieldsList-from_slice c.args.others.now cc))
+    (search rules)
+    (λ x q k. search (rules, tests))
+    (λ x q k. search (rules, tests))

@@ -1,0 +1,179 @@
+//! How a trace is played as far as it goes.
+ghost use Rattle.std.specs.Prelude.{◌≡◌, ◌<◌, suc, Ok, None, Some, true, false, IfErr, IfOk, OnOk, length, slice_get};
+ghost use Rattle.world.specs.Group.{Group};
+ghost use Rattle.frames.specs.Frame.{Frame as Said};
+ghost use Rattle.node_core.specs.Plum.{Plum};
+ghost use Rattle.trace_merge.specs.Held.{AreHeld};
+ghost use Rattle.trace_merge.specs.Merging.{AreDistinct, AwaitsBy, AwaitsRun, IsMerging, Refuses, Tells, place_at};
+ghost use Rattle.trace_merge.specs.Steps.{Advances, GoesOn, IsNoArrival, Rests};
+
+use crate::fault::MergeFault;
+use crate::merging::Merging;
+use crate::readiness::is_ready;
+use crate::stuck::place_at;
+use frames::Frame;
+use node_names::NodeName;
+use std::alloc::{AllocError, Allocator};
+use world::{Event, EventOf, Step, Stimulus, StimulusOf, Trace};
+
+/// The event by which the core of this name takes a stimulus that is no packet.
+fn event_of<A: Allocator + Copy>(
+    name: NodeName,
+    stimulus: &Stimulus<Frame<A>, A>,
+) -> Result<Event<A>, AllocError>
+    requires { IsNoArrival stimulus.now }
+    ensures { IfOk result (λ event. (group : Group Plum Said) → Tells group event name stimulus.now) }
+{
+    Ok(match stimulus {
+        StimulusOf::Broadcast(payload) => EventOf::Broadcast {
+            name,
+            payload: payload.clone()?,
+        },
+        StimulusOf::Fire(id) => EventOf::Fire { name, id: *id },
+        StimulusOf::Flush => EventOf::Flush { name },
+        StimulusOf::Down { peer, dice } => EventOf::Down {
+            name,
+            peer: *peer,
+            dice: *dice,
+        },
+        StimulusOf::Shuffle(dice) => EventOf::Shuffle { name, dice: *dice },
+        StimulusOf::Arrive { .. } => unreachable!(),
+    })
+}
+
+impl<A: Allocator + Copy> Merging<A> {
+    /// Plays the next step of a trace, unless it waits for a frame. Returns whether it was played.
+    fn take_next(
+        &mut self,
+        traces: &[Trace<Frame<A>, A>],
+        at: usize,
+        trace: &Trace<Frame<A>, A>,
+        place: usize,
+        step: &Step<Frame<A>, A>,
+    ) -> Result<bool, MergeFault>
+        requires distinct { AreDistinct traces.now }
+        requires merging { IsMerging self.old.world.limits traces.now self.old }
+        requires listed { slice_get traces.now at ≡ Some trace.now }
+        requires placed { place_at self.old.places at ≡ Some place }
+        requires taken { slice_get trace.now.steps place ≡ Some step.now }
+        ensures played { result ≡ Ok true → GoesOn traces.now at (suc place) self.old self.new }
+        ensures same { result ≡ Ok false → self.new ≡ self.old }
+        ensures waits { result ≡ Ok false → AwaitsBy traces.now self.old.places step.now.stimulus }
+        ensures err { IfErr result (Refuses self.old.world.limits traces.now) }
+    {
+        if let StimulusOf::Arrive { sender, note, dice } = &step.stimulus {
+            return self.take_arrival(traces, at, trace, place, step, *sender, note, *dice);
+        }
+        let event = event_of(trace.origin().name, &step.stimulus)?;
+        self.take_step(traces, at, trace, place, step, event)?;
+        Ok(true)
+    }
+}
+
+impl<A: Allocator + Copy> Merging<A> {
+    /// Plays what comes next of the trace at a place, its start or a step, unless that must wait. Returns whether it was played.
+    fn play_one(
+        &mut self,
+        alloc: A,
+        traces: &[Trace<Frame<A>, A>],
+        at: usize,
+    ) -> Result<bool, MergeFault>
+        requires distinct { AreDistinct traces.now }
+        requires merging { IsMerging self.old.world.limits traces.now self.old }
+        requires within { at < length traces.now }
+        ensures played { result ≡ Ok true → Advances traces.now self.old self.new }
+        ensures waits { result ≡ Ok false → Rests traces.now at self.old self.new }
+        ensures err { IfErr result (Refuses self.old.world.limits traces.now) }
+    {
+        let trace = &traces[at];
+        let Some(place) = place_at(&self.places, at) else {
+            return self.start_ready(alloc, traces, at, trace);
+        };
+        match trace.step(place) {
+            Some(step) => self.take_next(traces, at, trace, place, step),
+            None => Ok(false),
+        }
+    }
+
+    /// Starts a trace, unless an earlier run of its name is to be played out first. Returns whether it was started.
+    fn start_ready(
+        &mut self,
+        alloc: A,
+        traces: &[Trace<Frame<A>, A>],
+        at: usize,
+        trace: &Trace<Frame<A>, A>,
+    ) -> Result<bool, MergeFault>
+        requires distinct { AreDistinct traces.now }
+        requires merging { IsMerging self.old.world.limits traces.now self.old }
+        requires listed { slice_get traces.now at ≡ Some trace.now }
+        requires placed { place_at self.old.places at ≡ None }
+        ensures played { result ≡ Ok true → GoesOn traces.now at 0 self.old self.new }
+        ensures same { result ≡ Ok false → self.new ≡ self.old }
+        ensures waits { result ≡ Ok false → AwaitsRun traces.now self.old.places trace.now.origin }
+        ensures err { IfErr result (Refuses self.old.world.limits traces.now) }
+    {
+        if !is_ready(traces, &self.places, &trace.origin()) {
+            return Ok(false);
+        }
+        self.start(alloc, traces, at, trace)?;
+        Ok(true)
+    }
+}
+
+impl<A: Allocator + Copy> Merging<A> {
+    /// Plays a trace as far as it goes. Returns whether anything was played.
+    fn play_on(
+        &mut self,
+        alloc: A,
+        traces: &[Trace<Frame<A>, A>],
+        at: usize,
+    ) -> Result<bool, MergeFault>
+        requires distinct { AreDistinct traces.now }
+        requires merging { IsMerging self.old.world.limits traces.now self.old }
+        requires within { at < length traces.now }
+        ensures played { result ≡ Ok true → Advances traces.now self.old self.new }
+        ensures waits { result ≡ Ok false → Rests traces.now at self.old self.new }
+        ensures err { IfErr result (Refuses self.old.world.limits traces.now) }
+    {
+        let mut moved = false;
+        loop {
+            if !self.play_one(alloc, traces, at)? {
+                return Ok(moved);
+            }
+            moved = true;
+        }
+    }
+
+    /// Goes over all traces once, and plays each as far as it goes. Returns whether anything was played.
+    fn pass(&mut self, alloc: A, traces: &[Trace<Frame<A>, A>]) -> Result<bool, MergeFault>
+        requires distinct { AreDistinct traces.now }
+        requires merging { IsMerging self.old.world.limits traces.now self.old }
+        ensures played { result ≡ Ok true → Advances traces.now self.old self.new }
+        ensures same { result ≡ Ok false → self.new ≡ self.old }
+        ensures waits { result ≡ Ok false → AreHeld traces.now self.old.places }
+        ensures err { IfErr result (Refuses self.old.world.limits traces.now) }
+    {
+        let mut moved = false;
+        for at in 0..traces.len() {
+            moved |= self.play_on(alloc, traces, at)?;
+        }
+        Ok(moved)
+    }
+
+    /// Goes over the traces again and again, until none can be played on.
+    pub(crate) fn play_all(
+        &mut self,
+        alloc: A,
+        traces: &[Trace<Frame<A>, A>],
+    ) -> Result<(), MergeFault>
+        requires distinct { AreDistinct traces.now }
+        requires merging { IsMerging self.old.world.limits traces.now self.old }
+        ensures limits { OnOk result (self.new.world.limits ≡ self.old.world.limits) }
+        ensures merging { OnOk result (IsMerging self.old.world.limits traces.now self.new) }
+        ensures held { OnOk result (AreHeld traces.now self.new.places) }
+        ensures err { IfErr result (Refuses self.old.world.limits traces.now) }
+    {
+        while self.pass(alloc, traces)? {}
+        Ok(())
+    }
+}

@@ -1,0 +1,50 @@
+//! How a packet comes to be in flight.
+ghost use Rattle.std.specs.Prelude.{◌≡◌, ◌<◌, Some, IfErr, IfOk, IfSome, OnOk, length, slice_get};
+ghost use Rattle.trace_merge.specs.Merging.{IsMerging};
+
+use crate::fault::MergeFault;
+use crate::merging::Merging;
+use frames::Frame;
+use std::alloc::Allocator;
+use world::{EventOf, Trace, WorldError};
+
+/// Where the packet of this number is in flight, if it is. The numbers in flight rise, as long as each packet that is put there
+/// once more arrives next.
+fn place_of(flight: &[usize], number: usize) -> Option<usize>
+    ensures { IfSome result (λ place. slice_get flight.now place ≡ Some number) }
+{
+    let place = flight.binary_search(&number).ok()?;
+    if flight.get(place) == Some(&number) {
+        Some(place)
+    } else {
+        None
+    }
+}
+
+impl<A: Allocator + Copy> Merging<A> {
+    /// Puts a packet into flight that was sent, unless it is there. Returns its place there.
+    pub(crate) fn fly(
+        &mut self,
+        traces: &[Trace<Frame<A>, A>],
+        number: usize,
+    ) -> Result<usize, MergeFault>
+        requires merging { IsMerging self.old.world.limits traces.now self.old }
+        requires sent { number < length self.old.world.group.sent }
+        ensures limits { OnOk result (self.new.world.limits ≡ self.old.world.limits) }
+        ensures places { OnOk result (self.new.places ≡ self.old.places) }
+        ensures packets { OnOk result (self.new.world.group.sent ≡ self.old.world.group.sent) }
+        ensures ok { OnOk result (IsMerging self.old.world.limits traces.now self.new) }
+        ensures place { IfOk result (λ place. slice_get self.new.world.group.flight place ≡ Some number) }
+        ensures err { IfErr result (λ fault. fault ≡ MergeFault.OutOfMemory) }
+    {
+        if let Some(place) = place_of(self.world.flight(), number) {
+            return Ok(place);
+        }
+        let place = self.world.flight().len();
+        match self.play(EventOf::Again { number }) {
+            Ok(()) => Ok(place),
+            Err(WorldError::OutOfMemory) => Err(MergeFault::OutOfMemory),
+            Err(_) => unreachable!(),
+        }
+    }
+}
