@@ -124,6 +124,11 @@ impl<C: NodeCore<A> + Drop, A: Allocator + Copy> Host<C, A> {
         self.shared.stop(rt);
     }
 
+    /// Whether the name is in the core's active view now.
+    pub fn is_neighbour<R: Wait>(&self, rt: &R, name: &NodeName) -> bool {
+        self.shared.is_neighbour(rt, name)
+    }
+
     /// A worker's way to the node's steps.
     pub(crate) fn stepper<R: Wait, G: Gate + Drop>(
         &self,

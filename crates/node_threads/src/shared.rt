@@ -10,7 +10,7 @@ use crate::receipt::Receipt;
 use bytes::Bytes;
 use crossbeam_utils::CachePadded;
 use frames::Frame;
-use node_names::MsgId;
+use node_names::{MsgId, NodeName};
 use std::alloc::Allocator;
 use std::sync::atomic::{AtomicUsize, Ordering};
 use std::sync::{Condvar, Mutex, Wait};
@@ -18,7 +18,7 @@ use world::{Delivery, Stimulus, StimulusOf};
 
 /// A node that runs. The lock holds the cell until the node is closed.
 ///
-/// Waiting threads are told of each step and of the stop.
+/// Waiting threads are told of each step that sends or delivers, and of the stop.
 #[derive(Drop)]
 pub(crate) struct Shared<C: NodeCore<A> + Drop, A: Allocator> {
     cell: CachePadded<Mutex<Option<NodeCell<C, A>>>>,
@@ -64,6 +64,18 @@ fn is_idle<C: NodeCore<A> + Drop, A: Allocator + Copy>(cell: &Option<NodeCell<C,
     }
 }
 
+/// Whether a step from this place on sent or delivered something, so that somebody may wait for it.
+fn has_moved<C: NodeCore<A> + Drop, A: Allocator + Copy>(
+    cell: &NodeCell<C, A>,
+    first: usize,
+) -> bool {
+    let trace = cell.trace();
+    (first..trace.len()).any(|place| match trace.step(place) {
+        Some(step) => !step.out.sends.is_empty() || !step.out.deliveries.is_empty(),
+        None => false,
+    })
+}
+
 impl<C: NodeCore<A> + Drop, A: Allocator + Copy> Shared<C, A> {
     /// A node whose links have rings for so many frames.
     pub(crate) fn new(alloc: A, cell: NodeCell<C, A>, ring: usize) -> Shared<C, A> {
@@ -76,7 +88,7 @@ impl<C: NodeCore<A> + Drop, A: Allocator + Copy> Shared<C, A> {
         }
     }
 
-    /// Applies the stimulus with its Downs under one hold of the lock, and tells those that wait.
+    /// Applies the stimulus with its Downs under one hold of the lock, and tells those that wait if anything was sent or delivered.
     pub(crate) fn apply<R: Wait>(
         &self,
         rt: &R,
@@ -86,9 +98,13 @@ impl<C: NodeCore<A> + Drop, A: Allocator + Copy> Shared<C, A> {
         let Some(cell) = &mut *guard else {
             return Err(HostError::Closed);
         };
+        let first = cell.trace().len();
         let applied = cell.apply_with_downs(stimulus)?;
+        let has_moved = has_moved(cell, first);
         drop(guard);
-        self.moved.notify_all();
+        if has_moved {
+            self.moved.notify_all();
+        }
         Ok(applied)
     }
 
@@ -133,6 +149,14 @@ impl<C: NodeCore<A> + Drop, A: Allocator + Copy> Shared<C, A> {
             cell.shut();
         }
         self.moved.notify_all();
+    }
+
+    /// Whether the name is in the core's active view.
+    pub(crate) fn is_neighbour<R: Wait>(&self, rt: &R, name: &NodeName) -> bool {
+        match &*self.cell.lock(rt) {
+            Some(cell) => cell.core().active().contains(name),
+            None => false,
+        }
     }
 
     /// Whether the node was stopped.
