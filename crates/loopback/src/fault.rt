@@ -1,0 +1,53 @@
+//! Why a group did not run to its end.
+use node_names::NodeName;
+use node_threads::HostError;
+use std::alloc::{AllocError, AllocFailed};
+use thiserror::Error;
+
+/// Why a group did not run, or what its nodes leave is not as it should be.
+#[derive(Clone, Copy, Debug, PartialEq, Eq, Error)]
+pub enum RunFault {
+    /// The node's port can't be listened on: it is in use, or two nodes have it.
+    #[error("node {node}: cannot listen")]
+    CannotListen { node: NodeName },
+    /// The node can't start with its peers and its contact.
+    #[error("node {node}: it can't start with these peers and this contact")]
+    BadPeers { node: NodeName },
+    /// The node refused a broadcast.
+    #[error("node {node}: {why}")]
+    Refused { node: NodeName, why: HostError },
+    /// What the node's port was told of its broadcasts is not what its history has.
+    #[error("node {node}: the receipts of its broadcasts are not as in its history")]
+    Unlike { node: NodeName },
+    /// A worker of the node did not come back.
+    #[error("node {node}: a worker is missing")]
+    WorkerMissing { node: NodeName },
+    /// What came out of one of the node's links is not what the node sent.
+    #[error("node {node}: what came out of a link is not what was sent")]
+    Torn { node: NodeName },
+    /// An allocation is refused, or no thread can be made.
+    #[error("out of memory")]
+    OutOfMemory,
+}
+
+impl From<AllocError> for RunFault {
+    fn from(_error: AllocError) -> RunFault {
+        RunFault::OutOfMemory
+    }
+}
+
+impl<T: Drop> From<AllocFailed<T>> for RunFault {
+    fn from(_error: AllocFailed<T>) -> RunFault {
+        RunFault::OutOfMemory
+    }
+}
+
+impl RunFault {
+    /// The fault of a node that refused a broadcast for this reason.
+    pub(crate) fn of_broadcast(node: NodeName, why: HostError) -> RunFault {
+        match why {
+            HostError::OutOfMemory => RunFault::OutOfMemory,
+            why => RunFault::Refused { node, why },
+        }
+    }
+}
