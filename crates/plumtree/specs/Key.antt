@@ -1,7 +1,7 @@
 -- How the keys of a scenario are written.
 use Rattle.std.specs.Prelude.{ℕ, List, codes}
 use Rattle.plumtree.specs.declared.scenario.fault.Key.{Key}
-use Rattle.plumtree.specs.declared.scenario.fault.Key.TheVariants.{Seed, Limits, Event, Active, Passive, Arwl, Prwl, Ka, Kp, LimitsTogether, Do, Node, Incarnation, Peers, Contact, Text, Place, Number, Origin, Seq, Peer}
+use Rattle.plumtree.specs.declared.scenario.fault.Key.TheVariants.{Seed, Limits, Event, Active, Passive, Arwl, Prwl, Ka, Kp, LimitsTogether, Do, Node, Incarnation, Peers, Contact, Text, Place, Number, Origin, Seq, Peer, Ticks, Name, Port, Say}
 
 -- the word for each key; limits that do not go together have the code of their fault
 abbrev pub word_of : Key → List ℕ
@@ -26,3 +26,7 @@ word_of Number = codes "number"
 word_of Origin = codes "origin"
 word_of Seq = codes "seq"
 word_of Peer = codes "peer"
+word_of Ticks = codes "ticks"
+word_of Name = codes "name"
+word_of Port = codes "port"
+word_of Say = codes "say"

@@ -2,6 +2,8 @@
 ghost use Rattle.std.specs.Prelude.{Some};
 ghost use Rattle.plumtree.specs.Code.{code_of};
 
+use loopback::RunFault;
+use node_threads::HostError;
 use std::fmt;
 use world::WorldError;
 
@@ -26,5 +28,37 @@ impl fmt::Display for Code {
             WorldError::SeqSpent => f.write_str("W7"),
             WorldError::OutOfMemory => f.write_str("W8"),
         }
+    }
+}
+
+/// Why a group did not run to its end, which prints with the refusal's code.
+#[derive(Clone, Copy, Debug, PartialEq, Eq)]
+pub struct RunCode(pub RunFault);
+
+impl fmt::Display for RunCode {
+    fn fmt<W: fmt::Write>(&self, f: &mut fmt::Formatter<W>) -> fmt::Result {
+        match self.0 {
+            RunFault::CannotListen { node } => write!(f, "node {node}: cannot listen"),
+            RunFault::BadPeers { node } => write!(f, "node {node}: W4"),
+            RunFault::Refused { node, why } => {
+                let code = host_code(why);
+                write!(f, "node {node}: {code}")
+            }
+            RunFault::Unlike { node } => write!(f, "node {node}: C1"),
+            RunFault::WorkerMissing { node } => write!(f, "node {node}: C2"),
+            RunFault::Torn { node } => write!(f, "node {node}: C4"),
+            RunFault::OutOfMemory => f.write_str("out of memory"),
+        }
+    }
+}
+
+/// The code of a running node's refusal.
+fn host_code(why: HostError) -> &'static str {
+    match why {
+        HostError::Closed => "H1",
+        HostError::Refused(_) => "H2",
+        HostError::TraceFull => "H4",
+        HostError::OutOfMemory => "H5",
+        HostError::GateShut => "H6",
     }
 }

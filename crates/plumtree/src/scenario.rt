@@ -8,11 +8,14 @@ ghost use Rattle.plumtree.specs.Scenario.{AreActions, Describes, IsAction};
 
 mod action;
 mod fault;
+mod group;
 mod limits;
+mod member;
 mod section;
 
 pub use action::Action;
 pub use fault::{Key, Place, ScenarioFault};
+pub use group::GroupScenario;
 use node_names::Limits;
 use section::Section;
 use std::alloc::Global;

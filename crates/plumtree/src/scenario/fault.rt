@@ -58,6 +58,9 @@ pub enum Place {
     /// An event, counted from 0.
     #[error("event {0}")]
     Event(usize),
+    /// A node that is to run, counted from 0.
+    #[error("node {0}")]
+    Node(usize),
 }
 
 /// A key of a scenario, or the limits taken together. It prints as it is written in a scenario.
@@ -85,6 +88,10 @@ pub enum Key {
     Origin,
     Seq,
     Peer,
+    Ticks,
+    Name,
+    Port,
+    Say,
 }
 
 impl Key {
@@ -114,6 +121,10 @@ impl Key {
             Key::Origin => "origin",
             Key::Seq => "seq",
             Key::Peer => "peer",
+            Key::Ticks => "ticks",
+            Key::Name => "name",
+            Key::Port => "port",
+            Key::Say => "say",
         }
     }
 }

@@ -6,6 +6,7 @@ ghost use Rattle.toml.specs.Data.{Members, as_table};
 ghost use Rattle.plumtree.specs.Reading.{at_key, ReadsOptional, ReadsOptionalAs, ReadsRequired, ReadsRequiredAs, IsNumber, IsNumberFromOne, IsText, IsName, IsTable, IsNames, IsList, IsTables, tables, texts};
 
 use super::fault::{Key, Place, ScenarioFault};
+use bytes::Bytes;
 use node_names::{Listed, NodeName};
 use std::alloc::{AllocError, Global};
 use toml::{Table, Value};
@@ -45,6 +46,19 @@ impl<'a> Section<'a> {
                 Some(number) => Ok(Some(number)),
                 None => Err(self.refused(key)),
             },
+        }
+    }
+
+    /// The whole number at a key, in this range, or `None` where the key is left out.
+    pub fn optional_number_between(
+        &self,
+        key: Key,
+        least: u64,
+        most: u64,
+    ) -> Result<Option<u64>, ScenarioFault> {
+        match self.optional_number(key, most)? {
+            Some(number) if number < least => Err(self.refused(key)),
+            number => Ok(number),
         }
     }
 
@@ -156,6 +170,18 @@ impl<'a> Section<'a> {
             Some(names) => Ok(names),
             None => Err(self.refused(key)),
         }
+    }
+
+    /// The texts at a key, in order, or none where the key is left out.
+    pub fn texts(&self, alloc: Global, key: Key) -> Result<Vec<Bytes>, ScenarioFault> {
+        let mut texts = Vec::new(alloc);
+        for value in self.optional_list(key)?.unwrap_or(&[]) {
+            match value.as_str() {
+                Some(text) => texts.push(Bytes::copy_from_slice(alloc, text.as_bytes())?)?,
+                None => return Err(self.refused(key)),
+            }
+        }
+        Ok(texts)
     }
 }
 

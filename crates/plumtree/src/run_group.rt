@@ -1,0 +1,209 @@
+//! A group that runs, and what is written of it.
+use crate::arguments::Form;
+use crate::graph::write_graph;
+use crate::output;
+use crate::output::OutputFault;
+use crate::read::read_document;
+use crate::scenario::{GroupScenario, ScenarioFault};
+use crate::trees::{broadcasts, write_trees};
+use loopback::{Ran, RunFault, Watch, run};
+use node_core::PlumCore;
+use node_names::Limits;
+use std::alloc::{AllocError, Global};
+use std::io::Write;
+use std::net::{Net, TcpListener, TcpStream};
+use std::sync::Wait;
+use std::thread::Threads;
+use std::time::Clock;
+use trace_merge::{MergeFault, merge};
+use world::{Delivery, Event, World, WorldError};
+
+/// The room for a line: the longest payload in hexadecimal, and what stands before it.
+const LINE_ROOM: usize = 66_000;
+
+/// Why a group did not run and was not written to its end.
+#[derive(Clone, Copy, Debug, PartialEq, Eq)]
+pub enum RunFailure {
+    /// No scenario was read.
+    Refused(ScenarioFault),
+    /// The group did not run to its end.
+    Stopped(RunFault),
+    /// The histories of the nodes are not those of one run of a group. What was delivered is written.
+    Unmerged(MergeFault),
+    /// A write failed.
+    Unwritten,
+    /// An allocation is refused.
+    OutOfMemory,
+}
+
+impl From<ScenarioFault> for RunFailure {
+    fn from(fault: ScenarioFault) -> RunFailure {
+        RunFailure::Refused(fault)
+    }
+}
+
+impl From<RunFault> for RunFailure {
+    fn from(fault: RunFault) -> RunFailure {
+        RunFailure::Stopped(fault)
+    }
+}
+
+impl From<OutputFault> for RunFailure {
+    fn from(fault: OutputFault) -> RunFailure {
+        match fault {
+            OutputFault::OutOfMemory => RunFailure::OutOfMemory,
+            OutputFault::Unwritten => RunFailure::Unwritten,
+        }
+    }
+}
+
+impl From<AllocError> for RunFailure {
+    fn from(_error: AllocError) -> RunFailure {
+        RunFailure::OutOfMemory
+    }
+}
+
+/// Reads a text as the scenario of a group, runs the group over connections within this machine, and writes what its nodes
+/// delivered, whether their histories are those of one run, and what that run is.
+pub fn run_group<R, W, V>(
+    rt: R,
+    alloc: Global,
+    form: Form,
+    text: &[u8],
+    out: &mut W,
+    watch: &mut V,
+) -> Result<(), RunFailure>
+where
+    R: Threads
+        + Wait
+        + Clock
+        + Net<Listener = TcpListener, Stream = TcpStream>
+        + Copy
+        + Send
+        + Drop
+        + 'static,
+    W: Write,
+    V: Watch,
+{
+    let GroupScenario { plan, members } = read_group(alloc, text)?;
+    let ran = run(rt, alloc, &plan, members, watch)?;
+    write_run(alloc, form, plan.limits, &ran, out)
+}
+
+/// Reads a text as the scenario of a group.
+fn read_group(alloc: Global, text: &[u8]) -> Result<GroupScenario, ScenarioFault> {
+    let document = read_document(alloc, text)?;
+    GroupScenario::from_document(alloc, &document)
+}
+
+/// Writes what a group delivered and what its histories are as one run.
+fn write_run<W: Write>(
+    alloc: Global,
+    form: Form,
+    limits: Limits,
+    ran: &Ran,
+    out: &mut W,
+) -> Result<(), RunFailure> {
+    let merged = merge(alloc, limits, ran.traces.as_slice());
+    match form {
+        Form::Lines => {
+            let mut text = String::with_capacity(alloc, LINE_ROOM)?;
+            write_deliveries(alloc, &mut text, ran.deliveries.as_slice(), out)?;
+            if !ran.traces.is_empty() {
+                write_verdict(&mut text, &merged, out)?;
+            }
+            let group = group_of(alloc, limits, merged)?;
+            write_group(alloc, &mut text, &group, out)
+        }
+        Form::Graph => {
+            let group = group_of(alloc, limits, merged)?;
+            draw_group(alloc, &group, out)
+        }
+    }
+}
+
+/// References to deliveries, in their order.
+fn references(alloc: Global, deliveries: &[Delivery]) -> Result<Vec<&Delivery>, AllocError> {
+    let mut references = Vec::new(alloc);
+    for delivery in deliveries {
+        references.push(delivery)?;
+    }
+    Ok(references)
+}
+
+/// Writes the lines of deliveries.
+fn write_deliveries<W: Write>(
+    alloc: Global,
+    text: &mut String,
+    deliveries: &[Delivery],
+    out: &mut W,
+) -> Result<(), OutputFault> {
+    let mut sorted = references(alloc, deliveries)?;
+    output::sort(&mut sorted)?;
+    output::write_lines(text, sorted.as_slice(), out)
+}
+
+/// Writes whether the histories are those of one run.
+fn write_verdict<W: Write>(
+    text: &mut String,
+    merged: &Result<Vec<Event>, MergeFault>,
+    out: &mut W,
+) -> Result<(), OutputFault> {
+    text.clear();
+    match merged {
+        Ok(_) => text.push_str("merge ok\n")?,
+        Err(MergeFault::OutOfMemory) => return Err(OutputFault::OutOfMemory),
+        Err(fault) => write!(text, "merge {fault}\n")?,
+    }
+    out.write_all(text.as_bytes())?;
+    Ok(out.flush()?)
+}
+
+/// The group of the merged run, as it stands at its end.
+fn group_of(
+    alloc: Global,
+    limits: Limits,
+    merged: Result<Vec<Event>, MergeFault>,
+) -> Result<World<PlumCore>, RunFailure> {
+    let events = match merged {
+        Ok(events) => events,
+        Err(MergeFault::OutOfMemory) => return Err(RunFailure::OutOfMemory),
+        Err(fault) => return Err(RunFailure::Unmerged(fault)),
+    };
+    let mut group = World::new(alloc, limits);
+    match play_all(&mut group, events.as_slice()) {
+        Ok(()) => Ok(group),
+        Err(_) => Err(RunFailure::OutOfMemory),
+    }
+}
+
+/// Has a group take events. It takes all that `merge` answered, but where an allocation is refused.
+fn play_all(group: &mut World<PlumCore>, events: &[Event]) -> Result<(), WorldError> {
+    for event in events {
+        group.play(event)?;
+    }
+    Ok(())
+}
+
+/// Writes the tree of each message.
+fn write_group<W: Write>(
+    alloc: Global,
+    text: &mut String,
+    group: &World<PlumCore>,
+    out: &mut W,
+) -> Result<(), RunFailure> {
+    let deliveries = output::deliveries(alloc, group.log())?;
+    let messages = broadcasts(alloc, deliveries.as_slice())?;
+    Ok(write_trees(alloc, text, group, messages.as_slice(), out)?)
+}
+
+/// Draws the group, with the tree of each message.
+fn draw_group<W: Write>(
+    alloc: Global,
+    group: &World<PlumCore>,
+    out: &mut W,
+) -> Result<(), RunFailure> {
+    let deliveries = output::deliveries(alloc, group.log())?;
+    let messages = broadcasts(alloc, deliveries.as_slice())?;
+    Ok(write_graph(alloc, group, messages.as_slice(), out)?)
+}
