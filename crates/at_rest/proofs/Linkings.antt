@@ -32,6 +32,7 @@ module _ {C N : Type 0} (state : C → CoreState) (group : Group C N) where
 
   -- the test of a link tells whether there is one
   pub link_is : (name peer : Name) → has_link state group.nodes name peer ≡ true → Links name peer
+  unfolding has_link
   link_is name peer h = go (core_of name group.nodes) refl h
     where
       go : (o : Option C) → core_of name group.nodes ≡ o → option_map_or (λ (core : C). has_name (state core).active peer) o false ≡ true → Links name peer
@@ -39,6 +40,7 @@ module _ {C N : Type 0} (state : C → CoreState) (group : Group C N) where
       go (Some core) e member = (core, core_runs group name core e, member)
 
   pub is_link : (name peer : Name) → Links name peer → has_link state group.nodes name peer ≡ true
+  unfolding has_link
   is_link name peer link = ap (λ o. option_map_or (λ (core : C). has_name (state core).active peer) o false) (runs_core group name link.0 link.1) ∙ link.2
 
   -- Each active member of the core that runs under the name runs, and has the name as an active member.

@@ -26,6 +26,7 @@ id_is id = (same_id-Decides id id).1 refl
 
 -- a silent content neither carries nor announces nor asks
 silent_is : (id : MsgId) (content : Content) → is_silent id content ≡ true → IsSilentOn content id
+unfolding is_silent
 silent_is id content h =
     let none : (not (is_announced id content.announced) && not (is_asked id content.asked)) ≡ true = second_holds (not (is_carried id content.carried)) (not (is_announced id content.announced) && not (is_asked id content.asked)) h in
     record {
@@ -36,6 +37,7 @@ silent_is id content h =
 
 -- and one that does none of these is silent
 is_silent_on : (id : MsgId) (content : Content) → IsSilentOn content id → is_silent id content ≡ true
+unfolding is_silent
 is_silent_on id content silent =
     both_hold (not (is_carried id content.carried)) (not (is_announced id content.announced) && not (is_asked id content.asked))
     (not_false (is_carried id content.carried) (fails (is_carried id content.carried) (carried content.carried refl)))
@@ -58,6 +60,7 @@ is_silent_on id content silent =
 
 -- a quiet core has nothing queued or timed
 quiet_is : (id : MsgId) (core : CoreState) → is_quiet id core ≡ true → IsQuiet core id
+unfolding is_quiet
 quiet_is id core h =
     record {
       queues_not = each_of_one (λ (entry : Name × MsgId × ℕ). entry.1 ≢ id) core.queued (λ entry one e. not_holds (is_queued id core.queued) (first_holds (not (is_queued id core.queued)) (not (has_id core.timers id)) h) (any_passes (λ (x : Name × MsgId × ℕ). same_id id x.1) core.queued entry one ((same_id-Decides id entry.1).1 (sym e))));
@@ -66,6 +69,7 @@ quiet_is id core h =
 
 -- and one that has nothing is quiet
 is_quiet_core : (id : MsgId) (core : CoreState) → IsQuiet core id → is_quiet id core ≡ true
+unfolding is_quiet
 is_quiet_core id core quiet =
     both_hold (not (is_queued id core.queued)) (not (has_id core.timers id))
     (not_false (is_queued id core.queued) (fails (is_queued id core.queued) queued))

@@ -43,6 +43,7 @@ asked_is id None = refl
 asked_is id (Some other) = or-false (same_id id other)
 
 content_is : (id : MsgId) (content : Content) → not (has_id (content_ids content) id) ≡ is_silent id content
+unfolding is_silent
 content_is id content =
     neither id (carried_ids content.carried) (map (λ (entry : MsgId × ℕ). entry.0) content.announced ++ asked_ids content.asked)
     ∙ ap (λ b. not (has_id (carried_ids content.carried) id) && b) (neither id (map (λ (entry : MsgId × ℕ). entry.0) content.announced) (asked_ids content.asked))
@@ -51,6 +52,7 @@ content_is id content =
     ∙ ap (λ b. not (is_carried id content.carried) && (not (is_announced id content.announced) && not b)) (asked_is id content.asked)
 
 core_is : (id : MsgId) (core : CoreState) → not (has_id (core_ids core) id) ≡ is_quiet id core
+unfolding is_quiet
 core_is id core =
     neither id (map (λ (entry : Name × MsgId × ℕ). entry.1) core.queued) core.timers
     ∙ ap (λ b. not b && not (has_id core.timers id)) (mapped (λ (entry : Name × MsgId × ℕ). entry.1) core.queued id)

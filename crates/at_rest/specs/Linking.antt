@@ -10,7 +10,7 @@ use Rattle.world.specs.declared.node_state.NodeState.{NodeState}
 
 module _ {C : Type 0} (state : C → CoreState) (nodes : List (NodeState C)) where
   -- whether the name runs and has the peer as an active member
-  abbrev pub has_link : Name → Name → Bool
+  unfoldable pub has_link : Name → Name → Bool
   has_link name peer = option_map_or (λ (core : C). has_name (state core).active peer) (core_of name nodes) false
 
   -- whether the name runs

@@ -22,7 +22,7 @@ is_asked id None = false
 is_asked id (Some asked) = same_id id asked
 
 -- whether a packet with this content says nothing of the message
-abbrev pub is_silent : MsgId → Content → Bool
+unfoldable pub is_silent : MsgId → Content → Bool
 is_silent id content = not (is_carried id content.carried) && (not (is_announced id content.announced) && not (is_asked id content.asked))
 
 -- whether the packet of this number does
@@ -38,7 +38,7 @@ abbrev pub is_queued : MsgId → List (Name × MsgId × ℕ) → Bool
 is_queued id queued = list_any (λ entry. same_id id entry.1) queued
 
 -- whether a core has no announcement of the message queued and no timer for it
-abbrev pub is_quiet : MsgId → CoreState → Bool
+unfoldable pub is_quiet : MsgId → CoreState → Bool
 is_quiet id core = not (is_queued id core.queued) && not (has_id core.timers id)
 
 -- whether the core under the name is, if one runs

@@ -26,6 +26,7 @@ fn all_link_back<C: Core<A>, A: Allocator + Copy>(world: &World<C, A>) -> bool
 }
 
 /// Whether the name runs and has the peer as an active member.
+#[tactic(auto, unfolding(crate::specs::Linking::has_link))]
 pub(crate) fn has_link<C: Core<A>, A: Allocator + Copy>(
     world: &World<C, A>,
     name: &NodeName,

@@ -52,6 +52,7 @@ fn is_asked(asked: Option<MsgId>, id: &MsgId) -> bool
 }
 
 /// Whether a packet says nothing of the message.
+#[tactic(auto, unfolding(crate::specs::Silence::is_silent))]
 fn is_silent<N: Wire<A>, A: Allocator>(note: &N, id: &MsgId) -> bool
     ensures { result ≡ is_silent id.now (N.content note.now) }
 {
@@ -94,6 +95,7 @@ fn is_timed(timers: &[MsgId], id: &MsgId) -> bool
 }
 
 /// Whether a core has no announcement of the message queued and no timer for it.
+#[tactic(auto, unfolding(crate::specs::Silence::is_quiet))]
 fn is_quiet<C: Core<A>, A: Allocator>(core: &C, id: &MsgId) -> bool
     ensures { result ≡ is_quiet id.now (C.state core.now) }
 {

@@ -12,7 +12,7 @@ use refusing_allocator::RefusingAllocator;
 use std::alloc::{AllocError, Allocator};
 use std::process::Abort;
 use std::test::Fail;
-use test_support::stop_refusing;
+use test_support::{lend, stop_refusing};
 use world::{Core, CoreError, Out, Prepared, Stimulus, StimulusOf, StimulusRef, Wire, WorldError};
 
 /// More allocations than a half has.
@@ -353,20 +353,6 @@ fn try_step<A: Allocator + Copy>(
     }
 }
 
-/// Does so with a core of its own.
-fn try_owned<A: Allocator + Copy>(
-    heap: &RefusingAllocator,
-    text: &mut String,
-    mut core: PlumCore<A>,
-    stimulus: &Stimulus<Frame<A>, A>,
-    out: &mut Out<Frame<A>, A>,
-    message: &MsgId,
-    case: &Case,
-    n: u64,
-) -> Result<Option<bool>, CoreError> {
-    try_step(heap, text, &mut core, stimulus, out, message, case, n)
-}
-
 /// Does so with a copy.
 fn try_copy<A: Allocator + Copy>(
     heap: &RefusingAllocator,
@@ -379,7 +365,9 @@ fn try_copy<A: Allocator + Copy>(
     n: u64,
 ) -> Result<Option<bool>, CoreError> {
     let copy = core.copy()?;
-    try_owned(heap, text, copy, stimulus, out, message, case, n)
+    lend(copy, |core| {
+        try_step(heap, text, core, stimulus, out, message, case, n)
+    })
 }
 
 /// Takes the step at once, then refuses each allocation of the second half in turn, and at last none. How many there are, or none
@@ -430,8 +418,9 @@ fn sweep_alone<A: Allocator + Copy>(
     message: &MsgId,
     case: &Case,
 ) -> Result<Option<u64>, CoreError> {
-    let mut out = Out::new(alloc);
-    sweep_step(heap, text, core, stimulus, &mut out, message, case)
+    lend(Out::new(alloc), |out| {
+        sweep_step(heap, text, core, stimulus, out, message, case)
+    })
 }
 
 /// Plays the first of these acts, so many of them.
@@ -485,8 +474,10 @@ fn sweep_case<A: Allocator + Copy>(
     text: &mut String,
     case: &Case,
 ) -> Result<Option<u64>, WorldError> {
-    let mut world = Group::<A>::new(alloc, Limits::STANDARD);
-    sweep_group(rt, heap, alloc, text, &mut world, case)
+    let world = Group::<A>::new(alloc, Limits::STANDARD);
+    lend(world, |world| {
+        sweep_group(rt, heap, alloc, text, world, case)
+    })
 }
 
 #[test]

@@ -7,6 +7,7 @@ use node_names::{Limits, MsgId};
 use std::alloc::{AllocError, Allocator};
 use std::process::Abort;
 use std::test::Fail;
+use test_support::lend;
 use world::{Event, WorldError};
 
 /// Plays an event. What it gives stands in the log too.
@@ -142,8 +143,8 @@ fn play_row<A: Allocator + Copy>(
     ids: &[MsgId; 2],
     row: &Row,
 ) -> Result<(), WorldError> {
-    let mut world = Group::<A>::new(alloc, Limits::STANDARD);
-    play_group(rt, alloc, text, &mut world, ids, row)
+    let world = Group::<A>::new(alloc, Limits::STANDARD);
+    lend(world, |world| play_group(rt, alloc, text, world, ids, row))
 }
 
 fn play_rows<A: Allocator + Copy>(

@@ -11,7 +11,7 @@ use refusing_allocator::RefusingAllocator;
 use std::alloc::{AllocError, Allocator};
 use std::process::Abort;
 use std::test::Fail;
-use test_support::{first_run, stop_refusing};
+use test_support::{first_run, lend, stop_refusing};
 use world::{Core, CoreError, Out, Stimulus, StimulusOf};
 
 /// More growths than any step has.
@@ -68,14 +68,12 @@ fn pair(rt: &impl Abort) -> (Origin, NodeName)
 
 /// Starts the node of a case.
 fn start<A: Allocator + Copy>(
+    rt: &impl Abort,
     alloc: A,
-    names: (Origin, NodeName),
     case: &Case,
     out: &mut Out<Frame<A>, A>,
-) -> Result<PlumCore<A>, CoreError>
-    requires { IsTrue (not (same_name names.0.name names.1)) }
-{
-    let (me, other) = names;
+) -> Result<PlumCore<A>, CoreError> {
+    let (me, other) = pair(rt);
     let limits = Limits::STANDARD;
     let spent = case.spent;
     if case.is_joining {
@@ -167,15 +165,15 @@ fn accept<A: Allocator + Copy>(
 fn sweep_core<A: Allocator + Copy>(
     rt: &impl Abort,
     heap: &RefusingAllocator,
-    mut core: PlumCore<A>,
+    core: &mut PlumCore<A>,
     stimulus: &Stimulus<Frame<A>, A>,
     refused: &MsgId,
     out: &mut Out<Frame<A>, A>,
     case: &Case,
 ) {
     assert!(rt; !case.is_joining);
-    accept(rt, &mut core, stimulus, out, case.accepted);
-    sweep(rt, heap, &mut core, stimulus, refused, out, case.accepted);
+    accept(rt, core, stimulus, out, case.accepted);
+    sweep(rt, heap, core, stimulus, refused, out, case.accepted);
 }
 
 /// Compares a start that was refused.
@@ -193,32 +191,18 @@ fn compare_start<A: Allocator>(
 fn sweep_start<A: Allocator + Copy>(
     rt: &impl Abort,
     heap: &RefusingAllocator,
-    started: Result<PlumCore<A>, CoreError>,
+    alloc: A,
     stimulus: &Stimulus<Frame<A>, A>,
     refused: &MsgId,
     out: &mut Out<Frame<A>, A>,
     case: &Case,
 ) {
-    match started {
-        Ok(core) => sweep_core(rt, heap, core, stimulus, refused, out, case),
+    match start(rt, alloc, case, out) {
+        Ok(core) => lend(core, |core| {
+            sweep_core(rt, heap, core, stimulus, refused, out, case)
+        }),
         Err(why) => compare_start(rt, why, out, case),
     }
-}
-
-fn sweep_out<A: Allocator + Copy>(
-    rt: &impl Abort,
-    heap: &RefusingAllocator,
-    alloc: A,
-    names: (Origin, NodeName),
-    stimulus: &Stimulus<Frame<A>, A>,
-    refused: &MsgId,
-    case: &Case,
-)
-    requires { IsTrue (not (same_name names.0.name names.1)) }
-{
-    let mut out = Out::new(alloc);
-    let started = start(alloc, names, case, &mut out);
-    sweep_start(rt, heap, started, stimulus, refused, &mut out, case);
 }
 
 fn sweep_case<A: Allocator + Copy>(
@@ -228,9 +212,10 @@ fn sweep_case<A: Allocator + Copy>(
     case: &Case,
 ) -> Result<(), AllocError> {
     let refused = id(rt, case.refused);
-    let names = pair(rt);
     let stimulus = broadcast(alloc)?;
-    sweep_out(rt, heap, alloc, names, &stimulus, &refused, case);
+    lend(Out::new(alloc), |out| {
+        sweep_start(rt, heap, alloc, &stimulus, &refused, out, case)
+    });
     Ok(())
 }
 
@@ -254,13 +239,11 @@ fn refuses_what_needs_a_spent_number(rt: HostRuntime) -> Result<(), Fail> {
 
 /// Starts `a` with `b` as its peer, where the numbers of its messages are spent and those of its frames are not.
 fn start_mute<A: Allocator + Copy>(
+    rt: &impl Abort,
     alloc: A,
-    names: (Origin, NodeName),
     out: &mut Out<Frame<A>, A>,
-) -> Result<PlumCore<A>, CoreError>
-    requires { IsTrue (not (same_name names.0.name names.1)) }
-{
-    let (me, other) = names;
+) -> Result<PlumCore<A>, CoreError> {
+    let (me, other) = pair(rt);
     PlumCore::start_counted(
         alloc,
         me,
@@ -293,13 +276,13 @@ fn is_mute<A: Allocator + Copy>(
 fn is_started_mute<A: Allocator + Copy>(
     rt: &impl Abort,
     heap: &RefusingAllocator,
-    mut core: PlumCore<A>,
+    core: &mut PlumCore<A>,
     stimulus: &Stimulus<Frame<A>, A>,
     refused: &MsgId,
     out: &mut Out<Frame<A>, A>,
 ) -> bool {
-    let is_mute = is_mute(heap, &mut core, stimulus, out);
-    compare(rt, &core, refused, out, 0);
+    let is_mute = is_mute(heap, core, stimulus, out);
+    compare(rt, core, refused, out, 0);
     is_mute
 }
 
@@ -308,15 +291,14 @@ fn is_refused_mute<A: Allocator + Copy>(
     rt: &impl Abort,
     heap: &RefusingAllocator,
     alloc: A,
-    names: (Origin, NodeName),
     stimulus: &Stimulus<Frame<A>, A>,
     refused: &MsgId,
-) -> Result<bool, CoreError>
-    requires { IsTrue (not (same_name names.0.name names.1)) }
-{
-    let mut out = Out::new(alloc);
-    let core = start_mute(alloc, names, &mut out)?;
-    Ok(is_started_mute(rt, heap, core, stimulus, refused, &mut out))
+    out: &mut Out<Frame<A>, A>,
+) -> Result<bool, CoreError> {
+    let core = start_mute(rt, alloc, out)?;
+    Ok(lend(core, |core| {
+        is_started_mute(rt, heap, core, stimulus, refused, out)
+    }))
 }
 
 fn refuse_mute<A: Allocator + Copy>(
@@ -325,9 +307,10 @@ fn refuse_mute<A: Allocator + Copy>(
     alloc: A,
 ) -> Result<bool, CoreError> {
     let refused = id(rt, ("a", 1));
-    let names = pair(rt);
     let stimulus = broadcast(alloc)?;
-    is_refused_mute(rt, heap, alloc, names, &stimulus, &refused)
+    lend(Out::new(alloc), |out| {
+        is_refused_mute(rt, heap, alloc, &stimulus, &refused, out)
+    })
 }
 
 #[test]

@@ -9,7 +9,7 @@ use refusing_allocator::RefusingAllocator;
 use std::alloc::Allocator;
 use std::process::Abort;
 use std::test::Fail;
-use test_support::stop_refusing;
+use test_support::{lend, stop_refusing};
 use world::WorldError;
 
 /// More growths than any event has.
@@ -117,10 +117,10 @@ fn sweep_event<A: Allocator + Copy>(
     turns: (&[Turn], &[Turn]),
     n: u64,
 ) -> Result<bool, WorldError> {
-    let mut world = Group::<A>::new(alloc, Limits::STANDARD);
-    sweep_world(
-        rt, heap, alloc, text, stood, &mut world, ids, before, turns, n,
-    )
+    let world = Group::<A>::new(alloc, Limits::STANDARD);
+    lend(world, |world| {
+        sweep_world(rt, heap, alloc, text, stood, world, ids, before, turns, n)
+    })
 }
 
 /// Refuses each growth of one event in turn. How many it has.

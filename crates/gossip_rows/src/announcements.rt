@@ -8,6 +8,7 @@ use std::alloc::{AllocError, Allocator};
 use std::fmt::Write;
 use std::process::Abort;
 use std::test::Fail;
+use test_support::stop_refusing;
 
 /// A call in plain texts and numbers.
 #[derive(Clone, Copy)]
@@ -221,8 +222,7 @@ fn try_call<A: Allocator + Copy>(
 ) -> (bool, Result<Given, AllocError>) {
     heap.refuse(n);
     let answer = call(rt, missing, &turn.0);
-    let is_spent = heap.is_spent();
-    heap.refuse(0);
+    let is_spent = stop_refusing(heap);
     (is_spent, answer)
 }
 
@@ -365,8 +365,7 @@ fn refuse_copy<A: Allocator + Copy>(
 ) -> Result<bool, AllocError> {
     heap.refuse(n);
     let copy = missing.copy();
-    let is_spent = heap.is_spent();
-    heap.refuse(0);
+    let is_spent = stop_refusing(heap);
     let is_right = is_copy(text, &copy, is_spent, wanted)?;
     assert!(rt; is_right);
     Ok(is_spent)

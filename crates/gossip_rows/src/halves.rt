@@ -14,6 +14,7 @@ use refusing_allocator::RefusingAllocator;
 use std::alloc::{AllocError, Allocator};
 use std::process::Abort;
 use std::test::Fail;
+use test_support::stop_refusing;
 
 /// More allocations than any half has.
 const MANY: u64 = 50;
@@ -80,8 +81,7 @@ fn refuse_answer<A: Allocator + Copy>(
 ) -> Result<bool, AllocError> {
     heap.refuse(n);
     let answer = gossip.answer(call);
-    let is_spent = heap.is_spent();
-    heap.refuse(0);
+    let is_spent = stop_refusing(heap);
     let is_right = match &answer {
         Ok(given) => is_left(text, ids, gossip, given, turn.1, stood)?,
         Err(why) => *why == GossipFault::OutOfMemory && is_shown(text, ids, gossip, stood)?,
@@ -143,8 +143,7 @@ fn refuse_take<A: Allocator + Copy>(
 {
     heap.refuse(n);
     let answer = gossip.take(call);
-    let is_spent = heap.is_spent();
-    heap.refuse(0);
+    let is_spent = stop_refusing(heap);
     let is_right = match answer {
         Ok(()) => is_shown(text, ids, gossip, turn.2)? && !is_spent,
         Err(_) => {

@@ -9,6 +9,7 @@ use refusing_allocator::RefusingAllocator;
 use std::alloc::{AllocError, Allocator};
 use std::process::Abort;
 use std::test::Fail;
+use test_support::stop_refusing;
 
 /// More allocations than the call has.
 const MANY: u64 = 50;
@@ -74,8 +75,7 @@ fn refuse<A: Allocator + Copy>(
 ) -> Result<bool, AllocError> {
     heap.refuse(n);
     let is_refused = gossip.relink(&downs(rt), &ups(rt)).is_err();
-    let is_spent = heap.is_spent();
-    heap.refuse(0);
+    let is_spent = stop_refusing(heap);
     assert!(rt; is_refused == is_spent);
     let is_right = if is_refused {
         is_shown(text, ids, gossip, stood)? && is_relinked(rt, text, ids, gossip)?

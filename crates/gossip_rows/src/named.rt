@@ -2,8 +2,9 @@
 ghost use Rattle.std.specs.List.{IsDistinct};
 ghost use Rattle.node_names.specs.Same.{same_name};
 
-use node_names::{Incarnation, MsgId, NodeName, Origin};
+use node_names::{MsgId, NodeName, Origin};
 use std::process::Abort;
+use test_support::{first_run, message};
 
 /// A message by the name of its origin, whose incarnation is 1, and its number.
 pub(crate) type Id = (&'static str, u64);
@@ -25,16 +26,10 @@ pub(crate) fn pair(rt: &impl Abort, one: &str, other: &str) -> [NodeName; 2]
 
 /// The first incarnation of this name.
 pub(crate) fn origin(rt: &impl Abort, text: &str) -> Origin {
-    Origin {
-        name: name(rt, text),
-        incarnation: Incarnation(1),
-    }
+    first_run(name(rt, text))
 }
 
 /// The id of the message.
 pub(crate) fn id(rt: &impl Abort, id: Id) -> MsgId {
-    MsgId {
-        origin: origin(rt, id.0),
-        seq: id.1,
-    }
+    message(name(rt, id.0), id.1)
 }

@@ -11,6 +11,7 @@ use std::alloc::{AllocError, Allocator};
 use std::fmt::Write;
 use std::process::Abort;
 use std::test::Fail;
+use test_support::stop_refusing;
 
 /// A call in plain texts and numbers.
 #[derive(Clone, Copy)]
@@ -310,8 +311,7 @@ fn try_call<A: Allocator + Copy>(
 ) -> (bool, bool) {
     heap.refuse(n);
     let is_refused = call(rt, text, peers, &turn.0).is_err();
-    let is_spent = heap.is_spent();
-    heap.refuse(0);
+    let is_spent = stop_refusing(heap);
     (is_spent, is_refused)
 }
 
@@ -451,8 +451,7 @@ fn refuse_copy<A: Allocator + Copy>(
 ) -> Result<bool, AllocError> {
     heap.refuse(n);
     let copy = peers.copy();
-    let is_spent = heap.is_spent();
-    heap.refuse(0);
+    let is_spent = stop_refusing(heap);
     let is_right = is_copy(text, &copy, is_spent, wanted)?;
     assert!(rt; is_right);
     Ok(is_spent)

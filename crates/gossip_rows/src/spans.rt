@@ -9,6 +9,7 @@ use refusing_allocator::RefusingAllocator;
 use std::alloc::{AllocError, Allocator};
 use std::process::Abort;
 use std::test::Fail;
+use test_support::stop_refusing;
 
 /// A message of `a` by its number, whether it was not known before, and the span of `a` after it.
 type Step = (u64, bool, (u64, usize));
@@ -156,8 +157,7 @@ fn refuse_add<A: Allocator + Copy>(
     let message = id(rt, ("a", step.0));
     heap.refuse(n);
     let is_refused = known.make_room(&message).is_err();
-    let is_spent = heap.is_spent();
-    heap.refuse(0);
+    let is_spent = stop_refusing(heap);
     let stands = is_known(known, &message, !step.1, stood);
     assert!(rt; stands && is_refused == is_spent);
     add(known, &message)?;

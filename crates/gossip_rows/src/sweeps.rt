@@ -10,6 +10,7 @@ use refusing_allocator::RefusingAllocator;
 use std::alloc::{AllocError, Allocator};
 use std::process::Abort;
 use std::test::Fail;
+use test_support::stop_refusing;
 
 /// More allocations than any call has.
 const MANY: u64 = 100;
@@ -40,8 +41,7 @@ fn try_call<A: Allocator + Copy>(
 ) -> (bool, bool) {
     heap.refuse(n);
     let answer = call(rt, gossip, &turn.0, payload, out);
-    let is_spent = heap.is_spent();
-    heap.refuse(0);
+    let is_spent = stop_refusing(heap);
     (is_spent, is_refused(rt, &answer))
 }
 
@@ -151,8 +151,7 @@ fn try_copy<A: Allocator + Copy>(
 ) -> (bool, Result<bool, AllocError>) {
     heap.refuse(n);
     let copy = gossip.copy();
-    let is_spent = heap.is_spent();
-    heap.refuse(0);
+    let is_spent = stop_refusing(heap);
     (is_spent, is_copy(text, ids, &copy, is_spent, wanted))
 }
 

@@ -7,6 +7,7 @@ use node_names::{MsgId, NodeName};
 use peer_sets::PeerSets;
 use std::alloc::{AllocError, Allocator};
 use std::fmt::Write;
+use test_support::push_letters;
 
 /// Appends the members, with `+` for eager ones.
 fn push_members<A: Allocator>(text: &mut String, peers: &PeerSets<A>) -> Result<(), AllocError> {
@@ -61,14 +62,6 @@ pub(crate) fn push_missing<A: Allocator>(
     push_timers(text, missing.timers())
 }
 
-/// Appends the letters of a payload.
-fn push_payload<A: Allocator>(text: &mut String, payload: &Bytes<A>) -> Result<(), AllocError> {
-    for byte in payload.as_slice() {
-        text.push(char::from(*byte))?;
-    }
-    Ok(())
-}
-
 /// Appends ids with their rounds.
 pub(crate) fn push_entries(text: &mut String, entries: &[(MsgId, u32)]) -> Result<(), AllocError> {
     for (id, round) in entries {
@@ -85,7 +78,7 @@ fn push_gossip<A: Allocator>(
     payload: &Bytes<A>,
 ) -> Result<(), AllocError> {
     write!(text, "gossip {id} {round} ")?;
-    push_payload(text, payload)
+    push_letters(text, payload.as_slice())
 }
 
 /// Appends what a packet says.
@@ -122,7 +115,7 @@ fn push_delivery<A: Allocator>(
     payload: &Bytes<A>,
 ) -> Result<(), AllocError> {
     write!(text, "deliver {id} ")?;
-    push_payload(text, payload)?;
+    push_letters(text, payload.as_slice())?;
     text.push_str("; ")
 }
 
@@ -146,7 +139,7 @@ fn push_known<A: Allocator>(
 ) -> Result<(), AllocError> {
     write!(text, "{id}=")?;
     if let Some(payload) = gossip.payload(id) {
-        push_payload(text, payload)?;
+        push_letters(text, payload.as_slice())?;
     }
     text.push_str(" ")
 }

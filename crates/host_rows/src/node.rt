@@ -4,10 +4,11 @@ ghost use Rattle.node_names.specs.Same.{same_name};
 ghost use Rattle.world.specs.Peers.{are_peers};
 
 use node_core::PlumCore;
-use node_names::{Incarnation, Limits, NodeName, Origin};
+use node_names::{Limits, NodeName, Origin};
 use node_threads::{Host, HostError, NodeCore, Outlet, Port};
 use std::alloc::{AllocError, Global};
 use std::process::Abort;
+use test_support::first_run;
 use world::{Core, Out};
 
 /// How many frames a link has room for: more than any test sends.
@@ -39,16 +40,6 @@ struct Names {
     me: Origin,
     first: NodeName,
     second: NodeName,
-}
-
-/// The first incarnation of a name.
-pub(crate) fn first_run(name: NodeName) -> Origin
-    ensures { result.name ≡ name }
-{
-    Origin {
-        name,
-        incarnation: Incarnation(1),
-    }
 }
 
 /// The name of this text.

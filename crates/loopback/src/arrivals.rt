@@ -1,6 +1,7 @@
 //! Connections that others made to a node and of which it does not read yet.
+use crate::list::keep;
 use links::{TcpReader, accept};
-use std::alloc::{AllocError, Global};
+use std::alloc::Global;
 use std::net::TcpListener;
 use std::sync::{Mutex, Wait};
 use std::time::{Clock, Duration};
@@ -40,7 +41,7 @@ impl Arrivals {
     fn put<R: Wait>(&self, rt: &R, reader: TcpReader) -> bool {
         let mut waiting = self.waiting.lock(rt);
         if waiting.is_open {
-            let _ = push(&mut waiting.readers, reader);
+            let _ = keep(&mut waiting.readers, reader);
         }
         waiting.is_open
     }
@@ -55,12 +56,6 @@ impl Arrivals {
         self.waiting.lock(rt).is_open = false;
         drop(self.take(rt));
     }
-}
-
-/// Puts a connection last.
-fn push(readers: &mut Vec<TcpReader>, reader: TcpReader) -> Result<(), AllocError> {
-    readers.push(reader)?;
-    Ok(())
 }
 
 /// Takes connections until one comes after the arrivals were closed, or the system refuses many in a row.

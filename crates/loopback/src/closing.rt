@@ -1,15 +1,14 @@
 //! The end of a run.
-use crate::connection::Turns;
 use crate::fault::RunFault;
-use crate::node::{Common, Node, keep};
+use crate::inbox::Given;
+use crate::list::keep;
+use crate::node::Node;
+use crate::speech::Stamp;
 use frames::Frame;
-use links::dial;
-use node_names::NodeName;
-use node_threads::{CloseError, Closed, NodeCore};
-use std::alloc::Global;
+use node_threads::NodeCore;
+use std::alloc::{AllocError, Global};
 use std::net::{Net, TcpListener, TcpStream};
 use std::sync::Wait;
-use std::thread;
 use std::thread::Threads;
 use std::time::{Clock, Duration};
 use world::{Delivery, Trace};
@@ -19,88 +18,104 @@ use world::{Delivery, Trace};
 pub struct Ran {
     /// What the nodes handed out: those of each node in the order in which it delivered them.
     pub deliveries: Vec<Delivery>,
+    /// When each of the deliveries was handed out, since the run began.
+    pub times: Vec<Duration>,
+    /// When each message was broadcast: those of each node in order.
+    pub broadcasts: Vec<Stamp>,
     /// The nodes' histories.
     pub traces: Vec<Trace<Frame>>,
 }
 
 impl Ran {
     /// Nothing yet.
-    pub(crate) fn new(alloc: Global) -> Ran {
+    fn new(alloc: Global) -> Ran {
         Ran {
             deliveries: Vec::new(alloc),
+            times: Vec::new(alloc),
+            broadcasts: Vec::new(alloc),
             traces: Vec::new(alloc),
         }
     }
-}
 
-/// How often a port is dialled until that succeeds.
-const DIALS: u32 = 400;
-
-/// Connects to a port once, so that who waits there for a connection gets on. Whether it could.
-fn knock<R>(rt: &R, port: u16) -> bool
-where
-    R: Wait + Clock + Net<Listener = TcpListener, Stream = TcpStream>,
-{
-    for _ in 0..DIALS {
-        if dial(rt, port).is_ok() {
-            return true;
-        }
-        thread::sleep(rt, Duration::from_millis(5));
-    }
-    false
-}
-
-impl<C: NodeCore<Global> + Drop> Node<C> {
-    /// Stops the node: it makes no step any more.
-    pub(crate) fn stop<R: Wait>(&self, rt: &R) {
-        self.host.stop(rt);
-    }
-
-    /// Waits until the thread ends that takes connections, of a node that was stopped.
-    pub(crate) fn stop_accepting<R>(&mut self, rt: &R)
-    where
-        R: Threads + Wait + Clock + Net<Listener = TcpListener, Stream = TcpStream>,
-    {
-        self.arrivals.close(rt);
-        if let Some(thread) = self.accepting.take() {
-            if knock(rt, self.address.port) {
-                thread.join(rt);
-            }
-        }
-    }
-}
-
-/// The history of a node that was closed, or why it is not as it should be.
-fn judge<C: NodeCore<Global> + Drop>(
-    node: NodeName,
-    closed: Result<Closed, CloseError<C>>,
-) -> Result<Trace<Frame>, RunFault> {
-    match closed {
-        Ok(Closed { trace, .. }) => Ok(trace),
-        Err(CloseError::PortMissing { .. }) => Err(RunFault::WorkerMissing { node }),
-        Err(CloseError::Unlike { .. }) => Err(RunFault::Unlike { node }),
-        Err(CloseError::Torn { .. }) => Err(RunFault::Torn { node }),
-        Err(CloseError::OutOfMemory { .. }) => Err(RunFault::OutOfMemory),
+    /// Puts what a node handed out last.
+    fn add(&mut self, mut given: Given) -> Result<(), AllocError> {
+        self.deliveries.append(&mut given.deliveries)?;
+        self.times.append(&mut given.times)?;
+        Ok(())
     }
 }
 
 /// Closes a node, and adds what it leaves.
-pub(crate) fn close_node<R: Threads + Wait, C: NodeCore<Global> + Drop>(
+fn close_node<R: Threads + Wait, C: NodeCore<Global> + Drop>(
     rt: &R,
     node: Node<C>,
     ran: &mut Ran,
 ) -> Result<(), RunFault> {
     let Node {
-        address,
-        host,
-        ports,
-        workers,
+        name,
+        running,
         inbox,
+        mut speech,
         ..
     } = node;
-    let trace = judge(address.name, host.close(rt, ports, workers))?;
-    let mut deliveries = inbox.take(rt)?;
-    ran.deliveries.append(&mut deliveries)?;
+    ran.broadcasts.append(&mut speech.stamps)?;
+    let trace = running.close(rt, name)?;
     keep(&mut ran.traces, trace)?;
-    Ok(())
+    Ok(ran.add(inbox.take(rt)?)?)
+}
+
+/// Stops all nodes: they make no step any more, and take no connections.
+fn stop_all<R, C>(rt: &R, nodes: &mut [Node<C>])
+where
+    R: Threads + Wait + Clock + Net<Listener = TcpListener, Stream = TcpStream>,
+    C: NodeCore<Global> + Drop,
+{
+    for node in nodes.iter() {
+        node.running.host.stop(rt);
+    }
+    for node in nodes.iter_mut() {
+        node.acceptor.stop(rt);
+    }
+}
+
+/// Why the first of the nodes that refused a broadcast did so, if one did.
+fn first_refusal<C: NodeCore<Global> + Drop>(nodes: &[Node<C>]) -> Option<RunFault> {
+    nodes.iter().find_map(|node| node.speech.refused)
+}
+
+/// Closes all nodes in order, adds what they leave, and answers the first fault.
+fn close_each<R: Threads + Wait, C: NodeCore<Global> + Drop>(
+    rt: &R,
+    nodes: Vec<Node<C>>,
+    ran: &mut Ran,
+) -> Option<RunFault> {
+    let mut first = None;
+    for node in nodes {
+        if let Err(fault) = close_node(rt, node, ran) {
+            first = first.or(Some(fault));
+        }
+    }
+    first
+}
+
+/// Stops all nodes, and closes them in order. What they leave is answered, or the first fault of a broadcast, or else of a close,
+/// or else the one that ended the run.
+pub(crate) fn close_all<R, C>(
+    rt: &R,
+    alloc: Global,
+    mut nodes: Vec<Node<C>>,
+    ended: Option<RunFault>,
+) -> Result<Ran, RunFault>
+where
+    R: Threads + Wait + Clock + Net<Listener = TcpListener, Stream = TcpStream>,
+    C: NodeCore<Global> + Drop,
+{
+    stop_all(rt, nodes.as_mut_slice());
+    let refused = first_refusal(nodes.as_slice());
+    let mut ran = Ran::new(alloc);
+    let unclosed = close_each(rt, nodes, &mut ran);
+    match refused.or(unclosed).or(ended) {
+        Some(fault) => Err(fault),
+        None => Ok(ran),
+    }
 }

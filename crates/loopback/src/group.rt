@@ -1,21 +1,19 @@
 //! A group that runs.
-use crate::closing::{Ran, close_node};
-use crate::connection::Turns;
+use crate::closing::{Ran, close_all};
+use crate::common::Common;
 use crate::fault::RunFault;
 use crate::member::Member;
-use crate::node::{Common, Node, keep};
-use crate::starting::{addresses, listen_all, start_node};
-use crate::ticks::Ticking;
+use crate::node::Node;
+use crate::starting::{listen_all, start_nodes};
 use crate::watch::Watch;
-use node_core::PlumCore;
 use node_names::Limits;
 use node_threads::NodeCore;
-use std::alloc::{AllocError, Global};
+use std::alloc::Global;
 use std::net::{Net, TcpListener, TcpStream};
-use std::sync::{Arc, Wait};
+use std::sync::Wait;
 use std::thread;
 use std::thread::Threads;
-use std::time::{Clock, Duration};
+use std::time::{Clock, Duration, Instant};
 
 /// How long a turn takes at least, in milliseconds.
 const TURN: u64 = 5;
@@ -41,21 +39,6 @@ pub struct Plan {
     pub ticks: u32,
 }
 
-/// Starts the members' nodes, in order, without threads.
-fn start_nodes(
-    alloc: Global,
-    plan: &Plan,
-    common: &Common<impl Drop>,
-    members: Vec<Member>,
-) -> Result<Vec<Node<PlumCore>>, RunFault> {
-    let mut nodes = Vec::new(alloc);
-    for member in members {
-        let node = start_node(alloc, plan.limits, common.addresses.as_slice(), member)?;
-        keep(&mut nodes, node)?;
-    }
-    Ok(nodes)
-}
-
 /// Starts the threads of each node.
 fn start_threads<R, C>(
     common: &mut Common<R>,
@@ -73,34 +56,12 @@ where
     Ok(())
 }
 
-/// One turn of a node: it broadcasts, and its new connections and links get threads.
-fn turn_node<R, C>(
-    common: &mut Common<R>,
-    node: &mut Node<C>,
-    is_quiet: bool,
-) -> Result<(), RunFault>
-where
-    R: Threads
-        + Wait
-        + Net<Listener = TcpListener, Stream = TcpStream>
-        + Copy
-        + Send
-        + Drop
-        + 'static,
-    C: NodeCore<Global> + Drop + Send + 'static,
-{
-    node.read_arrivals(common)?;
-    if !is_quiet {
-        node.broadcast(&common.rt);
-    }
-    node.write_links(common)
-}
-
 /// One turn of each node.
 fn turn<R, C>(common: &mut Common<R>, nodes: &mut [Node<C>], is_quiet: bool) -> Result<(), RunFault>
 where
     R: Threads
         + Wait
+        + Clock
         + Net<Listener = TcpListener, Stream = TcpStream>
         + Copy
         + Send
@@ -109,7 +70,7 @@ where
     C: NodeCore<Global> + Drop + Send + 'static,
 {
     for node in nodes.iter_mut() {
-        turn_node(common, node, is_quiet)?;
+        node.turn(common, is_quiet)?;
     }
     if connections(nodes) > MANY_CONNECTIONS {
         for node in nodes.iter() {
@@ -136,7 +97,7 @@ fn delivered<R: Wait, C: NodeCore<Global> + Drop + Send + 'static>(
 fn connections<C: NodeCore<Global> + Drop + Send + 'static>(nodes: &[Node<C>]) -> usize {
     let mut count: usize = 0;
     for node in nodes {
-        count = count.saturating_add(node.connections());
+        count = count.saturating_add(node.links.connections());
     }
     count
 }
@@ -174,40 +135,14 @@ where
     unreachable!()
 }
 
-/// Stops all nodes, and closes them in order. What they leave is answered, or the first fault of a broadcast, or else of a close.
-fn close_all<R, C>(common: &Common<R>, mut nodes: Vec<Node<C>>) -> Result<Ran, RunFault>
-where
-    R: Threads + Wait + Clock + Net<Listener = TcpListener, Stream = TcpStream> + Copy + Drop,
-    C: NodeCore<Global> + Drop,
-{
-    let rt = &common.rt;
-    for node in nodes.iter() {
-        node.stop(rt);
-    }
-    for node in nodes.iter_mut() {
-        node.stop_accepting(rt);
-    }
-    let mut refused = nodes.iter().find_map(|node| node.refused);
-    let mut ran = Ran::new(common.alloc);
-    for node in nodes {
-        if let Err(fault) = close_node(rt, node, &mut ran) {
-            refused = refused.or(Some(fault));
-        }
-    }
-    match refused {
-        Some(fault) => Err(fault),
-        None => Ok(ran),
-    }
-}
-
-/// Runs the nodes, and closes them whatever comes.
-fn run_nodes<R, C, V>(
+/// Has the nodes run until the ticks are over and all is broadcast.
+fn work<R, C, V>(
     common: &mut Common<R>,
-    mut nodes: Vec<Node<C>>,
+    nodes: &mut [Node<C>],
     listeners: Vec<TcpListener>,
     ticks: u32,
     watch: &mut V,
-) -> Result<Ran, RunFault>
+) -> Result<(), RunFault>
 where
     R: Threads
         + Wait
@@ -220,31 +155,34 @@ where
     C: NodeCore<Global> + Drop + Send + 'static,
     V: Watch,
 {
-    let mut ended = start_threads(common, nodes.as_mut_slice(), listeners, ticks);
-    if ended.is_ok() {
-        ended = make_turns(common, nodes.as_mut_slice(), ticks, watch);
-    }
-    let ran = close_all(common, nodes)?;
-    ended?;
-    Ok(ran)
+    start_threads(common, nodes, listeners, ticks)?;
+    make_turns(common, nodes, ticks, watch)
 }
 
-/// What the nodes of a group have in common.
-fn common<R: Drop>(
-    rt: R,
-    alloc: Global,
+/// Listens for the members, starts their nodes, and has them run to the end.
+fn run_members<R, V>(
+    common: &mut Common<R>,
     plan: &Plan,
-    members: &[Member],
-) -> Result<Common<R>, AllocError> {
-    Ok(Common {
-        rt,
-        alloc,
-        seed: plan.seed,
-        workers: 0,
-        turns: Arc::new(alloc, Turns::new())?,
-        ticking: Arc::new(alloc, Ticking::new())?,
-        addresses: addresses(alloc, members)?,
-    })
+    members: Vec<Member>,
+    watch: &mut V,
+) -> Result<Ran, RunFault>
+where
+    R: Threads
+        + Wait
+        + Clock
+        + Net<Listener = TcpListener, Stream = TcpStream>
+        + Copy
+        + Send
+        + Drop
+        + 'static,
+    V: Watch,
+{
+    let rt = common.rt;
+    let alloc = common.alloc;
+    let listeners = listen_all(&rt, alloc, members.as_slice())?;
+    let mut nodes = start_nodes(alloc, plan.limits, common.addresses(), members)?;
+    let ended = work(common, nodes.as_mut_slice(), listeners, plan.ticks, watch);
+    close_all(&rt, alloc, nodes, ended.err())
 }
 
 /// Runs a group of nodes over connections within this machine, each of which has a link to each other.
@@ -255,7 +193,7 @@ fn common<R: Drop>(
 ///
 /// `CannotListen` comes before any node starts, and so does `BadPeers`. Else the nodes run to the end, and the first node that
 /// refused a broadcast is answered, or else the first whose close is no success. The names of the members are to be distinct:
-/// else frames go to the first of a name.
+/// else frames go to the first of a name. Where the clock can't be read the times of what is answered are 0.
 pub fn run<R, V>(
     rt: R,
     alloc: Global,
@@ -274,8 +212,7 @@ where
         + 'static,
     V: Watch,
 {
-    let mut common = common(rt, alloc, plan, members.as_slice())?;
-    let listeners = listen_all(&rt, alloc, members.as_slice())?;
-    let nodes = start_nodes(alloc, plan, &common, members)?;
-    run_nodes(&mut common, nodes, listeners, plan.ticks, watch)
+    let start = Instant::now(&rt).ok();
+    let mut common = Common::new(rt, alloc, start, plan.seed, members.as_slice())?;
+    run_members(&mut common, plan, members, watch)
 }

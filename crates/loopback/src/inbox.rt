@@ -1,15 +1,39 @@
 //! What the nodes of a group handed out.
+use crate::common::since;
 use node_threads::Handed;
 use std::alloc::{AllocError, Global};
 use std::mem;
 use std::sync::{Arc, Mutex, Wait};
+use std::time::{Clock, Duration, Instant};
 use world::Delivery;
 
-/// The deliveries so far, and whether some were lost for want of memory.
+/// Deliveries, and when each was handed out, since the run began.
 #[derive(Drop)]
-struct Given {
-    deliveries: Vec<Delivery>,
+pub(crate) struct Given {
+    pub(crate) deliveries: Vec<Delivery>,
+    pub(crate) times: Vec<Duration>,
+    /// Whether some were lost since an allocation was refused.
     is_short: bool,
+}
+
+impl Given {
+    /// No deliveries.
+    fn new(alloc: Global) -> Given {
+        Given {
+            deliveries: Vec::new(alloc),
+            times: Vec::new(alloc),
+            is_short: false,
+        }
+    }
+
+    /// Puts deliveries last that were handed out at this time.
+    fn put(&mut self, batch: &mut Vec<Delivery>, at: Duration) -> Result<(), AllocError> {
+        for _ in 0..batch.len() {
+            self.times.push(at)?;
+        }
+        self.deliveries.append(batch)?;
+        Ok(())
+    }
 }
 
 /// The deliveries of one node, which the thread that hands them out shares with the one that runs the group.
@@ -22,20 +46,16 @@ pub(crate) struct Inbox {
 impl Inbox {
     /// An inbox without deliveries.
     pub(crate) fn new(alloc: Global) -> Inbox {
-        let deliveries = Vec::new(alloc);
         Inbox {
-            given: Mutex::new(Given {
-                deliveries,
-                is_short: false,
-            }),
+            given: Mutex::new(Given::new(alloc)),
             alloc,
         }
     }
 
     /// Puts deliveries last.
-    fn put<R: Wait>(&self, rt: &R, mut batch: Vec<Delivery>) {
+    fn put<R: Wait>(&self, rt: &R, mut batch: Vec<Delivery>, at: Duration) {
         let mut given = self.given.lock(rt);
-        if given.deliveries.append(&mut batch).is_err() {
+        if given.put(&mut batch, at).is_err() {
             given.is_short = true;
         }
     }
@@ -46,24 +66,27 @@ impl Inbox {
     }
 
     /// Takes the deliveries out. `AllocError`: there was no memory for some of them.
-    pub(crate) fn take<R: Wait>(&self, rt: &R) -> Result<Vec<Delivery>, AllocError> {
-        let mut given = self.given.lock(rt);
+    pub(crate) fn take<R: Wait>(&self, rt: &R) -> Result<Given, AllocError> {
+        let given = mem::replace(&mut *self.given.lock(rt), Given::new(self.alloc));
         if given.is_short {
             return Err(AllocError);
         }
-        Ok(mem::replace(&mut given.deliveries, Vec::new(self.alloc)))
+        Ok(given)
     }
 }
 
 /// Puts what a node hands out into an inbox.
 #[derive(Drop)]
-pub(crate) struct ToInbox<R: Wait + Drop> {
+pub(crate) struct ToInbox<R: Wait + Clock + Drop> {
     pub(crate) rt: R,
+    /// When the run began, where the clock could be read.
+    pub(crate) start: Option<Instant>,
     pub(crate) inbox: Arc<Inbox, Global>,
 }
 
-impl<R: Wait + Drop> Handed<Vec<Delivery>> for ToInbox<R> {
+impl<R: Wait + Clock + Drop> Handed<Vec<Delivery>> for ToInbox<R> {
     fn take(&mut self, batch: Vec<Delivery>) {
-        self.inbox.put(&self.rt, batch);
+        let at = since(&self.rt, &self.start);
+        self.inbox.put(&self.rt, batch, at);
     }
 }

@@ -1,15 +1,21 @@
 //! Groups of nodes that run in this process and write to each other over TCP connections within this machine.
 #![tactic(auto)]
 
+mod acceptor;
 mod arrivals;
 mod closing;
+mod common;
 mod connection;
 mod fault;
 mod group;
 mod inbox;
+mod link_table;
 mod link_writer;
+mod list;
 mod member;
 mod node;
+mod running;
+mod speech;
 mod starting;
 mod ticks;
 mod watch;
@@ -18,4 +24,5 @@ pub use closing::Ran;
 pub use fault::RunFault;
 pub use group::{Plan, run};
 pub use member::{Member, may_start};
+pub use speech::Stamp;
 pub use watch::{Unwatched, Watch};

@@ -1,17 +1,18 @@
 //! The start of a group's nodes.
-ghost use Rattle.std.specs.Prelude.{IfOk};
-ghost use Rattle.node_threads.specs.Opening.{IsFresh};
-
-use crate::arrivals::Arrivals;
+use crate::acceptor::Acceptor;
+use crate::common::Address;
 use crate::fault::RunFault;
 use crate::inbox::Inbox;
+use crate::link_table::LinkTable;
+use crate::list::keep;
 use crate::member::{Member, may_start};
-use crate::node::{Address, Node, keep};
-use bytes::Bytes;
+use crate::node::Node;
+use crate::running::Running;
+use crate::speech::Speech;
 use links::listen;
 use node_core::PlumCore;
 use node_names::{Limits, NodeName};
-use node_threads::{Host, NodeCore};
+use node_threads::{Host, Outlet, Port};
 use std::alloc::{AllocError, Global};
 use std::net::{Net, TcpListener, TcpStream};
 use std::sync::Arc;
@@ -22,6 +23,9 @@ const RING: usize = 1_024;
 
 /// How many steps a node may make.
 const STEPS: usize = 1_048_576;
+
+/// A host that has just started, its ports, and its links.
+type Started = (Host<PlumCore>, Vec<Port<PlumCore>>, Vec<Outlet>);
 
 /// Listens on the ports of all members, in order.
 pub(crate) fn listen_all<R: Net<Listener = TcpListener, Stream = TcpStream>>(
@@ -43,18 +47,6 @@ pub(crate) fn listen_all<R: Net<Listener = TcpListener, Stream = TcpStream>>(
     Ok(listeners)
 }
 
-/// Where the members take connections.
-pub(crate) fn addresses(alloc: Global, members: &[Member]) -> Result<Vec<Address>, AllocError> {
-    let mut addresses = Vec::new(alloc);
-    for member in members {
-        addresses.push(Address {
-            name: member.me.name,
-            port: member.port,
-        })?;
-    }
-    Ok(addresses)
-}
-
 /// The names of a group but for one, in order.
 fn others(
     alloc: Global,
@@ -70,73 +62,96 @@ fn others(
     Ok(names)
 }
 
-/// The texts, the last first.
-fn reversed(alloc: Global, mut texts: Vec<Bytes>) -> Result<Vec<Bytes>, AllocError> {
-    let mut last_first = Vec::with_capacity(alloc, texts.len())?;
-    for _ in 0..texts.len() {
-        if let Some(text) = texts.pop() {
-            keep(&mut last_first, text)?;
-        }
+/// Starts a member's core and its host, with a link to each of the names.
+fn start_host(
+    alloc: Global,
+    limits: Limits,
+    member: &Member,
+    names: &[NodeName],
+) -> Result<Started, RunFault> {
+    let me = member.me;
+    if !may_start(&limits, &me.name, member.peers.as_slice(), &member.contact) {
+        return Err(RunFault::BadPeers { node: me.name });
     }
-    Ok(last_first)
+    let mut opening = Out::new(alloc);
+    let peers = member.peers.as_slice();
+    match PlumCore::start(alloc, me, limits, peers, member.contact, &mut opening) {
+        Ok(core) => match Host::start(alloc, core, opening, names, 1, RING, STEPS) {
+            Ok(started) => Ok(started),
+            Err(_) => Err(RunFault::OutOfMemory),
+        },
+        Err(_) => Err(RunFault::OutOfMemory),
+    }
 }
 
-/// A node of which the core has just started, with a link to each of the names.
-fn node_of<C: NodeCore<Global> + Drop>(
-    alloc: Global,
-    core: C,
-    opening: Out<frames::Frame>,
-    address: Address,
-    names: &[NodeName],
-    texts: Vec<Bytes>,
-) -> Result<Node<C>, RunFault>
-    requires { IsFresh C.starts core opening }
-{
-    let Ok((host, ports, outlets)) = Host::start(alloc, core, opening, names, 1, RING, STEPS) else {
-        return Err(RunFault::OutOfMemory);
-    };
-    Ok(Node {
-        address,
-        host,
-        ports,
-        workers: Vec::new(alloc),
-        unwritten: outlets,
-        written: Vec::new(alloc),
-        arrivals: Arc::new(alloc, Arrivals::new(alloc))?,
-        accepting: None,
+/// What a node has beside its host and links.
+#[derive(Drop)]
+struct Surroundings {
+    name: NodeName,
+    acceptor: Acceptor,
+    speech: Speech,
+    inbox: Arc<Inbox, Global>,
+}
+
+/// What the node of a member has beside its host and links.
+fn surround(alloc: Global, member: Member) -> Result<Surroundings, AllocError> {
+    Ok(Surroundings {
+        name: member.me.name,
+        acceptor: Acceptor::new(alloc, member.port)?,
         inbox: Arc::new(alloc, Inbox::new(alloc))?,
-        texts,
-        refused: None,
+        speech: Speech::new(alloc, member.texts)?,
     })
 }
 
+/// A node of these parts.
+fn assemble(alloc: Global, started: Started, around: Surroundings) -> Node<PlumCore> {
+    let (host, ports, outlets) = started;
+    let Surroundings {
+        name,
+        acceptor,
+        speech,
+        inbox,
+    } = around;
+    Node {
+        name,
+        running: Running {
+            host,
+            ports,
+            workers: Vec::new(alloc),
+        },
+        links: LinkTable::new(alloc, outlets),
+        acceptor,
+        speech,
+        inbox,
+    }
+}
+
 /// A member as a node that has started and has no threads yet.
-pub(crate) fn start_node(
+fn start_node(
     alloc: Global,
     limits: Limits,
     addresses: &[Address],
     member: Member,
 ) -> Result<Node<PlumCore>, RunFault> {
-    let Member {
-        me,
-        port,
-        peers,
-        contact,
-        texts,
-    } = member;
-    if !may_start(&limits, &me.name, peers.as_slice(), &contact) {
-        return Err(RunFault::BadPeers { node: me.name });
+    let names = others(alloc, addresses, &member.me.name)?;
+    let started = start_host(alloc, limits, &member, names.as_slice())?;
+    match surround(alloc, member) {
+        Ok(around) => Ok(assemble(alloc, started, around)),
+        Err(_) => Err(RunFault::OutOfMemory),
     }
-    let mut opening = Out::new(alloc);
-    let Ok(core) = PlumCore::start(alloc, me, limits, peers.as_slice(), contact, &mut opening)
-    else {
-        return Err(RunFault::OutOfMemory);
-    };
-    let names = others(alloc, addresses, &me.name)?;
-    let texts = reversed(alloc, texts)?;
-    let address = Address {
-        name: me.name,
-        port,
-    };
-    node_of(alloc, core, opening, address, names.as_slice(), texts)
+}
+
+/// Starts the members' nodes, in order, without threads.
+pub(crate) fn start_nodes(
+    alloc: Global,
+    limits: Limits,
+    addresses: &[Address],
+    members: Vec<Member>,
+) -> Result<Vec<Node<PlumCore>>, RunFault> {
+    let mut nodes = Vec::new(alloc);
+    for member in members {
+        let node = start_node(alloc, limits, addresses, member)?;
+        keep(&mut nodes, node)?;
+    }
+    Ok(nodes)
 }

@@ -10,6 +10,7 @@ use refusing_allocator::RefusingAllocator;
 use std::alloc::{AllocError, Allocator, Global};
 use std::process::Abort;
 use std::test::Fail;
+use test_support::stop_refusing;
 
 /// More growths than any event has.
 const MANY: u64 = 100;
@@ -34,8 +35,7 @@ fn try_event<A: Allocator + Copy>(
     let dice = dice(turn.1);
     heap.refuse(n);
     let is_refused = hear(rt, texts, membership, moves, &turn.0, &dice).is_err();
-    let is_spent = heap.is_spent();
-    heap.refuse(0);
+    let is_spent = stop_refusing(heap);
     (is_spent, is_refused)
 }
 
@@ -118,8 +118,7 @@ fn sweep_copy<A: Allocator + Copy>(
     write_shown(&mut texts.before, membership)?;
     heap.refuse(n);
     let made = membership.copy();
-    let is_spent = heap.is_spent();
-    heap.refuse(0);
+    let is_spent = stop_refusing(heap);
     let is_right = is_made(texts, &made, is_spent)?;
     assert!(rt; is_right);
     Ok(is_spent)

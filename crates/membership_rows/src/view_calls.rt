@@ -7,6 +7,7 @@ use std::alloc::{AllocError, Allocator, Global};
 use std::fmt::Write;
 use std::process::Abort;
 use std::test::Fail;
+use test_support::stop_refusing;
 use views::Views;
 
 /// A call in plain texts and numbers. Names of lists stand between blanks.
@@ -223,8 +224,7 @@ fn try_call<A: Allocator + Copy>(
     let dice = dice(turn.1);
     heap.refuse(n);
     let is_refused = call(rt, text, views, &turn.0, &dice).is_err();
-    let is_spent = heap.is_spent();
-    heap.refuse(0);
+    let is_spent = stop_refusing(heap);
     (is_spent, is_refused)
 }
 
@@ -292,8 +292,7 @@ fn sweep_copy<A: Allocator + Copy>(
     look(rt, heap, &mut texts.before, views)?;
     heap.refuse(n);
     let made = views.copy();
-    let is_spent = heap.is_spent();
-    heap.refuse(0);
+    let is_spent = stop_refusing(heap);
     let is_right = is_made(texts, &made, is_spent)?;
     assert!(rt; is_right);
     Ok(is_spent)

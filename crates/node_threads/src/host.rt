@@ -86,7 +86,7 @@ fn share<C: NodeCore<A> + Drop, A: Allocator + Copy>(
     cell: NodeCell<C, A>,
     ring: usize,
 ) -> Result<Arc<Shared<C, A>, A>, AllocError> {
-    Ok(Arc::new(alloc, Shared::new(alloc, cell, ring))?)
+    Ok(Arc::new(alloc, Shared::new(alloc, cell, ring)?)?)
 }
 
 impl<C: NodeCore<A> + Drop, A: Allocator + Copy> Host<C, A> {

@@ -28,6 +28,7 @@ mod shared;
 mod spelled;
 mod stepper;
 mod ticking;
+mod wakeups;
 mod worker;
 mod writing;
 

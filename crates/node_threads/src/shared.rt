@@ -7,22 +7,23 @@ use crate::cores::NodeCore;
 use crate::error::HostError;
 use crate::outlet::Outlet;
 use crate::receipt::Receipt;
+use crate::wakeups::{Moved, Wakeups};
 use bytes::Bytes;
 use crossbeam_utils::CachePadded;
 use frames::Frame;
 use node_names::{MsgId, NodeName};
-use std::alloc::Allocator;
+use std::alloc::{AllocError, Allocator};
 use std::sync::atomic::{AtomicUsize, Ordering};
-use std::sync::{Condvar, Mutex, Wait};
+use std::sync::{Mutex, Wait};
 use world::{Delivery, Stimulus, StimulusOf};
 
 /// A node that runs. The lock holds the cell until the node is closed.
 ///
-/// Waiting threads are told of each step that sends or delivers, and of the stop.
+/// Waiting threads are told of each step that sends or delivers what they wait for, and of the stop.
 #[derive(Drop)]
 pub(crate) struct Shared<C: NodeCore<A> + Drop, A: Allocator> {
     cell: CachePadded<Mutex<Option<NodeCell<C, A>>>>,
-    moved: Condvar,
+    wakeups: Wakeups<A>,
     /// How many workers were started.
     workers: AtomicUsize,
     /// How many frames a link's ring has room for.
@@ -64,31 +65,39 @@ fn is_idle<C: NodeCore<A> + Drop, A: Allocator + Copy>(cell: &Option<NodeCell<C,
     }
 }
 
-/// Whether a step from this place on sent or delivered something, so that somebody may wait for it.
-fn has_moved<C: NodeCore<A> + Drop, A: Allocator + Copy>(
+/// For whom the steps from this place on did something.
+fn moved_since<C: NodeCore<A> + Drop, A: Allocator + Copy>(
     cell: &NodeCell<C, A>,
     first: usize,
-) -> bool {
+) -> Moved {
     let trace = cell.trace();
-    (first..trace.len()).any(|place| match trace.step(place) {
-        Some(step) => !step.out.sends.is_empty() || !step.out.deliveries.is_empty(),
-        None => false,
-    })
+    let mut moved = Moved::nothing();
+    for place in first..trace.len() {
+        if let Some(step) = trace.step(place) {
+            moved.add(&step.out);
+        }
+    }
+    moved
 }
 
 impl<C: NodeCore<A> + Drop, A: Allocator + Copy> Shared<C, A> {
     /// A node whose links have rings for so many frames.
-    pub(crate) fn new(alloc: A, cell: NodeCell<C, A>, ring: usize) -> Shared<C, A> {
-        Shared {
+    pub(crate) fn new(
+        alloc: A,
+        cell: NodeCell<C, A>,
+        ring: usize,
+    ) -> Result<Shared<C, A>, AllocError> {
+        let wakeups = Wakeups::new(alloc)?;
+        Ok(Shared {
             cell: CachePadded::new(Mutex::new(Some(cell))),
-            moved: Condvar::new(),
+            wakeups,
             workers: AtomicUsize::new(0),
             ring,
             alloc,
-        }
+        })
     }
 
-    /// Applies the stimulus with its Downs under one hold of the lock, and tells those that wait if anything was sent or delivered.
+    /// Applies the stimulus with its Downs under one hold of the lock, and tells those that wait for what was sent or delivered.
     pub(crate) fn apply<R: Wait>(
         &self,
         rt: &R,
@@ -100,11 +109,9 @@ impl<C: NodeCore<A> + Drop, A: Allocator + Copy> Shared<C, A> {
         };
         let first = cell.trace().len();
         let applied = cell.apply_with_downs(stimulus)?;
-        let has_moved = has_moved(cell, first);
+        let moved = moved_since(cell, first);
         drop(guard);
-        if has_moved {
-            self.moved.notify_all();
-        }
+        self.wakeups.wake(moved);
         Ok(applied)
     }
 
@@ -125,8 +132,9 @@ impl<C: NodeCore<A> + Drop, A: Allocator + Copy> Shared<C, A> {
             unlinked: _,
         } = cell.apply_with_downs(StimulusOf::Broadcast(payload))?;
         let Some(id) = id else { unreachable!() };
+        let moved = moved_since(cell, place);
         drop(guard);
-        self.moved.notify_all();
+        self.wakeups.wake(moved);
         Ok(Receipt { id, place })
     }
 
@@ -148,7 +156,7 @@ impl<C: NodeCore<A> + Drop, A: Allocator + Copy> Shared<C, A> {
         if let Some(cell) = &mut *self.cell.lock(rt) {
             cell.shut();
         }
-        self.moved.notify_all();
+        self.wakeups.wake_all();
     }
 
     /// Whether the name is in the core's active view.
@@ -170,7 +178,8 @@ impl<C: NodeCore<A> + Drop, A: Allocator + Copy> Shared<C, A> {
     /// Takes the cell out of the lock. If it is not there it waits until it is.
     pub(crate) fn take<R: Wait>(&self, rt: &R) -> NodeCell<C, A> {
         let mut guard = self
-            .moved
+            .wakeups
+            .delivered
             .wait_while(rt, self.cell.lock(rt), |cell| cell.is_none());
         let Some(cell) = guard.take() else {
             unreachable!()
@@ -185,7 +194,7 @@ impl<C: NodeCore<A> + Drop, A: Allocator + Copy> Shared<C, A> {
             if let Some(writing) = next_writing(&guard, outlet) {
                 return writing;
             }
-            guard = self.moved.wait(rt, guard);
+            guard = self.wakeups.writer(&outlet.peer()).wait(rt, guard);
         }
         unreachable!()
     }
@@ -193,7 +202,8 @@ impl<C: NodeCore<A> + Drop, A: Allocator + Copy> Shared<C, A> {
     /// Waits for deliveries and hands them out; none when the node was stopped and all are handed out.
     pub(crate) fn wait_for_deliveries<R: Wait>(&self, rt: &R) -> Option<Vec<Delivery<A>, A>> {
         let mut guard = self
-            .moved
+            .wakeups
+            .delivered
             .wait_while(rt, self.cell.lock(rt), |cell| is_idle(cell));
         let given = guard.as_mut()?.take_deliveries();
         if given.is_empty() { None } else { Some(given) }

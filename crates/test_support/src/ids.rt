@@ -5,7 +5,8 @@ use node_names::{Incarnation, MsgId, NodeName, Origin};
 
 /// The first incarnation of a name.
 pub fn first_run(name: NodeName) -> Origin
-    ensures { result.name ≡ name }
+    ensures name { result.name ≡ name }
+    ensures incarnation { result.incarnation.0 ≡ 1 }
 {
     Origin {
         name,
@@ -16,6 +17,7 @@ pub fn first_run(name: NodeName) -> Origin
 /// The message with this number of a name's first incarnation.
 pub fn message(name: NodeName, seq: u64) -> MsgId
     ensures name { result.origin.name ≡ name }
+    ensures incarnation { result.origin.incarnation.0 ≡ 1 }
     ensures seq { result.seq ≡ seq }
 {
     MsgId {

@@ -5,10 +5,11 @@ ghost use Rattle.world.specs.Peers.{are_peers};
 
 use frames::Frame;
 use node_core::PlumCore;
-use node_names::{Incarnation, Limits, NodeName, Origin};
+use node_names::{Limits, NodeName, Origin};
 use node_threads::{HostError, NodeCell};
 use std::alloc::Allocator;
 use std::process::Abort;
+use test_support::first_run;
 use world::{Core, Out};
 
 /// A node and two others.
@@ -17,16 +18,6 @@ pub(crate) struct Names {
     pub(crate) me: Origin,
     pub(crate) p: NodeName,
     pub(crate) q: NodeName,
-}
-
-/// The first incarnation of a name.
-pub(crate) fn first_run(name: NodeName) -> Origin
-    ensures { result.name ≡ name }
-{
-    Origin {
-        name,
-        incarnation: Incarnation(1),
-    }
 }
 
 /// The name of this text.

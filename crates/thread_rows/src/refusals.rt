@@ -6,6 +6,7 @@ use node_threads::{HostError, NodeCell};
 use std::alloc::{AllocError, Allocator};
 use std::process::Abort;
 use std::test::Fail;
+use test_support::lend;
 use world::CoreError;
 
 /// What a fresh node answers, whose trace may have two steps.
@@ -78,22 +79,14 @@ fn is_so<A: Allocator + Copy>(
     Ok(answers(alloc, cell, row.broadcasts)? && cell.trace().len() == row.steps)
 }
 
-/// The same of a node that is not needed any more.
-fn is_so_of<A: Allocator + Copy>(
-    mut cell: NodeCell<PlumCore<A>, A>,
-    alloc: A,
-    row: &Row,
-) -> Result<bool, AllocError> {
-    is_so(alloc, &mut cell, row)
-}
-
 /// The same of a fresh node.
 fn is_so_of_fresh<A: Allocator + Copy>(
     rt: &impl Abort,
     alloc: A,
     row: &Row,
 ) -> Result<bool, HostError> {
-    Ok(is_so_of(start_with_p(rt, alloc, 2)?, alloc, row)?)
+    let cell = start_with_p(rt, alloc, 2)?;
+    Ok(lend(cell, |cell| is_so(alloc, cell, row))?)
 }
 
 #[test]

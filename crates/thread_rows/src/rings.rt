@@ -1,6 +1,6 @@
 //! A link whose ring has room for one frame.
 use crate::calls::{is_reported, refusal, step};
-use crate::node::{first_run, parse_names, start_with_p};
+use crate::node::{parse_names, start_with_p};
 use frames::{BodyOf, Frame, decode};
 use node_core::PlumCore;
 use node_names::{Dice, NodeName};
@@ -8,6 +8,7 @@ use node_threads::{HostError, NodeCell, Outlet};
 use std::alloc::{AllocError, Allocator};
 use std::process::Abort;
 use std::test::Fail;
+use test_support::{first_run, lend};
 use world::{Stimulus, StimulusOf, Wire};
 
 /// The first PRUNE of a peer, as it comes.
@@ -117,20 +118,15 @@ fn is_closed_when_full<A: Allocator + Copy>(
     Ok(overflows(rt, alloc, cell, peer)? && gives_first(alloc, cell, &mut outlet, &peer)?)
 }
 
-/// The same of a node that is not needed any more.
-fn is_closed_when_full_of<A: Allocator + Copy>(
-    mut cell: NodeCell<PlumCore<A>, A>,
-    rt: &impl Abort,
-    alloc: A,
-    peer: NodeName,
-) -> Result<bool, HostError> {
-    is_closed_when_full(rt, alloc, &mut cell, peer)
-}
-
 #[test]
 fn ring_of_one(rt: HostRuntime) -> Result<(), Fail> {
     let peer = parse_names(&rt).p;
     let cell = start_with_p(&rt, rt.alloc(), 100)?;
-    assert!(rt; is_closed_when_full_of(cell, &rt, rt.alloc(), peer)?);
+    assert!(rt;
+        lend(
+            cell,
+            |cell| is_closed_when_full(&rt, rt.alloc(), cell, peer)
+        )?
+    );
     Ok(())
 }

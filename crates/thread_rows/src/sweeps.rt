@@ -10,6 +10,7 @@ use refusing_allocator::RefusingAllocator;
 use std::alloc::{AllocError, Allocator};
 use std::process::Abort;
 use std::test::Fail;
+use test_support::{lend, stop_refusing};
 use world::Stimulus;
 
 /// More growths than a broadcast has.
@@ -47,8 +48,7 @@ fn try_second<A: Allocator + Copy>(
     let stimulus = broadcast(alloc, 1)?;
     heap.refuse(n);
     let answer = is_second(cell, stimulus);
-    let is_spent = heap.is_spent();
-    heap.refuse(0);
+    let is_spent = stop_refusing(heap);
     Ok((is_spent, answer))
 }
 
@@ -167,17 +167,6 @@ fn refuse_without_links<A: Allocator + Copy>(
     refuse_with_p(heap, alloc, cell, &mut to_p, names.q, n)
 }
 
-/// Does so with a node that is not needed any more.
-fn refuse_of_node<A: Allocator + Copy>(
-    mut cell: NodeCell<PlumCore<A>, A>,
-    heap: &RefusingAllocator,
-    alloc: A,
-    names: &Names,
-    n: u64,
-) -> Result<Option<bool>, HostError> {
-    refuse_without_links(heap, alloc, &mut cell, names, n)
-}
-
 /// Does so with a fresh node.
 fn refuse_of_fresh<A: Allocator + Copy>(
     rt: &impl Abort,
@@ -186,7 +175,10 @@ fn refuse_of_fresh<A: Allocator + Copy>(
     n: u64,
 ) -> Result<Option<bool>, HostError> {
     let cell = start_with_both(rt, alloc, 9)?;
-    refuse_of_node(cell, heap, alloc, &parse_names(rt), n)
+    let names = parse_names(rt);
+    lend(cell, |cell| {
+        refuse_without_links(heap, alloc, cell, &names, n)
+    })
 }
 
 /// Refuses each growth in turn, and at last none. How many there are, or none if something is wrong.

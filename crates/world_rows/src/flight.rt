@@ -6,6 +6,7 @@ use node_names::Limits;
 use std::alloc::Allocator;
 use std::process::Abort;
 use std::test::Fail;
+use test_support::lend;
 use world::WorldError;
 
 /// An event, and the numbers of the packets in flight after it.
@@ -89,25 +90,35 @@ fn is_flown<A: Allocator + Copy>(
     Ok(world.flight() == turn.1)
 }
 
-/// Plays the events of a row. How many of them left what they should, up to the first that did not.
+/// Plays events. How many of them left what they should, up to the first that did not.
 fn count_flown<A: Allocator + Copy>(
     rt: &impl Abort,
     alloc: A,
-    row: &Row,
+    world: &mut Group<A>,
+    turns: &[Turn],
 ) -> Result<usize, WorldError> {
-    let mut world = Group::new(alloc, Limits::STANDARD);
-    for (at, turn) in row.turns.iter().enumerate() {
-        if !is_flown(rt, alloc, &mut world, turn)? {
+    for (at, turn) in turns.iter().enumerate() {
+        if !is_flown(rt, alloc, world, turn)? {
             return Ok(at);
         }
     }
-    Ok(row.turns.len())
+    Ok(turns.len())
+}
+
+/// Does so in a fresh group.
+fn count_flown_from_start<A: Allocator + Copy>(
+    rt: &impl Abort,
+    alloc: A,
+    turns: &[Turn],
+) -> Result<usize, WorldError> {
+    let world = Group::new(alloc, Limits::STANDARD);
+    lend(world, |world| count_flown(rt, alloc, world, turns))
 }
 
 #[test]
 fn the_oldest_leaves_first(rt: HostRuntime) -> Result<(), Fail> {
     for row in rows() {
-        let flown = count_flown(&rt, rt.alloc(), row)?;
+        let flown = count_flown_from_start(&rt, rt.alloc(), row.turns)?;
         assert_eq!(rt; flown, row.turns.len(), "at {}", row.name);
     }
     Ok(())

@@ -8,6 +8,7 @@ use refusing_allocator::RefusingAllocator;
 use std::alloc::{AllocError, Allocator};
 use std::process::Abort;
 use std::test::Fail;
+use test_support::{lend, stop_refusing};
 use world::{Delivery, WorldError};
 
 /// More allocations than a call has.
@@ -82,6 +83,22 @@ fn is_forest<A: Allocator + Copy>(
     )
 }
 
+/// Whether this is the forest, or a refusal if an allocation was refused.
+fn is_answer<A: Allocator + Copy>(
+    rt: &impl Abort,
+    alloc: A,
+    text: &mut String<A>,
+    world: &Group<A>,
+    answer: &Result<Forest<A>, AllocError>,
+    is_refused: bool,
+    case: &Case,
+) -> Result<bool, AllocError> {
+    match answer {
+        Ok(forest) => Ok(!is_refused && is_forest(rt, alloc, text, world, forest, case)?),
+        Err(_) => Ok(is_refused),
+    }
+}
+
 /// Finds the forest while the allocation with this number is refused. Whether there is such an allocation, or none if the
 /// answer is wrong.
 fn refuse_allocation<A: Allocator + Copy>(
@@ -95,12 +112,10 @@ fn refuse_allocation<A: Allocator + Copy>(
 ) -> Result<Option<bool>, AllocError> {
     heap.refuse(n);
     let answer = Forest::new(alloc, world);
-    let is_spent = heap.is_spent();
-    heap.refuse(0);
-    let is_right = match &answer {
-        Ok(forest) => !is_spent && is_forest(rt, alloc, text, world, forest, case)?,
-        Err(_) => is_spent,
-    };
+    let is_spent = stop_refusing(heap);
+    let is_right = lend(answer, |answer| {
+        is_answer(rt, alloc, text, world, answer, is_spent, case)
+    })?;
     Ok(is_right.then_some(is_spent))
 }
 
@@ -129,11 +144,26 @@ fn sweep_case<A: Allocator + Copy>(
     heap: &RefusingAllocator,
     alloc: A,
     text: &mut String<A>,
+    world: &mut Group<A>,
     case: &Case,
 ) -> Result<Option<u64>, WorldError> {
-    let mut world = Group::new(alloc, Limits::STANDARD);
-    play_acts(rt, alloc, &mut world, case.acts)?;
-    Ok(sweep(rt, heap, alloc, text, &world, case)?)
+    play_acts(rt, alloc, world, case.acts)?;
+    Ok(sweep(rt, heap, alloc, text, world, case)?)
+}
+
+/// Plays the case in a fresh group.
+fn sweep_case_from_start<A: Allocator + Copy>(
+    rt: &impl Abort,
+    heap: &RefusingAllocator,
+    alloc: A,
+    text: &mut String<A>,
+    case: &Case,
+) -> Result<Option<u64>, WorldError> {
+    let world = Group::new(alloc, Limits::STANDARD);
+    lend(
+        world,
+        |world| sweep_case(rt, heap, alloc, text, world, case),
+    )
 }
 
 /// All trees of each case, each allocation refused in turn.
@@ -143,7 +173,7 @@ fn trees_at_once(rt: HostRuntime) -> Result<(), Fail> {
     let mut text = String::new(&heap);
     let mut refused = 0u64;
     for case in cases() {
-        let allocations = sweep_case(&rt, &heap, &heap, &mut text, case)?;
+        let allocations = sweep_case_from_start(&rt, &heap, &heap, &mut text, case)?;
         assert!(rt; allocations.is_some(), "at {}: {text}", case.name);
         refused = refused.saturating_add(allocations.unwrap_or(0));
     }

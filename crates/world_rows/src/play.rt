@@ -7,6 +7,7 @@ use std::alloc::{AllocError, Allocator};
 use std::fmt::Write;
 use std::process::Abort;
 use std::test::Fail;
+use test_support::{lend, push_letters};
 use world::{Delivery, Event, WorldError};
 
 /// What an event gives.
@@ -22,10 +23,7 @@ fn write_delivery<A: Allocator + Copy>(
 ) -> Result<(), AllocError> {
     text.clear();
     write!(text, "{} {} ", delivery.node, delivery.id)?;
-    for byte in delivery.payload.as_slice() {
-        text.push(char::from(*byte))?;
-    }
-    Ok(())
+    push_letters(text, delivery.payload.as_slice())
 }
 
 /// Whether deliveries have these texts, of which the last one compared is left.
@@ -108,18 +106,28 @@ fn is_row<A: Allocator + Copy>(
     rt: &impl Abort,
     alloc: A,
     text: &mut String<A>,
+    world: &mut Group<A>,
     row: &Row,
 ) -> Result<bool, AllocError> {
-    let mut world = Group::new(alloc, Limits::STANDARD);
-    let is_right = are_turns(rt, alloc, text, &mut world, row.turns)?;
-    Ok(is_right && is_end(&world, row))
+    Ok(are_turns(rt, alloc, text, world, row.turns)? && is_end(world, row))
+}
+
+/// Does so in a fresh group.
+fn is_row_from_start<A: Allocator + Copy>(
+    rt: &impl Abort,
+    alloc: A,
+    text: &mut String<A>,
+    row: &Row,
+) -> Result<bool, AllocError> {
+    let world = Group::new(alloc, Limits::STANDARD);
+    lend(world, |world| is_row(rt, alloc, text, world, row))
 }
 
 #[test]
 fn plays_rows(rt: HostRuntime) -> Result<(), Fail> {
     let mut text = String::new(rt.alloc());
     for row in rows() {
-        let is_right = is_row(&rt, rt.alloc(), &mut text, row)?;
+        let is_right = is_row_from_start(&rt, rt.alloc(), &mut text, row)?;
         assert!(rt; is_right, "at {}: {text}", row.name);
     }
     Ok(())

@@ -8,6 +8,7 @@ use refusing_allocator::RefusingAllocator;
 use std::alloc::{AllocError, Allocator};
 use std::process::Abort;
 use std::test::Fail;
+use test_support::{lend, stop_refusing};
 use world::WorldError;
 
 /// More growths than the call has.
@@ -203,9 +204,8 @@ fn refuse_growth<A: Allocator + Copy>(
 ) -> Option<bool> {
     heap.refuse(n);
     let answer = reach(alloc, world, from);
-    let is_spent = heap.is_spent();
-    heap.refuse(0);
-    is_answer(&answer, is_spent, whole).then_some(is_spent)
+    let is_spent = stop_refusing(heap);
+    lend(answer, |answer| is_answer(answer, is_spent, whole)).then_some(is_spent)
 }
 
 /// Asks while each growth is refused in turn, and at last while none is. How many there are, or none if an answer is wrong.
@@ -245,11 +245,22 @@ fn sweep_case<A: Allocator + Copy>(
     rt: &impl Abort,
     heap: &RefusingAllocator,
     alloc: A,
+    world: &mut Group<A>,
     case: &Case,
 ) -> Result<Option<u64>, WorldError> {
-    let mut world = Group::new(alloc, Limits::STANDARD);
-    play_acts(rt, alloc, &mut world, case.acts)?;
-    Ok(sweep_asked(rt, heap, alloc, &world, case.asked))
+    play_acts(rt, alloc, world, case.acts)?;
+    Ok(sweep_asked(rt, heap, alloc, world, case.asked))
+}
+
+/// Plays the case in a fresh group.
+fn sweep_case_from_start<A: Allocator + Copy>(
+    rt: &impl Abort,
+    heap: &RefusingAllocator,
+    alloc: A,
+    case: &Case,
+) -> Result<Option<u64>, WorldError> {
+    let world = Group::new(alloc, Limits::STANDARD);
+    lend(world, |world| sweep_case(rt, heap, alloc, world, case))
 }
 
 /// Who is in reach, each growth of the answer refused in turn.
@@ -258,7 +269,7 @@ fn names_in_reach(rt: HostRuntime) -> Result<(), Fail> {
     let heap = RefusingAllocator::new(rt.alloc());
     let mut refused = 0u64;
     for case in cases() {
-        let growths = sweep_case(&rt, &heap, &heap, case)?;
+        let growths = sweep_case_from_start(&rt, &heap, &heap, case)?;
         assert!(rt; growths.is_some(), "at {}", case.name);
         refused = refused.saturating_add(growths.unwrap_or(0));
     }

@@ -8,6 +8,7 @@ use std::alloc::{AllocError, Allocator};
 use std::fmt::Write;
 use std::process::Abort;
 use std::test::Fail;
+use test_support::{lend, stop_refusing};
 use world::{Event, WorldError};
 
 /// More growths than a call has.
@@ -196,9 +197,8 @@ fn refuse_growth<A: Allocator + Copy>(
 ) -> Option<bool> {
     heap.refuse(n);
     let answer = tree(alloc, world, message);
-    let is_spent = heap.is_spent();
-    heap.refuse(0);
-    is_answer(&answer, is_spent, whole).then_some(is_spent)
+    let is_spent = stop_refusing(heap);
+    lend(answer, |answer| is_answer(answer, is_spent, whole)).then_some(is_spent)
 }
 
 /// Asks while each growth is refused in turn. How many there are, or none if an answer is wrong.
@@ -245,8 +245,7 @@ fn is_told<A: Allocator + Copy>(
     heap.refuse(1);
     let is_rest_told = is_at_rest(world, message) == case.is_at_rest;
     let is_symmetry_told = is_symmetric(world) == case.is_symmetric;
-    let is_spent = heap.is_spent();
-    heap.refuse(0);
+    let is_spent = stop_refusing(heap);
     is_rest_told && is_symmetry_told && !is_spent
 }
 
@@ -274,11 +273,26 @@ fn sweep_case<A: Allocator + Copy>(
     heap: &RefusingAllocator,
     alloc: A,
     text: &mut String<A>,
+    world: &mut Group<A>,
     case: &Case,
 ) -> Result<Option<u64>, WorldError> {
-    let mut world = Group::new(alloc, Limits::STANDARD);
-    play_acts(rt, alloc, &mut world, case.acts)?;
-    Ok(sweep_told(rt, heap, alloc, text, &world, case)?)
+    play_acts(rt, alloc, world, case.acts)?;
+    Ok(sweep_told(rt, heap, alloc, text, world, case)?)
+}
+
+/// Plays the case in a fresh group.
+fn sweep_case_from_start<A: Allocator + Copy>(
+    rt: &impl Abort,
+    heap: &RefusingAllocator,
+    alloc: A,
+    text: &mut String<A>,
+    case: &Case,
+) -> Result<Option<u64>, WorldError> {
+    let world = Group::new(alloc, Limits::STANDARD);
+    lend(
+        world,
+        |world| sweep_case(rt, heap, alloc, text, world, case),
+    )
 }
 
 /// Trees with each of their growths refused in turn, and two questions whose answers have none.
@@ -288,7 +302,7 @@ fn trees_and_rest(rt: HostRuntime) -> Result<(), Fail> {
     let mut text = String::new(&heap);
     let mut refused = 0u64;
     for case in cases() {
-        let growths = sweep_case(&rt, &heap, &heap, &mut text, case)?;
+        let growths = sweep_case_from_start(&rt, &heap, &heap, &mut text, case)?;
         assert!(rt; growths.is_some(), "at {}: {text}", case.name);
         refused = refused.saturating_add(growths.unwrap_or(0));
     }

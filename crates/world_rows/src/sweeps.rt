@@ -9,13 +9,11 @@ use refusing_allocator::RefusingAllocator;
 use std::alloc::{AllocError, Allocator};
 use std::process::Abort;
 use std::test::Fail;
+use test_support::{lend, stop_refusing};
 use world::{Event, Given, RunFault, WorldError};
 
 /// More growths than any event or row has.
 const MANY: u64 = 400;
-
-/// Turns before an event, and those from it on.
-type Parts<'a> = (&'a [Turn], &'a [Turn]);
 
 /// Plays turns, none of which is refused a growth.
 fn play_turns<A: Allocator + Copy>(
@@ -57,8 +55,7 @@ fn try_event<A: Allocator + Copy>(
 ) -> Result<(bool, bool), AllocError> {
     heap.refuse(n);
     let answer = world.apply(event);
-    let is_spent = heap.is_spent();
-    heap.refuse(0);
+    let is_spent = stop_refusing(heap);
     let is_refused = is_refused(rt, text, &answer, wanted)?;
     Ok((is_spent, is_refused))
 }
@@ -104,7 +101,8 @@ fn go_on<A: Allocator + Copy>(
     Ok(is_spent)
 }
 
-/// Plays turns in two groups, the growth with this number of one event refused in the one. Whether there is such a growth.
+/// Plays a row in two groups, the growth with this number of the event at this place refused in the one. Whether there is such a
+/// growth.
 fn sweep_groups<A: Allocator + Copy>(
     rt: &impl Abort,
     heap: &RefusingAllocator,
@@ -112,12 +110,14 @@ fn sweep_groups<A: Allocator + Copy>(
     text: &mut String<A>,
     world: &mut Group<A>,
     twin: &mut Group<A>,
-    parts: Parts<'_>,
+    row: &Row,
+    at: usize,
     n: u64,
 ) -> Result<bool, AllocError> {
-    play_turns(rt, alloc, text, world, parts.0)?;
-    play_turns(rt, alloc, text, twin, parts.0)?;
-    let is_spent = go_on(rt, heap, alloc, text, world, twin, parts.1, n)?;
+    let (before, from) = row.turns.split_at(at.min(row.turns.len()));
+    play_turns(rt, alloc, text, world, before)?;
+    play_turns(rt, alloc, text, twin, before)?;
+    let is_spent = go_on(rt, heap, alloc, text, world, twin, from, n)?;
     assert!(rt; are_alike(world, twin));
     assert!(rt; holds_given(world));
     Ok(is_spent)
@@ -130,11 +130,14 @@ fn sweep_beside<A: Allocator + Copy>(
     alloc: A,
     text: &mut String<A>,
     world: &mut Group<A>,
-    parts: Parts<'_>,
+    row: &Row,
+    at: usize,
     n: u64,
 ) -> Result<bool, AllocError> {
-    let mut twin = Group::new(alloc, Limits::STANDARD);
-    sweep_groups(rt, heap, alloc, text, world, &mut twin, parts, n)
+    let twin = Group::new(alloc, Limits::STANDARD);
+    lend(twin, |twin| {
+        sweep_groups(rt, heap, alloc, text, world, twin, row, at, n)
+    })
 }
 
 /// Does so in a fresh group too.
@@ -143,11 +146,15 @@ fn sweep_turn<A: Allocator + Copy>(
     heap: &RefusingAllocator,
     alloc: A,
     text: &mut String<A>,
-    parts: Parts<'_>,
+    row: &Row,
+    at: usize,
     n: u64,
 ) -> Result<bool, AllocError> {
-    let mut world = Group::new(alloc, Limits::STANDARD);
-    sweep_beside(rt, heap, alloc, text, &mut world, parts, n)
+    let world = Group::new(alloc, Limits::STANDARD);
+    lend(
+        world,
+        |world| sweep_beside(rt, heap, alloc, text, world, row, at, n),
+    )
 }
 
 /// Refuses each growth of an event in turn. How many there are.
@@ -156,10 +163,11 @@ fn sweep_event<A: Allocator + Copy>(
     heap: &RefusingAllocator,
     alloc: A,
     text: &mut String<A>,
-    parts: Parts<'_>,
+    row: &Row,
+    at: usize,
 ) -> Result<u64, AllocError> {
     for n in 1..MANY {
-        if !sweep_turn(rt, heap, alloc, text, parts, n)? {
+        if !sweep_turn(rt, heap, alloc, text, row, at, n)? {
             return Ok(n - 1);
         }
     }
@@ -177,8 +185,7 @@ fn sweep_row<A: Allocator + Copy>(
 ) -> Result<u64, AllocError> {
     let mut refused = 0u64;
     for at in 0..row.turns.len() {
-        let parts = row.turns.split_at(at);
-        let growths = sweep_event(rt, heap, alloc, text, parts)?;
+        let growths = sweep_event(rt, heap, alloc, text, row, at)?;
         refused = refused.saturating_add(growths);
     }
     Ok(refused)
@@ -238,8 +245,7 @@ fn try_run<A: Allocator + Copy>(
 ) -> (bool, Option<usize>) {
     heap.refuse(n);
     let outcome = world.run(events);
-    let is_spent = heap.is_spent();
-    heap.refuse(0);
+    let is_spent = stop_refusing(heap);
     (is_spent, stop_of(rt, &outcome))
 }
 
@@ -294,8 +300,8 @@ fn run_beside<A: Allocator + Copy>(
     events: &[Event<A>],
     n: u64,
 ) -> bool {
-    let mut twin = Group::new(alloc, Limits::STANDARD);
-    run_groups(rt, heap, world, &mut twin, events, n)
+    let twin = Group::new(alloc, Limits::STANDARD);
+    lend(twin, |twin| run_groups(rt, heap, world, twin, events, n))
 }
 
 /// Does so in a fresh group too.
@@ -306,8 +312,8 @@ fn sweep_run<A: Allocator + Copy>(
     events: &[Event<A>],
     n: u64,
 ) -> bool {
-    let mut world = Group::new(alloc, Limits::STANDARD);
-    run_beside(rt, heap, alloc, &mut world, events, n)
+    let world = Group::new(alloc, Limits::STANDARD);
+    lend(world, |world| run_beside(rt, heap, alloc, world, events, n))
 }
 
 /// Refuses each growth of a run in turn. How many there are.

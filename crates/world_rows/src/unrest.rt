@@ -5,9 +5,10 @@ use crate::rest::{Case, cases, play_acts};
 use at_rest::{Unrest, is_at_rest};
 use node_names::{Limits, MsgId};
 use refusing_allocator::RefusingAllocator;
-use std::alloc::Allocator;
+use std::alloc::{AllocError, Allocator};
 use std::process::Abort;
 use std::test::Fail;
+use test_support::{lend, stop_refusing};
 use world::{Delivery, WorldError};
 
 /// More allocations than a call has.
@@ -53,6 +54,20 @@ fn is_unrest<A: Allocator + Copy>(
         && are_said(world, unrest)
 }
 
+/// Whether this is the answer, or a refusal if an allocation was refused.
+fn is_answer<A: Allocator + Copy>(
+    rt: &impl Abort,
+    world: &Group<A>,
+    answer: &Result<Unrest<A>, AllocError>,
+    is_refused: bool,
+    case: &Case,
+) -> bool {
+    match answer {
+        Ok(unrest) => !is_refused && is_unrest(rt, world, unrest, case),
+        Err(_) => is_refused,
+    }
+}
+
 /// Finds them while the allocation with this number is refused. Whether there is such an allocation, or none if the answer is
 /// wrong.
 fn refuse_allocation<A: Allocator + Copy>(
@@ -65,12 +80,11 @@ fn refuse_allocation<A: Allocator + Copy>(
 ) -> Option<bool> {
     heap.refuse(n);
     let answer = Unrest::new(alloc, world);
-    let is_spent = heap.is_spent();
-    heap.refuse(0);
-    let is_right = match &answer {
-        Ok(unrest) => !is_spent && is_unrest(rt, world, unrest, case),
-        Err(_) => is_spent,
-    };
+    let is_spent = stop_refusing(heap);
+    let is_right = lend(
+        answer,
+        |answer| is_answer(rt, world, answer, is_spent, case),
+    );
     is_right.then_some(is_spent)
 }
 
@@ -95,11 +109,22 @@ fn sweep_case<A: Allocator + Copy>(
     rt: &impl Abort,
     heap: &RefusingAllocator,
     alloc: A,
+    world: &mut Group<A>,
     case: &Case,
 ) -> Result<Option<u64>, WorldError> {
-    let mut world = Group::new(alloc, Limits::STANDARD);
-    play_acts(rt, alloc, &mut world, case.acts)?;
-    Ok(sweep(rt, heap, alloc, &world, case))
+    play_acts(rt, alloc, world, case.acts)?;
+    Ok(sweep(rt, heap, alloc, world, case))
+}
+
+/// Plays the case in a fresh group.
+fn sweep_case_from_start<A: Allocator + Copy>(
+    rt: &impl Abort,
+    heap: &RefusingAllocator,
+    alloc: A,
+    case: &Case,
+) -> Result<Option<u64>, WorldError> {
+    let world = Group::new(alloc, Limits::STANDARD);
+    lend(world, |world| sweep_case(rt, heap, alloc, world, case))
 }
 
 /// All rests of each case, each allocation refused in turn.
@@ -108,7 +133,7 @@ fn rests_at_once(rt: HostRuntime) -> Result<(), Fail> {
     let heap = RefusingAllocator::new(rt.alloc());
     let mut refused = 0u64;
     for case in cases() {
-        let allocations = sweep_case(&rt, &heap, &heap, case)?;
+        let allocations = sweep_case_from_start(&rt, &heap, &heap, case)?;
         assert!(rt; allocations.is_some(), "at {}", case.name);
         refused = refused.saturating_add(allocations.unwrap_or(0));
     }

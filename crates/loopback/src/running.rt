@@ -1,0 +1,141 @@
+//! A node's host, and the workers that it employs.
+use crate::fault::RunFault;
+use crate::inbox::ToInbox;
+use crate::link_writer::LinkDialler;
+use crate::list::keep;
+use crate::ticks::Ticks;
+use bytes::Bytes;
+use frames::Frame;
+use links::TcpReader;
+use node_names::{MsgId, NodeName};
+use node_threads::{
+    CloseError, Closed, Host, HostError, NodeCore, OpenGate, Outlet, Port, Worker, hand_out,
+    read_link, tick, write_link,
+};
+use std::alloc::Global;
+use std::net::{Net, TcpListener, TcpStream};
+use std::sync::Wait;
+use std::thread::Threads;
+use std::time::Clock;
+use world::Trace;
+
+/// A node's host, its port, and the workers that it employs.
+#[derive(Drop)]
+pub(crate) struct Running<C: NodeCore<Global> + Drop> {
+    pub(crate) host: Host<C>,
+    pub(crate) ports: Vec<Port<C>>,
+    pub(crate) workers: Vec<Worker>,
+}
+
+/// Puts a worker that was started last. A host that was stopped needs none.
+fn employ(workers: &mut Vec<Worker>, started: Result<Worker, HostError>) -> Result<(), RunFault> {
+    match started {
+        Ok(worker) => Ok(keep(workers, worker)?),
+        Err(HostError::Closed) => Ok(()),
+        Err(_) => Err(RunFault::OutOfMemory),
+    }
+}
+
+impl<C: NodeCore<Global> + Drop + Send + 'static> Running<C> {
+    /// Starts the worker that hands deliveries out.
+    pub(crate) fn start_handing<R>(&mut self, to: ToInbox<R>) -> Result<(), RunFault>
+    where
+        R: Threads + Wait + Clock + Copy + Send + Drop + 'static,
+    {
+        self.workers.reserve(1)?;
+        employ(
+            &mut self.workers,
+            hand_out(to.rt, &self.host, OpenGate, 0, to),
+        )
+    }
+
+    /// Starts the worker that keeps the time.
+    pub(crate) fn start_ticking<R>(
+        &mut self,
+        rt: R,
+        ticker: Ticks<R>,
+        seed: u64,
+    ) -> Result<(), RunFault>
+    where
+        R: Threads + Wait + Clock + Copy + Send + Drop + 'static,
+    {
+        self.workers.reserve(1)?;
+        employ(
+            &mut self.workers,
+            tick(rt, &self.host, OpenGate, 0, ticker, seed),
+        )
+    }
+
+    /// Starts a reader of a connection. One that can't be read is closed.
+    pub(crate) fn read<R>(&mut self, rt: R, reader: TcpReader, seed: u64) -> Result<(), RunFault>
+    where
+        R: Threads + Wait + Copy + Send + Drop + 'static,
+    {
+        self.workers.reserve(1)?;
+        match read_link(rt, &self.host, OpenGate, 0, reader, seed) {
+            Ok(worker) => Ok(keep(&mut self.workers, worker)?),
+            Err(_) => Ok(()),
+        }
+    }
+
+    /// Starts the writer of a link.
+    pub(crate) fn write<R>(
+        &mut self,
+        rt: R,
+        outlet: Outlet,
+        dialler: LinkDialler<R>,
+    ) -> Result<(), RunFault>
+    where
+        R: Threads
+            + Wait
+            + Net<Listener = TcpListener, Stream = TcpStream>
+            + Copy
+            + Send
+            + Drop
+            + 'static,
+    {
+        self.workers.reserve(1)?;
+        employ(
+            &mut self.workers,
+            write_link(rt, &self.host, OpenGate, 0, outlet, dialler),
+        )
+    }
+}
+
+impl<C: NodeCore<Global> + Drop> Running<C> {
+    /// Broadcasts a text, and answers under which id.
+    pub(crate) fn broadcast<R: Wait>(&mut self, rt: &R, text: Bytes) -> Result<MsgId, HostError> {
+        match self.ports.first_mut() {
+            Some(port) => port.broadcast(rt, text).map(|receipt| receipt.id),
+            None => Err(HostError::Closed),
+        }
+    }
+
+    /// Closes the node, which is stopped, and answers its history.
+    pub(crate) fn close<R: Threads + Wait>(
+        self,
+        rt: &R,
+        node: NodeName,
+    ) -> Result<Trace<Frame>, RunFault> {
+        let Running {
+            host,
+            ports,
+            workers,
+        } = self;
+        judge(node, host.close(rt, ports, workers))
+    }
+}
+
+/// The history of a node that was closed, or why it is not as it should be.
+fn judge<C: NodeCore<Global> + Drop>(
+    node: NodeName,
+    closed: Result<Closed, CloseError<C>>,
+) -> Result<Trace<Frame>, RunFault> {
+    match closed {
+        Ok(Closed { trace, .. }) => Ok(trace),
+        Err(CloseError::PortMissing { .. }) => Err(RunFault::WorkerMissing { node }),
+        Err(CloseError::Unlike { .. }) => Err(RunFault::Unlike { node }),
+        Err(CloseError::Torn { .. }) => Err(RunFault::Torn { node }),
+        Err(CloseError::OutOfMemory { .. }) => Err(RunFault::OutOfMemory),
+    }
+}

@@ -1,0 +1,109 @@
+//! What a node is to broadcast, and what it did.
+use crate::common::{Common, since};
+use crate::fault::RunFault;
+use crate::running::Running;
+use bytes::Bytes;
+use node_names::{MsgId, NodeName};
+use node_threads::NodeCore;
+use std::alloc::{AllocError, Global};
+use std::sync::Wait;
+use std::time::{Clock, Duration};
+
+/// How many texts a node broadcasts in one turn at most, so that the rings of its links do not overflow.
+const TEXTS: usize = 64;
+
+/// When a message was broadcast.
+#[derive(Clone, Copy, Debug)]
+pub struct Stamp {
+    /// Which message.
+    pub id: MsgId,
+    /// The time since the run began.
+    pub at: Duration,
+}
+
+/// What a node is to broadcast, and what it did.
+#[derive(Drop)]
+pub(crate) struct Speech {
+    /// The texts that are left, the last first.
+    left: Vec<Bytes>,
+    /// The broadcasts so far, in order.
+    pub(crate) stamps: Vec<Stamp>,
+    /// Why a broadcast was refused, if one was.
+    pub(crate) refused: Option<RunFault>,
+}
+
+/// Moves the texts into another list, the last first.
+fn reverse(texts: &mut Vec<Bytes>, last_first: &mut Vec<Bytes>) -> Result<(), AllocError> {
+    for _ in 0..texts.len() {
+        if let Some(text) = texts.pop() {
+            last_first.push(text)?;
+        }
+    }
+    Ok(())
+}
+
+impl Speech {
+    /// These texts, in order.
+    pub(crate) fn new(alloc: Global, mut texts: Vec<Bytes>) -> Result<Speech, AllocError> {
+        let mut left = Vec::new(alloc);
+        reverse(&mut texts, &mut left)?;
+        Ok(Speech {
+            left,
+            stamps: Vec::new(alloc),
+            refused: None,
+        })
+    }
+
+    /// Whether there is nothing to broadcast any more.
+    pub(crate) fn is_over(&self) -> bool {
+        self.left.is_empty() || self.refused.is_some()
+    }
+
+    /// Has the node broadcast the next texts, until one is refused.
+    pub(crate) fn go_on<R, C>(
+        &mut self,
+        common: &Common<R>,
+        node: NodeName,
+        running: &mut Running<C>,
+    )
+    where
+        R: Wait + Clock + Drop,
+        C: NodeCore<Global> + Drop,
+    {
+        for _ in 0..TEXTS {
+            if self.refused.is_some() {
+                return;
+            }
+            match self.left.pop() {
+                Some(text) => self.say(common, node, running, text),
+                None => return,
+            }
+        }
+    }
+
+    /// Has the node broadcast a text.
+    fn say<R, C>(
+        &mut self,
+        common: &Common<R>,
+        node: NodeName,
+        running: &mut Running<C>,
+        text: Bytes,
+    )
+    where
+        R: Wait + Clock + Drop,
+        C: NodeCore<Global> + Drop,
+    {
+        let at = since(&common.rt, &common.start);
+        match running.broadcast(&common.rt, text) {
+            Ok(id) => self.stamp(Stamp { id, at }),
+            Err(why) => self.refused = Some(RunFault::of_broadcast(node, why)),
+        }
+    }
+
+    /// Notes a broadcast.
+    fn stamp(&mut self, stamp: Stamp) {
+        if self.stamps.push(stamp).is_err() {
+            self.refused = Some(RunFault::OutOfMemory);
+        }
+    }
+}
