@@ -2,13 +2,13 @@
 //! many messages, it prints how long that takes. `bench/node` measures the memory from outside.
 #![tactic(auto)]
 
-mod cell;
-mod core;
+mod cell_steps;
+mod core_steps;
 mod known;
 mod messages;
 
-use crate::cell::step_cell;
-use crate::core::{see_all, step_core};
+use crate::cell_steps::step_cell;
+use crate::core_steps::{see_all, step_core};
 use crate::known::know_all;
 use crate::messages::Taken;
 use anyhow::{Result, bail};
