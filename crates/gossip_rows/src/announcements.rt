@@ -8,7 +8,7 @@ use std::alloc::{AllocError, Allocator};
 use std::fmt::Write;
 use std::process::Abort;
 use std::test::Fail;
-use test_support::stop_refusing;
+use test_support::{lend, stop_refusing};
 
 /// A call in plain texts and numbers.
 #[derive(Clone, Copy)]
@@ -206,8 +206,10 @@ fn are_turns<A: Allocator + Copy>(
 #[test]
 fn plays_calls(rt: HostRuntime) -> Result<(), Fail> {
     let mut text = String::new(rt.alloc());
-    let mut missing = Missing::new(rt.alloc());
-    let are_right = are_turns(&rt, &mut text, &mut missing, turns())?;
+    let missing = Missing::new(rt.alloc());
+    let are_right = lend(missing, |missing| {
+        are_turns(&rt, &mut text, missing, turns())
+    })?;
     assert!(rt; are_right, "{text}");
     Ok(())
 }
@@ -290,10 +292,13 @@ fn sweep_call<A: Allocator + Copy>(
     n: u64,
 ) -> Result<bool, AllocError> {
     heap.refuse(1);
-    let mut missing = Missing::new(alloc);
+    let missing = Missing::new(alloc);
     assert!(rt; !heap.is_spent());
     heap.refuse(0);
-    sweep_parts(rt, heap, text, &mut missing, parts, n)
+    lend(
+        missing,
+        |missing| sweep_parts(rt, heap, text, missing, parts, n),
+    )
 }
 
 /// Refuses each allocation of one call in turn. How many it has.
@@ -366,7 +371,7 @@ fn refuse_copy<A: Allocator + Copy>(
     heap.refuse(n);
     let copy = missing.copy();
     let is_spent = stop_refusing(heap);
-    let is_right = is_copy(text, &copy, is_spent, wanted)?;
+    let is_right = lend(copy, |copy| is_copy(text, copy, is_spent, wanted))?;
     assert!(rt; is_right);
     Ok(is_spent)
 }
@@ -392,14 +397,28 @@ fn sweep_copy<A: Allocator + Copy>(
 fn sweep_left<A: Allocator + Copy>(
     rt: &impl Abort,
     heap: &RefusingAllocator,
+    text: &mut String,
+    missing: &mut Missing<A>,
+    turns: &[Turn],
+) -> Result<u64, AllocError> {
+    let are_right = are_turns(rt, text, missing, turns)?;
+    assert!(rt; are_right);
+    sweep_copy(rt, heap, text, missing, left(turns))
+}
+
+/// Makes them from nothing.
+fn sweep_left_from_start<A: Allocator + Copy>(
+    rt: &impl Abort,
+    heap: &RefusingAllocator,
     alloc: A,
     text: &mut String,
     turns: &[Turn],
 ) -> Result<u64, AllocError> {
-    let mut missing = Missing::new(alloc);
-    let are_right = are_turns(rt, text, &mut missing, turns)?;
-    assert!(rt; are_right);
-    sweep_copy(rt, heap, text, &missing, left(turns))
+    let missing = Missing::new(alloc);
+    lend(
+        missing,
+        |missing| sweep_left(rt, heap, text, missing, turns),
+    )
 }
 
 /// A copy of what all but the last two calls leave.
@@ -409,7 +428,7 @@ fn each_growth_of_a_copy(rt: HostRuntime) -> Result<(), Fail> {
     let mut text = String::new(rt.alloc());
     let turns = turns();
     let (before, _) = turns.split_at(11.min(turns.len()));
-    let refused = sweep_left(&rt, &heap, &heap, &mut text, before)?;
+    let refused = sweep_left_from_start(&rt, &heap, &heap, &mut text, before)?;
     assert!(rt; refused > 1, "few growths were refused: {refused}");
     Ok(())
 }

@@ -8,13 +8,13 @@ use crate::named::{id, name};
 use crate::play::{asked, is_left, is_shown, left, start};
 use crate::rows::{Row, Turn, rows};
 use bytes::Bytes;
-use gossip_core::{Call, CallOf, Gossip, GossipFault};
+use gossip_core::{Call, CallOf, Effects, Gossip, GossipFault};
 use node_names::MsgId;
 use refusing_allocator::RefusingAllocator;
 use std::alloc::{AllocError, Allocator};
 use std::process::Abort;
 use std::test::Fail;
-use test_support::stop_refusing;
+use test_support::{lend, stop_refusing};
 
 /// More allocations than any half has.
 const MANY: u64 = 50;
@@ -67,6 +67,23 @@ fn call_of<'a, A: Allocator>(
     }
 }
 
+/// Whether a call is answered as it should be, or refused as out of memory if an allocation was refused, and what stood is left.
+fn is_answered<A: Allocator + Copy>(
+    text: &mut String,
+    ids: &[MsgId],
+    gossip: &Gossip<A>,
+    answer: &Result<Effects<A>, GossipFault>,
+    is_refused: bool,
+    stood: &str,
+    given: &str,
+) -> Result<bool, AllocError> {
+    let is_right = match answer {
+        Ok(out) => is_left(text, ids, gossip, out, given, stood)?,
+        Err(why) => *why == GossipFault::OutOfMemory && is_shown(text, ids, gossip, stood)?,
+    };
+    Ok(is_right && answer.is_err() == is_refused)
+}
+
 /// Answers while the allocation with this number is refused. Whether there is such an allocation.
 fn refuse_answer<A: Allocator + Copy>(
     rt: &impl Abort,
@@ -82,11 +99,10 @@ fn refuse_answer<A: Allocator + Copy>(
     heap.refuse(n);
     let answer = gossip.answer(call);
     let is_spent = stop_refusing(heap);
-    let is_right = match &answer {
-        Ok(given) => is_left(text, ids, gossip, given, turn.1, stood)?,
-        Err(why) => *why == GossipFault::OutOfMemory && is_shown(text, ids, gossip, stood)?,
-    };
-    assert!(rt; is_right && answer.is_err() == is_spent);
+    let is_right = lend(answer, |answer| {
+        is_answered(text, ids, gossip, answer, is_spent, stood, turn.1)
+    })?;
+    assert!(rt; is_right);
     Ok(is_spent)
 }
 
@@ -281,8 +297,10 @@ fn sweep_row<A: Allocator + Copy>(
     ids: &[MsgId],
     row: &Row,
 ) -> Result<u64, AllocError> {
-    let mut gossip = start(rt, alloc)?;
-    sweep_turns(rt, heap, alloc, text, ids, &mut gossip, row.turns)
+    let gossip = start(rt, alloc)?;
+    lend(gossip, |gossip| {
+        sweep_turns(rt, heap, alloc, text, ids, gossip, row.turns)
+    })
 }
 
 #[test]

@@ -8,6 +8,7 @@ use std::alloc::{AllocError, Allocator};
 use std::fmt::Write;
 use std::process::Abort;
 use std::test::Fail;
+use test_support::lend;
 
 /// How many bytes a payload has, and what its broadcast answers: the number of the message, or the refusal.
 type Case = (usize, Result<u64, GossipFault>);
@@ -81,21 +82,33 @@ fn knows_last_alone<A: Allocator>(rt: &impl Abort, gossip: &Gossip<A>) -> bool {
     gossip.span(&origin(rt, "a")) == (0, 1) && !gossip.knows(&id(rt, ("a", 1)))
 }
 
-/// Whether they do so at a node that can broadcast one message more, and it knows that message alone then.
+/// Whether they do so, and the node knows the last one alone then.
 fn are_last_answers<A: Allocator + Copy>(
+    rt: &impl Abort,
+    alloc: A,
+    gossip: &mut Gossip<A>,
+    broadcasts: &[Case],
+) -> Result<bool, AllocError> {
+    let out = Effects::new(alloc);
+    let are_right = lend(out, |out| are_answers(alloc, gossip, out, broadcasts))?;
+    Ok(are_right && knows_last_alone(rt, gossip))
+}
+
+/// Does so at a node that can broadcast one message more.
+fn are_last_answers_of_lone<A: Allocator + Copy>(
     rt: &impl Abort,
     alloc: A,
     broadcasts: &[Case],
 ) -> Result<bool, AllocError> {
-    let mut gossip = lone(rt, alloc, u64::MAX - 1)?;
-    let mut out = Effects::new(alloc);
-    let are_right = are_answers(alloc, &mut gossip, &mut out, broadcasts)?;
-    Ok(are_right && knows_last_alone(rt, &gossip))
+    let gossip = lone(rt, alloc, u64::MAX - 1)?;
+    lend(gossip, |gossip| {
+        are_last_answers(rt, alloc, gossip, broadcasts)
+    })
 }
 
 #[test]
 fn refuses_long_payloads_and_spent_numbers(rt: HostRuntime) -> Result<(), Fail> {
-    assert!(rt; are_last_answers(&rt, rt.alloc(), &BROADCASTS)?);
+    assert!(rt; are_last_answers_of_lone(&rt, rt.alloc(), &BROADCASTS)?);
     Ok(())
 }
 
@@ -135,15 +148,24 @@ fn push_lengths<A: Allocator>(text: &mut String, out: &Effects<A>) -> Result<(),
     Ok(())
 }
 
-/// Flushes, and appends these lengths.
+/// Flushes into these effects, and appends these lengths.
+fn push_flushed_into<A: Allocator + Copy>(
+    text: &mut String,
+    gossip: &mut Gossip<A>,
+    out: &mut Effects<A>,
+) -> Result<(), AllocError> {
+    gossip.flush(out)?;
+    push_lengths(text, out)
+}
+
+/// Does so with effects of its own.
 fn push_flushed<A: Allocator + Copy>(
     alloc: A,
     text: &mut String,
     gossip: &mut Gossip<A>,
 ) -> Result<(), AllocError> {
-    let mut out = Effects::new(alloc);
-    gossip.flush(&mut out)?;
-    push_lengths(text, &out)
+    let out = Effects::new(alloc);
+    lend(out, |out| push_flushed_into(text, gossip, out))
 }
 
 /// Has announcements of 65 messages wait for both peers, and flushes. Whether these are the lengths.
@@ -170,8 +192,8 @@ fn are_cut_at_start<A: Allocator + Copy>(
     text: &mut String,
     wanted: &str,
 ) -> Result<bool, GossipFault> {
-    let mut gossip = start(rt, alloc)?;
-    are_cut(rt, alloc, text, &mut gossip, wanted)
+    let gossip = start(rt, alloc)?;
+    lend(gossip, |gossip| are_cut(rt, alloc, text, gossip, wanted))
 }
 
 #[test]

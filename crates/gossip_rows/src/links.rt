@@ -9,7 +9,7 @@ use refusing_allocator::RefusingAllocator;
 use std::alloc::{AllocError, Allocator};
 use std::process::Abort;
 use std::test::Fail;
-use test_support::stop_refusing;
+use test_support::{lend, stop_refusing};
 
 /// More allocations than the call has.
 const MANY: u64 = 50;
@@ -93,13 +93,29 @@ fn refuse_after<A: Allocator + Copy>(
     alloc: A,
     text: &mut String,
     ids: &[MsgId],
+    gossip: &mut Gossip<A>,
     turns: &[Turn],
     n: u64,
 ) -> Result<bool, AllocError> {
-    let mut gossip = start(rt, alloc)?;
-    let are_right = are_turns(rt, alloc, text, ids, &mut gossip, turns)?;
+    let are_right = are_turns(rt, alloc, text, ids, gossip, turns)?;
     assert!(rt; are_right);
-    refuse(rt, heap, text, ids, &mut gossip, left(turns), n)
+    refuse(rt, heap, text, ids, gossip, left(turns), n)
+}
+
+/// Makes them at a fresh node.
+fn refuse_from_start<A: Allocator + Copy>(
+    rt: &impl Abort,
+    heap: &RefusingAllocator,
+    alloc: A,
+    text: &mut String,
+    ids: &[MsgId],
+    turns: &[Turn],
+    n: u64,
+) -> Result<bool, AllocError> {
+    let gossip = start(rt, alloc)?;
+    lend(gossip, |gossip| {
+        refuse_after(rt, heap, alloc, text, ids, gossip, turns, n)
+    })
 }
 
 /// Refuses each allocation of the call in turn. How many it has.
@@ -111,7 +127,7 @@ fn sweep<A: Allocator + Copy>(
     ids: &[MsgId],
 ) -> Result<u64, AllocError> {
     for n in 1..MANY {
-        if !refuse_after(rt, heap, alloc, text, ids, before(), n)? {
+        if !refuse_from_start(rt, heap, alloc, text, ids, before(), n)? {
             return Ok(n - 1);
         }
     }

@@ -11,7 +11,7 @@ use std::alloc::{AllocError, Allocator};
 use std::fmt::Write;
 use std::process::Abort;
 use std::test::Fail;
-use test_support::stop_refusing;
+use test_support::{lend, stop_refusing};
 
 /// A call in plain texts and numbers.
 #[derive(Clone, Copy)]
@@ -294,8 +294,8 @@ fn are_turns<A: Allocator + Copy>(
 #[test]
 fn plays_calls(rt: HostRuntime) -> Result<(), Fail> {
     let mut text = String::new(rt.alloc());
-    let mut peers = start(&rt, rt.alloc())?;
-    let are_right = are_turns(&rt, &mut text, &mut peers, turns())?;
+    let peers = start(&rt, rt.alloc())?;
+    let are_right = lend(peers, |peers| are_turns(&rt, &mut text, peers, turns()))?;
     assert!(rt; are_right, "{text}");
     Ok(())
 }
@@ -378,8 +378,8 @@ fn sweep_call<A: Allocator + Copy>(
     parts: Parts<'_>,
     n: u64,
 ) -> Result<bool, AllocError> {
-    let mut peers = start(rt, alloc)?;
-    sweep_parts(rt, heap, text, &mut peers, parts, n)
+    let peers = start(rt, alloc)?;
+    lend(peers, |peers| sweep_parts(rt, heap, text, peers, parts, n))
 }
 
 /// Refuses each allocation of one call in turn. How many it has.
@@ -452,7 +452,7 @@ fn refuse_copy<A: Allocator + Copy>(
     heap.refuse(n);
     let copy = peers.copy();
     let is_spent = stop_refusing(heap);
-    let is_right = is_copy(text, &copy, is_spent, wanted)?;
+    let is_right = lend(copy, |copy| is_copy(text, copy, is_spent, wanted))?;
     assert!(rt; is_right);
     Ok(is_spent)
 }
@@ -478,14 +478,25 @@ fn sweep_copy<A: Allocator + Copy>(
 fn sweep_left<A: Allocator + Copy>(
     rt: &impl Abort,
     heap: &RefusingAllocator,
+    text: &mut String,
+    peers: &mut PeerSets<A>,
+    turns: &[Turn],
+) -> Result<u64, AllocError> {
+    let are_right = are_turns(rt, text, peers, turns)?;
+    assert!(rt; are_right);
+    sweep_copy(rt, heap, text, peers, left(turns))
+}
+
+/// Makes them at fresh peer sets.
+fn sweep_left_from_start<A: Allocator + Copy>(
+    rt: &impl Abort,
+    heap: &RefusingAllocator,
     alloc: A,
     text: &mut String,
     turns: &[Turn],
 ) -> Result<u64, AllocError> {
-    let mut peers = start(rt, alloc)?;
-    let are_right = are_turns(rt, text, &mut peers, turns)?;
-    assert!(rt; are_right);
-    sweep_copy(rt, heap, text, &peers, left(turns))
+    let peers = start(rt, alloc)?;
+    lend(peers, |peers| sweep_left(rt, heap, text, peers, turns))
 }
 
 /// A copy of what the first eight calls leave.
@@ -495,7 +506,7 @@ fn each_growth_of_a_copy(rt: HostRuntime) -> Result<(), Fail> {
     let mut text = String::new(rt.alloc());
     let turns = turns();
     let (before, _) = turns.split_at(8.min(turns.len()));
-    let refused = sweep_left(&rt, &heap, &heap, &mut text, before)?;
+    let refused = sweep_left_from_start(&rt, &heap, &heap, &mut text, before)?;
     assert!(rt; refused > 1, "few growths were refused: {refused}");
     Ok(())
 }

@@ -9,6 +9,7 @@ use node_names::MsgId;
 use std::alloc::{AllocError, Allocator};
 use std::process::Abort;
 use std::test::Fail;
+use test_support::lend;
 
 /// The messages that the readers are asked about.
 pub(crate) fn asked(rt: &impl Abort) -> [MsgId; 8] {
@@ -140,7 +141,7 @@ fn is_copied<A: Allocator + Copy>(
     wanted: &str,
 ) -> Result<bool, AllocError> {
     let copy = gossip.copy()?;
-    is_copy(text, ids, &copy, gossip, wanted)
+    lend(copy, |copy| is_copy(text, ids, copy, gossip, wanted))
 }
 
 /// Plays a row, and copies what it leaves. Whether all is as it should.
@@ -166,8 +167,8 @@ fn is_row_from_start<A: Allocator + Copy>(
     ids: &[MsgId],
     row: &Row,
 ) -> Result<bool, AllocError> {
-    let mut gossip = start(rt, alloc)?;
-    is_row(rt, alloc, text, ids, &mut gossip, row)
+    let gossip = start(rt, alloc)?;
+    lend(gossip, |gossip| is_row(rt, alloc, text, ids, gossip, row))
 }
 
 #[test]

@@ -9,7 +9,7 @@ use refusing_allocator::RefusingAllocator;
 use std::alloc::{AllocError, Allocator};
 use std::process::Abort;
 use std::test::Fail;
-use test_support::stop_refusing;
+use test_support::{lend, stop_refusing};
 
 /// A message of `a` by its number, whether it was not known before, and the span of `a` after it.
 type Step = (u64, bool, (u64, usize));
@@ -57,7 +57,7 @@ fn is_span_of_copy<A: Allocator + Copy>(
     wanted: &(u64, usize),
 ) -> Result<bool, AllocError> {
     let copy = gossip.copy()?;
-    Ok(is_span(rt, &copy, wanted))
+    Ok(lend(copy, |copy| is_span(rt, copy, wanted)))
 }
 
 /// Brings a message. Whether it is delivered if it is new, and known then, with the span that it should leave.
@@ -88,23 +88,33 @@ fn is_step<A: Allocator + Copy>(
     is_delivered(rt, gossip, &name(rt, "b"), &payload, &mut out, step)
 }
 
-/// Brings messages to a fresh node. Whether each of them does so.
+/// Brings messages to a node that knows none. Whether each of them does so.
 fn are_steps<A: Allocator + Copy>(
     rt: &impl Abort,
     alloc: A,
+    gossip: &mut Gossip<A>,
     steps: &[Step],
 ) -> Result<bool, AllocError> {
-    let mut gossip = start(rt, alloc)?;
-    let mut are_right = is_span(rt, &gossip, &(0, 0));
+    let mut are_right = is_span(rt, gossip, &(0, 0));
     for step in steps {
-        are_right = is_step(rt, alloc, &mut gossip, step)? && are_right;
+        are_right = is_step(rt, alloc, gossip, step)? && are_right;
     }
     Ok(are_right)
 }
 
+/// Does so at a fresh node.
+fn are_steps_from_start<A: Allocator + Copy>(
+    rt: &impl Abort,
+    alloc: A,
+    steps: &[Step],
+) -> Result<bool, AllocError> {
+    let gossip = start(rt, alloc)?;
+    lend(gossip, |gossip| are_steps(rt, alloc, gossip, steps))
+}
+
 #[test]
 fn tells_spans(rt: HostRuntime) -> Result<(), Fail> {
-    assert!(rt; are_steps(&rt, rt.alloc(), steps())?);
+    assert!(rt; are_steps_from_start(&rt, rt.alloc(), steps())?);
     Ok(())
 }
 
@@ -169,16 +179,27 @@ fn refuse_add<A: Allocator + Copy>(
 fn refuse_step<A: Allocator + Copy>(
     rt: &impl Abort,
     heap: &RefusingAllocator,
+    known: &mut KnownIds<A>,
+    parts: Parts<'_>,
+    n: u64,
+) -> Result<bool, AllocError> {
+    add_all(rt, known, parts.0)?;
+    match parts.1.first() {
+        Some(step) => refuse_add(rt, heap, known, &left(parts.0), step, n),
+        None => Ok(false),
+    }
+}
+
+/// Does so from nothing.
+fn refuse_step_from_nothing<A: Allocator + Copy>(
+    rt: &impl Abort,
+    heap: &RefusingAllocator,
     alloc: A,
     parts: Parts<'_>,
     n: u64,
 ) -> Result<bool, AllocError> {
-    let mut known = KnownIds::new(alloc);
-    add_all(rt, &mut known, parts.0)?;
-    match parts.1.first() {
-        Some(step) => refuse_add(rt, heap, &mut known, &left(parts.0), step, n),
-        None => Ok(false),
-    }
+    let known = KnownIds::new(alloc);
+    lend(known, |known| refuse_step(rt, heap, known, parts, n))
 }
 
 /// Refuses each allocation of adding an id in turn. How many it has.
@@ -189,7 +210,7 @@ fn sweep<A: Allocator + Copy>(
     parts: Parts<'_>,
 ) -> Result<u64, AllocError> {
     for n in 1..MANY {
-        if !refuse_step(rt, heap, alloc, parts, n)? {
+        if !refuse_step_from_nothing(rt, heap, alloc, parts, n)? {
             return Ok(n - 1);
         }
     }

@@ -10,7 +10,7 @@ use refusing_allocator::RefusingAllocator;
 use std::alloc::{AllocError, Allocator};
 use std::process::Abort;
 use std::test::Fail;
-use test_support::stop_refusing;
+use test_support::{lend, stop_refusing};
 
 /// More allocations than any call has.
 const MANY: u64 = 100;
@@ -101,10 +101,10 @@ fn refuse_alone<A: Allocator + Copy>(
     payload: &Bytes<A>,
     n: u64,
 ) -> Result<bool, AllocError> {
-    let mut out = Effects::new(alloc);
-    refuse_call(
-        rt, heap, text, ids, gossip, stood, turn, payload, &mut out, n,
-    )
+    let out = Effects::new(alloc);
+    lend(out, |out| {
+        refuse_call(rt, heap, text, ids, gossip, stood, turn, payload, out, n)
+    })
 }
 
 /// Does so with a payload of its own too.
@@ -152,7 +152,8 @@ fn try_copy<A: Allocator + Copy>(
     heap.refuse(n);
     let copy = gossip.copy();
     let is_spent = stop_refusing(heap);
-    (is_spent, is_copy(text, ids, &copy, is_spent, wanted))
+    let is_right = lend(copy, |copy| is_copy(text, ids, copy, is_spent, wanted));
+    (is_spent, is_right)
 }
 
 /// Does so with what a row leaves. Whether there is such an allocation.
@@ -200,8 +201,10 @@ fn sweep_call<A: Allocator + Copy>(
     parts: Parts<'_>,
     n: u64,
 ) -> Result<bool, AllocError> {
-    let mut gossip = start(rt, alloc)?;
-    sweep_parts(rt, heap, alloc, text, ids, &mut gossip, parts, n)
+    let gossip = start(rt, alloc)?;
+    lend(gossip, |gossip| {
+        sweep_parts(rt, heap, alloc, text, ids, gossip, parts, n)
+    })
 }
 
 /// Refuses each allocation of one call in turn. How many it has.
@@ -253,7 +256,7 @@ fn each_growth_of_each_call(rt: HostRuntime) -> Result<(), Fail> {
 }
 
 fn can_start<A: Allocator + Copy>(rt: &impl Abort, alloc: A) -> bool {
-    start(rt, alloc).is_ok()
+    lend(start(rt, alloc), |started| started.is_ok())
 }
 
 /// A node is not made without memory for its peers.
