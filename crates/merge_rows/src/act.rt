@@ -5,6 +5,7 @@ use bytes::Bytes;
 use node_names::{Dice, Listed, NodeName};
 use std::alloc::{AllocError, Allocator};
 use std::process::Abort;
+use test_support::lend;
 use world::{Event, EventOf, WorldError};
 
 /// An event in plain texts and numbers. All dice are zeros.
@@ -87,7 +88,7 @@ fn play_act<A: Allocator + Copy>(
     act: &Act,
 ) -> Result<(), WorldError> {
     let event = event(rt, alloc, act)?;
-    world.play(&event)
+    lend(event, |event| world.play(event))
 }
 
 /// Plays these events.

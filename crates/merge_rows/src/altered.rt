@@ -10,7 +10,7 @@ use node_names::{Dice, Limits, MsgId, Origin};
 use std::alloc::{AllocError, Allocator};
 use std::process::Abort;
 use std::test::Fail;
-use test_support::message;
+use test_support::{lend, message};
 use world::{Delivery, Out, Step, Stimulus, StimulusOf, WorldError};
 
 /// The first step of `c` in the triangle, and nothing after it.
@@ -178,6 +178,22 @@ fn alter<A: Allocator + Copy>(
     trace.push(step)
 }
 
+/// Adds the traces of a case to an empty list. Whether their merge is as wanted.
+fn holds_of<A: Allocator + Copy>(
+    rt: &impl Abort,
+    texts: &mut Texts,
+    alloc: A,
+    world: &Group<A>,
+    case: &Case,
+    traces: &mut Vec<PlumTrace<A>, A>,
+) -> Result<bool, WorldError> {
+    project_all(rt, alloc, world, "a1 b1 c1", traces)?;
+    alter(rt, alloc, traces.as_mut_slice(), case)?;
+    texts.wanted.clear();
+    texts.wanted.push_str(case.told)?;
+    are_merged(texts, alloc, traces.as_slice())
+}
+
 /// Whether the merge of a case is as wanted.
 fn holds<A: Allocator + Copy>(
     rt: &impl Abort,
@@ -186,12 +202,9 @@ fn holds<A: Allocator + Copy>(
     world: &Group<A>,
     case: &Case,
 ) -> Result<bool, WorldError> {
-    let mut traces = Vec::new(alloc);
-    project_all(rt, alloc, world, "a1 b1 c1", &mut traces)?;
-    alter(rt, alloc, traces.as_mut_slice(), case)?;
-    texts.wanted.clear();
-    texts.wanted.push_str(case.told)?;
-    are_merged(texts, alloc, traces.as_slice())
+    lend(Vec::new(alloc), |traces| {
+        holds_of(rt, texts, alloc, world, case, traces)
+    })
 }
 
 /// Whether all cases are as wanted.
@@ -224,9 +237,11 @@ fn hold_in<A: Allocator + Copy>(
 
 #[test]
 fn refuses_altered_traces(rt: HostRuntime) -> Result<(), Fail> {
-    let mut world = Group::new(rt.alloc(), Limits::STANDARD);
+    let world = Group::new(rt.alloc(), Limits::STANDARD);
     let mut texts = Texts::new(rt.alloc());
-    let is_right = hold_in(&rt, &mut texts, rt.alloc(), &mut world, cases())?;
+    let is_right = lend(world, |world| {
+        hold_in(&rt, &mut texts, rt.alloc(), world, cases())
+    })?;
     assert!(rt; is_right, "{} in place of {}", texts.found, texts.wanted);
     Ok(())
 }
@@ -287,9 +302,11 @@ fn are_read_in<A: Allocator + Copy>(
 
 #[test]
 fn reads_traces_off_a_group(rt: HostRuntime) -> Result<(), Fail> {
-    let mut world = Group::new(rt.alloc(), Limits::STANDARD);
+    let world = Group::new(rt.alloc(), Limits::STANDARD);
     let mut texts = Texts::new(rt.alloc());
-    let is_right = are_read_in(&rt, &mut texts, rt.alloc(), &mut world, traces())?;
+    let is_right = lend(world, |world| {
+        are_read_in(&rt, &mut texts, rt.alloc(), world, traces())
+    })?;
     assert!(rt; is_right, "{} in place of {}", texts.found, texts.wanted);
     Ok(())
 }

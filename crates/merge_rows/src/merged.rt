@@ -8,6 +8,7 @@ use std::alloc::{AllocError, Allocator};
 use std::fmt::Write;
 use std::process::Abort;
 use std::test::Fail;
+use test_support::lend;
 use trace_merge::{MergeFault, merge, project};
 use world::{Event, WorldError};
 
@@ -19,7 +20,7 @@ pub(crate) fn push_project<A: Allocator + Copy>(
     origin: Origin,
 ) -> Result<(), AllocError> {
     match project(alloc, world, origin) {
-        Ok(trace) => push_trace(text, &trace),
+        Ok(trace) => lend(trace, |trace| push_trace(text, trace)),
         Err(fault) => write!(text, "{fault}"),
     }
 }
@@ -80,7 +81,7 @@ fn are_told<A: Allocator + Copy>(
     Ok(texts.are_same())
 }
 
-/// Plays the events in a fresh group. Whether they are as wanted, and each trace is what the group then has of its run.
+/// Plays the events in a group. Whether they are as wanted, and each trace is what the group then has of its run.
 fn play_events<A: Allocator + Copy>(
     texts: &mut Texts,
     alloc: A,
@@ -94,15 +95,18 @@ fn play_events<A: Allocator + Copy>(
     Ok(are_told(texts, world, events)? && are_projected(texts, alloc, world, traces)?)
 }
 
-/// Does so in a group of its own.
+/// Does so in a fresh group.
 fn play_merged<A: Allocator + Copy>(
     texts: &mut Texts,
     alloc: A,
     events: &[Event<A>],
     traces: &[PlumTrace<A>],
 ) -> Result<bool, WorldError> {
-    let mut world = Group::<A>::new(alloc, Limits::STANDARD);
-    play_events(texts, alloc, &mut world, events, traces)
+    let world = Group::<A>::new(alloc, Limits::STANDARD);
+    lend(
+        world,
+        |world| play_events(texts, alloc, world, events, traces),
+    )
 }
 
 /// Whether the fault is the wanted one.
@@ -119,9 +123,26 @@ pub(crate) fn are_merged<A: Allocator + Copy>(
     traces: &[PlumTrace<A>],
 ) -> Result<bool, WorldError> {
     match merge(alloc, Limits::STANDARD, traces) {
-        Ok(events) => play_merged(texts, alloc, events.as_slice(), traces),
+        Ok(events) => lend(events, |events| {
+            play_merged(texts, alloc, events.as_slice(), traces)
+        }),
         Err(fault) => Ok(is_fault(texts, fault)?),
     }
+}
+
+/// Adds the traces of a case's runs to an empty list. Whether their merge is as wanted.
+fn is_right_of<A: Allocator + Copy>(
+    rt: &impl Abort,
+    texts: &mut Texts,
+    alloc: A,
+    world: &Group<A>,
+    merging: &(&'static str, &'static str),
+    traces: &mut Vec<PlumTrace<A>, A>,
+) -> Result<bool, WorldError> {
+    project_all(rt, alloc, world, merging.0, traces)?;
+    texts.wanted.clear();
+    texts.wanted.push_str(merging.1)?;
+    are_merged(texts, alloc, traces.as_slice())
 }
 
 /// Whether the merge of a case's runs is as wanted.
@@ -132,11 +153,9 @@ fn is_right<A: Allocator + Copy>(
     world: &Group<A>,
     merging: &(&'static str, &'static str),
 ) -> Result<bool, WorldError> {
-    let mut traces = Vec::new(alloc);
-    project_all(rt, alloc, world, merging.0, &mut traces)?;
-    texts.wanted.clear();
-    texts.wanted.push_str(merging.1)?;
-    are_merged(texts, alloc, traces.as_slice())
+    lend(Vec::new(alloc), |traces| {
+        is_right_of(rt, texts, alloc, world, merging, traces)
+    })
 }
 
 /// Whether each merge of a case is as wanted.
@@ -174,8 +193,8 @@ fn holds<A: Allocator + Copy>(
     alloc: A,
     case: &Case,
 ) -> Result<bool, WorldError> {
-    let mut world = Group::<A>::new(alloc, Limits::STANDARD);
-    holds_in(rt, texts, alloc, &mut world, case)
+    let world = Group::<A>::new(alloc, Limits::STANDARD);
+    lend(world, |world| holds_in(rt, texts, alloc, world, case))
 }
 
 /// Whether all cases are right.

@@ -10,6 +10,7 @@ use rand_pcg::Lcg128Xsl64;
 use std::alloc::{AllocError, Allocator, Global};
 use std::process::Abort;
 use std::test::Fail;
+use test_support::lend;
 use world::{Core, Event, EventOf, WorldError};
 
 /// How many runs there are.
@@ -145,7 +146,7 @@ fn play<A: Allocator + Copy>(
     world: &mut Group<A>,
 ) -> Result<(), AllocError> {
     let event = event(rt, alloc, rng, world)?;
-    let _ = world.play(&event);
+    let _ = lend(event, |event| world.play(event));
     Ok(())
 }
 
@@ -157,7 +158,7 @@ fn play_start<A: Allocator + Copy>(
     place: usize,
 ) -> Result<(), WorldError> {
     let event = start(rt, alloc, place)?;
-    world.play(&event)
+    lend(event, |event| world.play(event))
 }
 
 /// Starts the nodes, and plays events. Whether enough of them happened.
@@ -187,6 +188,19 @@ fn are_scanned(
     are_merged(texts, alloc, traces)
 }
 
+/// Adds the traces of a group in this order to an empty list. Whether they are merged so.
+fn are_ordered_in(
+    rt: &impl Abort,
+    texts: &mut Texts,
+    alloc: Global,
+    world: &Group<Global>,
+    runs: &str,
+    traces: &mut Vec<PlumTrace<Global>>,
+) -> Result<bool, WorldError> {
+    project_all(rt, alloc, world, runs, traces)?;
+    are_scanned(texts, alloc, traces.as_slice())
+}
+
 /// Whether the traces of a group in this order are merged so.
 fn are_ordered(
     rt: &impl Abort,
@@ -195,9 +209,9 @@ fn are_ordered(
     world: &Group<Global>,
     runs: &str,
 ) -> Result<bool, WorldError> {
-    let mut traces = Vec::new(alloc);
-    project_all(rt, alloc, world, runs, &mut traces)?;
-    are_scanned(texts, alloc, traces.as_slice())
+    lend(Vec::new(alloc), |traces| {
+        are_ordered_in(rt, texts, alloc, world, runs, traces)
+    })
 }
 
 /// Whether the traces of a random run are merged so, in two orders.
@@ -218,8 +232,8 @@ fn holds_in(
 
 /// Does so in a fresh group.
 fn holds(rt: &impl Abort, texts: &mut Texts, alloc: Global, seed: u64) -> Result<bool, WorldError> {
-    let mut world = Group::new(alloc, Limits::STANDARD);
-    holds_in(rt, texts, alloc, &mut world, seed)
+    let world = Group::new(alloc, Limits::STANDARD);
+    lend(world, |world| holds_in(rt, texts, alloc, world, seed))
 }
 
 /// Does so for all seeds.

@@ -10,7 +10,7 @@ use std::alloc::{AllocError, Allocator};
 use std::fmt::Write;
 use std::process::Abort;
 use std::test::Fail;
-use test_support::stop_refusing;
+use test_support::{lend, stop_refusing};
 use trace_merge::merge;
 use world::WorldError;
 
@@ -33,7 +33,7 @@ fn push_merge<A: Allocator + Copy>(
     traces: &[PlumTrace<A>],
 ) -> Result<(), AllocError> {
     match merge(alloc, Limits::STANDARD, traces) {
-        Ok(events) => push_events(text, events.as_slice()),
+        Ok(events) => lend(events, |events| push_events(text, events.as_slice())),
         Err(fault) => write!(text, "{fault}"),
     }
 }
@@ -128,7 +128,7 @@ fn sweep_call<A: Allocator + Copy>(
     sweep(rt, heap, texts, alloc, world, traces, call)
 }
 
-/// Does so with the traces of the triangle.
+/// Does so with the traces of the triangle, which are added to an empty list.
 fn sweep_traces<A: Allocator + Copy>(
     rt: &impl Abort,
     heap: &RefusingAllocator,
@@ -136,9 +136,9 @@ fn sweep_traces<A: Allocator + Copy>(
     alloc: A,
     world: &Group<A>,
     call: Call,
+    traces: &mut Vec<PlumTrace<A>, A>,
 ) -> Result<u64, AllocError> {
-    let mut traces = Vec::new(alloc);
-    project_all(rt, alloc, world, "a1 b1 c1", &mut traces)?;
+    project_all(rt, alloc, world, "a1 b1 c1", traces)?;
     sweep_call(rt, heap, texts, alloc, world, traces.as_slice(), call)
 }
 
@@ -152,7 +152,9 @@ fn sweep_group<A: Allocator + Copy>(
     call: Call,
 ) -> Result<u64, WorldError> {
     play_acts(rt, alloc, world, triangle())?;
-    Ok(sweep_traces(rt, heap, texts, alloc, world, call)?)
+    Ok(lend(Vec::new(alloc), |traces| {
+        sweep_traces(rt, heap, texts, alloc, world, call, traces)
+    })?)
 }
 
 /// Does so in a fresh group.
@@ -163,8 +165,10 @@ fn sweep_triangle<A: Allocator + Copy>(
     alloc: A,
     call: Call,
 ) -> Result<u64, WorldError> {
-    let mut world = Group::<A>::new(alloc, Limits::STANDARD);
-    sweep_group(rt, heap, texts, alloc, &mut world, call)
+    let world = Group::<A>::new(alloc, Limits::STANDARD);
+    lend(world, |world| {
+        sweep_group(rt, heap, texts, alloc, world, call)
+    })
 }
 
 #[test]
