@@ -184,7 +184,7 @@ fn compare_start<A: Allocator>(
     case: &Case,
 ) {
     assert!(rt; case.is_joining);
-    assert!(rt; why == CoreError::SeqSpent);
+    assert!(rt; matches!(why, CoreError::SeqSpent));
     assert!(rt; out.sends.is_empty());
 }
 

@@ -79,7 +79,8 @@ fn is_answered<A: Allocator + Copy>(
 ) -> Result<bool, AllocError> {
     let is_right = match answer {
         Ok(out) => is_left(text, ids, gossip, out, given, stood)?,
-        Err(why) => *why == GossipFault::OutOfMemory && is_shown(text, ids, gossip, stood)?,
+        Err(GossipFault::OutOfMemory) => is_shown(text, ids, gossip, stood)?,
+        Err(_) => false,
     };
     Ok(is_right && answer.is_err() == is_refused)
 }

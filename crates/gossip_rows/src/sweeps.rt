@@ -23,7 +23,7 @@ fn is_refused(rt: &impl Abort, answer: &Result<(), GossipFault>) -> bool {
     match answer {
         Ok(()) => false,
         Err(why) => {
-            assert!(rt; *why == GossipFault::OutOfMemory);
+            assert!(rt; matches!(why, GossipFault::OutOfMemory));
             true
         }
     }

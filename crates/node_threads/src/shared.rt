@@ -14,7 +14,7 @@ use frames::Frame;
 use node_names::{MsgId, NodeName};
 use std::alloc::{AllocError, Allocator};
 use std::sync::atomic::{AtomicUsize, Ordering};
-use std::sync::{Mutex, Wait};
+use std::sync::{Condvar, Mutex, Wait};
 use world::{Delivery, Stimulus, StimulusOf};
 
 /// A node that runs. The lock holds the cell until the node is closed.
@@ -22,7 +22,7 @@ use world::{Delivery, Stimulus, StimulusOf};
 /// Waiting threads are told of each step that sends or delivers what they wait for, and of the stop.
 #[derive(Drop)]
 pub(crate) struct Shared<C: NodeCore<A> + Drop, A: Allocator> {
-    cell: CachePadded<Mutex<Option<NodeCell<C, A>>>>,
+    cell: Held<NodeCell<C, A>>,
     wakeups: Wakeups<A>,
     /// How many workers were started.
     workers: AtomicUsize,
@@ -58,11 +58,33 @@ fn next_writing<C: NodeCore<A> + Drop, A: Allocator + Copy>(
 }
 
 /// Whether nothing waits for the application, and something may still come.
-fn is_idle<C: NodeCore<A> + Drop, A: Allocator + Copy>(cell: &Option<NodeCell<C, A>>) -> bool {
-    match cell {
-        Some(cell) => cell.pending().is_empty() && !cell.is_shut(),
-        None => false,
+fn is_idle<C: NodeCore<A> + Drop, A: Allocator + Copy>(cell: &NodeCell<C, A>) -> bool {
+    cell.pending().is_empty() && !cell.is_shut()
+}
+
+/// What a lock holds until it is taken out.
+type Held<T> = CachePadded<Mutex<Option<T>>>;
+
+/// Calls with what the lock holds, if it was not taken out.
+///
+/// The prover takes long over a function that names what a guard holds. Here it is any type, and callers lend it to a closure.
+fn with<T: Drop, Q, R: Wait, F: FnOnce(&mut T) -> Q>(rt: &R, lock: &Held<T>, call: F) -> Option<Q>
+    requires { F.IsAlwaysCallable call }
+{
+    let mut guard = lock.lock(rt);
+    match &mut *guard {
+        Some(held) => Some(call(held)),
+        None => None,
     }
+}
+
+/// Takes what the lock holds. If it is not there it waits until it is.
+fn take_out<T: Drop, R: Wait>(rt: &R, lock: &Held<T>, told: &Condvar) -> T {
+    let mut guard = told.wait_while(rt, lock.lock(rt), |held| held.is_none());
+    let Some(held) = guard.take() else {
+        unreachable!()
+    };
+    held
 }
 
 /// For whom the steps from this place on did something.
@@ -78,6 +100,32 @@ fn moved_since<C: NodeCore<A> + Drop, A: Allocator + Copy>(
         }
     }
     moved
+}
+
+/// Applies the stimulus with its Downs. Answers what was applied, and for whom it did something.
+fn apply_moved<C: NodeCore<A> + Drop, A: Allocator + Copy>(
+    cell: &mut NodeCell<C, A>,
+    stimulus: Stimulus<Frame<A>, A>,
+) -> Result<(Applied<A>, Moved), HostError> {
+    let first = cell.trace().len();
+    let applied = cell.apply_with_downs(stimulus)?;
+    let moved = moved_since(cell, first);
+    Ok((applied, moved))
+}
+
+/// Broadcasts a payload. Answers what the port gets for it, and for whom the step and its Downs did something.
+fn broadcast_moved<C: NodeCore<A> + Drop, A: Allocator + Copy>(
+    cell: &mut NodeCell<C, A>,
+    payload: Bytes<A>,
+) -> Result<(Receipt, Moved), HostError> {
+    let Applied {
+        id,
+        place,
+        full: _,
+        unlinked: _,
+    } = cell.apply_with_downs(StimulusOf::Broadcast(payload))?;
+    let Some(id) = id else { unreachable!() };
+    Ok((Receipt { id, place }, moved_since(cell, place)))
 }
 
 impl<C: NodeCore<A> + Drop, A: Allocator + Copy> Shared<C, A> {
@@ -103,14 +151,8 @@ impl<C: NodeCore<A> + Drop, A: Allocator + Copy> Shared<C, A> {
         rt: &R,
         stimulus: Stimulus<Frame<A>, A>,
     ) -> Result<Applied<A>, HostError> {
-        let mut guard = self.cell.lock(rt);
-        let Some(cell) = &mut *guard else {
-            return Err(HostError::Closed);
-        };
-        let first = cell.trace().len();
-        let applied = cell.apply_with_downs(stimulus)?;
-        let moved = moved_since(cell, first);
-        drop(guard);
+        let answer = with(rt, &self.cell, |cell| apply_moved(cell, stimulus));
+        let (applied, moved) = answer.unwrap_or(Err(HostError::Closed))?;
         self.wakeups.wake(moved);
         Ok(applied)
     }
@@ -121,21 +163,10 @@ impl<C: NodeCore<A> + Drop, A: Allocator + Copy> Shared<C, A> {
         rt: &R,
         payload: Bytes<A>,
     ) -> Result<Receipt, HostError> {
-        let mut guard = self.cell.lock(rt);
-        let Some(cell) = &mut *guard else {
-            return Err(HostError::Closed);
-        };
-        let Applied {
-            id,
-            place,
-            full: _,
-            unlinked: _,
-        } = cell.apply_with_downs(StimulusOf::Broadcast(payload))?;
-        let Some(id) = id else { unreachable!() };
-        let moved = moved_since(cell, place);
-        drop(guard);
+        let answer = with(rt, &self.cell, |cell| broadcast_moved(cell, payload));
+        let (receipt, moved) = answer.unwrap_or(Err(HostError::Closed))?;
         self.wakeups.wake(moved);
-        Ok(Receipt { id, place })
+        Ok(receipt)
     }
 
     /// Opens a link to the outlet's peer in place of its own, and answers the outlet of the new one.
@@ -144,47 +175,29 @@ impl<C: NodeCore<A> + Drop, A: Allocator + Copy> Shared<C, A> {
         rt: &R,
         outlet: &Outlet<A>,
     ) -> Result<Outlet<A>, HostError> {
-        let mut guard = self.cell.lock(rt);
-        match &mut *guard {
-            Some(cell) => cell.open_link(outlet.peer(), self.ring),
-            None => Err(HostError::Closed),
-        }
+        let (peer, ring) = (outlet.peer(), self.ring);
+        with(rt, &self.cell, |cell| cell.open_link(peer, ring)).unwrap_or(Err(HostError::Closed))
     }
 
     /// Ends the node: from now on no step is made, and nobody waits for one.
     pub(crate) fn stop<R: Wait>(&self, rt: &R) {
-        if let Some(cell) = &mut *self.cell.lock(rt) {
-            cell.shut();
-        }
+        let _ = with(rt, &self.cell, |cell| cell.shut());
         self.wakeups.wake_all();
     }
 
     /// Whether the name is in the core's active view.
     pub(crate) fn is_neighbour<R: Wait>(&self, rt: &R, name: &NodeName) -> bool {
-        match &*self.cell.lock(rt) {
-            Some(cell) => cell.core().active().contains(name),
-            None => false,
-        }
+        with(rt, &self.cell, |cell| cell.core().active().contains(name)).unwrap_or(false)
     }
 
     /// Whether the node was stopped.
     pub(crate) fn is_stopped<R: Wait>(&self, rt: &R) -> bool {
-        match &*self.cell.lock(rt) {
-            Some(cell) => cell.is_shut(),
-            None => true,
-        }
+        with(rt, &self.cell, |cell| cell.is_shut()).unwrap_or(true)
     }
 
     /// Takes the cell out of the lock. If it is not there it waits until it is.
     pub(crate) fn take<R: Wait>(&self, rt: &R) -> NodeCell<C, A> {
-        let mut guard = self
-            .wakeups
-            .delivered
-            .wait_while(rt, self.cell.lock(rt), |cell| cell.is_none());
-        let Some(cell) = guard.take() else {
-            unreachable!()
-        };
-        cell
+        take_out(rt, &self.cell, &self.wakeups.delivered)
     }
 
     /// Waits for what a worker that writes is to do next.
@@ -204,15 +217,22 @@ impl<C: NodeCore<A> + Drop, A: Allocator + Copy> Shared<C, A> {
         let mut guard = self
             .wakeups
             .delivered
-            .wait_while(rt, self.cell.lock(rt), |cell| is_idle(cell));
+            .wait_while(rt, self.cell.lock(rt), |cell| match cell {
+                Some(cell) => is_idle(cell),
+                None => false,
+            });
         let given = guard.as_mut()?.take_deliveries();
         if given.is_empty() { None } else { Some(given) }
     }
 
     /// The ids whose timers are armed.
     pub(crate) fn timers<R: Wait>(&self, rt: &R) -> Result<Vec<MsgId, A>, HostError> {
-        match &*self.cell.lock(rt) {
-            Some(cell) => Ok(Vec::from_slice(self.alloc, cell.core().timers())?),
+        let alloc = self.alloc;
+        let timers = with(rt, &self.cell, |cell| {
+            Vec::from_slice(alloc, cell.core().timers())
+        });
+        match timers {
+            Some(timers) => Ok(timers?),
             None => Err(HostError::Closed),
         }
     }
