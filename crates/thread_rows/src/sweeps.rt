@@ -118,11 +118,11 @@ fn refuse_growth<A: Allocator + Copy>(
 ) -> Result<Option<bool>, HostError> {
     let (is_spent, answer) = try_second(heap, alloc, cell, n)?;
     let is_right = if is_spent {
-        answer == Err(HostError::OutOfMemory)
+        matches!(answer, Err(HostError::OutOfMemory))
             && shows(cell, to_p, to_q, 1, 1)?
             && takes_again(heap, alloc, cell, to_p, to_q)?
     } else {
-        answer == Ok(true) && shows(cell, to_p, to_q, 2, 2)?
+        matches!(answer, Ok(true)) && shows(cell, to_p, to_q, 2, 2)?
     };
     Ok(is_right.then_some(is_spent))
 }
