@@ -81,7 +81,7 @@ fn ends_after_stop<R: Threads + Wait, C: NodeCore<Global> + Drop>(
 ) -> Result<bool, HostError> {
     let refused = refused_after_stop(rt, alloc, &mut node);
     let is_left = leaves_one_step(rt, alloc, node);
-    Ok(refused? == Some(HostError::Closed) && is_left)
+    Ok(matches!(refused?, Some(HostError::Closed)) && is_left)
 }
 
 /// After the stop a port is refused, and the node closes with what was broadcast before.
