@@ -229,7 +229,7 @@ fn stop_of<A: Allocator + Copy>(
     match outcome {
         Ok(_) => None,
         Err(fault) => {
-            assert!(rt; fault.why == WorldError::OutOfMemory);
+            assert!(rt; matches!(fault.why, WorldError::OutOfMemory));
             Some(fault.at)
         }
     }
