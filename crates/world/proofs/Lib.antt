@@ -18,6 +18,7 @@ pub mod Resting
 pub mod RunLemmas
 pub mod Runs
 pub mod Sayings
+pub mod Segments
 pub mod StartKeeps
 pub mod StepKeeps
 pub mod Steps

@@ -36,6 +36,7 @@ pub mod Refusals
 pub mod Replay
 pub mod Rest
 pub mod Run
+pub mod Segments
 pub mod SoundViews
 pub mod SpreadLaw
 pub mod Stimulus

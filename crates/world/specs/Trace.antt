@@ -1,5 +1,5 @@
 -- What one run of a node did, as a list of its steps.
-use Rattle.std.specs.Prelude.{ℕ, List, Option}
+use Rattle.std.specs.Prelude.{List, Option}
 use Rattle.std.specs.List.{flat_map}
 use Rattle.node_names.specs.NodeName.{Name}
 use Rattle.node_names.specs.declared.ids.Origin.{Origin}

@@ -1,12 +1,17 @@
 //! What one run of a node did.
-ghost use Rattle.std.specs.Prelude.{◌≡◌, [], ◌∷◌, ◌++◌, ◌↔◌, length, take, IsTrue, OnOk, OnErr, option_copied};
+ghost use Rattle.std.specs.Prelude.{◌≡◌, [], ◌∷◌, ◌++◌, ◌↔◌, length, take, IfOk, IsTrue, OnOk, OnErr, option_copied};
 ghost use Rattle.std.specs.List.{slice_get};
+ghost use Rattle.std.specs.Arc.{arc_value};
+ghost use Rattle.world.specs.Segments.{Ends};
 
 use crate::out::Out;
+use crate::segment::Segment;
+use crate::step_list::StepList;
 use crate::stimulus::Stimulus;
 use node_names::{Listed, NodeName, Origin};
 use std::alloc::{AllocError, Allocator, Global};
 use std::marker::Model;
+use std::sync::Arc;
 
 /// A step of a core: what made it, and what it sent and delivered.
 #[derive(Drop)]
@@ -31,13 +36,15 @@ impl<N: Drop, A: Allocator> Model for Step<N, A> {
 }
 
 /// The history of one run of a node: how it started, and every step since.
+///
+/// It is seen as the list of its steps, however often some of them were handed out as a segment.
 #[derive(Drop)]
 pub struct Trace<N: Drop, A: Allocator = Global> {
     origin: Origin,
     peers: Listed<NodeName, A>,
     contact: Option<NodeName>,
     opening: Out<N, A>,
-    steps: Listed<Step<N, A>, A>,
+    steps: StepList<N, A>,
 }
 
 impl<N: Drop, A: Allocator> Model for Trace<N, A> {
@@ -48,7 +55,7 @@ impl<N: Drop, A: Allocator> Model for Trace<N, A> {
     ghost view = { λ t. record { origin = t.origin; peers = t.peers; contact = t.contact; opening = t.opening; steps = t.steps } };
 }
 
-impl<N: Drop, A: Allocator> Trace<N, A> {
+impl<N: Drop, A: Allocator + Copy> Trace<N, A> {
     /// The history of a run that started with these peers, this contact and this opening, and has made no step.
     pub fn new(
         alloc: A,
@@ -64,10 +71,21 @@ impl<N: Drop, A: Allocator> Trace<N, A> {
             peers,
             contact,
             opening,
-            steps: Listed::new(alloc),
+            steps: StepList::new(alloc),
         }
     }
 
+    /// Hands out the steps since the last segment as a segment of its own, which the trace shares from now on. No step is
+    /// copied. Without such steps the segment is empty. Where an allocation is refused, nothing changes.
+    pub fn seal(&mut self) -> Result<Arc<Segment<N, A>, A>, AllocError>
+        ensures same { self.new ≡ self.old }
+        ensures ends { IfOk result (λ segment. Ends self.old.steps (arc_value segment)) }
+    {
+        self.steps.seal()
+    }
+}
+
+impl<N: Drop, A: Allocator> Trace<N, A> {
     /// Which run of which node it is.
     pub fn origin(&self) -> Origin
         ensures { result ≡ self.now.origin }
@@ -107,17 +125,17 @@ impl<N: Drop, A: Allocator> Trace<N, A> {
     pub fn is_empty(&self) -> bool
         ensures { IsTrue result ↔ (self.now.steps ≡ []) }
     {
-        self.steps.is_empty()
+        self.steps.len() == 0
     }
 
     /// The step at a place, counted from 0.
     pub fn step(&self, place: usize) -> Option<&Step<N, A>>
         ensures { option_copied result ≡ slice_get self.now.steps place }
     {
-        self.steps.as_slice().get(place)
+        self.steps.get(place)
     }
 
-    /// Records a step. Where an allocation is refused, the step is dropped.
+    /// Records a step. Where an allocation is refused, or the trace has `usize::MAX` steps, the step is dropped.
     pub fn push(&mut self, step: Step<N, A>) -> Result<(), AllocError>
         ensures ok { OnOk result (self.new ≡ record self.old { steps = self.old.steps ++ step ∷ [] }) }
         ensures err { OnErr result (self.new ≡ self.old) }
