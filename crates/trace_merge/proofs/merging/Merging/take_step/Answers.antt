@@ -13,6 +13,9 @@ use Rattle.trace_merge.proofs.StepLemmas.{steps_on}
 use Rattle.trace_merge.proofs.StepRefusals.{step_differs, step_refused, told_by}
 use Rattle.trace_merge.proofs.merging.Merging.take_step.Goals as goal
 
+pub after-next-requires : goal.after-next-requires
+after-next-requires g c = slice_get_within c.args.trace.now.steps c.args.place c.args.step.now c.requires.taken
+
 pub tell_all-requires : goal.tell_all-requires
 tell_all-requires g c =
     let within : c.args.place < length c.args.trace.now.steps = slice_get_within c.args.trace.now.steps c.args.place c.args.step.now c.requires.taken in
@@ -49,6 +52,11 @@ stand-requires g c =
     let short : c.args.at < length c.args.traces.now = slice_get_within c.args.traces.now c.args.at c.args.trace.now c.requires.listed in
     let plays : Plays c.args.event c.args.self.now c.play.new.self = c.in_default.ensures.ok in
     subst (λ n. c.args.at < n) (sym (ap length plays.places ∙ c.requires.merging.counted)) short
+
+pub returns-clause-places : goal.returns-clause-places
+returns-clause-places g c =
+    let plays : Plays c.args.event c.args.self.now c.play.new.self = c.in_default.ensures.ok in
+    ap (λ (m : Merge). m.places) c.stand.ensures ∙ (λ i. set (plays.places i) c.args.at (Some (c.after-next.ensures i)))
 
 pub returns-clause-ok : goal.returns-clause-ok
 returns-clause-ok g c =
