@@ -92,6 +92,48 @@ fn stopped_host(rt: HostRuntime) -> Result<(), Fail> {
     Ok(())
 }
 
+/// Whether a node hands out a part that begins at this place and has so many steps.
+fn hands_out<R: Wait, C: NodeCore<Global> + Drop>(
+    rt: &R,
+    host: &Host<C>,
+    first: usize,
+    len: usize,
+) -> Result<bool, HostError> {
+    let sealed = host.seal(rt)?;
+    Ok(sealed.segment.first == first && sealed.segment.steps.len() == len)
+}
+
+/// Whether a node hands out what was broadcast, and nothing more after the stop.
+fn hands_out_twice<R: Wait, C: NodeCore<Global> + Drop>(
+    rt: &R,
+    alloc: Global,
+    node: &mut Started<C>,
+) -> Result<bool, HostError> {
+    broadcast_by_each(rt, alloc, node.ports.as_mut_slice())?;
+    let is_first = hands_out(rt, &node.host, 0, 1)?;
+    node.host.stop(rt);
+    Ok(is_first && hands_out(rt, &node.host, 1, 0)?)
+}
+
+/// Whether a node hands its history out in parts, and closes with all of it.
+fn ends_with_all_parts<R: Threads + Wait, C: NodeCore<Global> + Drop>(
+    rt: &R,
+    alloc: Global,
+    mut node: Started<C>,
+) -> Result<bool, HostError> {
+    let are_handed = hands_out_twice(rt, alloc, &mut node);
+    let is_left = leaves_one_step(rt, alloc, node);
+    Ok(are_handed? && is_left)
+}
+
+/// A node hands its history out in parts, also after the stop, and closes with all of it.
+#[test]
+fn parts_of_a_host(rt: HostRuntime) -> Result<(), Fail> {
+    let node = start_alone(&rt, rt.alloc(), "a", 1)?;
+    assert!(rt; ends_with_all_parts(&rt, rt.alloc(), node)?);
+    Ok(())
+}
+
 /// Closes a node without its ports. It comes back if that finds a port or worker missing.
 fn close_without_ports<R: Threads + Wait, C: NodeCore<Global> + Drop>(
     rt: &R,

@@ -6,6 +6,8 @@ mod act;
 #[cfg(test)]
 mod altered;
 #[cfg(test)]
+mod divided;
+#[cfg(test)]
 mod merged;
 #[cfg(test)]
 mod named;

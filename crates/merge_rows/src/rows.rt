@@ -121,3 +121,8 @@ pub(crate) fn cases() -> &'static [Case] {
 pub(crate) fn triangle() -> &'static [Act] {
     TRIANGLE
 }
+
+/// The runs of the triangle in the order of their names, and what their traces are merged into.
+pub(crate) fn merging_of_triangle() -> (&'static str, &'static str) {
+    CORNERS.merges[0]
+}

@@ -9,6 +9,10 @@ use Rattle.world.specs.Stimulus.{Stimulus}
 use Rattle.world.specs.Trace.{Trace}
 use Rattle.frames.specs.Frame.{Frame}
 
+-- The trace replays, and this core is the state at its end, within some limits.
+abbrev pub IsHistoryTo : {C : Type 0} → (Origin → Limits → List Name → Option Name → List (Name × Frame) → C → Type 0) → (C → Stimulus Frame → List (Name × Frame) → List Delivery → C → Type 0) → Trace Frame → C → Type 0
+IsHistoryTo starts steps trace last = (limits : Limits) × Replays starts steps limits trace last
+
 -- The trace replays: it is the history of a core, within some limits.
 pub record IsHistory
     {C : Type 0}

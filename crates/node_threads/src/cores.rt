@@ -61,6 +61,10 @@ pub trait NodeCore<A: Allocator>: Sized {
         ensures ok { OnOk result (self.new ≡ after self.old (lent stimulus.now)) }
         ensures err { OnErr result (self.new ≡ self.old) };
 
+    /// A copy of it. This costs all that it holds.
+    fn copy(&self) -> Result<Self, AllocError>
+        ensures { IfOk result (λ copy. copy ≡ self.now) };
+
     /// Who it is: its name and incarnation.
     fn me(&self) -> Origin
         ensures { result ≡ (state self.now).me };
@@ -120,6 +124,10 @@ impl<A: Allocator + Copy> NodeCore<A> for PlumCore<A> {
             unreachable!()
         };
         Core::advance(self, stimulus, turn)
+    }
+
+    fn copy(&self) -> Result<PlumCore<A>, AllocError> {
+        Core::copy(self)
     }
 
     fn me(&self) -> Origin {

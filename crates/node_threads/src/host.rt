@@ -9,6 +9,7 @@ use crate::error::HostError;
 use crate::gate::Gate;
 use crate::outlet::Outlet;
 use crate::port::Port;
+use crate::sealing::Sealed;
 use crate::shared::Shared;
 use crate::stepper::Stepper;
 use crate::worker::{Outlets, Worker};
@@ -122,6 +123,11 @@ impl<C: NodeCore<A> + Drop, A: Allocator + Copy> Host<C, A> {
     /// Stops the node: from now on no step is made. Its workers come to their ends.
     pub fn stop<R: Wait>(&self, rt: &R) {
         self.shared.stop(rt);
+    }
+
+    /// Hands out the steps since the last call, as `NodeCell::seal` does, also after the stop. The node takes no step meanwhile.
+    pub fn seal<R: Wait>(&self, rt: &R) -> Result<Sealed<C, A>, HostError> {
+        self.shared.seal(rt)
     }
 
     /// Whether the name is in the core's active view now.

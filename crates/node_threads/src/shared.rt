@@ -7,6 +7,7 @@ use crate::cores::NodeCore;
 use crate::error::HostError;
 use crate::outlet::Outlet;
 use crate::receipt::Receipt;
+use crate::sealing::Sealed;
 use crate::wakeups::{Moved, Wakeups};
 use bytes::Bytes;
 use crossbeam_utils::CachePadded;
@@ -183,6 +184,11 @@ impl<C: NodeCore<A> + Drop, A: Allocator + Copy> Shared<C, A> {
     pub(crate) fn stop<R: Wait>(&self, rt: &R) {
         let _ = with(rt, &self.cell, |cell| cell.shut());
         self.wakeups.wake_all();
+    }
+
+    /// Hands out the steps since the last call.
+    pub(crate) fn seal<R: Wait>(&self, rt: &R) -> Result<Sealed<C, A>, HostError> {
+        with(rt, &self.cell, |cell| cell.seal()).unwrap_or(Err(HostError::Closed))
     }
 
     /// Whether the name is in the core's active view.

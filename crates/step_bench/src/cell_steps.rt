@@ -17,7 +17,7 @@ const RING: usize = 1 << 10;
 const STEPS: usize = 1 << 24;
 
 /// A cell whose core has just started, without peers.
-fn start(alloc: Global) -> Result<NodeCell<PlumCore>> {
+pub(crate) fn start(alloc: Global) -> Result<NodeCell<PlumCore>> {
     let me = first_run(b"a")?;
     let mut opening = Out::new(alloc);
     let core = PlumCore::start(alloc, me, Limits::STANDARD, &[], None, &mut opening)?;
@@ -70,6 +70,17 @@ fn apply_all(
         empty_all(outlets)?;
     }
     Ok(())
+}
+
+/// Opens the links of a cell, and lets it take stimuli.
+pub(crate) fn fill(
+    alloc: Global,
+    cell: &mut NodeCell<PlumCore>,
+    stimuli: Vec<Stimulus<Frame>>,
+) -> Result<()> {
+    let mut outlets = Vec::new(alloc);
+    open_links(cell, &mut outlets)?;
+    apply_all(cell, &mut outlets, stimuli)
 }
 
 /// Times how a cell takes stimuli.

@@ -6,11 +6,13 @@ mod cell_steps;
 mod core_steps;
 mod known;
 mod messages;
+mod sealing;
 
 use crate::cell_steps::step_cell;
 use crate::core_steps::{see_all, step_core};
 use crate::known::know_all;
 use crate::messages::Taken;
+use crate::sealing::seal;
 use anyhow::{Result, bail};
 use std::alloc::Global;
 use std::env;
@@ -25,8 +27,8 @@ fn tell(rt: &impl Print, what: &str, taken: Taken, is_timed: bool) -> Result<()>
     let Taken { came, sent, nanos } = taken;
     println!(rt; "{what:5} {came:8} in {sent:8} out")?;
     if is_timed {
-        let each = nanos / came.max(1);
-        println!(rt; "{each} nanoseconds each")?;
+        let (each, all) = (nanos / came.max(1), nanos / 1_000);
+        println!(rt; "{each} nanoseconds each, {all} microseconds in all")?;
     }
     Ok(())
 }
@@ -45,7 +47,9 @@ fn measure<R: Print + Clock>(
         "ids" => know_all(rt, alloc, count, 0)?,
         "gaps" => know_all(rt, alloc, count, 100)?,
         "seen" => see_all(rt, alloc, count)?,
-        _ => bail!("core, cell, ids, gaps or seen"),
+        "seal" => seal(rt, alloc, count, false)?,
+        "copy" => seal(rt, alloc, count, true)?,
+        _ => bail!("core, cell, ids, gaps, seen, seal or copy"),
     };
     tell(rt, word, taken, is_timed)
 }
@@ -60,7 +64,7 @@ fn main(rt: HostRuntime) -> Result<()> {
     match words.get(1) {
         Some(word) => measure(&rt, alloc, word, count, true),
         None => {
-            for word in ["core", "cell", "ids", "gaps", "seen"] {
+            for word in ["core", "cell", "ids", "gaps", "seen", "seal", "copy"] {
                 measure(&rt, alloc, word, count, false)?;
             }
             Ok(())

@@ -1,0 +1,40 @@
+//! The history of a running node is handed out in parts.
+ghost use Rattle.std.specs.Prelude.{◌≡◌, IfErr, IfOk};
+ghost use Rattle.std.specs.Arc.{arc_value};
+ghost use Rattle.world.specs.Segments.{Ends};
+ghost use Rattle.node_threads.specs.History.{IsHistoryTo};
+
+use crate::cell::NodeCell;
+use crate::cores::NodeCore;
+use crate::error::HostError;
+use frames::Frame;
+use std::alloc::{Allocator, Global};
+use std::sync::Arc;
+use world::Segment;
+
+/// A part of a node's history, and the core that it leads to.
+#[derive(Drop)]
+pub struct Sealed<C: Drop, A: Allocator = Global> {
+    /// The steps since the part before it. The node's trace shares them.
+    pub segment: Arc<Segment<Frame<A>, A>, A>,
+    /// A copy of the core after them.
+    pub state: C,
+}
+
+impl<C: NodeCore<A> + Drop, A: Allocator + Copy> NodeCell<C, A> {
+    /// Hands out the steps since the last call as a segment, with a copy of the core after them. The trace keeps its steps, and
+    /// shares these from now on.
+    ///
+    /// It costs the copy of the core and none of the steps, and works after `shut` too. Its only refusal is `OutOfMemory`.
+    pub fn seal(&mut self) -> Result<Sealed<C, A>, HostError>
+        ensures same { self.new ≡ self.old }
+        ensures ends { IfOk result (λ sealed. Ends self.old.trace.steps (arc_value sealed.segment)) }
+        ensures state { IfOk result (λ sealed. sealed.state ≡ self.old.core) }
+        ensures replays { IfOk result (λ sealed. IsHistoryTo C.starts C.steps self.new.trace sealed.state) }
+        ensures err { IfErr result (λ e. e ≡ HostError.OutOfMemory) }
+    {
+        let state = self.core().copy()?;
+        let segment = self.trace.seal()?;
+        Ok(Sealed { segment, state })
+    }
+}
