@@ -30,7 +30,7 @@ pub(crate) struct Pumped {
     pub(crate) frames: usize,
     /// Whether they are the tape's first ones.
     pub(crate) is_front: bool,
-    /// How many bytes one more read gives, of a buffer of 64.
+    /// How many bytes one more read gives, of a buffer of 100.
     pub(crate) rest: usize,
 }
 
@@ -48,7 +48,7 @@ fn are_front<A: Allocator + Copy>(alloc: A, stream: &[u8], frames: &[Frame<A>]) 
 
 /// How many bytes one more read gives.
 fn read_rest<A: Allocator>(reader: &mut TapeReader<A>) -> usize {
-    let mut rest = [0; 64];
+    let mut rest = [0; 100];
     reader.read(&mut rest).unwrap_or(0)
 }
 
@@ -150,6 +150,22 @@ fn are_prunes(written: &[u8]) -> bool {
     true
 }
 
+/// What came of a drain of this source, which wrote these bytes.
+pub(crate) fn drained_of<A: Allocator>(
+    answer: Result<u64, LinkEnd>,
+    is_refused: bool,
+    source: &Same<A>,
+    written: &[u8],
+) -> Drained {
+    Drained {
+        answer,
+        is_refused,
+        gave: count_given(source),
+        len: written.len(),
+        is_front: are_prunes(written),
+    }
+}
+
 /// Drains while the growth with this number is refused.
 fn drain_between<A: Allocator + Copy, B: Allocator>(
     heap: &RefusingAllocator,
@@ -161,14 +177,7 @@ fn drain_between<A: Allocator + Copy, B: Allocator>(
     heap.refuse(n);
     let answer = drain(source, writer, frames);
     let is_refused = stop_refusing(heap);
-    let written = writer.as_slice();
-    Drained {
-        answer,
-        is_refused,
-        gave: count_given(source),
-        len: written.len(),
-        is_front: are_prunes(written),
-    }
+    drained_of(answer, is_refused, source, writer.as_slice())
 }
 
 /// Does so into a fresh writer.

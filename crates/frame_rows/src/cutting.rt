@@ -94,7 +94,8 @@ fn next_refused<A: Allocator + Copy>(
     (is_given(alloc, row, &answer, so_far), is_spent)
 }
 
-/// Does so, and again if it is refused. Whether a frame is given, or none if an answer is wrong.
+/// Does so, and again if it is refused. Whether a frame is given, or none if an answer is wrong. A fault may be told although a
+/// growth was refused.
 fn take_frame<A: Allocator + Copy>(
     heap: &RefusingAllocator,
     alloc: A,
@@ -106,6 +107,9 @@ fn take_frame<A: Allocator + Copy>(
     let left = cutter.left();
     let (given, is_spent) = next_refused(heap, alloc, cutter, row, so_far, n);
     so_far.is_refused |= is_spent;
+    if is_spent && so_far.fault.is_none() {
+        return None;
+    }
     if so_far.fault != Some(FrameFault::OutOfMemory) {
         return given;
     }

@@ -1,21 +1,12 @@
-//! How pumps and drains end.
-use crate::calls::{DrainCall, PumpCall, call_drain, call_pump};
+//! How pumps and drains end, each growth refused in turn.
+use crate::calls::{DrainCall, PumpCall};
 use crate::doubles::PRUNE;
+use crate::linking::{DrainRow, PumpRow, Refused, sweep_drain, sweep_pump};
 use frames::FrameFault;
 use links::LinkEnd;
 use refusing_allocator::RefusingAllocator;
 use std::alloc::{AllocError, Allocator};
 use std::test::Fail;
-
-/// A call of a pump, its end, and how many frames the sink took and bytes are left for one more read.
-#[derive(Clone, Copy)]
-struct PumpRow {
-    name: &'static str,
-    call: PumpCall<'static>,
-    end: LinkEnd,
-    frames: usize,
-    rest: usize,
-}
 
 /// A PRUNE in two pieces.
 const WHOLE: PumpCall<'static> = PumpCall {
@@ -99,63 +90,81 @@ const PUMPS: &[PumpRow] = &[
     },
 ];
 
-/// Whether a call of a pump ends as it should.
-fn is_pumped<A: Allocator + Copy>(
-    heap: &RefusingAllocator,
-    alloc: A,
-    row: &PumpRow,
-) -> Result<bool, AllocError> {
-    let pumped = call_pump(heap, alloc, &row.call, 0)?;
-    let is_end = pumped.end == row.end;
-    let are_counts = pumped.frames == row.frames && pumped.rest == row.rest;
-    Ok(is_end && are_counts && pumped.is_front)
-}
-
 #[test]
 fn pumps(rt: HostRuntime) -> Result<(), Fail> {
     let heap = RefusingAllocator::new(rt.alloc());
+    let mut refused = 0u64;
     for row in PUMPS {
-        let is_right = is_pumped(&heap, &heap, row)?;
-        assert!(rt; is_right, "at {}", row.name);
+        let growths = sweep_pump(&heap, &heap, row)?;
+        assert!(rt; growths.is_some(), "at {}", row.name);
+        refused = refused.saturating_add(growths.unwrap_or(0));
     }
+    assert!(rt; refused > 7, "few growths were refused: {refused}");
     Ok(())
 }
 
-/// How many bytes the writer takes a call, the call that fails, the frames, the answer, and how many bytes the writer has then.
-type DrainRow = (usize, Option<usize>, u32, Result<u64, LinkEnd>, usize);
+/// Two PRUNEs to a writer that takes ten bytes a call.
+const ALL: DrainCall = DrainCall {
+    most: 10,
+    fails: None,
+    frames: 10,
+};
 
 const DRAINS: &[DrainRow] = &[
-    (10, None, 10, Ok(48), 48),
-    (10, None, 1, Ok(24), 24),
-    (10, None, 0, Ok(0), 0),
-    (10, Some(2), 10, Err(LinkEnd::WriteFault { bytes: 20 }), 20),
-    (10, Some(3), 10, Err(LinkEnd::WriteFault { bytes: 24 }), 24),
-    (0, None, 10, Err(LinkEnd::WriteFault { bytes: 0 }), 0),
+    DrainRow {
+        call: ALL,
+        answer: Ok(48),
+        len: 48,
+    },
+    DrainRow {
+        call: DrainCall { frames: 1, ..ALL },
+        answer: Ok(24),
+        len: 24,
+    },
+    DrainRow {
+        call: DrainCall { frames: 0, ..ALL },
+        answer: Ok(0),
+        len: 0,
+    },
+    DrainRow {
+        call: DrainCall {
+            fails: Some(2),
+            ..ALL
+        },
+        answer: Err(LinkEnd::WriteFault { bytes: 20 }),
+        len: 20,
+    },
+    DrainRow {
+        call: DrainCall { most: 0, ..ALL },
+        answer: Err(LinkEnd::WriteFault { bytes: 0 }),
+        len: 0,
+    },
 ];
 
-/// Whether a call of a drain of two PRUNEs ends as it should.
-fn is_drained<A: Allocator + Copy>(
+/// Refuses each growth of the source and then of the writer. How many there are, or none if an answer is wrong.
+fn sweep_both<A: Allocator + Copy, B: Allocator + Copy>(
     heap: &RefusingAllocator,
-    alloc: A,
+    refusing: A,
+    other: B,
     row: &DrainRow,
-) -> Result<bool, AllocError> {
-    let (most, fails, frames, answer, len) = *row;
-    let call = DrainCall {
-        most,
-        fails,
-        frames,
-    };
-    let drained = call_drain(heap, alloc, alloc, &call, 0)?;
-    let is_answer = drained.answer == answer;
-    Ok(is_answer && drained.len == len && drained.is_front)
+) -> Result<Option<u64>, AllocError> {
+    let of_source = sweep_drain(heap, refusing, other, row, Refused::Source)?;
+    let of_writer = sweep_drain(heap, other, refusing, row, Refused::Writer)?;
+    Ok(match (of_source, of_writer) {
+        (Some(of_source), Some(of_writer)) => Some(of_source.saturating_add(of_writer)),
+        _ => None,
+    })
 }
 
 #[test]
 fn drains(rt: HostRuntime) -> Result<(), Fail> {
     let heap = RefusingAllocator::new(rt.alloc());
+    let mut refused = 0u64;
     for row in DRAINS {
-        let is_right = is_drained(&heap, &heap, row)?;
-        assert!(rt; is_right, "with {} bytes", row.4);
+        let growths = sweep_both(&heap, &heap, rt.alloc(), row)?;
+        assert!(rt; growths.is_some(), "with {} bytes", row.len);
+        refused = refused.saturating_add(growths.unwrap_or(0));
     }
+    assert!(rt; refused > 10, "few growths were refused: {refused}");
     Ok(())
 }

@@ -2,6 +2,8 @@
 #![tactic(auto)]
 
 #[cfg(test)]
+mod bytes_changed;
+#[cfg(test)]
 mod calls;
 #[cfg(test)]
 mod calm;
@@ -16,8 +18,12 @@ mod doubles;
 #[cfg(test)]
 mod ends;
 #[cfg(test)]
+mod failing_devices;
+#[cfg(test)]
 mod kinds;
 #[cfg(test)]
 mod linking;
 #[cfg(test)]
 mod rows;
+#[cfg(test)]
+mod stalling;

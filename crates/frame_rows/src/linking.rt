@@ -1,5 +1,5 @@
 //! Reading frames from a stream and writing them to one, each growth refused in turn: the end is for want of memory, and what
-//! the sink took or the writer has is a front of the whole.
+//! the sink took or the writer has is a front of the whole. The call in which no growth is left to refuse ends as its row says.
 use crate::calls::{DrainCall, Drained, PumpCall, Pumped, call_drain, call_pump};
 use crate::rows::{Row, rows};
 use links::LinkEnd;
@@ -10,7 +10,49 @@ use std::test::Fail;
 /// More growths than any call has.
 const MANY: u64 = 120;
 
-/// The end of a row that is read in whole.
+/// A call of a pump, its end, and how many frames the sink took and bytes are left for one more read.
+#[derive(Clone, Copy)]
+pub(crate) struct PumpRow {
+    pub(crate) name: &'static str,
+    pub(crate) call: PumpCall<'static>,
+    pub(crate) end: LinkEnd,
+    pub(crate) frames: usize,
+    pub(crate) rest: usize,
+}
+
+/// Whether a pump ended as its row says, or for want of memory if a growth was refused. The fault of a frame may be told even
+/// then.
+fn is_pumped(row: &PumpRow, pumped: &Pumped) -> bool {
+    let are_counts = pumped.frames == row.frames && pumped.rest == row.rest;
+    let is_whole = pumped.end == row.end && are_counts;
+    let is_out = pumped.end == LinkEnd::OutOfMemory && pumped.frames <= row.frames;
+    let is_end = match (pumped.is_refused, row.end) {
+        (false, _) => is_whole,
+        (true, LinkEnd::Frame(_)) => is_whole || is_out,
+        (true, _) => is_out,
+    };
+    is_end && pumped.is_front
+}
+
+/// Pumps while each growth of the cutter is refused in turn. How many there are, or none if an answer is wrong.
+pub(crate) fn sweep_pump<A: Allocator + Copy>(
+    heap: &RefusingAllocator,
+    alloc: A,
+    row: &PumpRow,
+) -> Result<Option<u64>, AllocError> {
+    for n in 1..MANY {
+        let pumped = call_pump(heap, alloc, &row.call, n)?;
+        if !is_pumped(row, &pumped) {
+            return Ok(None);
+        }
+        if !pumped.is_refused {
+            return Ok(Some(n - 1));
+        }
+    }
+    Ok(None)
+}
+
+/// The end of a stream that is read in whole.
 fn end_of(row: &Row) -> LinkEnd {
     match row.fault {
         Some(fault) => LinkEnd::Frame(fault),
@@ -24,38 +66,21 @@ fn end_of(row: &Row) -> LinkEnd {
     }
 }
 
-/// Whether a row is pumped as it should be. Where it has a fault, that may be told although a growth was refused.
-fn is_pumped(row: &Row, pumped: &Pumped) -> bool {
-    let is_out = pumped.end == LinkEnd::OutOfMemory;
-    let is_lost = pumped.is_refused && (is_out || row.fault.is_none());
-    let is_whole = pumped.frames == row.frames.len() && pumped.end == end_of(row);
-    let is_end = if is_lost { is_out } else { is_whole };
-    is_end && pumped.is_front
-}
-
-/// Pumps a row while each growth of the cutter is refused in turn. How many there are, or none if an answer is wrong.
-fn sweep_pump<A: Allocator + Copy>(
-    heap: &RefusingAllocator,
-    alloc: A,
-    row: &Row,
-) -> Result<Option<u64>, AllocError> {
-    let call = PumpCall {
-        bytes: row.bytes,
-        pieces: &[5, 19],
-        fails: None,
-        most: usize::MAX,
-        turns: 1_000,
-    };
-    for n in 1..MANY {
-        let pumped = call_pump(heap, alloc, &call, n)?;
-        if !is_pumped(row, &pumped) {
-            return Ok(None);
-        }
-        if !pumped.is_refused {
-            return Ok(Some(n - 1));
-        }
+/// A pump that reads a stream in whole.
+fn pump_of(row: &Row) -> PumpRow {
+    PumpRow {
+        name: row.name,
+        call: PumpCall {
+            bytes: row.bytes,
+            pieces: &[5, 19],
+            fails: None,
+            most: usize::MAX,
+            turns: 1_000,
+        },
+        end: end_of(row),
+        frames: row.frames.len(),
+        rest: 0,
     }
-    Ok(None)
 }
 
 #[test]
@@ -63,53 +88,62 @@ fn each_growth_of_a_pump(rt: HostRuntime) -> Result<(), Fail> {
     let heap = RefusingAllocator::new(rt.alloc());
     let mut refused = 0u64;
     for row in rows() {
-        let growths = sweep_pump(&heap, &heap, row)?;
+        let growths = sweep_pump(&heap, &heap, &pump_of(row))?;
         assert!(rt; growths.is_some(), "at {}", row.name);
         refused = refused.saturating_add(growths.unwrap_or(0));
     }
-    assert!(rt; refused > 20, "few growths were refused: {refused}");
+    assert!(rt; refused > 40, "few growths were refused: {refused}");
     Ok(())
 }
 
-/// A drain into a writer that takes ten bytes a call.
-const DRAIN: DrainCall = DrainCall {
-    most: 10,
-    fails: None,
-    frames: 10,
-};
-
-/// Whether two items are drained as they should be where the source is refused: all that it gave went out.
-fn is_source_drained(drained: &Drained) -> bool {
-    let (answer, len) = if drained.is_refused {
-        (Err(LinkEnd::OutOfMemory), drained.gave.saturating_mul(24))
-    } else {
-        (Ok(48), 48)
-    };
-    let is_answer = drained.answer == answer;
-    is_answer && drained.len == len && drained.is_front
+/// A call of a drain, its answer, and how many bytes the writer has then.
+#[derive(Clone, Copy)]
+pub(crate) struct DrainRow {
+    pub(crate) call: DrainCall,
+    pub(crate) answer: Result<u64, LinkEnd>,
+    pub(crate) len: usize,
 }
 
-/// Whether they are where the writer is refused: its call fails, and the end says how many bytes went out.
-fn is_writer_drained(drained: &Drained) -> bool {
+/// Whose growths are refused.
+#[derive(Clone, Copy)]
+pub(crate) enum Refused {
+    Source,
+    Writer,
+}
+
+/// Whether a drain ended at a refused growth: after all that the source gave, or within it where the writer's call failed.
+fn is_cut_off(drained: &Drained, refused: Refused) -> bool {
+    let given = drained.gave.saturating_mul(24);
     let bytes = drained.len as u64;
-    let answer = if drained.is_refused {
-        Err(LinkEnd::WriteFault { bytes })
-    } else {
-        Ok(48)
+    let (is_there, end) = match refused {
+        Refused::Source => (drained.len == given, LinkEnd::OutOfMemory),
+        Refused::Writer => (drained.len < given, LinkEnd::WriteFault { bytes }),
     };
-    let is_answer = drained.answer == answer;
-    is_answer && drained.is_refused == (bytes < 48) && drained.is_front
+    is_there && drained.answer == Err(end)
 }
 
-/// Drains two items while each growth of the source is refused in turn. How many there are, or none if an answer is wrong.
-fn sweep_source<A: Allocator + Copy, B: Allocator + Copy>(
+/// Whether a drain ended as its row says, or at a refused growth if there was one.
+fn is_drained(row: &DrainRow, drained: &Drained, refused: Refused) -> bool {
+    let is_whole = drained.answer == row.answer && drained.len == row.len;
+    let is_end = if drained.is_refused {
+        is_cut_off(drained, refused)
+    } else {
+        is_whole
+    };
+    is_end && drained.is_front
+}
+
+/// Drains while each growth of the one is refused in turn. How many there are, or none if an answer is wrong.
+pub(crate) fn sweep_drain<A: Allocator + Copy, B: Allocator + Copy>(
     heap: &RefusingAllocator,
     sources: A,
     writers: B,
+    row: &DrainRow,
+    refused: Refused,
 ) -> Result<Option<u64>, AllocError> {
     for n in 1..MANY {
-        let drained = call_drain(heap, sources, writers, &DRAIN, n)?;
-        if !is_source_drained(&drained) {
+        let drained = call_drain(heap, sources, writers, &row.call, n)?;
+        if !is_drained(row, &drained, refused) {
             return Ok(None);
         }
         if !drained.is_refused {
@@ -117,38 +151,4 @@ fn sweep_source<A: Allocator + Copy, B: Allocator + Copy>(
         }
     }
     Ok(None)
-}
-
-/// Does so with the growths of the writer.
-fn sweep_writer<A: Allocator + Copy, B: Allocator + Copy>(
-    heap: &RefusingAllocator,
-    sources: A,
-    writers: B,
-) -> Result<Option<u64>, AllocError> {
-    for n in 1..MANY {
-        let drained = call_drain(heap, sources, writers, &DRAIN, n)?;
-        if !is_writer_drained(&drained) {
-            return Ok(None);
-        }
-        if !drained.is_refused {
-            return Ok(Some(n - 1));
-        }
-    }
-    Ok(None)
-}
-
-#[test]
-fn each_growth_of_a_drain(rt: HostRuntime) -> Result<(), Fail> {
-    let heap = RefusingAllocator::new(rt.alloc());
-    let of_source = sweep_source(&heap, &heap, rt.alloc())?.unwrap_or(0);
-    let of_writer = sweep_writer(&heap, rt.alloc(), &heap)?.unwrap_or(0);
-    assert!(rt;
-        of_source > 1,
-        "few growths, or a wrong answer: {of_source}"
-    );
-    assert!(rt;
-        of_writer > 0,
-        "few growths, or a wrong answer: {of_writer}"
-    );
-    Ok(())
 }

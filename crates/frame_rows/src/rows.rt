@@ -15,14 +15,6 @@ pub(crate) fn rows() -> &'static [Row] {
     ROWS
 }
 
-/// What the stream is read as: its first frame's length, or its first fault.
-pub(crate) fn first_of(row: &Row) -> Result<usize, FrameFault> {
-    match row.frames.first() {
-        Some(len) => Ok(*len),
-        None => Err(row.fault.unwrap_or(FrameFault::Short)),
-    }
-}
-
 // All frames are of a/1. Those without another word have number 1.
 const ROWS: &[Row] = &[
     Row {
