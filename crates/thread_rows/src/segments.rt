@@ -51,18 +51,18 @@ fn broadcast_at<A: Allocator + Copy>(
     Ok(cell.apply(stimulus)?.place)
 }
 
+/// Whether the core has its own message of this number.
+fn has_own<A: Allocator + Copy>(core: &PlumCore<A>, seq: u64) -> bool {
+    let id = MsgId {
+        origin: core.me(),
+        seq,
+    };
+    core.has(&id)
+}
+
 /// Whether the core has so many messages of its own and no more.
 fn has_made<A: Allocator + Copy>(core: &PlumCore<A>, broadcasts: u64) -> bool {
-    let origin = core.me();
-    let last = MsgId {
-        origin,
-        seq: broadcasts,
-    };
-    let next = MsgId {
-        origin,
-        seq: broadcasts.saturating_add(1),
-    };
-    core.has(&last) && !core.has(&next)
+    has_own(core, broadcasts) && !has_own(core, broadcasts.saturating_add(1))
 }
 
 /// Whether what was handed out is this part.
