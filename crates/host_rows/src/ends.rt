@@ -2,32 +2,31 @@
 use crate::node::{Started, start_alone};
 use bytes::Bytes;
 use node_core::PlumCore;
-use node_threads::{CloseError, Closed, Host, HostError, NodeCore, Port, Worker};
-use std::alloc::Global;
+use node_threads::{CloseError, Closed, Host, HostError, NodeCore, Port, Receipt, Worker};
+use std::alloc::{Allocator, Global};
 use std::process::Abort;
 use std::sync::Wait;
 use std::test::Fail;
 use std::thread::Threads;
 
 /// Broadcasts by a port.
-pub(crate) fn broadcast<R: Wait, C: NodeCore<Global> + Drop>(
+pub(crate) fn broadcast<R: Wait, C: NodeCore<A> + Drop, A: Allocator + Copy>(
     rt: &R,
-    alloc: Global,
-    port: &mut Port<C>,
-) -> Result<(), HostError> {
+    alloc: A,
+    port: &mut Port<C, A>,
+) -> Result<Receipt, HostError> {
     let payload = Bytes::copy_from_slice(alloc, b"hello")?;
-    port.broadcast(rt, payload)?;
-    Ok(())
+    port.broadcast(rt, payload)
 }
 
 /// Broadcasts once by each port.
-pub(crate) fn broadcast_by_each<R: Wait, C: NodeCore<Global> + Drop>(
+pub(crate) fn broadcast_by_each<R: Wait, C: NodeCore<A> + Drop, A: Allocator + Copy>(
     rt: &R,
-    alloc: Global,
-    ports: &mut [Port<C>],
+    alloc: A,
+    ports: &mut [Port<C, A>],
 ) -> Result<(), HostError> {
     for port in ports {
-        broadcast(rt, alloc, port)?;
+        let _ = broadcast(rt, alloc, port)?;
     }
     Ok(())
 }
@@ -51,7 +50,7 @@ fn refused_after_stop<R: Wait, C: NodeCore<Global> + Drop>(
     let Some(port) = node.ports.first_mut() else {
         return Ok(None);
     };
-    broadcast(rt, alloc, port)?;
+    let _ = broadcast(rt, alloc, port)?;
     node.host.stop(rt);
     Ok(broadcast(rt, alloc, port).err())
 }
@@ -135,11 +134,11 @@ fn parts_of_a_host(rt: HostRuntime) -> Result<(), Fail> {
 }
 
 /// Closes a node without its ports. It comes back if that finds a port or worker missing.
-fn close_without_ports<R: Threads + Wait, C: NodeCore<Global> + Drop>(
+pub(crate) fn close_without_ports<R: Threads + Wait, C: NodeCore<A> + Drop, A: Allocator + Copy>(
     rt: &R,
-    alloc: Global,
-    host: Host<C>,
-) -> Option<Host<C>> {
+    alloc: A,
+    host: Host<C, A>,
+) -> Option<Host<C, A>> {
     match host.close(rt, Vec::new(alloc), Vec::new(alloc)) {
         Err(
             CloseError::PortMissing {
@@ -171,7 +170,7 @@ fn finds_unlike<R: Threads + Wait, C: NodeCore<Global> + Drop>(
 }
 
 /// A node's host.
-pub(crate) fn host_of<C: NodeCore<Global> + Drop>(node: Started<C>) -> Host<C> {
+pub(crate) fn host_of<C: NodeCore<A> + Drop, A: Allocator>(node: Started<C, A>) -> Host<C, A> {
     let Started {
         host,
         ports: _,
@@ -181,7 +180,7 @@ pub(crate) fn host_of<C: NodeCore<Global> + Drop>(node: Started<C>) -> Host<C> {
 }
 
 /// A node's ports.
-fn ports_of<C: NodeCore<Global> + Drop>(node: Started<C>) -> Vec<Port<C>> {
+fn ports_of<C: NodeCore<A> + Drop, A: Allocator>(node: Started<C, A>) -> Vec<Port<C, A>, A> {
     let Started {
         host: _,
         ports,
@@ -191,7 +190,10 @@ fn ports_of<C: NodeCore<Global> + Drop>(node: Started<C>) -> Vec<Port<C>> {
 }
 
 /// The port of another node, by which was broadcast.
-fn used_ports<R: Wait + Abort>(rt: &R, alloc: Global) -> Result<Vec<Port<PlumCore>>, HostError> {
+pub(crate) fn used_ports<R: Wait + Abort, A: Allocator + Copy>(
+    rt: &R,
+    alloc: A,
+) -> Result<Vec<Port<PlumCore<A>, A>, A>, HostError> {
     let mut ports = ports_of(start_alone(rt, alloc, "b", 1)?);
     broadcast_by_each(rt, alloc, ports.as_mut_slice())?;
     Ok(ports)

@@ -6,7 +6,7 @@ ghost use Rattle.world.specs.Peers.{are_peers};
 use node_core::PlumCore;
 use node_names::{Limits, NodeName, Origin};
 use node_threads::{Host, HostError, NodeCore, Outlet, Port};
-use std::alloc::{AllocError, Global};
+use std::alloc::{AllocError, Allocator, Global};
 use std::process::Abort;
 use test_support::first_run;
 use world::{Core, Out};
@@ -22,10 +22,10 @@ pub(crate) const LOOKS: u32 = 4_000;
 
 /// A host, its ports and its outlets.
 #[derive(Drop)]
-pub(crate) struct Started<C: NodeCore<Global> + Drop> {
-    pub(crate) host: Host<C>,
-    pub(crate) ports: Vec<Port<C>>,
-    pub(crate) outlets: Vec<Outlet>,
+pub(crate) struct Started<C: NodeCore<A> + Drop, A: Allocator = Global> {
+    pub(crate) host: Host<C, A>,
+    pub(crate) ports: Vec<Port<C, A>, A>,
+    pub(crate) outlets: Vec<Outlet<A>, A>,
 }
 
 /// Puts an item last.
@@ -65,13 +65,13 @@ fn parse_names(rt: &impl Abort, me: &str, first: &str, second: &str) -> Names
 }
 
 /// Starts a node with these peers and so many ports.
-fn start_among(
-    alloc: Global,
+fn start_among<A: Allocator + Copy>(
+    alloc: A,
     me: Origin,
     limits: Limits,
     peers: &[NodeName],
     ports: usize,
-) -> Result<Started<PlumCore>, HostError>
+) -> Result<Started<PlumCore<A>, A>, HostError>
     requires { IsTrue (are_peers limits me.name peers.now None) }
 {
     let mut opening = Out::new(alloc);
@@ -88,14 +88,36 @@ fn start_among(
 }
 
 /// Starts a node without peers.
-pub(crate) fn start_alone(
+pub(crate) fn start_alone<A: Allocator + Copy>(
+    rt: &impl Abort,
+    alloc: A,
+    me: &str,
+    ports: usize,
+) -> Result<Started<PlumCore<A>, A>, HostError> {
+    let me = first_run(name(rt, me));
+    start_among(alloc, me, Limits::STANDARD, &[], ports)
+}
+
+/// The names of these texts, which are distinct.
+fn parse_two(rt: &impl Abort, me: &str, peer: &str) -> (Origin, NodeName)
+    ensures { IsTrue (not (same_name result.0.name result.1)) }
+{
+    let (me, peer) = (name(rt, me), name(rt, peer));
+    assert!(rt; me != peer);
+    (first_run(me), peer)
+}
+
+/// Starts a node with one peer. The two names are never the same.
+pub(crate) fn start_with_one(
     rt: &impl Abort,
     alloc: Global,
     me: &str,
+    peer: &str,
     ports: usize,
 ) -> Result<Started<PlumCore>, HostError> {
-    let me = first_run(name(rt, me));
-    start_among(alloc, me, Limits::STANDARD, &[], ports)
+    let (me, peer) = parse_two(rt, me, peer);
+    let limits = Limits::STANDARD;
+    start_among(alloc, me, limits, &[peer], ports)
 }
 
 /// Starts a node with two peers. Two of the three names are never the same.

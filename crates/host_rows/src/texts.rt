@@ -1,0 +1,183 @@
+//! What a node leaves, as a text.
+use bytes::Bytes;
+use frames::{Body, BodyOf, Frame};
+use node_names::{Dice, NodeName, Origin};
+use node_threads::{CloseError, Closed, LinkReport, NodeCore};
+use std::alloc::{AllocError, Allocator};
+use std::fmt::Write;
+use test_support::push_letters;
+use world::{Delivery, Out, Step, Stimulus, StimulusOf, Trace};
+
+/// Appends whether dice are other than all zeros.
+fn push_dice(text: &mut String, dice: &Dice) -> Result<(), AllocError> {
+    if *dice != Dice::ZEROS {
+        write!(text, " by dice")?;
+    }
+    Ok(())
+}
+
+/// Appends what a frame says.
+fn push_body<A: Allocator>(text: &mut String, body: &Body<A>) -> Result<(), AllocError> {
+    match body {
+        BodyOf::Gossip { id, round, payload } => {
+            write!(text, "GOSSIP {id} {round} ")?;
+            push_letters(text, payload.as_slice())
+        }
+        BodyOf::Prune => write!(text, "PRUNE"),
+        _ => write!(text, "{body:?}"),
+    }
+}
+
+/// Appends a frame: who sent it, its number, and what it says.
+fn push_frame<A: Allocator>(text: &mut String, frame: &Frame<A>) -> Result<(), AllocError> {
+    write!(text, "{}#{} ", frame.sender(), frame.number())?;
+    push_body(text, frame.body())
+}
+
+/// Appends a broadcast.
+fn push_broadcast<A: Allocator>(text: &mut String, payload: &Bytes<A>) -> Result<(), AllocError> {
+    write!(text, "broadcast ")?;
+    push_letters(text, payload.as_slice())
+}
+
+/// Appends the arrival of a frame.
+fn push_arrival<A: Allocator>(
+    text: &mut String,
+    sender: &Origin,
+    frame: &Frame<A>,
+    dice: &Dice,
+) -> Result<(), AllocError> {
+    write!(text, "from {sender} ")?;
+    push_frame(text, frame)?;
+    push_dice(text, dice)
+}
+
+/// Appends the failure of a link.
+fn push_down(text: &mut String, peer: &NodeName, dice: &Dice) -> Result<(), AllocError> {
+    write!(text, "down {peer}")?;
+    push_dice(text, dice)
+}
+
+/// Appends what made a node step.
+fn push_stimulus<A: Allocator>(
+    text: &mut String,
+    stimulus: &Stimulus<Frame<A>, A>,
+) -> Result<(), AllocError> {
+    match stimulus {
+        StimulusOf::Broadcast(payload) => push_broadcast(text, payload),
+        StimulusOf::Arrive { sender, note, dice } => push_arrival(text, sender, note, dice),
+        StimulusOf::Down { peer, dice } => push_down(text, peer, dice),
+        _ => write!(text, "other"),
+    }
+}
+
+/// Appends deliveries.
+fn push_deliveries<A: Allocator>(
+    text: &mut String,
+    given: &[Delivery<A>],
+) -> Result<(), AllocError> {
+    for delivery in given {
+        write!(text, "; {} delivers {} ", delivery.node, delivery.id)?;
+        push_letters(text, delivery.payload.as_slice())?;
+    }
+    Ok(())
+}
+
+/// Appends sends.
+fn push_sends<A: Allocator>(
+    text: &mut String,
+    sends: &[(NodeName, Frame<A>)],
+) -> Result<(), AllocError> {
+    for (to, frame) in sends {
+        write!(text, "; to {to} ")?;
+        push_frame(text, frame)?;
+    }
+    Ok(())
+}
+
+/// Appends what was delivered and sent.
+fn push_out<A: Allocator>(text: &mut String, out: &Out<Frame<A>, A>) -> Result<(), AllocError> {
+    push_deliveries(text, out.deliveries.as_slice())?;
+    push_sends(text, out.sends.as_slice())
+}
+
+/// Appends a step.
+fn push_step<A: Allocator>(text: &mut String, step: &Step<Frame<A>, A>) -> Result<(), AllocError> {
+    write!(text, " | ")?;
+    push_stimulus(text, &step.stimulus)?;
+    push_out(text, &step.out)
+}
+
+/// Appends how a node started.
+fn push_opening<A: Allocator>(
+    text: &mut String,
+    trace: &Trace<Frame<A>, A>,
+) -> Result<(), AllocError> {
+    write!(text, "{} among", trace.origin())?;
+    for peer in trace.peers() {
+        write!(text, " {peer}")?;
+    }
+    if let Some(contact) = trace.contact() {
+        write!(text, " by {contact}")?;
+    }
+    push_out(text, trace.opening())
+}
+
+/// Appends a trace.
+pub(crate) fn push_trace<A: Allocator>(
+    text: &mut String,
+    trace: &Trace<Frame<A>, A>,
+) -> Result<(), AllocError> {
+    push_opening(text, trace)?;
+    for place in 0..trace.len() {
+        if let Some(step) = trace.step(place) {
+            push_step(text, step)?;
+        }
+    }
+    Ok(())
+}
+
+/// Appends the reports of links: how many frames came out, to whom, and from which step on.
+fn push_links(text: &mut String, links: &[LinkReport]) -> Result<(), AllocError> {
+    for link in links {
+        write!(
+            text,
+            "; {} to {} from {}",
+            link.taken, link.peer, link.opened
+        )?;
+    }
+    Ok(())
+}
+
+/// Appends what a node left.
+pub(crate) fn push_closed<A: Allocator>(
+    text: &mut String,
+    closed: &Closed<A>,
+) -> Result<(), AllocError> {
+    push_trace(text, &closed.trace)?;
+    write!(text, " | handed out {}", closed.handed_out)?;
+    push_links(text, closed.links.as_slice())
+}
+
+/// Appends what the close of a node answers.
+pub(crate) fn push_answer<C: NodeCore<A> + Drop, A: Allocator>(
+    text: &mut String,
+    answer: &Result<Closed<A>, CloseError<C, A>>,
+) -> Result<(), AllocError> {
+    match answer {
+        Ok(closed) => push_closed(text, closed),
+        Err(CloseError::PortMissing { .. }) => write!(text, "port missing"),
+        Err(CloseError::Unlike { port, trace }) => {
+            write!(text, "unlike at {port}: ")?;
+            push_trace(text, trace)
+        }
+        Err(CloseError::Torn { peer, trace }) => {
+            write!(text, "torn to {peer}: ")?;
+            push_trace(text, trace)
+        }
+        Err(CloseError::OutOfMemory { trace }) => {
+            write!(text, "out of memory: ")?;
+            push_trace(text, trace)
+        }
+    }
+}
