@@ -8,7 +8,7 @@ use std::alloc::{AllocError, Allocator};
 use world::{Stimulus, StimulusOf};
 
 /// Lets the node take a step. Why it refuses, if it does.
-pub(crate) fn step<A: Allocator + Copy>(
+fn step<A: Allocator + Copy>(
     cell: &mut NodeCell<PlumCore<A>, A>,
     stimulus: Stimulus<Frame<A>, A>,
 ) -> Option<HostError> {

@@ -4,12 +4,18 @@
 #[cfg(test)]
 mod calls;
 #[cfg(test)]
+mod counting;
+#[cfg(test)]
 mod node;
 #[cfg(test)]
-mod refusals;
+mod row_sweeps;
 #[cfg(test)]
-mod rings;
+mod rows;
 #[cfg(test)]
 mod segments;
 #[cfg(test)]
+mod starts;
+#[cfg(test)]
 mod sweeps;
+#[cfg(test)]
+mod turns;
