@@ -2,7 +2,7 @@
 use Rattle.std.specs.Prelude.{ℕ, true, false, List, [], Option, Some, None}
 use Rattle.node_names.specs.declared.ids.MsgId.{MsgId}
 use Rattle.world.specs.Content.{Content}
-use Rattle.frames.specs.declared.body.BodyOf.TheVariants.{Join, ForwardJoin, Neighbor, NeighborReply, Disconnect, Shuffle, ShuffleReply, Gossip, IHave, Graft, Prune}
+use Rattle.frames.specs.declared.body.BodyOf.TheVariants.{Join, ForwardJoin, Neighbor, NeighborReply, Disconnect, Shuffle, ShuffleReply, Gossip, IHave, Graft, Prune, GraftPeer}
 use Rattle.frames.specs.Body.{Body}
 use Rattle.frames.specs.Frame.{Frame}
 
@@ -27,6 +27,7 @@ body_content (Gossip id round payload) = broadcast (Some (id, payload)) [] None
 body_content (IHave entries) = broadcast None entries None
 body_content (Graft id round) = broadcast None [] (Some id)
 body_content Prune = broadcast None [] None
+body_content GraftPeer = broadcast None [] None
 
 -- the content of a frame
 abbrev pub frame_content : Frame → Content

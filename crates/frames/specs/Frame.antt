@@ -5,7 +5,7 @@ use Rattle.node_names.specs.declared.ids.Origin.{Origin}
 use Rattle.node_names.specs.declared.ids.MsgId.{MsgId}
 use Rattle.world.specs.declared.TheConstants.{MAX_PAYLOAD}
 use Rattle.frames.specs.declared.TheConstants.{MAX_NAMES, MAX_ANNOUNCEMENTS}
-use Rattle.frames.specs.declared.body.BodyOf.TheVariants.{Join, ForwardJoin, Neighbor, NeighborReply, Disconnect, Shuffle, ShuffleReply, Gossip, IHave, Graft, Prune}
+use Rattle.frames.specs.declared.body.BodyOf.TheVariants.{Join, ForwardJoin, Neighbor, NeighborReply, Disconnect, Shuffle, ShuffleReply, Gossip, IHave, Graft, Prune, GraftPeer}
 use Rattle.frames.specs.declared.fault.FrameFault.{FrameFault}
 use Rattle.frames.specs.declared.fault.FrameFault.TheVariants.{BadField, BadCount}
 use Rattle.frames.specs.Body.{Body}
@@ -33,6 +33,7 @@ has_good_fields (Gossip id round payload) = nat_lt 0 id.seq && nat_le (length pa
 has_good_fields (IHave entries) = are_numbered entries
 has_good_fields (Graft id round) = nat_lt 0 id.seq
 has_good_fields Prune = true
+has_good_fields GraftPeer = true
 
 -- Whether a list of names has at most 8, and one of announcements 1 to 64.
 abbrev pub has_good_counts : Body → Bool
@@ -47,6 +48,7 @@ has_good_counts (Gossip id round payload) = true
 has_good_counts (IHave entries) = nat_lt 0 (length entries) && nat_le (length entries) MAX_ANNOUNCEMENTS
 has_good_counts (Graft id round) = true
 has_good_counts Prune = true
+has_good_counts GraftPeer = true
 
 -- What each frame meets: its number counts from 1, and its fields and counts are within their limits.
 pub record IsFrame (frame : Frame) : Type 0 where

@@ -1,9 +1,24 @@
--- The kinds of frames and their numbers.
+-- The kinds of frames, their versions and their numbers.
 use Rattle.std.specs.Prelude.{ℕ, Option, Some, None, ◌==◌, if◌then◌else◌}
 use Rattle.frames.specs.declared.body.BodyOf.{BodyOf}
 use Rattle.frames.specs.declared.body.BodyOf.TheVariants as body
 use Rattle.frames.specs.declared.kind.Kind.{Kind}
-use Rattle.frames.specs.declared.kind.Kind.TheVariants.{Join, ForwardJoin, Neighbor, NeighborReply, Disconnect, Shuffle, ShuffleReply, Gossip, IHave, Graft, Prune}
+use Rattle.frames.specs.declared.kind.Kind.TheVariants.{Join, ForwardJoin, Neighbor, NeighborReply, Disconnect, Shuffle, ShuffleReply, Gossip, IHave, Graft, Prune, GraftPeer}
+
+-- the version of the frames of a kind
+abbrev pub version_of : Kind → ℕ
+version_of Join = 1
+version_of ForwardJoin = 1
+version_of Neighbor = 1
+version_of NeighborReply = 1
+version_of Disconnect = 1
+version_of Shuffle = 1
+version_of ShuffleReply = 1
+version_of Gossip = 1
+version_of IHave = 1
+version_of Graft = 1
+version_of Prune = 1
+version_of GraftPeer = 2
 
 -- the number of a kind
 abbrev pub number_of : Kind → ℕ
@@ -18,6 +33,7 @@ number_of Gossip = 8
 number_of IHave = 9
 number_of Graft = 10
 number_of Prune = 11
+number_of GraftPeer = 12
 
 -- the kind of a number, if one has it
 abbrev pub kind_numbered : ℕ → Option Kind
@@ -33,7 +49,13 @@ kind_numbered n =
     if n == 9 then Some IHave else
     if n == 10 then Some Graft else
     if n == 11 then Some Prune else
+    if n == 12 then Some GraftPeer else
     None
+
+-- the kind, if frames of this version have it
+abbrev pub of_version : ℕ → Option Kind → Option Kind
+of_version version None = None
+of_version version (Some kind) = if version_of kind == version then Some kind else None
 
 -- the kind of a body
 abbrev pub kind_of : {P L E : Type 0} → BodyOf P L E → Kind
@@ -48,3 +70,4 @@ kind_of (body.Gossip id round payload) = Gossip
 kind_of (body.IHave entries) = IHave
 kind_of (body.Graft id round) = Graft
 kind_of body.Prune = Prune
+kind_of body.GraftPeer = GraftPeer

@@ -1,5 +1,5 @@
 -- Reading a frame from left to right, with the first fault that is met: the order of the faults.
-use Rattle.std.specs.Prelude.{ℕ, zero, suc, ◌+◌, Bool, ◌&&◌, List, [], ◌∷◌, length, take, drop, Option, Some, None, Result, Ok, Err, nat_lt, nat_le, ◌==◌, if◌then◌else◌}
+use Rattle.std.specs.Prelude.{ℕ, zero, suc, ◌+◌, Bool, ◌&&◌, ◌||◌, List, [], ◌∷◌, length, take, drop, Option, Some, None, Result, Ok, Err, nat_lt, nat_le, ◌==◌, if◌then◌else◌}
 use Rattle.std.specs.List.{list_all}
 use Rattle.std.specs.Int.{Width, w16, w32, w64, byte_len, from_be_bytes}
 use Rattle.node_names.specs.NodeName.{Name, is_name_byte}
@@ -11,10 +11,10 @@ use Rattle.frames.specs.declared.body.BodyOf.TheVariants as body
 use Rattle.frames.specs.declared.fault.FrameFault.{FrameFault}
 use Rattle.frames.specs.declared.fault.FrameFault.TheVariants.{Short, TooLong, BadVersion, BadKind, BadName, BadField, BadCount, Trailing}
 use Rattle.frames.specs.declared.kind.Kind.{Kind}
-use Rattle.frames.specs.declared.kind.Kind.TheVariants.{Join, ForwardJoin, Neighbor, NeighborReply, Disconnect, Shuffle, ShuffleReply, Gossip, IHave, Graft, Prune}
+use Rattle.frames.specs.declared.kind.Kind.TheVariants.{Join, ForwardJoin, Neighbor, NeighborReply, Disconnect, Shuffle, ShuffleReply, Gossip, IHave, Graft, Prune, GraftPeer}
 use Rattle.frames.specs.Body.{Body}
 use Rattle.frames.specs.Frame.{Frame}
-use Rattle.frames.specs.Kind.{kind_numbered}
+use Rattle.frames.specs.Kind.{kind_numbered, of_version}
 
 -- What reading the bytes at the front gives: a value and the bytes after it, or a fault.
 abbrev pub Reader : Type 0 → Type 0
@@ -118,20 +118,22 @@ announcements = do
   _ ← judge (nat_le 1 count && nat_le count MAX_ANNOUNCEMENTS) BadCount
   times count announcement
 
-unfoldable pub version : Reader (Unit {0})
+unfoldable pub version : Reader ℕ
 version = do
   v ← byte
-  judge (v == 1) BadVersion
+  _ ← judge (v == 1 || v == 2) BadVersion
+  done v
 
 -- a kind that there is
 abbrev pub known : Option Kind → Reader Kind
 known (Some k) = done k
 known None = λ bytes. Err BadKind
 
-unfoldable pub kind : Reader Kind
-kind = do
+-- a kind of this version
+unfoldable pub kind : ℕ → Reader Kind
+kind v = do
   n ← byte
-  known (kind_numbered n)
+  known (of_version v (kind_numbered n))
 
 -- The fields of each kind, in their order.
 unfoldable pub fields : Kind → Reader Body
@@ -168,6 +170,7 @@ fields Graft = do
   round ← word w32
   done (body.Graft i round)
 fields Prune = done body.Prune
+fields GraftPeer = done body.GraftPeer
 
 -- nothing is left
 unfoldable pub end : Reader (Unit {0})
@@ -184,8 +187,8 @@ alone r = do
 -- The body of a frame.
 unfoldable pub frame : Reader Frame
 frame = do
-  _ ← version
-  k ← kind
+  v ← version
+  k ← kind v
   sender ← origin
   n ← number
   b ← alone (fields k)

@@ -3,7 +3,7 @@ use Rattle.std.specs.Prelude.{◌≡◌, ◌-◌, ◌^◌, ◌<◌, ◌≤◌, l
 use Rattle.world.specs.declared.TheConstants.{MAX_PAYLOAD}
 use Rattle.gossip_core.specs.State.{GossipState}
 use Rattle.gossip_core.specs.Table.{Call}
-use Rattle.gossip_core.specs.declared.call.CallOf.TheVariants.{Broadcast, OnGossip, OnIHave, Fire, OnGraft, OnPrune, Flush, Up, Down}
+use Rattle.gossip_core.specs.declared.call.CallOf.TheVariants.{Broadcast, OnGossip, OnIHave, Fire, OnGraft, OnGraftPeer, OnPrune, Flush, Up, Down}
 
 -- The payload of a broadcast is longer than payloads may be.
 abbrev pub IsTooLong : Call → Type 0
@@ -12,6 +12,7 @@ IsTooLong (OnGossip sender id round payload) = ⊥
 IsTooLong (OnIHave sender entries) = ⊥
 IsTooLong (Fire id) = ⊥
 IsTooLong (OnGraft sender id round) = ⊥
+IsTooLong (OnGraftPeer sender) = ⊥
 IsTooLong (OnPrune sender) = ⊥
 IsTooLong Flush = ⊥
 IsTooLong (Up peer) = ⊥
@@ -24,6 +25,7 @@ IsSpent g (OnGossip sender id round payload) = ⊥
 IsSpent g (OnIHave sender entries) = ⊥
 IsSpent g (Fire id) = ⊥
 IsSpent g (OnGraft sender id round) = ⊥
+IsSpent g (OnGraftPeer sender) = ⊥
 IsSpent g (OnPrune sender) = ⊥
 IsSpent g Flush = ⊥
 IsSpent g (Up peer) = ⊥
@@ -36,6 +38,7 @@ CanTake g (OnGossip sender id round payload) = Unit {0}
 CanTake g (OnIHave sender entries) = Unit {0}
 CanTake g (Fire id) = Unit {0}
 CanTake g (OnGraft sender id round) = Unit {0}
+CanTake g (OnGraftPeer sender) = Unit {0}
 CanTake g (OnPrune sender) = Unit {0}
 CanTake g Flush = Unit {0}
 CanTake g (Up peer) = Unit {0}

@@ -1,13 +1,13 @@
 -- What a node's gossip does, call by call: the broadcast tree by eager pushes, with lazy announcements to repair it.
-use Rattle.std.specs.Prelude.{◌≡◌, ℕ, ◌+◌, ◌-◌, ◌^◌, ◌&&◌, Bool, not, List, [], ◌∷◌, ◌++◌, Option, None, Some, min, map, filter, if◌then◌else◌}
+use Rattle.std.specs.Prelude.{◌≡◌, ℕ, ◌+◌, ◌-◌, ◌^◌, ◌&&◌, ◌==◌, Bool, not, List, [], ◌∷◌, ◌++◌, Option, None, Some, min, nat_le, map, filter, if◌then◌else◌}
 use denote.Ref.{Bor}
 use Rattle.std.specs.FinSet as set
 use Rattle.std.specs.Map.{lookup}
 use Rattle.node_names.specs.NodeName.{Name}
-use Rattle.node_names.specs.Same.{same_id, same_origin, has_id}
+use Rattle.node_names.specs.Same.{same_id, same_name, same_origin, has_id}
 use Rattle.node_names.specs.declared.ids.MsgId.{MsgId}
 use Rattle.frames.specs.Body.{Body}
-use Rattle.frames.specs.declared.body.BodyOf.TheVariants.{Gossip, Graft, Prune}
+use Rattle.frames.specs.declared.body.BodyOf.TheVariants.{Gossip, Graft, GraftPeer, Prune}
 use Rattle.missing.specs.Missing.{announced_all, taken_first, got, without}
 use Rattle.missing.specs.Wants.{first_want}
 use Rattle.peer_sets.specs.Members.{is_member, eager_but, lazy_but, with_member, without_member, with_kind}
@@ -15,7 +15,7 @@ use Rattle.peer_sets.specs.Queue.{with_entries, without_entries}
 use Rattle.peer_sets.specs.declared.kind.PeerKind.{PeerKind}
 use Rattle.peer_sets.specs.declared.kind.PeerKind.TheVariants.{Eager, Lazy}
 use Rattle.gossip_core.specs.declared.call.CallOf.{CallOf}
-use Rattle.gossip_core.specs.declared.call.CallOf.TheVariants.{Broadcast, OnGossip, OnIHave, Fire, OnGraft, OnPrune, Flush, Up, Down}
+use Rattle.gossip_core.specs.declared.call.CallOf.TheVariants.{Broadcast, OnGossip, OnIHave, Fire, OnGraft, OnGraftPeer, OnPrune, Flush, Up, Down}
 use Rattle.gossip_core.specs.Announcements.{announcements}
 use Rattle.gossip_core.specs.Effects.{Effects}
 use Rattle.gossip_core.specs.State.{GossipState}
@@ -32,6 +32,7 @@ lent (OnGossip sender id round payload) = OnGossip sender id round payload.now
 lent (OnIHave sender entries) = OnIHave sender entries.now
 lent (Fire id) = Fire id
 lent (OnGraft sender id round) = OnGraft sender id round
+lent (OnGraftPeer sender) = OnGraftPeer sender
 lent (OnPrune sender) = OnPrune sender
 lent Flush = Flush
 lent (Up peer) = Up peer
@@ -94,6 +95,29 @@ first_copy sender id round payload g =
     let done = spread (Some sender) id (next_round round) payload (record g { missing = got id g.missing }) in
     record done { state = with_peer sender Eager done.state }
 
+-- The peer, where another announced a message on a way that was shorter than its own by the threshold or more.
+abbrev pub passed_by : ℕ → Name → ℕ → Option (Name × ℕ) → Option Name
+passed_by threshold sender round None = None
+passed_by threshold sender round (Some first) =
+    if not (same_name first.0 sender) && nat_le (first.1 + threshold) round then Some first.0 else None
+
+-- By whom a member that sends a message for the first time was passed, if a threshold is set: who announced the message first.
+abbrev pub shortcut : GossipState → Name → MsgId → ℕ → Option Name
+shortcut g sender id round =
+    if g.threshold == 0 then None
+    else if is_member g.peers.members sender then passed_by g.threshold sender round (first_want id g.missing.wants)
+    else None
+
+-- Who passed the sender takes its place in the tree: the one is asked for messages from now on, the other for announcements.
+abbrev pub swapped : Name → Option Name → Outcome → Outcome
+swapped sender None done = done
+swapped sender (Some peer) done =
+    record {
+      state = with_peer sender Lazy (with_peer peer Eager done.state);
+      sends = done.sends ++ (peer, GraftPeer) ∷ (sender, Prune) ∷ [];
+      delivered = done.delivered;
+    }
+
 -- The timer fires: who announced the message first is asked for it, and is eager.
 abbrev pub asked : MsgId → Option (Name × ℕ) → GossipState → Outcome
 asked id None g = quiet g
@@ -109,7 +133,7 @@ abbrev pub outcome : GossipState → Call → Outcome
 outcome g (Broadcast payload) = spread None (next_id g) 0 payload (record g { spent = g.spent + 1 })
 outcome g (OnGossip sender id round payload) =
     if set.contains g.known id then repeated sender g
-    else if is_news g id then first_copy sender id round payload g
+    else if is_news g id then swapped sender (shortcut g sender id round) (first_copy sender id round payload g)
     else quiet g
 outcome g (OnIHave sender entries) =
     if is_member g.peers.members sender
@@ -120,6 +144,7 @@ outcome g (Fire id) =
     then asked id (first_want id g.missing.wants) (record g { missing = taken_first id g.missing })
     else quiet g
 outcome g (OnGraft sender id round) = record { state = with_peer sender Eager g; sends = answer sender id round (lookup (same_id id) g.held); delivered = None }
+outcome g (OnGraftPeer sender) = quiet (with_peer sender Eager g)
 outcome g (OnPrune sender) = quiet (with_peer sender Lazy g)
 outcome g Flush = record { state = record g { peers = record g.peers { queued = [] } }; sends = announcements g.peers.queued; delivered = None }
 outcome g (Up peer) = quiet (record g { peers = record g.peers { members = with_member peer g.peers.members } })

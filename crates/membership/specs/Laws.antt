@@ -53,6 +53,7 @@ is_walk (body.Gossip id round payload) = false
 is_walk (body.IHave entries) = false
 is_walk (body.Graft id round) = false
 is_walk body.Prune = false
+is_walk body.GraftPeer = false
 
 -- the walks among the sends
 abbrev pub walks : List (Name × Body) → List (Name × Body)

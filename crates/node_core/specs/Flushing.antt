@@ -28,7 +28,7 @@ use Rattle.peer_sets.proofs.MemberLemmas.{is_member-names}
 use Rattle.gossip_core.proofs.PacketLemmas.{packets_to-step}
 use Rattle.gossip_core.specs.Announcements.{packets_to, announcements, in_frames}
 use Rattle.gossip_core.specs.State.{GossipState}
-use Rattle.node_core.specs.Members.{each_one, of_each, count-append, lacks_the_first, differs}
+use Rattle.node_core.specs.Members.{each_one, of_each, each-append, count-append, lacks_the_first, differs}
 use Rattle.node_core.specs.Numbered.{each-numbered, announced-numbered}
 use Rattle.node_core.specs.Plum.{IsWhole, state_with}
 use Rattle.node_core.specs.Resting.{delivers_nothing, carry_none, CarryNothing}
@@ -152,10 +152,6 @@ receivers_differ (entry ∷ queued) = (others (receivers queued), distinct-filte
 each_receiver : (P : Name → Type 0) (queued : List (Name × MsgId × ℕ)) → Each (λ entry. P entry.0) queued → Each P (receivers queued)
 each_receiver P [] h = tt
 each_receiver P (entry ∷ queued) h = (h.0, each-filter P (λ peer. not (same_name entry.0 peer)) (receivers queued) (each_receiver P queued h.1))
-
-each-append : {X : Type 0} (P : X → Type 0) (xs ys : List X) → Each P xs → Each P ys → Each P (xs ++ ys)
-each-append P [] ys h k = k
-each-append P (x ∷ xs) ys h k = (h.0, each-append P xs ys h.1 k)
 
 -- what holds of each announcement to each receiver holds of each packet
 each_packet : (P : Name → Body → Type 0) (queued : List (Name × MsgId × ℕ)) (peers : List Name) → Each (λ peer. (entries : List (MsgId × ℕ)) → P peer (IHave entries)) peers → Each (λ send. P send.0 send.1) (flat_map packets_to (map (λ peer. (peer, waiting_for peer queued)) peers))

@@ -9,6 +9,7 @@ pub mod Firing
 pub mod Wanting
 pub mod Flushing
 pub mod Spreading
+pub mod Swapping
 pub mod Moving
 pub mod Whole
 pub mod Started

@@ -24,6 +24,11 @@ pub each_one : {X : Type 0} (P : X → Type 0) (xs : List X) → ((x : X) → Is
 each_one P [] all = tt
 each_one P (x ∷ xs) all = (all x (inl refl), each_one P xs (λ y h. all y (inr h)))
 
+-- what holds of each of two lists holds of each of both
+pub each-append : {X : Type 0} (P : X → Type 0) (xs ys : List X) → Each P xs → Each P ys → Each P (xs ++ ys)
+each-append P [] ys h k = k
+each-append P (x ∷ xs) ys h k = (h.0, each-append P xs ys h.1 k)
+
 -- what is one of a list is one of it with more
 pub one_of_left : {X : Type 0} (x : X) (xs ys : List X) → IsOneOf x xs → IsOneOf x (xs ++ ys)
 one_of_left x [] ys none = absurd none

@@ -50,6 +50,7 @@ part_heard sender (body.Gossip id round payload) dice = Gossip (call.OnGossip se
 part_heard sender (body.IHave entries) dice = Gossip (call.OnIHave sender entries)
 part_heard sender (body.Graft id round) dice = Gossip (call.OnGraft sender id round)
 part_heard sender body.Prune dice = Gossip (call.OnPrune sender)
+part_heard sender body.GraftPeer dice = Gossip (call.OnGraftPeer sender)
 
 -- what each stimulus is; what comes from a sender of the node's own name is nobody's
 abbrev pub part_of : Origin → Stimulus Frame → Part

@@ -23,7 +23,7 @@ use Rattle.world.specs.DeliveryLaw.{IsNews, Delivers, count_after}
 use Rattle.world.specs.Content.{Content}
 use Rattle.world.specs.FloodLists.{and_left, and_right}
 use Rattle.world.specs.HoldLaw.{IsAskedBy, packets_with}
-use Rattle.world.specs.Laws.{Laws, StateLaws, StepLaws}
+use Rattle.world.specs.Laws.{IsSilent, Laws, StateLaws, StepLaws}
 use Rattle.world.specs.Lists.{IsOneOf}
 use Rattle.world.specs.QueueLaw.{FlushesQueue, AnnouncesNothing, KeepsQueue}
 use Rattle.world.specs.SpreadLaw.{packets_carrying, entries_queued, is_carried}
@@ -49,14 +49,14 @@ use Rattle.missing.specs.Timers.{with_timers, without_timer}
 use Rattle.missing.specs.Wants as want
 use Rattle.peer_sets.specs.Queue as queue
 use Rattle.missing.specs.Wants.{first_want, with_wants, without_first, without_id}
-use Rattle.peer_sets.specs.Members.{names, is_member}
+use Rattle.peer_sets.specs.Members.{names, is_member, with_kind}
 use Rattle.peer_sets.proofs.MemberLemmas.{is_member-names, names-with_kind}
 use Rattle.peer_sets.specs.declared.kind.PeerKind.TheVariants.{Eager, Lazy}
 use Rattle.gossip_core.specs.State.{GossipState}
-use Rattle.gossip_core.specs.Table.{Outcome, outcome, repeated, first_copy, asked, answer, is_news, next_id, next_round, quiet, with_peer, after_downs, after_ups}
+use Rattle.gossip_core.specs.Table.{Outcome, outcome, repeated, first_copy, shortcut, swapped, asked, answer, is_news, next_id, next_round, quiet, with_peer, after_downs, after_ups}
 use Rattle.gossip_core.specs.declared.call.CallOf.TheVariants as call
 use Rattle.gossip_core.specs.Table.{Call}
-use Rattle.node_core.specs.Members.{each_one, of_each, one_of_filter, one_of_passing, one_of_names, one_of_ids, counts_none}
+use Rattle.node_core.specs.Members.{each_one, of_each, one_of_filter, one_of_passing, one_of_names, one_of_ids, counts_none, differs}
 use Rattle.node_core.specs.Numbered.{each-numbered, carrying-numbered, with-numbered}
 use Rattle.node_core.specs.Plum.{Plum, IsSoundPlum, IsWhole, IsLacked, plum_state, state_with}
 use Rattle.node_core.specs.Steps.{Turned, PlumSteps, PlumStarts, turned, heard, idle, by_gossip, by_membership, gone_on, numbered, delivered_at}
@@ -64,8 +64,9 @@ use Rattle.node_core.specs.Starting as starting
 use Rattle.node_core.specs.Firing.{fires_lawfully}
 use Rattle.node_core.specs.Flushing.{flushes_lawfully}
 use Rattle.node_core.specs.Moving.{Linked, after_all_downs, after_all_ups, members_after_downs, members_after_ups}
-use Rattle.node_core.specs.Resting.{leaves_all, delivers_nothing, carry_none, keeps_all, CarryNothing}
+use Rattle.node_core.specs.Resting.{leaves_all, delivers_nothing, carry_none, each_part, keeps_all, CarryNothing}
 use Rattle.node_core.specs.Spreading.{spreads_lawfully}
+use Rattle.node_core.specs.Swapping.{Behind, behind, first_stands, shortcut_is_first, silent_besides}
 use Rattle.node_core.specs.Wanting.{hears_lawfully, news_is, is_news_to, stood, was_armed}
 use Rattle.node_core.specs.Whole.{whole-with_kind, whole-flushed, whole-with_missing, whole-with_member, whole-without_member, whole-spread}
 
@@ -142,6 +143,10 @@ module _ (g : GossipState) (whole : IsWhole g) where
       fewer true j h = h
       fewer false j h = (others_armed id g.missing.timers j h).0
 
+  swapped_whole : (sender : Name) (announcer : Option Name) (done : Outcome) → IsWholeAfter done → IsWholeAfter (swapped sender announcer done)
+  swapped_whole sender None done after = after
+  swapped_whole sender (Some peer) done after = whole-with_kind (with_peer peer Eager done.state) (whole-with_kind done.state after peer Eager) sender Lazy
+
   pub stays_whole : (c : Call) → IsWhole (outcome g c).state
   stays_whole (call.Broadcast payload) =
       whole-spread g whole None (next_id g) 0 payload (g.spent + 1) g.missing.wants g.missing.timers (omega arith) (λ own. (omega arith, omega arith)) whole.missing
@@ -151,9 +156,9 @@ module _ (g : GossipState) (whole : IsWhole g) where
       foreign : (id : MsgId) → id ≡ next_id g → IsLacked g.known g.me id → ⊥
       foreign id same lacked = lacked.foreign (ap (λ (i : MsgId). i.origin) same)
   stays_whole (call.OnGossip sender id round payload) =
-      either IsWholeAfter (set.contains g.known id) (repeated sender g) (if is_news g id then first_copy sender id round payload g else quiet g)
+      either IsWholeAfter (set.contains g.known id) (repeated sender g) (if is_news g id then swapped sender (shortcut g sender id round) (first_copy sender id round payload g) else quiet g)
       (λ is. either IsWholeAfter (is_member g.peers.members sender) (record { state = with_peer sender Lazy g; sends = (sender, body.Prune) ∷ []; delivered = None }) (quiet g) (λ member. whole-with_kind g whole sender Lazy) (λ stranger. whole))
-      (λ is. either IsWholeAfter (is_news g id) (first_copy sender id round payload g) (quiet g) (λ news. first_whole sender id round payload news) (λ old. whole))
+      (λ is. either IsWholeAfter (is_news g id) (swapped sender (shortcut g sender id round) (first_copy sender id round payload g)) (quiet g) (λ news. swapped_whole sender (shortcut g sender id round) (first_copy sender id round payload g) (first_whole sender id round payload news)) (λ old. whole))
     where
       first_whole : (sender : Name) (id : MsgId) (round : ℕ) (payload : List ℕ) → is_news g id ≡ true → IsWholeAfter (first_copy sender id round payload g)
       first_whole sender id round payload news =
@@ -170,6 +175,7 @@ module _ (g : GossipState) (whole : IsWhole g) where
   stays_whole (call.Fire id) =
       either IsWholeAfter (has_id g.missing.timers id) (asked id (first_want id g.missing.wants) (record g { missing = taken_first id g.missing })) (quiet g) (λ is. fired id (first_want id g.missing.wants) (taken id)) (λ is. whole)
   stays_whole (call.OnGraft sender id round) = whole-with_kind g whole sender Eager
+  stays_whole (call.OnGraftPeer sender) = whole-with_kind g whole sender Eager
   stays_whole (call.OnPrune sender) = whole-with_kind g whole sender Lazy
   stays_whole call.Flush = whole-flushed g whole
   stays_whole (call.Up peer) = whole-with_member g whole peer
@@ -258,29 +264,55 @@ module _ (limits : Limits) (core : Plum) (sound : IsSoundPlum limits core) where
     abbrev Gossips : MsgId → ℕ → List ℕ → Outcome → Type 0
     Gossips id round payload done = StepLaws frame_content (plum_state core) (arrives (body.Gossip id round payload)) (numbered core.me core.framed done.sends) (delivered_at core.me done.delivered) (state_with active passive done.state)
 
+    -- who announced a message before is another than the node
+    announced_by_another : (id : MsgId) (round : ℕ) (peer : Name) → shortcut core.gossip sender.name id round ≡ Some peer → peer ≢ core.gossip.me.name
+    announced_by_another id round peer is =
+        let first = shortcut_is_first core.gossip sender.name id round peer is in
+        let stands = first_stands id core.gossip.missing.wants (peer, first.0) first.1 in
+        let member : has_name (names core.gossip.peers.members) peer ≡ true = of_each (λ e. has_name (names core.gossip.peers.members) e.1 ≡ true) core.gossip.missing.wants (stands.0, peer, first.0) sound.whole.wants_of_members stands.1 in
+        differs active peer core.gossip.me.name (sym (ap (λ ns. has_name ns peer) sound.members) ∙ member) not_active
+
     gossips : (id : MsgId) (round : ℕ) (payload : List ℕ) → StepLaws frame_content (plum_state core) (arrives (body.Gossip id round payload)) (numbered core.me core.framed (outcome core.gossip (call.OnGossip sender.name id round payload)).sends) (delivered_at core.me (outcome core.gossip (call.OnGossip sender.name id round payload)).delivered) (state_with active passive (outcome core.gossip (call.OnGossip sender.name id round payload)).state)
     gossips id round payload =
-        either (Gossips id round payload) (set.contains core.gossip.known id) (repeated sender.name core.gossip) (if is_news core.gossip id then first_copy sender.name id round payload core.gossip else quiet core.gossip)
+        either (Gossips id round payload) (set.contains core.gossip.known id) (repeated sender.name core.gossip) (if is_news core.gossip id then swapped sender.name (shortcut core.gossip sender.name id round) (first_copy sender.name id round payload core.gossip) else quiet core.gossip)
         (λ known.
         either (Gossips id round payload) (is_member core.gossip.peers.members sender.name) (record { state = with_peer sender.name Lazy core.gossip; sends = (sender.name, body.Prune) ∷ []; delivered = None }) (quiet core.gossip)
         (λ member. prunes_old id round payload (λ news. true≢false (sym known ∙ news.0)))
         (λ stranger. leaves_old id round payload (λ news. true≢false (sym known ∙ news.0))))
         (λ unknown.
-        either (Gossips id round payload) (is_news core.gossip id) (first_copy sender.name id round payload core.gossip) (quiet core.gossip)
-        (λ news. first unknown news)
+        either (Gossips id round payload) (is_news core.gossip id) (swapped sender.name (shortcut core.gossip sender.name id round) (first_copy sender.name id round payload core.gossip)) (quiet core.gossip)
+        (λ news. swaps (shortcut core.gossip sender.name id round) (announced_by_another id round) (first_copy sender.name id round payload core.gossip) (first unknown news))
         (λ own. leaves_old id round payload (λ news. true≢false (sym (is_news_to core.gossip id news.0 news.1) ∙ own))))
       where
+        swaps : (announcer : Option Name) → ((peer : Name) → announcer ≡ Some peer → peer ≢ core.gossip.me.name) → (done : Outcome) → Gossips id round payload done → Gossips id round payload (swapped sender.name announcer done)
+        swaps None away done laws = laws
+        swaps (Some peer) away done laws =
+            let packets : List (Name × Body) = (peer, body.GraftPeer) ∷ (sender.name, body.Prune) ∷ [] in
+            let more = behind core.me core.framed (λ to said. IsSilent (body_content said) × (to ≢ core.gossip.me.name)) done.sends packets ((hushed, away peer refl), ((hushed, another), tt)) in
+            subst (λ sends. StepLaws frame_content (plum_state core) (arrives (body.Gossip id round payload)) sends (delivered_at core.me done.delivered) (state_with active passive done.state)) (sym more.are)
+            (silent_besides before (state_with active passive done.state) sender (record { sender = by; number = number; body = body.Gossip id round payload }) dice (numbered core.me core.framed done.sends) more.frames (delivered_at core.me done.delivered)
+            (each_part (λ (send : Name × Frame). IsSilent (body_content send.1.body) × (send.0 ≢ core.gossip.me.name)) (λ send. IsSilent (frame_content send.1)) (λ send h. h.0) more.frames more.each)
+            (each_part (λ (send : Name × Frame). IsSilent (body_content send.1.body) × (send.0 ≢ core.gossip.me.name)) (λ send. send.0 ≢ core.gossip.me.name) (λ send h. h.1) more.frames more.each)
+            laws)
+          where
+            hushed : IsSilent (body_content body.Prune)
+            hushed = record { carries_nothing = refl; announces_nothing = refl; asks_nothing = refl }
+
         first : set.contains core.gossip.known id ≡ false → is_news core.gossip id ≡ true → Gossips id round payload (first_copy sender.name id round payload core.gossip)
         first unknown news =
             spreads_lawfully core.gossip sound.whole active passive sound.members core.me not_active core.framed id unknown (Some sender.name) (next_round round) payload (without_id id core.gossip.missing.wants) (without_timer id core.gossip.missing.timers) core.gossip.spent (arrives (body.Gossip id round payload))
             sound.its_gossip refl (inl ((unknown, (news_is core.gossip id news).foreign), refl)) refl (λ name. same_name-laws.symm name sender.name) (λ h. h) (λ h. h) (λ name j r a. a.1) (λ j name a. none_asked j a.0)
             (λ entry h. (others_wanted id core.gossip.missing.wants entry h).0) (kept_wanted id core.gossip.missing.wants) (λ j h. (others_armed id core.gossip.missing.timers j h).0) (kept_armed id core.gossip.missing.timers)
 
+    swap_stays : (announcer : Option Name) (done : Outcome) → Stays core.gossip done → Stays core.gossip (swapped sender.name announcer done)
+    swap_stays None done stays = stays
+    swap_stays (Some peer) done stays = (names-with_kind sender.name Lazy (with_kind peer Eager done.state.peers.members) ∙ names-with_kind peer Eager done.state.peers.members ∙ stays.0, stays.1)
+
     gossip_stays : (id : MsgId) (round : ℕ) (payload : List ℕ) → Stays core.gossip (outcome core.gossip (call.OnGossip sender.name id round payload))
     gossip_stays id round payload =
-        either (Stays core.gossip) (set.contains core.gossip.known id) (repeated sender.name core.gossip) (if is_news core.gossip id then first_copy sender.name id round payload core.gossip else quiet core.gossip)
+        either (Stays core.gossip) (set.contains core.gossip.known id) (repeated sender.name core.gossip) (if is_news core.gossip id then swapped sender.name (shortcut core.gossip sender.name id round) (first_copy sender.name id round payload core.gossip) else quiet core.gossip)
         (λ known. either (Stays core.gossip) (is_member core.gossip.peers.members sender.name) (record { state = with_peer sender.name Lazy core.gossip; sends = (sender.name, body.Prune) ∷ []; delivered = None }) (quiet core.gossip) (λ member. (names-with_kind sender.name Lazy core.gossip.peers.members, refl)) (λ stranger. (refl, refl)))
-        (λ unknown. either (Stays core.gossip) (is_news core.gossip id) (first_copy sender.name id round payload core.gossip) (quiet core.gossip) (λ news. (names-with_kind sender.name Eager core.gossip.peers.members, refl)) (λ own. (refl, refl)))
+        (λ unknown. either (Stays core.gossip) (is_news core.gossip id) (swapped sender.name (shortcut core.gossip sender.name id round) (first_copy sender.name id round payload core.gossip)) (quiet core.gossip) (λ news. swap_stays (shortcut core.gossip sender.name id round) (first_copy sender.name id round payload core.gossip) (names-with_kind sender.name Eager core.gossip.peers.members, refl)) (λ own. (refl, refl)))
 
     -- ---- a packet asks for a message
 
@@ -321,6 +353,13 @@ module _ (limits : Limits) (core : Plum) (sound : IsSoundPlum limits core) where
     prunes : StepLaws frame_content (plum_state core) (arrives body.Prune) [] [] (plum_state core)
     prunes =
         leaves_all before (arrives body.Prune) [] refl refl tt tt (tt, keeps_all before) (λ name j r a is. a.1) tt
+        (record { answers = λ j name a. absurd (none_asked j a.0); only = tt })
+
+    -- ---- or eager
+
+    grafts_peer : StepLaws frame_content (plum_state core) (arrives body.GraftPeer) [] [] (plum_state core)
+    grafts_peer =
+        leaves_all before (arrives body.GraftPeer) [] refl refl tt tt (tt, keeps_all before) (λ name j r a is. a.1) tt
         (record { answers = λ j name a. absurd (none_asked j a.0); only = tt })
 
   -- ---- a timer fires, and what waits is announced
@@ -440,7 +479,7 @@ module _ (limits : Limits) (core : Plum) (sound : IsSoundPlum limits core) (even
 
   -- nothing but links changed
   same_otherwise : after ≡ record core.gossip { peers = after.peers; missing = record { wants = after.missing.wants; timers = core.gossip.missing.timers } }
-  same_otherwise = λ i. record { me = (came.same.me ∙ went.same.me) i; spent = (came.same.spent ∙ went.same.spent) i; peers = after.peers; missing = record { wants = after.missing.wants; timers = (came.same.timers ∙ went.same.timers) i }; known = (came.same.known ∙ went.same.known) i; held = (came.same.held ∙ went.same.held) i }
+  same_otherwise = λ i. record { me = (came.same.me ∙ went.same.me) i; threshold = (came.same.threshold ∙ went.same.threshold) i; spent = (came.same.spent ∙ went.same.spent) i; peers = after.peers; missing = record { wants = after.missing.wants; timers = (came.same.timers ∙ went.same.timers) i }; known = (came.same.known ∙ went.same.known) i; held = (came.same.held ∙ went.same.held) i }
 
   sends : List (Name × Frame)
   sends = numbered core.me core.framed (table event dice (still core.membership)).sends
@@ -546,6 +585,7 @@ module _ (limits : Limits) (core : Plum) (sound : IsSoundPlum limits core) where
     hears (body.IHave entries) = (hears_lawfully core.gossip core.membership.views.active core.membership.views.passive sound.members core.me core.framed sender by number dice entries, sound_after limits core sound (call.OnIHave sender.name entries) (either (Stays core.gossip) (is_member core.gossip.peers.members sender.name) (quiet (record core.gossip { missing = announced_all sender.name (filter (λ entry. is_news core.gossip entry.0) entries) core.gossip.missing })) (quiet core.gossip) (λ is. (refl, refl)) (λ is. (refl, refl))))
     hears (body.Graft id round) = (grafts limits core sound sender another by number dice id round, sound_after limits core sound (call.OnGraft sender.name id round) (names-with_kind sender.name Eager core.gossip.peers.members, refl))
     hears body.Prune = (prunes limits core sound sender another by number dice, sound_after limits core sound (call.OnPrune sender.name) (names-with_kind sender.name Lazy core.gossip.peers.members, refl))
+    hears body.GraftPeer = (grafts_peer limits core sound sender another by number dice, sound_after limits core sound (call.OnGraftPeer sender.name) (names-with_kind sender.name Eager core.gossip.peers.members, refl))
 
   step_is_lawful : (stimulus : Stimulus Frame) → IsNotFrom core.gossip.me.name stimulus → Step stimulus (turned core.me core.membership core.gossip stimulus)
   step_is_lawful (on.Broadcast payload) from = broadcasts limits core sound payload

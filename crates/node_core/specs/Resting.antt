@@ -33,7 +33,7 @@ carry_none P [] h = tt
 carry_none P (send ∷ sends) h = ((λ id p e. absurd (false≢true (ap is_some (sym h.0 ∙ e)))), carry_none P sends h.1)
 
 -- a part of what stands together holds of each
-each_part : {X : Type 0} (P Q : X → Type 0) → ((x : X) → P x → Q x) → (xs : List X) → Each P xs → Each Q xs
+pub each_part : {X : Type 0} (P Q : X → Type 0) → ((x : X) → P x → Q x) → (xs : List X) → Each P xs → Each Q xs
 each_part P Q f [] h = tt
 each_part P Q f (x ∷ xs) h = (f x h.0, each_part P Q f xs h.1)
 

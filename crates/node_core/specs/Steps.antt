@@ -65,6 +65,7 @@ heard m g sender (body.Gossip id round payload) dice = by_gossip m g (call.OnGos
 heard m g sender (body.IHave entries) dice = by_gossip m g (call.OnIHave sender entries)
 heard m g sender (body.Graft id round) dice = by_gossip m g (call.OnGraft sender id round)
 heard m g sender body.Prune dice = by_gossip m g (call.OnPrune sender)
+heard m g sender body.GraftPeer dice = by_gossip m g (call.OnGraftPeer sender)
 
 -- What each stimulus does. What comes from a sender of the node's own name does nothing.
 abbrev pub turned : Origin → Membership → GossipState → Stimulus Frame → Turned
@@ -116,7 +117,7 @@ newcomer me limits peers spent framed =
     record {
       me = me;
       membership = record { views = fresh me.name limits peers; asked = None; shuffled = [] };
-      gossip = record { me = me; spent = spent; peers = record { members = all_eager peers; queued = [] }; missing = record { wants = []; timers = [] }; known = set.empty; held = [] };
+      gossip = record { me = me; threshold = limits.threshold; spent = spent; peers = record { members = all_eager peers; queued = [] }; missing = record { wants = []; timers = [] }; known = set.empty; held = [] };
       framed = framed;
     }
 

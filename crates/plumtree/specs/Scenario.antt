@@ -5,7 +5,7 @@ use Rattle.toml.specs.Parse.{parse_document}
 use Rattle.toml.specs.Data.{Data, Members, no_members, table}
 use Rattle.node_names.specs.Limits.{Limits as Sizes, IsAllowed}
 use Rattle.plumtree.specs.Reading.{at_key, IsOptional, IsNumber, IsNumberFromOne, IsText, IsName, IsNames, IsTables}
-use Rattle.plumtree.specs.declared.scenario.fault.Key.TheVariants.{Seed, Limits, Event, Active, Passive, Arwl, Prwl, Ka, Kp, Do, Node, Incarnation, Peers, Contact, Text, Place, Number, Origin, Seq, Peer}
+use Rattle.plumtree.specs.declared.scenario.fault.Key.TheVariants.{Seed, Limits, Event, Active, Passive, Arwl, Prwl, Ka, Kp, Threshold, Do, Node, Incarnation, Peers, Contact, Text, Place, Number, Origin, Seq, Peer}
 use Rattle.plumtree.specs.declared.scenario.action.Action.{Action}
 use Rattle.plumtree.specs.declared.scenario.action.Action.TheVariants.{Start, Broadcast, Arrive, Lose, Again, Fire, Flush, Shuffle, Down, Stop, ArriveAll}
 
@@ -13,19 +13,20 @@ use Rattle.plumtree.specs.declared.scenario.action.Action.TheVariants.{Start, Br
 abbrev pub greatest : ℕ
 greatest = 2 ^ 64 - 1
 
--- a limit of up to 255, or the standard one where it is left out
-abbrev pub IsLimit : ℕ → Option Data → ℕ → Type 0
-IsLimit standard None limit = limit ≡ standard
-IsLimit standard (Some found) limit = IsNumber 255 (Some found) limit
+-- a limit of up to so much, or the standard one where it is left out
+abbrev pub IsLimit : ℕ → ℕ → Option Data → ℕ → Type 0
+IsLimit most standard None limit = limit ≡ standard
+IsLimit most standard (Some found) limit = IsNumber most (Some found) limit
 
--- the six limits that a table gives, whether or not they go together
+-- the limits that a table gives, whether or not they go together
 pub record AreSizes (members : Members) (sizes : Sizes) : Type 0 where
-  pub active : IsLimit 5 (at_key Active members) sizes.active
-  pub passive : IsLimit 30 (at_key Passive members) sizes.passive
-  pub arwl : IsLimit 6 (at_key Arwl members) sizes.arwl
-  pub prwl : IsLimit 3 (at_key Prwl members) sizes.prwl
-  pub ka : IsLimit 3 (at_key Ka members) sizes.ka
-  pub kp : IsLimit 4 (at_key Kp members) sizes.kp
+  pub active : IsLimit 255 5 (at_key Active members) sizes.active
+  pub passive : IsLimit 255 30 (at_key Passive members) sizes.passive
+  pub arwl : IsLimit 255 6 (at_key Arwl members) sizes.arwl
+  pub prwl : IsLimit 255 3 (at_key Prwl members) sizes.prwl
+  pub ka : IsLimit 255 3 (at_key Ka members) sizes.ka
+  pub kp : IsLimit 255 4 (at_key Kp members) sizes.kp
+  pub threshold : IsLimit (2 ^ 32 - 1) 0 (at_key Threshold members) sizes.threshold
 
 -- the limits that a table gives, where they go together
 pub record AreLimits (members : Members) (sizes : Sizes) : Type 0 where

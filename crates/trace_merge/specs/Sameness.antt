@@ -4,7 +4,7 @@ use Rattle.node_names.specs.NodeName.{Name}
 use Rattle.node_names.specs.declared.ids.MsgId.{MsgId}
 use Rattle.frames.specs.Body.{Body}
 use Rattle.frames.specs.Kind.{kind_of, number_of}
-use Rattle.frames.specs.declared.body.BodyOf.TheVariants.{Join, ForwardJoin, Neighbor, NeighborReply, Disconnect, Shuffle, ShuffleReply, Gossip, IHave, Graft, Prune}
+use Rattle.frames.specs.declared.body.BodyOf.TheVariants.{Join, ForwardJoin, Neighbor, NeighborReply, Disconnect, Shuffle, ShuffleReply, Gossip, IHave, Graft, Prune, GraftPeer}
 
 -- the number of the body's kind
 abbrev pub kind_number : Body → ℕ
@@ -23,6 +23,7 @@ flag_of (Gossip id round payload) = false
 flag_of (IHave entries) = false
 flag_of (Graft id round) = false
 flag_of Prune = false
+flag_of GraftPeer = false
 
 -- the name that walks, with the steps that are left to it
 abbrev pub walk_of : Body → Option (Name × ℕ)
@@ -37,6 +38,7 @@ walk_of (Gossip id round payload) = None
 walk_of (IHave entries) = None
 walk_of (Graft id round) = None
 walk_of Prune = None
+walk_of GraftPeer = None
 
 -- the message that is carried or asked for, with its round
 abbrev pub message_of : Body → Option (MsgId × ℕ)
@@ -51,6 +53,7 @@ message_of (Gossip id round payload) = Some (id, round)
 message_of (IHave entries) = None
 message_of (Graft id round) = Some (id, round)
 message_of Prune = None
+message_of GraftPeer = None
 
 -- the names that are passed on
 abbrev pub names_of : Body → List Name
@@ -65,6 +68,7 @@ names_of (Gossip id round payload) = []
 names_of (IHave entries) = []
 names_of (Graft id round) = []
 names_of Prune = []
+names_of GraftPeer = []
 
 -- the messages that are announced
 abbrev pub entries_of : Body → List (MsgId × ℕ)
@@ -79,6 +83,7 @@ entries_of (Gossip id round payload) = []
 entries_of (IHave entries) = entries
 entries_of (Graft id round) = []
 entries_of Prune = []
+entries_of GraftPeer = []
 
 -- the bytes that are carried
 abbrev pub payload_of : Body → List ℕ
@@ -93,3 +98,4 @@ payload_of (Gossip id round payload) = payload
 payload_of (IHave entries) = []
 payload_of (Graft id round) = []
 payload_of Prune = []
+payload_of GraftPeer = []
