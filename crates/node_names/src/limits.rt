@@ -6,7 +6,8 @@ use std::error::Error;
 use std::fmt;
 use std::marker::Model;
 
-/// The sizes of a node's views, walks and shuffles, under the names that the HyParView paper gives them.
+/// The sizes of a node's views, walks and shuffles, under the names that the HyParView paper gives them, and the threshold of
+/// Plumtree's optimisation by hop count.
 ///
 /// A contract sees them as the record of these numbers, and each reader says that they are allowed.
 #[derive(Clone, Copy, Debug, PartialEq, Eq, Hash)]
@@ -17,6 +18,7 @@ pub struct Limits {
     prwl: u8,
     ka: u8,
     kp: u8,
+    threshold: u32,
 }
 
 impl Model for Limits {
@@ -25,13 +27,13 @@ impl Model for Limits {
     ghost Value = { Sizes };
 
     ghost view = { λ a.
-        record { active = a.active; passive = a.passive; arwl = a.arwl; prwl = a.prwl; ka = a.ka; kp = a.kp } };
+        record { active = a.active; passive = a.passive; arwl = a.arwl; prwl = a.prwl; ka = a.ka; kp = a.kp; threshold = a.threshold } };
 
     ghost invariant = { λ a. IsAllowed (
-        record { active = a.active; passive = a.passive; arwl = a.arwl; prwl = a.prwl; ka = a.ka; kp = a.kp }) };
+        record { active = a.active; passive = a.passive; arwl = a.arwl; prwl = a.prwl; ka = a.ka; kp = a.kp; threshold = a.threshold }) };
 
     ghost inverse = { λ l.
-        record { active = l.active; passive = l.passive; arwl = l.arwl; prwl = l.prwl; ka = l.ka; kp = l.kp } };
+        record { active = l.active; passive = l.passive; arwl = l.arwl; prwl = l.prwl; ka = l.ka; kp = l.kp; threshold = l.threshold } };
 }
 
 /// Why numbers are no limits.
@@ -50,12 +52,13 @@ impl Limits {
         prwl: 3,
         ka: 3,
         kp: 4,
+        threshold: 0,
     };
 
     /// The limits of these sizes.
     ///
     /// An active view has 1 to 16 places and a passive one 1 to 64. `prwl` is at most `arwl`, which is at
-    /// most 32. `ka` and `kp` are at most 7 together.
+    /// most 32. `ka` and `kp` are at most 7 together. The threshold is 0.
     pub fn new(
         active: u8,
         passive: u8,
@@ -65,9 +68,9 @@ impl Limits {
         kp: u8,
     ) -> Result<Limits, LimitsFault>
         ensures ok { IfOk result (λ limits. limits ≡
-            record { active = active; passive = passive; arwl = arwl; prwl = prwl; ka = ka; kp = kp }) }
+            record { active = active; passive = passive; arwl = arwl; prwl = prwl; ka = ka; kp = kp; threshold = 0 }) }
         ensures accepted { IsOk result ↔ IsAllowed (
-            record { active = active; passive = passive; arwl = arwl; prwl = prwl; ka = ka; kp = kp }) }
+            record { active = active; passive = passive; arwl = arwl; prwl = prwl; ka = ka; kp = kp; threshold = 0 }) }
     {
         let views = 1 <= active && active <= 16 && 1 <= passive && passive <= 64;
         let walks = prwl <= arwl && arwl <= 32;
@@ -82,7 +85,15 @@ impl Limits {
             prwl,
             ka,
             kp,
+            threshold: 0,
         })
+    }
+
+    /// The same limits with this threshold. With 0 no branch of a tree is swapped for a shorter one.
+    pub fn tuned(self, threshold: u32) -> Limits
+        ensures { result ≡ record self { threshold = threshold } }
+    {
+        Limits { threshold, ..self }
     }
 
     /// The number of places in the active view.
@@ -133,10 +144,19 @@ impl Limits {
     {
         self.kp
     }
+
+    /// How many links longer than an announcement's a message's way must be for its sender to be swapped for the announcer as
+    /// a branch of the tree; 0 where none is swapped.
+    pub fn threshold(&self) -> u32
+        ensures value { result ≡ self.now.threshold }
+        ensures allowed { IsAllowed self.now }
+    {
+        self.threshold
+    }
 }
 
 impl Default for Limits {
-    ghost is_default = { λ l. l ≡ record { active = 5; passive = 30; arwl = 6; prwl = 3; ka = 3; kp = 4 } };
+    ghost is_default = { λ l. l ≡ record { active = 5; passive = 30; arwl = 6; prwl = 3; ka = 3; kp = 4; threshold = 0 } };
 
     fn default() -> Limits {
         Limits::STANDARD
