@@ -18,7 +18,10 @@ KINDS = {
     9: "IHAVE announcements",
     10: "GRAFT id round",
     11: "PRUNE",
+    12: "GRAFT",
 }
+# The kinds that are written in version 2. All others are in version 1.
+SECOND = {12}
 # What the program calls each fault.
 FAULTS = {
     "Short": "the frame is not whole",
@@ -30,6 +33,11 @@ FAULTS = {
     "BadCount": "a count is out of range",
     "Trailing": "bytes follow the last field",
 }
+
+
+def version_of(kind):
+    """The version that frames of a kind are written in."""
+    return 2 if kind in SECOND else 1
 
 
 class Fault(Exception):
@@ -103,9 +111,10 @@ class Fields:
 def read_body(body):
     """What a body says, as the program prints it."""
     fields = Fields(body)
-    ensure(fields.word(1) == 1, "BadVersion")
+    version = fields.word(1)
+    ensure(version in (1, 2), "BadVersion")
     kind = fields.word(1)
-    ensure(kind in KINDS, "BadKind")
+    ensure(kind in KINDS and version == version_of(kind), "BadKind")
     told = [fields.origin(), str(fields.number())]
     name, *layout = KINDS[kind].split()
     told += [name, *(getattr(fields, field)() for field in layout)]

@@ -1,7 +1,7 @@
 """Streams of frames, most of them spoiled, and what the program is to answer to each."""
 import re
 
-from fuzzing.frames import FAULTS, KINDS, MAX_ANNOUNCEMENTS, MAX_BODY, MAX_NAMES, MAX_PAYLOAD, Fault, cut, decode
+from fuzzing.frames import FAULTS, KINDS, MAX_ANNOUNCEMENTS, MAX_BODY, MAX_NAMES, MAX_PAYLOAD, Fault, cut, decode, version_of
 
 LETTERS = b"abcdefghijklmnopqrstuvwxyz0123456789-"
 # The names of nodes in groups that run.
@@ -70,7 +70,7 @@ class Writer:
 
     def frame(self):
         kind = self.dice.choice(list(KINDS))
-        self.put("version", word(1, 1))
+        self.put("version", word(version_of(kind), 1))
         self.put("kind", word(kind, 1))
         self.origin()
         self.number()
@@ -107,8 +107,8 @@ def spoil_count(most):
 
 # Of each part that can be wrong, what changes it.
 SPOILED = {
-    "version": spoil_by(0, 2, 255),
-    "kind": spoil_by(0, 12, 255, *KINDS),
+    "version": spoil_by(0, 1, 2, 3, 255),
+    "kind": spoil_by(0, 13, 255, *KINDS),
     "name": spoil_name,
     "number": spoil_by(0),
     "flag": spoil_by(2, 255),

@@ -50,9 +50,10 @@ const FAULTS: &[Change] = &[
     (2, 129, 255, FrameFault::TooLong),
     (3, 0, 19, FrameFault::BadField),
     (3, 21, 255, FrameFault::Short),
-    // The version.
+    // The version. The second one has no PRUNE.
     (4, 0, 0, FrameFault::BadVersion),
-    (4, 2, 255, FrameFault::BadVersion),
+    (4, 2, 2, FrameFault::BadKind),
+    (4, 3, 255, FrameFault::BadVersion),
     // The kind. JOIN and DISCONNECT, 1 and 5, have no fields either, and all others some.
     (5, 0, 0, FrameFault::BadKind),
     (5, 2, 4, FrameFault::BadField),

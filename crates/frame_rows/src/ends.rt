@@ -79,9 +79,9 @@ const PUMPS: &[PumpRow] = &[
     },
     // The first piece has the version.
     PumpRow {
-        name: "version 2",
+        name: "version 3",
         call: PumpCall {
-            bytes: b"\0\0\0\x14\x02\x0b\x01a\0\0\0\0\0\0\0\x01\0\0\0\0\0\0\0\x02",
+            bytes: b"\0\0\0\x14\x03\x0b\x01a\0\0\0\0\0\0\0\x01\0\0\0\0\0\0\0\x02",
             ..WHOLE
         },
         end: LinkEnd::Frame(FrameFault::BadVersion),

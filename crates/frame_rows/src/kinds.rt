@@ -13,6 +13,9 @@ use test_support::{first_run, message};
 const BOTH: [u8; 74] = *b"\0\0\0\x14\x01\x0b\x01a\0\0\0\0\0\0\0\x01\0\0\0\0\0\0\0\x02\
     \0\0\0\x2e\x01\x08\x01a\0\0\0\0\0\0\0\x01\0\0\0\0\0\0\0\x01\x01a\0\0\0\0\0\0\0\x01\0\0\0\0\0\0\0\x01\0\0\0\0\0\0\0\0";
 
+/// GRAFT without an id of a/1, number 3.
+const GRAFT_PEER: [u8; 24] = *b"\0\0\0\x14\x02\x0c\x01a\0\0\0\0\0\0\0\x01\0\0\0\0\0\0\0\x03";
+
 fn name(rt: &impl Abort, bytes: &[u8]) -> NodeName {
     NodeName::parse(bytes).expect(rt, "a name")
 }
@@ -161,18 +164,25 @@ fn broadcast_kinds(rt: HostRuntime) -> Result<(), Fail> {
     Ok(())
 }
 
-/// Whether a frame was made that is written and read as PRUNE.
-fn is_prune(alloc: Global, made: &Result<Frame, FrameFault>) -> bool {
+/// Whether a frame was made that is written and read as these 24 bytes.
+fn is_small(alloc: Global, made: &Result<Frame, FrameFault>, bytes: &[u8]) -> bool {
     match made {
-        Ok(frame) => is_written(alloc, frame, &PRUNE) && is_read(alloc, &PRUNE, frame, 24),
+        Ok(frame) => is_written(alloc, frame, bytes) && is_read(alloc, bytes, frame, 24),
         Err(_) => false,
     }
 }
 
 #[test]
+fn graft_peer_frame(rt: HostRuntime) -> Result<(), Fail> {
+    let made = Frame::new(origin(&rt), 3, Body::GraftPeer);
+    assert!(rt; is_small(rt.alloc(), &made, &GRAFT_PEER));
+    Ok(())
+}
+
+#[test]
 fn prune_frame(rt: HostRuntime) -> Result<(), Fail> {
     let made = Frame::new(origin(&rt), 2, Body::Prune);
-    assert!(rt; is_prune(rt.alloc(), &made));
+    assert!(rt; is_small(rt.alloc(), &made, &PRUNE));
     Ok(())
 }
 
@@ -219,8 +229,12 @@ const FAULTS: &[(&[u8], FrameFault)] = &[
         FrameFault::Short,
     ),
     (
-        b"\0\0\0\x14\x02\x0b\x01a\0\0\0\0\0\0\0\x01\0\0\0\0\0\0\0\x02",
+        b"\0\0\0\x14\x03\x0b\x01a\0\0\0\0\0\0\0\x01\0\0\0\0\0\0\0\x02",
         FrameFault::BadVersion,
+    ),
+    (
+        b"\0\0\0\x14\x02\x0b\x01a\0\0\0\0\0\0\0\x01\0\0\0\0\0\0\0\x02",
+        FrameFault::BadKind,
     ),
     (
         b"\0\0\0\x14\x01\x0c\x01a\0\0\0\0\0\0\0\x01\0\0\0\0\0\0\0\x02",

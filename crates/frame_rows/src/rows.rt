@@ -64,10 +64,22 @@ const ROWS: &[Row] = &[
         fault: Some(FrameFault::BadField),
     },
     Row {
-        name: "version 2",
-        bytes: b"\0\0\0\x14\x02\x0b\x01a\0\0\0\0\0\0\0\x01\0\0\0\0\0\0\0\x02",
+        name: "GRAFT without an id",
+        bytes: b"\0\0\0\x14\x02\x0c\x01a\0\0\0\0\0\0\0\x01\0\0\0\0\0\0\0\x03",
+        frames: &[24],
+        fault: None,
+    },
+    Row {
+        name: "version 3",
+        bytes: b"\0\0\0\x14\x03\x0b\x01a\0\0\0\0\0\0\0\x01\0\0\0\0\0\0\0\x02",
         frames: &[],
         fault: Some(FrameFault::BadVersion),
+    },
+    Row {
+        name: "PRUNE in version 2",
+        bytes: b"\0\0\0\x14\x02\x0b\x01a\0\0\0\0\0\0\0\x01\0\0\0\0\0\0\0\x02",
+        frames: &[],
+        fault: Some(FrameFault::BadKind),
     },
     Row {
         name: "kind 12",

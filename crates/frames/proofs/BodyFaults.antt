@@ -1,6 +1,6 @@
 -- The faults of a body, among which are no Short and no want of memory.
 use Rattle.std.proofs.Common.{◌≡◌, inl, inr, ℕ, zero, suc, ◌+◌, ◌<◌, ◌≤◌, Bool, true, false, cond, List, [], ◌∷◌, length, take, drop, Option, Some, None, Result, Ok, Err, refl, sym, subst, ◌∙◌, arith}
-use Rattle.std.specs.Prelude.{nat_lt, nat_le, ◌&&◌, ◌==◌}
+use Rattle.std.specs.Prelude.{nat_lt, nat_le, ◌&&◌, ◌||◌, ◌==◌}
 use Rattle.std.specs.Int.{Width, w16, w32, w64, byte_len, from_be_bytes}
 use Rattle.std.specs.List.{list_all}
 use Rattle.std.proofs.lemmas.Bool.{cases_lt}
@@ -12,10 +12,10 @@ use Rattle.frames.specs.declared.body.BodyOf.TheVariants as body
 use Rattle.frames.specs.declared.fault.FrameFault.{FrameFault}
 use Rattle.frames.specs.declared.fault.FrameFault.TheVariants.{Short, TooLong, BadVersion, BadKind, BadName, BadField, BadCount, Trailing, OutOfMemory}
 use Rattle.frames.specs.declared.kind.Kind.{Kind}
-use Rattle.frames.specs.declared.kind.Kind.TheVariants.{Join, ForwardJoin, Neighbor, NeighborReply, Disconnect, Shuffle, ShuffleReply, Gossip, IHave, Graft, Prune}
+use Rattle.frames.specs.declared.kind.Kind.TheVariants.{Join, ForwardJoin, Neighbor, NeighborReply, Disconnect, Shuffle, ShuffleReply, Gossip, IHave, Graft, Prune, GraftPeer}
 use Rattle.frames.specs.Answer.{IsFaultOf}
 use Rattle.frames.specs.Frame.{Frame}
-use Rattle.frames.specs.Kind.{kind_numbered}
+use Rattle.frames.specs.Kind.{kind_numbered, of_version}
 use Rattle.frames.specs.Reading.{Reader, ◌>>=◌, go_on, done, judge, octets, word, byte, flag, name, number, origin, id, times, names, payload, announcement, announcements, version, known, kind, fields, end, alone, frame, with_length, body_of, read}
 use Rattle.frames.proofs.Streams.{read_long, body_long, body_whole, fails, fault_is}
 
@@ -118,15 +118,15 @@ announcements_faults =
 
 version_faults : Faults version
 unfolding version
-version_faults = bind_faults byte _ byte_faults λ v. judge_faults (v == 1) BadVersion tt
+version_faults = bind_faults byte _ byte_faults λ v. bind_faults (judge (v == 1 || v == 2) BadVersion) _ (judge_faults (v == 1 || v == 2) BadVersion tt) λ _. done_faults v
 
 known_faults : (o : Option Kind) → Faults (known o)
 known_faults (Some k) bytes fault e = done_faults k bytes fault e
 known_faults None bytes fault e = subst IsOfBody (same {X = Kind} BadKind fault e) tt
 
-kind_faults : Faults kind
+kind_faults : (v : ℕ) → Faults (kind v)
 unfolding kind
-kind_faults = bind_faults byte _ byte_faults λ n. known_faults (kind_numbered n)
+kind_faults v = bind_faults byte _ byte_faults λ n. known_faults (of_version v (kind_numbered n))
 
 fields_faults : (k : Kind) → Faults (fields k)
 unfolding fields
@@ -141,6 +141,7 @@ fields_faults Gossip = bind_faults id _ id_faults λ i. bind_faults (word w32) _
 fields_faults IHave = bind_faults announcements _ announcements_faults λ es. done_faults (body.IHave es)
 fields_faults Graft = bind_faults id _ id_faults λ i. bind_faults (word w32) _ (word_faults w32) λ r. done_faults (body.Graft i r)
 fields_faults Prune = done_faults body.Prune
+fields_faults GraftPeer = done_faults body.GraftPeer
 
 end_faults : Faults end
 unfolding end
@@ -154,7 +155,7 @@ alone_faults r h = bind_faults r _ h λ x. bind_faults end _ end_faults λ _. do
 frame_faults : Faults frame
 unfolding frame
 frame_faults =
-    bind_faults version _ version_faults λ _. bind_faults kind _ kind_faults λ k. bind_faults origin _ origin_faults λ o. bind_faults number _ number_faults
+    bind_faults version _ version_faults λ v. bind_faults (kind v) _ (kind_faults v) λ k. bind_faults origin _ origin_faults λ o. bind_faults number _ number_faults
     λ n. bind_faults (alone (fields k)) _ (alone_faults (fields k) (fields_faults k)) λ b. done_faults (record { sender = o; number = n; body = b })
 
 -- ---- fewer bytes than a frame has, where it is not whole

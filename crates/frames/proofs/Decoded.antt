@@ -14,10 +14,10 @@ use Rattle.frames.proofs.Agree.{IsBytes}
 use Rattle.frames.proofs.FrameAgrees.{frame_takes, layout_within, read_takes, read_again}
 
 -- the parts of a frame that was read are within their limits
-pub parts_within : (bytes a b c d : List ℕ) (k : Kind) (o : Origin) (n : ℕ) (v : Body) → IsBytes bytes → version bytes ≡ Ok (tt, a) → kind a ≡ Ok (k, b) → origin b ≡ Ok (o, c) → number c ≡ Ok (n, d)
+pub parts_within : (bytes a b c d : List ℕ) (w : ℕ) (k : Kind) (o : Origin) (n : ℕ) (v : Body) → IsBytes bytes → version bytes ≡ Ok (w, a) → kind w a ≡ Ok (k, b) → origin b ≡ Ok (o, c) → number c ≡ Ok (n, d)
     → alone (fields k) d ≡ Ok (v, []) → IsFrame (record { sender = o; number = n; body = v })
 unfolding frame
-parts_within bytes a b c d k o n v h p q r s t =
+parts_within bytes a b c d w k o n v h p q r s t =
     let f : Frame = record { sender = o; number = n; body = v } in
     let whole : frame bytes ≡ Ok (f, []) = rw (p, q, r, s, t) refl in
     layout_within f (frame_takes bytes f [] h whole).fits

@@ -14,16 +14,16 @@ use Rattle.frames.specs.declared.body.BodyOf.TheVariants as body
 use Rattle.frames.specs.declared.fault.FrameFault.{FrameFault}
 use Rattle.frames.specs.declared.fault.FrameFault.TheVariants.{Short, TooLong}
 use Rattle.frames.specs.declared.kind.Kind.{Kind}
-use Rattle.frames.specs.declared.kind.Kind.TheVariants.{Join, ForwardJoin, Neighbor, NeighborReply, Disconnect, Shuffle, ShuffleReply, Gossip, IHave, Graft, Prune}
+use Rattle.frames.specs.declared.kind.Kind.TheVariants.{Join, ForwardJoin, Neighbor, NeighborReply, Disconnect, Shuffle, ShuffleReply, Gossip, IHave, Graft, Prune, GraftPeer}
 use Rattle.frames.specs.Body.{Body}
 use Rattle.frames.specs.Field.{Holds, origin_octets, IsNumber, IsOrigin, IsAnnouncement}
 use Rattle.frames.specs.Frame.{Frame, IsFrame, has_good_fields, has_good_counts, are_numbered}
 use Rattle.frames.specs.Grammar.{fields_of, layout, spelled, IsSpelling}
-use Rattle.frames.specs.Kind.{kind_of, number_of}
+use Rattle.frames.specs.Kind.{kind_of, number_of, version_of}
 use Rattle.frames.specs.Reading.{Reader, ◌>>=◌, done, kind, origin, number, fields, end, alone, frame, with_length, body_of, read}
 use Rattle.frames.proofs.Agree.{IsBytes, IsBytes-after, IsBytes-before, bind_ok, takes_first, again_first, done_is}
 use Rattle.frames.proofs.FieldsAgree.{origin_agrees, number_agrees}
-use Rattle.frames.proofs.RowsAgree.{Row, fields_take, fields_again, version_agrees, kind_agrees}
+use Rattle.frames.proofs.RowsAgree.{Row, fields_take, fields_again, version_agrees, version_again_of, kind_agrees}
 
 ends_is : {X : Type 0} (y x : X) (after rest : List ℕ) → (end >>= λ _. done y) after ≡ Ok (x, rest) → (y ≡ x) × (after ≡ []) × (rest ≡ [])
 unfolding end
@@ -60,16 +60,31 @@ number_small Gossip = omega arith
 number_small IHave = omega arith
 number_small Graft = omega arith
 number_small Prune = omega arith
+number_small GraftPeer = omega arith
+
+version_small : (k : Kind) → version_of k < 256
+version_small Join = omega arith
+version_small ForwardJoin = omega arith
+version_small Neighbor = omega arith
+version_small NeighborReply = omega arith
+version_small Disconnect = omega arith
+version_small Shuffle = omega arith
+version_small ShuffleReply = omega arith
+version_small Gossip = omega arith
+version_small IHave = omega arith
+version_small Graft = omega arith
+version_small Prune = omega arith
+version_small GraftPeer = omega arith
 
 abbrev frame_of : Origin → ℕ → Body → Frame
 frame_of o n b = record { sender = o; number = n; body = b }
 
-frame_parts : (bytes a b c d : List ℕ) (k : Kind) (o : Origin) (n : ℕ) (v : Body) → bytes ≡ (1 ∷ []) ++ a → a ≡ (number_of k ∷ []) ++ b → b ≡ origin_octets o ++ c → c ≡ to_be_bytes w64 n ++ d
+frame_parts : (bytes a b c d : List ℕ) (w : ℕ) (k : Kind) (o : Origin) (n : ℕ) (v : Body) → bytes ≡ (w ∷ []) ++ a → version_of k ≡ w → a ≡ (number_of k ∷ []) ++ b → b ≡ origin_octets o ++ c → c ≡ to_be_bytes w64 n ++ d
     → Row k d v [] → IsOrigin o → IsNumber n → IsWhole bytes (frame_of o n v) []
-frame_parts bytes a b c d k o n v p q r s row oh nh = record {
-  parts = p ∙ ap (λ t. 1 ∷ t) (q ∙ ap (λ j. number_of j ∷ b) (sym row.kind) ∙ ap (λ t. number_of (kind_of v) ∷ t)
+frame_parts bytes a b c d w k o n v p of q r s row oh nh = record {
+  parts = p ∙ ap (λ j. j ∷ a) (sym of ∙ ap version_of (sym row.kind)) ∙ ap (λ t. version_of (kind_of v) ∷ t) (q ∙ ap (λ j. number_of j ∷ b) (sym row.kind) ∙ ap (λ t. number_of (kind_of v) ∷ t)
       (r ∙ ap (λ t. origin_octets o ++ t) (s ∙ ap (λ t. to_be_bytes w64 n ++ t) (row.parts ∙ append-nil (spelled (fields_of v))))));
-  fits = (omega arith, (number_small (kind_of v), (oh, (nh, row.fits))));
+  fits = (version_small (kind_of v), (number_small (kind_of v), (oh, (nh, row.fits))));
   nothing = refl;
 }
 
@@ -79,15 +94,15 @@ whole_of bytes t rest g f w e p q = subst (λ s. IsWhole bytes f s) (sym p ∙ q
 pub frame_takes : (bytes : List ℕ) (f : Frame) (rest : List ℕ) → IsBytes bytes → frame bytes ≡ Ok (f, rest) → IsWhole bytes f rest
 unfolding frame
 frame_takes bytes f rest h e =
-    let p = takes_first version_agrees (λ _. kind >>= λ k. origin >>= λ o. number >>= λ n. alone (fields k) >>= λ v. done (frame_of o n v)) bytes f rest h e in
-    let q = takes_first kind_agrees (λ k. origin >>= λ o. number >>= λ n. alone (fields k) >>= λ v. done (frame_of o n v)) p.after f rest p.bytes_after p.then' in
+    let p = takes_first version_agrees (λ w. kind w >>= λ k. origin >>= λ o. number >>= λ n. alone (fields k) >>= λ v. done (frame_of o n v)) bytes f rest h e in
+    let q = takes_first (kind_agrees p.value) (λ k. origin >>= λ o. number >>= λ n. alone (fields k) >>= λ v. done (frame_of o n v)) p.after f rest p.bytes_after p.then' in
     let r = takes_first origin_agrees (λ o. number >>= λ n. alone (fields q.value) >>= λ v. done (frame_of o n v)) q.after f rest q.bytes_after q.then' in
     let s = takes_first number_agrees (λ n. alone (fields q.value) >>= λ v. done (frame_of r.value n v)) r.after f rest r.bytes_after r.then' in
     let b = bind_ok (alone (fields q.value) s.after) (λ v. done (frame_of r.value s.value v)) (f, rest) s.then' in
     let a = alone_is (fields q.value) s.after b.0.0 b.0.1 b.1 in
     let d = done_is (frame_of r.value s.value b.0.0) f b.0.1 rest b.2 in
     let row = fields_take q.value s.after b.0.0 [] s.bytes_after a.0 in
-    let whole = frame_parts bytes p.after q.after r.after s.after q.value r.value s.value b.0.0 p.parts q.parts r.parts s.parts row r.fits s.fits in
+    let whole = frame_parts bytes p.after q.after r.after s.after p.value q.value r.value s.value b.0.0 p.parts q.fits q.parts r.parts s.parts row r.fits s.fits in
     whole_of bytes b.0.1 rest (frame_of r.value s.value b.0.0) f whole d.0 a.1 d.1
 
 pub frame_again : (f : Frame) → AllByRecursion Holds (layout f) → frame (spelled (layout f)) ≡ Ok (f, [])
@@ -95,8 +110,8 @@ unfolding frame
 frame_again f h =
     let rows : fields (kind_of f.body) (spelled (fields_of f.body)) ≡ Ok (f.body, []) =
     ap (fields (kind_of f.body)) (sym (append-nil (spelled (fields_of f.body)))) ∙ fields_again f.body [] h.1.1.1.1 in
-    again_first version_agrees (λ _. kind >>= λ k. origin >>= λ o. number >>= λ n. alone (fields k) >>= λ v. done (frame_of o n v)) tt ((number_of (kind_of f.body) ∷ []) ++ (origin_octets f.sender ++ (to_be_bytes w64 f.number ++ spelled (fields_of f.body)))) tt
-    ∙ again_first kind_agrees (λ k. origin >>= λ o. number >>= λ n. alone (fields k) >>= λ v. done (frame_of o n v)) (kind_of f.body) (origin_octets f.sender ++ (to_be_bytes w64 f.number ++ spelled (fields_of f.body))) tt
+    again_first version_agrees (λ w. kind w >>= λ k. origin >>= λ o. number >>= λ n. alone (fields k) >>= λ v. done (frame_of o n v)) (version_of (kind_of f.body)) ((number_of (kind_of f.body) ∷ []) ++ (origin_octets f.sender ++ (to_be_bytes w64 f.number ++ spelled (fields_of f.body)))) (version_again_of (kind_of f.body))
+    ∙ again_first (kind_agrees (version_of (kind_of f.body))) (λ k. origin >>= λ o. number >>= λ n. alone (fields k) >>= λ v. done (frame_of o n v)) (kind_of f.body) (origin_octets f.sender ++ (to_be_bytes w64 f.number ++ spelled (fields_of f.body))) refl
     ∙ again_first origin_agrees (λ o. number >>= λ n. alone (fields (kind_of f.body)) >>= λ v. done (frame_of o n v)) f.sender (to_be_bytes w64 f.number ++ spelled (fields_of f.body)) h.1.1.0
     ∙ again_first number_agrees (λ n. alone (fields (kind_of f.body)) >>= λ v. done (frame_of f.sender n v)) f.number (spelled (fields_of f.body)) h.1.1.1.0
     ∙ rw (alone_again (fields (kind_of f.body)) (spelled (fields_of f.body)) f.body rows) refl
@@ -127,6 +142,7 @@ fields_good (body.Gossip i round bs) h = rw (positive i.seq h.0.seq.positive, at
 fields_good (body.IHave entries) h = numbered_all entries h.0.2
 fields_good (body.Graft i round) h = positive i.seq h.0.seq.positive
 fields_good body.Prune h = refl
+fields_good body.GraftPeer h = refl
 
 pub counts_good : (b : Body) → AllByRecursion Holds (fields_of b) → IsTrue (has_good_counts b)
 counts_good body.Join h = refl
@@ -140,6 +156,7 @@ counts_good (body.Gossip i round bs) h = refl
 counts_good (body.IHave entries) h = rw (positive (length entries) (omega (arith, h.0)), at_most (length entries) 64 h.0.1) refl
 counts_good (body.Graft i round) h = refl
 counts_good body.Prune h = refl
+counts_good body.GraftPeer h = refl
 
 pub layout_within : (f : Frame) → AllByRecursion Holds (layout f) → IsFrame f
 layout_within f h = record {

@@ -1,18 +1,18 @@
 -- The fields of each kind are read as they are spelled.
 use Rattle.std.proofs.Common.{◌≡◌, ℕ, Bool, true, false, cond, List, [], ◌∷◌, ◌++◌, Option, Some, None, Ok, refl, sym, ap, subst, ◌∙◌}
-use Rattle.std.specs.Prelude.{◌==◌}
+use Rattle.std.specs.Prelude.{◌==◌, ◌||◌, IsTrue}
 use Rattle.std.specs.Int.{w32, to_be_bytes}
 use Rattle.std.specs.List.{AllByRecursion}
 use Rattle.std.proofs.lemmas.Bool.{eqb-true}
 use Rattle.frames.specs.declared.body.BodyOf.TheVariants as body
 use Rattle.frames.specs.declared.fault.FrameFault.TheVariants.{BadVersion}
 use Rattle.frames.specs.declared.kind.Kind.{Kind}
-use Rattle.frames.specs.declared.kind.Kind.TheVariants.{Join, ForwardJoin, Neighbor, NeighborReply, Disconnect, Shuffle, ShuffleReply, Gossip, IHave, Graft, Prune}
+use Rattle.frames.specs.declared.kind.Kind.TheVariants.{Join, ForwardJoin, Neighbor, NeighborReply, Disconnect, Shuffle, ShuffleReply, Gossip, IHave, Graft, Prune, GraftPeer}
 use Rattle.frames.specs.Body.{Body}
 use Rattle.frames.specs.Field.{octets, Holds}
 use Rattle.frames.specs.Field.Field.{names as names_field, payload as payload_field}
 use Rattle.frames.specs.Grammar.{fields_of, spelled}
-use Rattle.frames.specs.Kind.{kind_of, kind_numbered, number_of}
+use Rattle.frames.specs.Kind.{kind_of, kind_numbered, number_of, of_version, version_of}
 use Rattle.frames.specs.Reading.{◌>>=◌, done, judge, known, word, byte, names, payload, version, kind, fields}
 use Rattle.frames.proofs.Agree.{IsBytes, Agrees, takes_first, again_next, done_is, row1_take, row2_take, row3_take}
 use Rattle.frames.proofs.FieldsAgree.{byte_agrees, flag_agrees, word32_agrees, name_agrees, id_agrees}
@@ -59,6 +59,9 @@ fields_take Graft bytes b rest h e =
 fields_take Prune bytes b rest h e =
     let d = done_is body.Prune b bytes rest e in
     subst (λ v. Row Prune bytes v rest) d.0 (record { kind = refl; parts = d.1; fits = tt })
+fields_take GraftPeer bytes b rest h e =
+    let d = done_is body.GraftPeer b bytes rest e in
+    subst (λ v. Row GraftPeer bytes v rest) d.0 (record { kind = refl; parts = d.1; fits = tt })
 
 pub fields_again : (b : Body) (rest : List ℕ) → AllByRecursion Holds (fields_of b) → fields (kind_of b) (spelled (fields_of b) ++ rest) ≡ Ok (b, rest)
 unfolding fields
@@ -83,26 +86,45 @@ fields_again (body.Graft i round) rest h =
     again_next id_agrees (λ i. word w32 >>= λ round. done (body.Graft i round)) i (to_be_bytes w32 round ++ []) rest h.0
     ∙ again_next word32_agrees (λ round. done (body.Graft i round)) round [] rest h.1.0
 fields_again body.Prune rest h = refl
+fields_again body.GraftPeer rest h = refl
 
 -- ---- the version and the kind
 
-version_takes : (bytes : List ℕ) (v : Unit {0}) (rest : List ℕ) → IsBytes bytes → version bytes ≡ Ok (v, rest) → (bytes ≡ (1 ∷ []) ++ rest) × Unit {0}
+-- a version that there is
+abbrev is_version : ℕ → Bool
+is_version v = v == 1 || v == 2
+
+judged_is : (good : Bool) (v w : ℕ) (after rest : List ℕ) → (judge good BadVersion >>= λ _. done v) after ≡ Ok (w, rest) → (good ≡ true) × (v ≡ w) × (after ≡ rest)
+judged_is true v w after rest e = let d = done_is v w after rest e in (refl, d.0, d.1)
+judged_is false v w after rest e = absurd cc
+
+version_takes : (bytes : List ℕ) (v : ℕ) (rest : List ℕ) → IsBytes bytes → version bytes ≡ Ok (v, rest) → (bytes ≡ (v ∷ []) ++ rest) × IsTrue (is_version v)
 unfolding version
 version_takes bytes v rest h e =
-    let a = takes_first byte_agrees (λ n. judge (n == 1) BadVersion) bytes v rest h e in
-    let j = judge_is (a.value == 1) a.after rest v a.then' in
-    (a.parts ∙ ap (λ n. n ∷ a.after) (eqb-true _ _ j.0) ∙ ap (λ t. 1 ∷ t) j.1, tt)
-  where
-    judge_is : (good : Bool) (after rest : List ℕ) (v : Unit {0}) → judge good BadVersion after ≡ Ok (v, rest) → (good ≡ true) × (after ≡ rest)
-    judge_is true after rest v e = (refl, (done_is tt v after rest e).1)
-    judge_is false after rest v e = absurd cc
+    let a = takes_first byte_agrees (λ n. judge (is_version n) BadVersion >>= λ _. done n) bytes v rest h e in
+    let j = judged_is (is_version a.value) a.value v a.after rest a.then' in
+    (a.parts ∙ ap (λ n. n ∷ a.after) j.1 ∙ ap (λ t. v ∷ t) j.2, subst (λ n. IsTrue (is_version n)) j.1 j.0)
 
-version_again : (v : Unit {0}) (rest : List ℕ) → Unit {0} → version ((1 ∷ []) ++ rest) ≡ Ok (v, rest)
+version_again : (v : ℕ) (rest : List ℕ) → IsTrue (is_version v) → version ((v ∷ []) ++ rest) ≡ Ok (v, rest)
 unfolding version byte
-version_again v rest h = refl
+version_again v rest h = rw h refl
 
-pub version_agrees : Agrees version (λ _. 1 ∷ []) (λ _. Unit {0})
+pub version_agrees : Agrees version (λ v. v ∷ []) (λ v. IsTrue (is_version v))
 version_agrees = record { takes = version_takes; again = version_again }
+
+pub version_again_of : (k : Kind) → IsTrue (version_of k == 1 || version_of k == 2)
+version_again_of Join = refl
+version_again_of ForwardJoin = refl
+version_again_of Neighbor = refl
+version_again_of NeighborReply = refl
+version_again_of Disconnect = refl
+version_again_of Shuffle = refl
+version_again_of ShuffleReply = refl
+version_again_of Gossip = refl
+version_again_of IHave = refl
+version_again_of Graft = refl
+version_again_of Prune = refl
+version_again_of GraftPeer = refl
 
 abbrev some : Kind → Option Kind
 some k = Some k
@@ -122,9 +144,9 @@ number_is : (n : ℕ) (k : Kind) → kind_numbered n ≡ Some k → number_of k 
 number_is n k e =
     pick n 1 Join k _ e refl λ e. pick n 2 ForwardJoin k _ e refl λ e. pick n 3 Neighbor k _ e refl λ e. pick n 4 NeighborReply k _ e refl
     λ e. pick n 5 Disconnect k _ e refl λ e. pick n 6 Shuffle k _ e refl λ e. pick n 7 ShuffleReply k _ e refl λ e. pick n 8 Gossip k _ e refl
-    λ e. pick n 9 IHave k _ e refl λ e. pick n 10 Graft k _ e refl λ e. pick n 11 Prune k _ e refl λ e. absurd cc
+    λ e. pick n 9 IHave k _ e refl λ e. pick n 10 Graft k _ e refl λ e. pick n 11 Prune k _ e refl λ e. pick n 12 GraftPeer k _ e refl λ e. absurd cc
 
-number_again : (k : Kind) → kind_numbered (number_of k) ≡ Some k
+number_again : (k : Kind) → of_version (version_of k) (kind_numbered (number_of k)) ≡ Some k
 number_again Join = refl
 number_again ForwardJoin = refl
 number_again Neighbor = refl
@@ -136,21 +158,32 @@ number_again Gossip = refl
 number_again IHave = refl
 number_again Graft = refl
 number_again Prune = refl
+number_again GraftPeer = refl
 
 known_is : (o : Option Kind) (after : List ℕ) (k : Kind) (rest : List ℕ) → known o after ≡ Ok (k, rest) → (o ≡ Some k) × (after ≡ rest)
 known_is (Some j) after k rest e = let d = done_is j k after rest e in (ap (λ x. Some x) d.0, d.1)
 known_is None after k rest e = absurd cc
 
-kind_takes : (bytes : List ℕ) (k : Kind) (rest : List ℕ) → IsBytes bytes → kind bytes ≡ Ok (k, rest) → (bytes ≡ (number_of k ∷ []) ++ rest) × Unit {0}
+-- a kind of a version is one of that number, and has the version
+of_version_is : (v : ℕ) (o : Option Kind) (k : Kind) → of_version v o ≡ Some k → (o ≡ Some k) × (version_of k ≡ v)
+of_version_is v None k e = absurd cc
+of_version_is v (Some j) k e = by_test (version_of j == v) refl e
+  where
+    by_test : (b : Bool) → (version_of j == v) ≡ b → cond b (Some j) None ≡ Some k → (Some j ≡ Some k) × (version_of k ≡ v)
+    by_test true t e = (e, ap version_of (sym (some_is j k e)) ∙ eqb-true _ _ t)
+    by_test false t e = absurd cc
+
+kind_takes : (v : ℕ) (bytes : List ℕ) (k : Kind) (rest : List ℕ) → IsBytes bytes → kind v bytes ≡ Ok (k, rest) → (bytes ≡ (number_of k ∷ []) ++ rest) × (version_of k ≡ v)
 unfolding kind
-kind_takes bytes k rest h e =
-    let a = takes_first byte_agrees (λ n. known (kind_numbered n)) bytes k rest h e in
-    let j = known_is (kind_numbered a.value) a.after k rest a.then' in
-    (a.parts ∙ ap (λ n. n ∷ a.after) (sym (number_is a.value k j.0)) ∙ ap (λ t. number_of k ∷ t) j.1, tt)
+kind_takes v bytes k rest h e =
+    let a = takes_first byte_agrees (λ n. known (of_version v (kind_numbered n))) bytes k rest h e in
+    let j = known_is (of_version v (kind_numbered a.value)) a.after k rest a.then' in
+    let is = of_version_is v (kind_numbered a.value) k j.0 in
+    (a.parts ∙ ap (λ n. n ∷ a.after) (sym (number_is a.value k is.0)) ∙ ap (λ t. number_of k ∷ t) j.1, is.1)
 
-kind_again : (k : Kind) (rest : List ℕ) → Unit {0} → kind ((number_of k ∷ []) ++ rest) ≡ Ok (k, rest)
+kind_again : (v : ℕ) (k : Kind) (rest : List ℕ) → version_of k ≡ v → kind v ((number_of k ∷ []) ++ rest) ≡ Ok (k, rest)
 unfolding kind byte
-kind_again k rest h = rw (number_again k) refl
+kind_again v k rest h = rw (← h) (rw (number_again k) refl)
 
-pub kind_agrees : Agrees kind (λ k. number_of k ∷ []) (λ _. Unit {0})
-kind_agrees = record { takes = kind_takes; again = kind_again }
+pub kind_agrees : (v : ℕ) → Agrees (kind v) (λ k. number_of k ∷ []) (λ k. version_of k ≡ v)
+kind_agrees v = record { takes = kind_takes v; again = kind_again v }

@@ -80,6 +80,7 @@ body_most (body.Gossip i r bs) = omega arith
 body_most (body.IHave entries) = omega arith
 body_most (body.Graft i r) = omega arith
 body_most body.Prune = omega arith
+body_most body.GraftPeer = omega arith
 
 layout_most : (f : Frame) → most_of (layout f) ≤ MAX_BODY
 unfolding most most_of

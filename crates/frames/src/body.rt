@@ -38,6 +38,8 @@ pub enum BodyOf<P, L, E> {
     Graft { id: MsgId, round: u32 },
     /// Makes the link between sender and receiver a lazy one.
     Prune,
+    /// Makes the link between sender and receiver an eager one, as a GRAFT does, and asks for no message.
+    GraftPeer,
 }
 
 /// Whether the numbers of all announced messages count from 1.
@@ -106,5 +108,6 @@ pub(crate) fn copy_body<A: Allocator + Copy>(body: &Body<A>) -> Result<Body<A>, 
             round: *round,
         },
         BodyOf::Prune => BodyOf::Prune,
+        BodyOf::GraftPeer => BodyOf::GraftPeer,
     })
 }

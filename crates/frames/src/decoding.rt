@@ -18,8 +18,8 @@ fn whole<A: Allocator + Copy>(alloc: A, body: &[u8]) -> Result<Frame<A>, FrameFa
     ensures { Makes (λ f. (f, [])) result (frame body.now) }
 {
     let mut fields = Fields::new(body);
-    fields.version()?;
-    let kind = fields.kind()?;
+    let version = fields.version()?;
+    let kind = fields.kind(version)?;
     let sender = fields.origin()?;
     let number = fields.number()?;
     let body = row(alloc, kind, &mut fields)?;

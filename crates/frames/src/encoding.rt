@@ -23,7 +23,7 @@ fn put_fields<A: Allocator>(out: &mut Vec<u8, A>, body: &Body<A>) -> Result<(), 
     ensures { OnOk result (PutsAll (fields_of body.now) out.old.items out.new.items) }
 {
     match body {
-        BodyOf::Join | BodyOf::Disconnect | BodyOf::Prune => Ok(()),
+        BodyOf::Join | BodyOf::Disconnect | BodyOf::Prune | BodyOf::GraftPeer => Ok(()),
         BodyOf::ForwardJoin { new, ttl } => {
             put_name(out, new)?;
             put_byte(out, *ttl)
@@ -54,8 +54,9 @@ fn put_fields<A: Allocator>(out: &mut Vec<u8, A>, body: &Body<A>) -> Result<(), 
 fn put_frame<A: Allocator>(out: &mut Vec<u8, A>, frame: &Frame<A>) -> Result<(), AllocError>
     ensures { OnOk result (PutsAll (layout frame.now) out.old.items out.new.items) }
 {
-    put_byte(out, 1)?;
-    put_byte(out, Kind::of(frame.body()).number())?;
+    let kind = Kind::of(frame.body());
+    put_byte(out, kind.version())?;
+    put_byte(out, kind.number())?;
     put_origin(out, &frame.sender())?;
     put_number(out, frame.number())?;
     put_fields(out, frame.body())

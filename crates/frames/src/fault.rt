@@ -10,9 +10,9 @@ pub enum FrameFault {
     Short,
     /// The length is greater than that of any frame.
     TooLong,
-    /// The version is another than 1.
+    /// The version is neither 1 nor 2.
     BadVersion,
-    /// No kind of frame has this number.
+    /// No kind of this version's frames has this number.
     BadKind,
     /// A name has a length or a byte that no name has.
     BadName,

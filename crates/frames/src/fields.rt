@@ -151,21 +151,22 @@ impl<'a> Fields<'a> {
     }
 
     #[tactic(auto, unfolding(crate::specs::Reading::version))]
-    pub(crate) fn version(&mut self) -> Result<(), FrameFault>
+    pub(crate) fn version(&mut self) -> Result<u8, FrameFault>
         ensures { Reads result read.version self.old self.new }
     {
-        if self.byte()? != 1 {
+        let version = self.byte()?;
+        if version != 1 && version != 2 {
             return Err(FrameFault::BadVersion);
         }
-        Ok(())
+        Ok(version)
     }
 
     #[tactic(auto, unfolding(crate::specs::Reading::kind))]
-    pub(crate) fn kind(&mut self) -> Result<Kind, FrameFault>
-        ensures { Reads result read.kind self.old self.new }
+    pub(crate) fn kind(&mut self, version: u8) -> Result<Kind, FrameFault>
+        ensures { Reads result (read.kind version) self.old self.new }
     {
         let number = self.byte()?;
-        match Kind::numbered(number) {
+        match Kind::of_version(version, number) {
             Some(kind) => Ok(kind),
             None => Err(FrameFault::BadKind),
         }

@@ -1,6 +1,6 @@
 //! The kinds of frames.
 ghost use Rattle.std.specs.Prelude.{◌≡◌};
-ghost use Rattle.frames.specs.Kind.{kind_numbered, kind_of, number_of};
+ghost use Rattle.frames.specs.Kind.{kind_numbered, kind_of, number_of, of_version, version_of};
 
 use crate::body::BodyOf;
 
@@ -18,6 +18,7 @@ pub(crate) enum Kind {
     IHave,
     Graft,
     Prune,
+    GraftPeer,
 }
 
 impl Kind {
@@ -37,6 +38,27 @@ impl Kind {
             BodyOf::IHave { .. } => Kind::IHave,
             BodyOf::Graft { .. } => Kind::Graft,
             BodyOf::Prune => Kind::Prune,
+            BodyOf::GraftPeer => Kind::GraftPeer,
+        }
+    }
+
+    /// The version of its frames.
+    pub(crate) fn version(self) -> u8
+        ensures { result ≡ version_of self }
+    {
+        match self {
+            Kind::Join
+            | Kind::ForwardJoin
+            | Kind::Neighbor
+            | Kind::NeighborReply
+            | Kind::Disconnect
+            | Kind::Shuffle
+            | Kind::ShuffleReply
+            | Kind::Gossip
+            | Kind::IHave
+            | Kind::Graft
+            | Kind::Prune => 1,
+            Kind::GraftPeer => 2,
         }
     }
 
@@ -56,11 +78,12 @@ impl Kind {
             Kind::IHave => 9,
             Kind::Graft => 10,
             Kind::Prune => 11,
+            Kind::GraftPeer => 12,
         }
     }
 
     /// The kind of this number, if there is one.
-    pub(crate) fn numbered(number: u8) -> Option<Kind>
+    fn numbered(number: u8) -> Option<Kind>
         ensures { result ≡ kind_numbered number }
     {
         match number {
@@ -75,6 +98,17 @@ impl Kind {
             9 => Some(Kind::IHave),
             10 => Some(Kind::Graft),
             11 => Some(Kind::Prune),
+            12 => Some(Kind::GraftPeer),
+            _ => None,
+        }
+    }
+
+    /// The kind of this number among the frames of this version, if there is one.
+    pub(crate) fn of_version(version: u8, number: u8) -> Option<Kind>
+        ensures { result ≡ of_version version (kind_numbered number) }
+    {
+        match Kind::numbered(number) {
+            Some(kind) if kind.version() == version => Some(kind),
             _ => None,
         }
     }

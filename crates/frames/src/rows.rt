@@ -157,5 +157,6 @@ pub(crate) fn row<A: Allocator + Copy>(
         Kind::IHave => ihave(alloc, fields),
         Kind::Graft => graft(fields),
         Kind::Prune => nothing(fields, BodyOf::Prune),
+        Kind::GraftPeer => nothing(fields, BodyOf::GraftPeer),
     }
 }

@@ -43,6 +43,7 @@ fn push_body(text: &mut String, body: &Body) -> Result<(), AllocError> {
         }
         BodyOf::Graft { id, round } => write!(text, "GRAFT {id} {round}"),
         BodyOf::Prune => text.push_str("PRUNE"),
+        BodyOf::GraftPeer => text.push_str("GRAFT"),
     }
 }
 
