@@ -1,5 +1,5 @@
 //! What a call of a node's gossip will send and deliver.
-ghost use Rattle.std.specs.Prelude.{◌≡◌, None, IfOk};
+ghost use Rattle.std.specs.Prelude.{◌≡◌, [], ◌∷◌, ◌++◌, None, IfOk, OnOk};
 ghost use Rattle.gossip_core.specs.Refusals.{CanTake};
 ghost use Rattle.gossip_core.specs.Table.{repeated, outcome, lent};
 
@@ -44,6 +44,18 @@ fn to_repeated<A: Allocator + Copy>(
     }
 }
 
+/// What a node sends besides where who passed the sender takes its place in the tree.
+fn send_swap<A: Allocator + Copy>(
+    effects: &mut Effects<A>,
+    sender: &NodeName,
+    announcer: &NodeName,
+) -> Result<(), AllocError>
+    ensures { OnOk result (effects.new ≡ record effects.old { sends = effects.old.sends ++ (announcer.now, BodyOf.GraftPeer) ∷ (sender.now, BodyOf.Prune) ∷ [] }) }
+{
+    effects.send(announcer, BodyOf::GraftPeer)?;
+    effects.send(sender, BodyOf::Prune)
+}
+
 /// What a packet that carries a message makes it send and deliver.
 fn to_gossip<A: Allocator + Copy>(
     alloc: A,
@@ -62,14 +74,12 @@ fn to_gossip<A: Allocator + Copy>(
         return Ok(Effects::new(alloc));
     }
     let next = round.saturating_add(1);
-    spread(
-        alloc,
-        node.peers().members(),
-        &Some(*sender),
-        id,
-        next,
-        payload,
-    )
+    let left_out = Some(*sender);
+    let mut effects = spread(alloc, node.peers().members(), &left_out, id, next, payload)?;
+    if let Some(announcer) = node.shortcut(sender, id, round) {
+        send_swap(&mut effects, sender, &announcer)?;
+    }
+    Ok(effects)
 }
 
 /// What the timer of the id makes it send.
@@ -136,7 +146,10 @@ pub(crate) fn answers<A: Allocator + Copy>(
         CallOf::Fire { id } => to_fire(alloc, node, id),
         CallOf::OnGraft { sender, id, round } => to_graft(alloc, node, sender, id, *round),
         CallOf::Flush => to_flush(alloc, node),
-        CallOf::OnIHave { .. } | CallOf::OnPrune { .. } | CallOf::Up { .. } | CallOf::Down { .. } =>
-            Ok(Effects::new(alloc)),
+        CallOf::OnIHave { .. }
+        | CallOf::OnGraftPeer { .. }
+        | CallOf::OnPrune { .. }
+        | CallOf::Up { .. }
+        | CallOf::Down { .. } => Ok(Effects::new(alloc)),
     }
 }

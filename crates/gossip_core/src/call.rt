@@ -43,6 +43,11 @@ pub enum CallOf<P, E> {
         /// The round of the packet.
         round: u32,
     },
+    /// A packet came that asks for messages in place of announcements, and for none in particular.
+    OnGraftPeer {
+        /// Who sent the packet.
+        sender: NodeName,
+    },
     /// A packet came that asks for announcements in place of messages.
     OnPrune {
         /// Who sent the packet.

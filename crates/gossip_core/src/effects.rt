@@ -55,6 +55,15 @@ impl<A: Allocator + Copy> Effects<A> {
         })
     }
 
+    /// Appends a packet.
+    pub(crate) fn send(&mut self, to: &NodeName, body: Body<A>) -> Result<(), AllocError>
+        ensures ok { OnOk result (self.new ≡ record self.old { sends = self.old.sends ++ (to.now, body) ∷ [] }) }
+        ensures err { OnErr result (self.new ≡ self.old) }
+    {
+        self.sends.push((*to, body))?;
+        Ok(())
+    }
+
     /// Appends the packets.
     pub(crate) fn send_all(
         &mut self,

@@ -9,8 +9,8 @@ ghost use Rattle.known_ids.specs.Known.{IsSpan};
 ghost use Rattle.peer_sets.specs.Members.{all_eager};
 ghost use Rattle.gossip_core.specs.Refusals.{CanTake, IsTooLong, IsSpent};
 ghost use Rattle.gossip_core.specs.State.{GossipState, IsSound};
-ghost use Rattle.gossip_core.specs.Table.{lent, Does, outcome, is_news, next_id, repeated, first_copy, after_downs, after_ups};
-ghost use Rattle.gossip_core.specs.declared.call.CallOf.TheVariants.{Broadcast, OnGossip, OnIHave, Fire, OnGraft, OnPrune, Flush, Up, Down};
+ghost use Rattle.gossip_core.specs.Table.{lent, Does, outcome, is_news, next_id, repeated, first_copy, shortcut, with_peer, after_downs, after_ups};
+ghost use Rattle.gossip_core.specs.declared.call.CallOf.TheVariants.{Broadcast, OnGossip, OnIHave, Fire, OnGraft, OnGraftPeer, OnPrune, Flush, Up, Down};
 
 use crate::answers::answers;
 use crate::call::{Call, CallOf};
@@ -22,7 +22,7 @@ use indexmap::IndexMap;
 use known_ids::KnownIds;
 use missing::Missing;
 use node_names::{MsgId, NodeName, Origin};
-use peer_sets::PeerSets;
+use peer_sets::{PeerKind, PeerSets};
 use std::alloc::{AllocError, Allocator, Global};
 use std::marker::Model;
 use world::MAX_PAYLOAD;
@@ -36,6 +36,7 @@ use world::MAX_PAYLOAD;
 #[derive(Drop)]
 pub struct Gossip<A: Allocator = Global> {
     me: Origin,
+    threshold: u32,
     spent: u64,
     peers: PeerSets<A>,
     missing: Missing<A>,
@@ -57,18 +58,42 @@ impl<A: Allocator> Model for Gossip<A> {
 
     ghost coded = { Prim.hlevel (codes, set.code {R = id_cmp} id.the_row.coded) };
 
-    ghost view = { λ g. record { me = g.me; spent = g.spent; peers = g.peers; missing = g.missing; known = ids g.known; held = g.held.entries } };
+    ghost view = { λ g. record { me = g.me; threshold = g.threshold; spent = g.spent; peers = g.peers; missing = g.missing; known = ids g.known; held = g.held.entries } };
 
     ghost invariant = { λ g. AreCounted g.me (ids g.known) g.spent × AreKnown (ids g.known) g.held.entries g.peers.queued };
 }
 
 impl<A: Allocator + Copy> Gossip<A> {
-    /// A node that has these peers, all eager, and has broadcast `seq_spent` messages; it knows none. The peers are
-    /// distinct.
+    /// A node that has these peers, all eager, and has broadcast `seq_spent` messages; it knows none, and swaps no branches. The
+    /// peers are distinct.
     pub fn new(alloc: A, me: Origin, peers: &[NodeName], seq_spent: u64) -> Result<Self, AllocError>
         requires { IsDistinct same_name peers.now }
         ensures { IfOk result (λ gossip. gossip ≡ record {
           me = me;
+          threshold = 0;
+          spent = seq_spent;
+          peers = record { members = all_eager peers.now; queued = [] };
+          missing = record { wants = []; timers = [] };
+          known = set.empty;
+          held = [];
+        }) }
+    {
+        Gossip::new_tuned(alloc, me, peers, seq_spent, 0)
+    }
+
+    /// The same node with a threshold. Where a member sends a message for the first time that another announced before, on a way
+    /// shorter by so many links or more, that other takes the sender's place as an eager peer. With 0 none does.
+    pub fn new_tuned(
+        alloc: A,
+        me: Origin,
+        peers: &[NodeName],
+        seq_spent: u64,
+        threshold: u32,
+    ) -> Result<Self, AllocError>
+        requires { IsDistinct same_name peers.now }
+        ensures { IfOk result (λ gossip. gossip ≡ record {
+          me = me;
+          threshold = threshold;
           spent = seq_spent;
           peers = record { members = all_eager peers.now; queued = [] };
           missing = record { wants = []; timers = [] };
@@ -78,6 +103,7 @@ impl<A: Allocator + Copy> Gossip<A> {
     {
         Ok(Gossip {
             me,
+            threshold,
             spent: seq_spent,
             peers: PeerSets::new(alloc, peers)?,
             missing: Missing::new(alloc),
@@ -110,6 +136,7 @@ impl<A: Allocator + Copy> Gossip<A> {
             | CallOf::OnIHave { .. }
             | CallOf::Fire { .. }
             | CallOf::OnGraft { .. }
+            | CallOf::OnGraftPeer { .. }
             | CallOf::OnPrune { .. }
             | CallOf::Flush
             | CallOf::Up { .. }
@@ -154,6 +181,10 @@ impl<A: Allocator + Copy> Gossip<A> {
             }
             CallOf::OnGraft { sender, .. } => {
                 self.peers.make_eager(sender);
+                Ok(())
+            }
+            CallOf::OnGraftPeer { sender } => {
+                self.on_graft_peer(sender);
                 Ok(())
             }
             CallOf::OnPrune { sender } => {
@@ -214,7 +245,36 @@ impl<A: Allocator + Copy> Gossip<A> {
         if id.origin == self.me {
             return Ok(());
         }
-        self.take_first_copy(sender, id, round, payload)
+        let announcer = self.shortcut(sender, id, round);
+        self.take_first_copy(sender, id, round, payload)?;
+        if let Some(announcer) = announcer {
+            self.swap(sender, &announcer);
+        }
+        Ok(())
+    }
+
+    /// Who takes the sender's place in the tree, where it sends this message for the first time at this round.
+    pub(crate) fn shortcut(&self, sender: &NodeName, id: &MsgId, round: u32) -> Option<NodeName>
+        ensures { result ≡ shortcut self.now sender.now id.now round }
+    {
+        if self.threshold == 0 || !self.peers.is_member(sender) {
+            return None;
+        }
+        let (announcer, announced) = self.missing.first(id)?;
+        let is_shorter = u64::from(announced) + u64::from(self.threshold) <= u64::from(round);
+        if announcer != *sender && is_shorter {
+            Some(announcer)
+        } else {
+            None
+        }
+    }
+
+    /// Who passed the sender takes its place in the tree.
+    fn swap(&mut self, sender: &NodeName, announcer: &NodeName)
+        ensures { self.new ≡ with_peer sender.now PeerKind.Lazy (with_peer announcer.now PeerKind.Eager self.old) }
+    {
+        self.peers.make_eager(announcer);
+        self.peers.make_lazy(sender);
     }
 
     /// A known message came again.
@@ -401,6 +461,13 @@ impl<A: Allocator + Copy> Gossip<A> {
         self.peers.up(peer)
     }
 
+    /// A packet came that asks for messages in place of announcements, and for none in particular.
+    pub fn on_graft_peer(&mut self, sender: &NodeName)
+        ensures { self.new ≡ (outcome self.old (OnGraftPeer sender.now)).state }
+    {
+        self.peers.make_eager(sender);
+    }
+
     /// A packet came that asks for announcements in place of messages.
     pub fn on_prune(&mut self, sender: &NodeName)
         ensures { self.new ≡ (outcome self.old (OnPrune sender.now)).state }
@@ -432,6 +499,7 @@ impl<A: Allocator + Copy> Gossip<A> {
     {
         Ok(Gossip {
             me: self.me,
+            threshold: self.threshold,
             spent: self.spent,
             peers: self.peers.copy()?,
             missing: self.missing.copy()?,

@@ -17,6 +17,8 @@ pub(crate) enum Act {
     Fire(Id),
     /// A sender asks for a message at a round.
     OnGraft(&'static str, Id, u32),
+    /// A sender asks for messages, and for none in particular.
+    OnGraftPeer(&'static str),
     OnPrune(&'static str),
     Flush,
     Up(&'static str),
@@ -25,7 +27,7 @@ pub(crate) enum Act {
 
 /// Whether the call takes no memory.
 pub(crate) fn takes_none(act: &Act) -> bool {
-    matches!(act, Act::OnPrune(_) | Act::Down(_))
+    matches!(act, Act::OnGraftPeer(_) | Act::OnPrune(_) | Act::Down(_))
 }
 
 /// The text that the call brings.
@@ -94,6 +96,16 @@ fn on_graft<A: Allocator + Copy>(
     gossip.on_graft(&sender, &message, round, out)
 }
 
+/// A packet that asks for messages and for none in particular takes no memory.
+fn on_graft_peer<A: Allocator + Copy>(
+    rt: &impl Abort,
+    gossip: &mut Gossip<A>,
+    sender: &str,
+) -> Result<(), AllocError> {
+    gossip.on_graft_peer(&name(rt, sender));
+    Ok(())
+}
+
 /// A packet that asks for announcements takes no memory.
 fn on_prune<A: Allocator + Copy>(
     rt: &impl Abort,
@@ -130,6 +142,7 @@ fn call_with<A: Allocator + Copy>(
         Act::OnGraft(sender, message, round) => on_graft(rt, gossip, sender, message, round, out),
         Act::Fire(message) => gossip.fire(&id(rt, message), out),
         Act::Up(peer) => gossip.up(&name(rt, peer)),
+        Act::OnGraftPeer(sender) => on_graft_peer(rt, gossip, sender),
         Act::OnPrune(sender) => on_prune(rt, gossip, sender),
         Act::Down(peer) => down(rt, gossip, peer),
         _ => gossip.flush(out),

@@ -5,7 +5,7 @@ ghost use Rattle.gossip_core.specs.Table.{lent};
 
 use crate::act::{Act, payload};
 use crate::named::{id, name};
-use crate::play::{asked, is_left, is_shown, left, start};
+use crate::play::{asked, is_left, is_shown, left, start_tuned};
 use crate::rows::{Row, Turn, rows};
 use bytes::Bytes;
 use gossip_core::{Call, CallOf, Effects, Gossip, GossipFault};
@@ -53,6 +53,9 @@ fn call_of<'a, A: Allocator>(
             sender: name(rt, sender),
             id: id(rt, message),
             round,
+        },
+        Act::OnGraftPeer(sender) => CallOf::OnGraftPeer {
+            sender: name(rt, sender),
         },
         Act::OnPrune(sender) => CallOf::OnPrune {
             sender: name(rt, sender),
@@ -298,7 +301,7 @@ fn sweep_row<A: Allocator + Copy>(
     ids: &[MsgId],
     row: &Row,
 ) -> Result<u64, AllocError> {
-    let gossip = start(rt, alloc)?;
+    let gossip = start_tuned(rt, alloc, row.threshold)?;
     lend(gossip, |gossip| {
         sweep_turns(rt, heap, alloc, text, ids, gossip, row.turns)
     })

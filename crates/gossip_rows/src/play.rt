@@ -25,6 +25,21 @@ pub(crate) fn start<A: Allocator + Copy>(
     Gossip::new(alloc, origin(rt, "c"), &peers, 0)
 }
 
+/// The same node with a threshold.
+pub(crate) fn start_tuned<A: Allocator + Copy>(
+    rt: &impl Abort,
+    alloc: A,
+    threshold: u32,
+) -> Result<Gossip<A>, AllocError> {
+    match threshold {
+        0 => start(rt, alloc),
+        threshold => {
+            let peers = pair(rt, "a", "b");
+            Gossip::new_tuned(alloc, origin(rt, "c"), &peers, 0, threshold)
+        }
+    }
+}
+
 /// Whether the readers answer so. What they answer otherwise is the text.
 pub(crate) fn is_shown<A: Allocator>(
     text: &mut String,
@@ -167,7 +182,7 @@ fn is_row_from_start<A: Allocator + Copy>(
     ids: &[MsgId],
     row: &Row,
 ) -> Result<bool, AllocError> {
-    let gossip = start(rt, alloc)?;
+    let gossip = start_tuned(rt, alloc, row.threshold)?;
     lend(gossip, |gossip| is_row(rt, alloc, text, ids, gossip, row))
 }
 

@@ -91,6 +91,7 @@ fn push_body<A: Allocator>(text: &mut String, body: &Body<A>) -> Result<(), Allo
         }
         BodyOf::Graft { id, round } => write!(text, "graft {id} {round}"),
         BodyOf::Prune => text.push_str("prune"),
+        BodyOf::GraftPeer => text.push_str("graft"),
         _ => text.push_str("about membership"),
     }
 }

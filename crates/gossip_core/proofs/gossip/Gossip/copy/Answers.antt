@@ -18,4 +18,4 @@ invariant_of-result g c = (
 )
 
 pub returns : goal.returns
-returns g c = (λ i. state_of c.self.inside.me c.self.inside.spent (c.in_ok-copy.ensures i) (c.in_ok-copy-2.ensures i) (c.in_ok-copy-3.ensures i) (same_held g c i)) ∙ c.self.view_is
+returns g c = (λ i. state_of c.self.inside.me c.self.inside.threshold c.self.inside.spent (c.in_ok-copy.ensures i) (c.in_ok-copy-2.ensures i) (c.in_ok-copy-3.ensures i) (same_held g c i)) ∙ c.self.view_is

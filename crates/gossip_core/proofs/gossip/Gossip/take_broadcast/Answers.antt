@@ -32,5 +32,5 @@ invariant_of-self-2 g c =
 
 pub returns-clause-ok : goal.returns-clause-ok
 returns-clause-ok g c =
-    subst (λ (s : GossipState). state_of c.self.inside.me (c.self.inside.spent + 1) c.keep.new.peers c.self.inside.missing (ids c.keep.new.known) c.keep.new.held.entries ≡ (outcome s (Broadcast c.args.payload.now)).state) c.self.view_is
-    (after_broadcast c.self.inside.me c.self.inside.spent c.self.inside.peers c.self.inside.missing (ids c.self.inside.known) c.self.inside.held.entries (c.self.inside.spent + 1) refl c.args.payload.now c.keep.new.peers (ids c.keep.new.known) c.keep.new.held.entries c.in_ok-keep.ensures.known c.in_ok-keep.ensures.held c.in_ok-keep.ensures.peers)
+    subst (λ (s : GossipState). state_of c.self.inside.me c.self.inside.threshold (c.self.inside.spent + 1) c.keep.new.peers c.self.inside.missing (ids c.keep.new.known) c.keep.new.held.entries ≡ (outcome s (Broadcast c.args.payload.now)).state) c.self.view_is
+    (after_broadcast c.self.inside.me c.self.inside.threshold c.self.inside.spent c.self.inside.peers c.self.inside.missing (ids c.self.inside.known) c.self.inside.held.entries (c.self.inside.spent + 1) refl c.args.payload.now c.keep.new.peers (ids c.keep.new.known) c.keep.new.held.entries c.in_ok-keep.ensures.known c.in_ok-keep.ensures.held c.in_ok-keep.ensures.peers)

@@ -35,5 +35,5 @@ invariant_of-self-2 g c =
 
 pub returns-clause-ok : goal.returns-clause-ok
 returns-clause-ok g c =
-    subst (λ (s : GossipState). state_of c.self.inside.me c.self.inside.spent c.make_eager.new.self c.got.new.self (ids c.keep.new.known) c.keep.new.held.entries ≡ (first_copy c.args.sender.now c.args.id.now c.args.round c.args.payload.now s).state) c.self.view_is
-    (after_first_copy c.self.inside.me c.self.inside.spent c.self.inside.peers c.self.inside.missing (ids c.self.inside.known) c.self.inside.held.entries c.args.round c.saturating_add.result c.saturating_add.ensures c.args.sender.now c.args.id.now c.args.payload.now c.keep.new.peers c.make_eager.new.self c.got.new.self (ids c.keep.new.known) c.keep.new.held.entries c.in_ok-keep.ensures.known c.in_ok-keep.ensures.held c.in_ok-keep.ensures.peers c.got.ensures c.make_eager.ensures.changed)
+    subst (λ (s : GossipState). state_of c.self.inside.me c.self.inside.threshold c.self.inside.spent c.make_eager.new.self c.got.new.self (ids c.keep.new.known) c.keep.new.held.entries ≡ (first_copy c.args.sender.now c.args.id.now c.args.round c.args.payload.now s).state) c.self.view_is
+    (after_first_copy c.self.inside.me c.self.inside.threshold c.self.inside.spent c.self.inside.peers c.self.inside.missing (ids c.self.inside.known) c.self.inside.held.entries c.args.round c.saturating_add.result c.saturating_add.ensures c.args.sender.now c.args.id.now c.args.payload.now c.keep.new.peers c.make_eager.new.self c.got.new.self (ids c.keep.new.known) c.keep.new.held.entries c.in_ok-keep.ensures.known c.in_ok-keep.ensures.held c.in_ok-keep.ensures.peers c.got.ensures c.make_eager.ensures.changed)

@@ -5,7 +5,7 @@ use Rattle.peer_sets.specs.PeerSets.{PeerSets}
 use Rattle.gossip_core.specs.Store.{AreCounted, AreKnown}
 use Rattle.gossip_core.proofs.GossipLemmas.{counts_none}
 use Rattle.gossip_core.proofs.KnownLemmas.{known-none}
-use Rattle.gossip_core.proofs.gossip.Gossip.new.Goals as goal
+use Rattle.gossip_core.proofs.gossip.Gossip.new_tuned.Goals as goal
 
 pub invariant_of-result : goal.invariant_of-result
 invariant_of-result g c = (
