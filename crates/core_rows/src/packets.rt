@@ -49,6 +49,7 @@ fn push_body<A: Allocator>(text: &mut String, body: &Body<A>) -> Result<(), Allo
         }
         BodyOf::Graft { id, round } => write!(text, "GRAFT {id} {round}"),
         BodyOf::Prune => write!(text, "PRUNE"),
+        BodyOf::GraftPeer => write!(text, "GRAFT"),
         _ => push_membership(text, body),
     }
 }

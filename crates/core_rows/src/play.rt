@@ -143,7 +143,7 @@ fn play_row<A: Allocator + Copy>(
     ids: &[MsgId; 2],
     row: &Row,
 ) -> Result<(), WorldError> {
-    let world = Group::<A>::new(alloc, Limits::STANDARD);
+    let world = Group::<A>::new(alloc, Limits::STANDARD.tuned(row.threshold));
     lend(world, |world| play_group(rt, alloc, text, world, ids, row))
 }
 

@@ -112,12 +112,13 @@ fn sweep_event<A: Allocator + Copy>(
     alloc: A,
     text: &mut String,
     stood: &mut String,
+    limits: Limits,
     ids: &[MsgId; 2],
     before: &[Turn],
     turns: (&[Turn], &[Turn]),
     n: u64,
 ) -> Result<bool, WorldError> {
-    let world = Group::<A>::new(alloc, Limits::STANDARD);
+    let world = Group::<A>::new(alloc, limits);
     lend(world, |world| {
         sweep_world(rt, heap, alloc, text, stood, world, ids, before, turns, n)
     })
@@ -130,12 +131,13 @@ fn sweep<A: Allocator + Copy>(
     alloc: A,
     text: &mut String,
     stood: &mut String,
+    limits: Limits,
     ids: &[MsgId; 2],
     before: &[Turn],
     turns: (&[Turn], &[Turn]),
 ) -> Result<u64, WorldError> {
     for n in 1..MANY {
-        if !sweep_event(rt, heap, alloc, text, stood, ids, before, turns, n)? {
+        if !sweep_event(rt, heap, alloc, text, stood, limits, ids, before, turns, n)? {
             return Ok(n - 1);
         }
     }
@@ -153,11 +155,12 @@ fn sweep_row<A: Allocator + Copy>(
     row: &Row,
 ) -> Result<u64, WorldError> {
     let ids = asked(rt, row);
+    let limits = Limits::STANDARD.tuned(row.threshold);
     let mut refused = 0u64;
     for at in 0..row.turns.len() {
         let turns = row.turns.split_at(at.min(row.turns.len()));
         refused = refused.saturating_add(sweep(
-            rt, heap, alloc, text, stood, &ids, row.before, turns,
+            rt, heap, alloc, text, stood, limits, &ids, row.before, turns,
         )?);
     }
     Ok(refused)

@@ -34,10 +34,10 @@ use Rattle.peer_sets.specs.declared.kind.PeerKind.TheVariants.{Eager, Lazy}
 use Rattle.gossip_core.proofs.PacketLemmas.{packets_to-step}
 use Rattle.gossip_core.specs.Announcements.{packets_to, announcements}
 use Rattle.gossip_core.specs.State.{GossipState}
-use Rattle.gossip_core.specs.Table.{Call, Outcome, outcome, spread, repeated, first_copy, asked, answer, is_news, next_round, quiet, with_peer, gossip_to, after_downs, after_ups}
+use Rattle.gossip_core.specs.Table.{Call, Outcome, outcome, spread, repeated, first_copy, shortcut, swapped, asked, answer, is_news, next_round, quiet, with_peer, gossip_to, after_downs, after_ups}
 use Rattle.gossip_core.specs.declared.call.CallOf.TheVariants as call
 use Rattle.node_core.specs.Fits.{FitsFrames, IsFit, AreFit, ComesFit}
-use Rattle.node_core.specs.Members.{of_each, each_one, one_of_filter, one_of_map}
+use Rattle.node_core.specs.Members.{of_each, each_one, each-append, one_of_filter, one_of_map}
 use Rattle.node_core.specs.Plum.{Plum}
 use Rattle.node_core.specs.Steps.{Turned, turned, heard, idle, by_membership}
 use Rattle.node_core.specs.Wanting.{stood}
@@ -45,10 +45,6 @@ use Rattle.node_core.specs.Wanting.{stood}
 either : {X : Type 0} (P : X → Type 0) (b : Bool) (x y : X) → (b ≡ true → P x) → (b ≡ false → P y) → P (if b then x else y)
 either P true x y p q = p refl
 either P false x y p q = q refl
-
-each-append : {X : Type 0} (P : X → Type 0) (xs ys : List X) → Each P xs → Each P ys → Each P (xs ++ ys)
-each-append P [] ys h k = k
-each-append P (x ∷ xs) ys h k = (h.0, each-append P xs ys h.1 k)
 
 -- ---- tests and what they tell
 
@@ -136,6 +132,7 @@ CallFits (call.OnGossip sender id round payload) = IsFit (body.Gossip id round p
 CallFits (call.OnIHave sender entries) = IsFit (body.IHave entries)
 CallFits (call.Fire id) = Unit {0}
 CallFits (call.OnGraft sender id round) = Unit {0}
+CallFits (call.OnGraftPeer sender) = Unit {0}
 CallFits (call.OnPrune sender) = Unit {0}
 CallFits call.Flush = Unit {0}
 CallFits (call.Up peer) = Unit {0}
@@ -208,11 +205,15 @@ module _ (g : GossipState) (fits : FitsFrames g) where
         wants = subst (Each (λ (entry : MsgId × Name × ℕ). 0 < entry.0.seq)) (sym wants) fits.wants;
       }
 
+  swap_fits : (sender : Name) (announcer : Option Name) (done : Outcome) → Fit done → Fit (swapped sender announcer done)
+  swap_fits sender None done fit = fit
+  swap_fits sender (Some peer) done fit = (record { held = fit.0.held; queued = fit.0.queued; wants = fit.0.wants }, each-append (λ send. IsFit send.1) done.sends ((peer, body.GraftPeer) ∷ (sender, body.Prune) ∷ []) fit.1 ((refl, refl), ((refl, refl), tt)))
+
   gossip_call : (sender : Name) (id : MsgId) (round : ℕ) (payload : List ℕ) → IsFit (body.Gossip id round payload) → Fit (outcome g (call.OnGossip sender id round payload))
   gossip_call sender id round payload fit =
-      either Fit _ (repeated sender g) (if is_news g id then first_copy sender id round payload g else quiet g)
+      either Fit _ (repeated sender g) (if is_news g id then swapped sender (shortcut g sender id round) (first_copy sender id round payload g) else quiet g)
       (λ known. either Fit (is_member g.peers.members sender) (record { state = with_peer sender Lazy g; sends = (sender, body.Prune) ∷ []; delivered = None }) (quiet g) (λ member. (same_fits (with_peer sender Lazy g) refl refl refl, ((refl, refl), tt))) (λ stranger. (fits, tt)))
-      (λ unknown. either Fit (is_news g id) (first_copy sender id round payload g) (quiet g) (λ news. first) (λ own. (fits, tt)))
+      (λ unknown. either Fit (is_news g id) (swapped sender (shortcut g sender id round) (first_copy sender id round payload g)) (quiet g) (λ news. swap_fits sender (shortcut g sender id round) (first_copy sender id round payload g) first) (λ own. (fits, tt)))
     where
       numbered : 0 < id.seq
       numbered = is_lt 0 id.seq (and_left (nat_lt 0 id.seq) (nat_le (length payload) MAX_PAYLOAD) fit.0)
@@ -237,6 +238,7 @@ module _ (g : GossipState) (fits : FitsFrames g) where
       either Fit (has_id g.missing.timers id) (asked id (first_want id g.missing.wants) (record g { missing = taken_first id g.missing })) (quiet g)
       (λ is. fired_fits id (taken_first id g.missing).timers (first_want id g.missing.wants) refl) (λ is. (fits, tt))
   call_fits (call.OnGraft sender id round) fit = (same_fits (with_peer sender Eager g) refl refl refl, answer_fits sender id round (lookup (same_id id) g.held) refl)
+  call_fits (call.OnGraftPeer sender) fit = (same_fits (with_peer sender Eager g) refl refl refl, tt)
   call_fits (call.OnPrune sender) fit = (same_fits (with_peer sender Lazy g) refl refl refl, tt)
   call_fits call.Flush fit = (record { held = fits.held; queued = tt; wants = fits.wants }, announcements_fit g.peers.queued fits.queued)
   call_fits (call.Up peer) fit = (record { held = fits.held; queued = fits.queued; wants = fits.wants }, tt)
@@ -281,6 +283,7 @@ module _ (core : Plum) (fits : FitsFrames core.gossip) (sound : AreSound core.me
   heard_fits sender (body.IHave entries) dice fit = call_fits core.gossip fits (call.OnIHave sender entries) fit
   heard_fits sender (body.Graft id round) dice fit = call_fits core.gossip fits (call.OnGraft sender id round) tt
   heard_fits sender body.Prune dice fit = call_fits core.gossip fits (call.OnPrune sender) tt
+  heard_fits sender body.GraftPeer dice fit = call_fits core.gossip fits (call.OnGraftPeer sender) tt
 
   pub turned_fits : (stimulus : Stimulus Frame) → ComesFit stimulus → Turns (turned core.me core.membership core.gossip stimulus)
   turned_fits (on.Broadcast payload) short = call_fits core.gossip fits (call.Broadcast payload) short

@@ -36,6 +36,7 @@ module _ (m : Membership) (g : GossipState) (sender : Name) where
   heard_by (body.IHave entries) dice = refl
   heard_by (body.Graft id round) dice = refl
   heard_by body.Prune dice = refl
+  heard_by body.GraftPeer dice = refl
 
 -- what a packet says is too long or spent for no part
 not_too_long : (sender : Name) (said : Body) (dice : Dice) → IsTooLongPart (part_heard sender said dice) → ⊥
@@ -50,6 +51,7 @@ not_too_long sender (body.Gossip id round payload) dice h = h
 not_too_long sender (body.IHave entries) dice h = h
 not_too_long sender (body.Graft id round) dice h = h
 not_too_long sender body.Prune dice h = h
+not_too_long sender body.GraftPeer dice h = h
 
 not_spent : (g : GossipState) (sender : Name) (said : Body) (dice : Dice) → IsSpentPart g (part_heard sender said dice) → ⊥
 not_spent g sender body.Join dice h = h
@@ -63,6 +65,7 @@ not_spent g sender (body.Gossip id round payload) dice h = h
 not_spent g sender (body.IHave entries) dice h = h
 not_spent g sender (body.Graft id round) dice h = h
 not_spent g sender body.Prune dice h = h
+not_spent g sender body.GraftPeer dice h = h
 
 -- what a stimulus does, its part does
 pub turned_by : (me : Origin) (m : Membership) (g : GossipState) (stimulus : Stimulus Frame) → turned me m g stimulus ≡ by_part m g (part_of me stimulus)

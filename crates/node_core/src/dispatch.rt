@@ -86,6 +86,11 @@ fn part_heard<'a, A: Allocator>(sender: NodeName, body: &'a Body<A>, dice: &'a D
                 call: CallOf::OnPrune { sender },
             };
         }
+        BodyOf::GraftPeer => {
+            return PartOf::Gossip {
+                call: CallOf::OnGraftPeer { sender },
+            };
+        }
     };
     PartOf::Membership { event, dice }
 }

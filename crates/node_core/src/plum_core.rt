@@ -99,7 +99,7 @@ impl<A: Allocator + Copy> PlumCore<A> {
     {
         let _allowed = limits.active();
         let mut membership = Membership::new(alloc, me.name, limits, peers)?;
-        let gossip = Gossip::new(alloc, me, peers, seq_spent)?;
+        let gossip = Gossip::new_tuned(alloc, me, peers, seq_spent, limits.threshold())?;
         let effects = greet(alloc, &mut membership, contact)?;
         let framed = append_numbered(&me, frames_spent, effects, out)?;
         Ok(PlumCore {
