@@ -15,7 +15,7 @@ use Rattle.node_names.specs.NodeName.{Name}
 use Rattle.node_names.specs.Same.{same_id, same_id-Decides, same_name, same_name-Decides}
 use Rattle.node_names.specs.declared.ids.MsgId.{MsgId}
 use Rattle.frames.specs.Body.{Body}
-use Rattle.frames.specs.declared.body.BodyOf.TheVariants.{Join, ForwardJoin, Neighbor, NeighborReply, Disconnect, Shuffle, ShuffleReply, Gossip, IHave, Graft, Prune}
+use Rattle.frames.specs.declared.body.BodyOf.TheVariants.{Join, ForwardJoin, Neighbor, NeighborReply, Disconnect, Shuffle, ShuffleReply, Gossip, IHave, Graft, Prune, GraftPeer}
 use Rattle.world.specs.declared.packet.Packet.{Packet}
 use Rattle.trace_merge.specs.Projection.{said}
 use Rattle.trace_merge.specs.Sameness.{entries_of, flag_of, kind_number, message_of, names_of, payload_of, walk_of}
@@ -42,7 +42,8 @@ body_from kind flag walk message names entries payload =
     if kind == 8 then Gossip m.0 m.1 payload else
     if kind == 9 then IHave entries else
     if kind == 10 then Graft m.0 m.1 else
-    Prune
+    if kind == 11 then Prune else
+    GraftPeer
 
 -- a body is that of its fields
 restored : (b : Body) → body_from (kind_number b) (flag_of b) (walk_of b) (message_of b) (names_of b) (entries_of b) (payload_of b) ≡ b
@@ -57,6 +58,7 @@ restored (Gossip id round payload) = refl
 restored (IHave entries) = refl
 restored (Graft id round) = refl
 restored Prune = refl
+restored GraftPeer = refl
 
 -- bodies of the same fields are equal
 pub same_fields : (a b : Body) → kind_number a ≡ kind_number b → flag_of a ≡ flag_of b → walk_of a ≡ walk_of b → message_of a ≡ message_of b → names_of a ≡ names_of b → entries_of a ≡ entries_of b → payload_of a ≡ payload_of b → a ≡ b

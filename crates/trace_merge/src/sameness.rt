@@ -25,6 +25,7 @@ fn kind_number<A: Allocator>(body: &Body<A>) -> u8
         BodyOf::IHave { .. } => 9,
         BodyOf::Graft { .. } => 10,
         BodyOf::Prune => 11,
+        BodyOf::GraftPeer => 12,
     }
 }
 
