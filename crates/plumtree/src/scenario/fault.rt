@@ -75,6 +75,7 @@ pub enum Key {
     Prwl,
     Ka,
     Kp,
+    Threshold,
     /// Each limit is in its range, but they do not go together.
     LimitsTogether,
     Do,
@@ -109,6 +110,7 @@ impl Key {
             Key::Prwl => "prwl",
             Key::Ka => "ka",
             Key::Kp => "kp",
+            Key::Threshold => "threshold",
             Key::LimitsTogether => "N4",
             Key::Do => "do",
             Key::Node => "node",

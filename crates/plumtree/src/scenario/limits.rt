@@ -1,5 +1,5 @@
 //! The limits of a scenario's nodes.
-ghost use Rattle.std.specs.Prelude.{IfOk, IfErr};
+ghost use Rattle.std.specs.Prelude.{◌^◌, ◌-◌, IfOk, IfErr};
 ghost use Rattle.toml.specs.View.{table_view};
 ghost use Rattle.node_names.specs.Limits.{Limits as Sizes};
 ghost use Rattle.plumtree.specs.Reading.{at_key, ReadsRequired};
@@ -21,17 +21,27 @@ pub fn limits(section: &Section<'_>) -> Result<Limits, ScenarioFault>
     let prwl = limit(section, Key::Prwl, standard.prwl())?;
     let ka = limit(section, Key::Ka, standard.ka())?;
     let kp = limit(section, Key::Kp, standard.kp())?;
+    let threshold = threshold(section)?;
     match Limits::new(active, passive, arwl, prwl, ka, kp) {
-        Ok(limits) => Ok(limits),
+        Ok(limits) => Ok(limits.tuned(threshold)),
         Err(_) => Err(section.refused(Key::LimitsTogether)),
     }
 }
 
 fn limit(section: &Section<'_>, key: Key, standard: u8) -> Result<u8, ScenarioFault>
-    ensures { ReadsRequired (IsLimit standard) (at_key key (table_view section.now.table.now)) (ScenarioFault.Refused section.now.place key) result }
+    ensures { ReadsRequired (IsLimit 255 standard) (at_key key (table_view section.now.table.now)) (ScenarioFault.Refused section.now.place key) result }
 {
     match section.optional_number(key, 255)? {
         Some(number) => Ok(number as u8),
         None => Ok(standard),
+    }
+}
+
+fn threshold(section: &Section<'_>) -> Result<u32, ScenarioFault>
+    ensures { ReadsRequired (IsLimit (2 ^ 32 - 1) 0) (at_key Key.Threshold (table_view section.now.table.now)) (ScenarioFault.Refused section.now.place Key.Threshold) result }
+{
+    match section.optional_number(Key::Threshold, u64::from(u32::MAX))? {
+        Some(number) => Ok(number as u32),
+        None => Ok(0),
     }
 }

@@ -15,6 +15,7 @@ returns-in-Err-clause-refused c sizes are =
       prwl = c.in_ok-prwl.prwl;
       ka = c.in_ok-ka.ka;
       kp = c.in_ok-kp.kp;
+      threshold = c.in_ok-threshold.threshold;
     } in
     let read : AreSizes (table_view c.args.section.now.table.now) given = record {
       active = rw c.active.ensures.value at c.in_ok-active.ensures;
@@ -23,5 +24,15 @@ returns-in-Err-clause-refused c sizes are =
       prwl = rw c.prwl.ensures.value at c.in_ok-prwl.ensures;
       ka = rw c.ka.ensures.value at c.in_ok-ka.ensures;
       kp = rw c.kp.ensures.value at c.in_ok-kp.ensures;
+      threshold = c.in_ok-threshold.ensures;
     } in
-    absurd (cc (c.in-Err.ensures.accepted.1 (subst IsAllowed (AreSizes-same _ sizes given are.sizes_are read) are.allowed)))
+    let allowed : IsAllowed given = subst IsAllowed (AreSizes-same _ sizes given are.sizes_are read) are.allowed in
+    absurd (cc (c.in-Err.ensures.accepted.1 (record {
+      active_from = allowed.active_from;
+      active_to = allowed.active_to;
+      passive_from = allowed.passive_from;
+      passive_to = allowed.passive_to;
+      prwl_to = allowed.prwl_to;
+      arwl_to = allowed.arwl_to;
+      shuffle_to = allowed.shuffle_to;
+    })))
