@@ -1,7 +1,8 @@
-//! Broadcasts in a group of 64 Plumtree nodes. Without an argument it prints how many packets each of the first few takes, and
-//! with a count how long so many take.
+//! Broadcasts in a group of 64 Plumtree nodes. Without an argument it prints how many packets each of the first few takes, with a
+//! count how long so many take, and with `hops` and a threshold how far messages go where branches are swapped.
 #![tactic(auto)]
 
+mod hops;
 mod overlay;
 mod play;
 
@@ -10,6 +11,7 @@ use crate::play::broadcast;
 use anyhow::Result;
 use bytes::Bytes;
 use node_core::PlumCore;
+use node_names::Limits;
 use std::alloc::{AllocError, Global};
 use std::env;
 use std::io::Print;
@@ -65,8 +67,11 @@ fn measure<R: Print + Clock>(
 fn main(rt: HostRuntime) -> Result<()> {
     let alloc = rt.alloc();
     let words: Vec<String> = env::args(&rt)?.collect(alloc)?;
-    let mut group = started(alloc)?;
     let payload = payload(alloc)?;
+    if let Some(threshold) = words.get(2) {
+        return hops::measure(&rt, alloc, &payload, threshold.parse()?);
+    }
+    let mut group = started(alloc, Limits::STANDARD)?;
     match words.get(1) {
         Some(count) => measure(&rt, &mut group, &payload, count.parse()?),
         None => tell(&rt, &mut group, &payload),

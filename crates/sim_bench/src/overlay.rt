@@ -6,7 +6,7 @@ use std::alloc::Global;
 use world::{EventOf, World};
 
 /// How many nodes there are, in a ring.
-const NODES: usize = 64;
+pub(crate) const NODES: usize = 64;
 
 /// How far on a node's peers are: its neighbours in the ring, two that are further, and the one that is farthest.
 const STEPS: [usize; 5] = [1, 63, 8, 56, 32];
@@ -27,9 +27,9 @@ fn peers_of(alloc: Global, place: usize) -> Result<Listed<NodeName>> {
     Ok(peers)
 }
 
-/// The group with all nodes started.
-pub(crate) fn started(alloc: Global) -> Result<World<PlumCore>> {
-    let mut group = World::new(alloc, Limits::STANDARD);
+/// The group with all nodes started within these limits.
+pub(crate) fn started(alloc: Global, limits: Limits) -> Result<World<PlumCore>> {
+    let mut group = World::new(alloc, limits);
     for place in 0..NODES {
         group.apply(EventOf::Start {
             name: name_of(place)?,
