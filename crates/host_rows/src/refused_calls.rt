@@ -1,5 +1,5 @@
-//! The start and the broadcasts of a node, each allocation of them refused in turn: the call is refused for want of memory, and
-//! made again it answers as if nothing had been refused.
+//! The start and the broadcasts of a node, each allocation of them refused in turn: the call fails as out of memory, and made again
+//! it answers as if nothing had been refused.
 use crate::ends::broadcast;
 use crate::node::{Started, name, start_alone};
 use crate::texts::push_answer;
@@ -11,35 +11,15 @@ use std::process::Abort;
 use std::sync::Wait;
 use std::test::Fail;
 use std::thread::Threads;
-use test_support::{message, stop_refusing};
+use test_support::{message, stop_refusing, sweep};
 use world::CoreError;
-
-/// More allocations than any call has.
-const MANY: u64 = 200;
-
-/// Makes a call once for each of its allocations, which is refused, and at last with none refused. How many there are, or none if
-/// an answer is wrong. The call answers whether an allocation was refused, or none if something is wrong.
-pub(crate) fn sweep<F: FnMut(u64) -> Result<Option<bool>, HostError>>(
-    mut call: F,
-) -> Result<Option<u64>, HostError>
-    requires { F.IsAlwaysCallable call }
-{
-    for n in 1..MANY {
-        match call(n)? {
-            Some(true) => {}
-            Some(false) => return Ok(Some(n - 1)),
-            None => return Ok(None),
-        }
-    }
-    Ok(None)
-}
 
 /// Why a call was refused, if it was.
 fn refusal_of<T: Drop>(answer: Result<T, HostError>) -> Option<HostError> {
     answer.err()
 }
 
-/// Whether a start was refused for want of memory, in the core or behind it.
+/// Whether a start failed as out of memory, in the core or behind it.
 fn is_out_of_memory(error: HostError) -> bool {
     matches!(
         error,
@@ -72,7 +52,7 @@ fn refuse_start<A: Allocator + Copy>(
 #[test]
 fn each_allocation_of_a_start(rt: HostRuntime) -> Result<(), Fail> {
     let heap = RefusingAllocator::new(rt.alloc());
-    let refused = sweep(|n| Ok(refuse_start(&rt, &heap, &heap, n)))?.unwrap_or(0);
+    let refused = sweep(|n| Ok::<_, HostError>(refuse_start(&rt, &heap, &heap, n)))?.unwrap_or(0);
     assert!(rt;
         refused >= 5,
         "few allocations were refused, or a wrong answer: {refused}"

@@ -1,7 +1,6 @@
-//! The close of a node, each allocation of it refused in turn: it is refused for want of memory, and hands the whole trace back.
+//! The close of a node, each allocation of it refused in turn: it fails as out of memory, and hands the whole trace back.
 use crate::ends::{broadcast_by_each, close_without_ports, host_of, used_ports};
 use crate::node::{Started, start_alone};
-use crate::refused_calls::sweep;
 use crate::texts::push_answer;
 use node_threads::{Host, HostError, NodeCore, Port};
 use refusing_allocator::RefusingAllocator;
@@ -10,7 +9,7 @@ use std::process::Abort;
 use std::sync::Wait;
 use std::test::Fail;
 use std::thread::Threads;
-use test_support::stop_refusing;
+use test_support::{stop_refusing, sweep};
 
 /// What a close answers, and what it answers if it is refused.
 #[derive(Clone, Copy)]

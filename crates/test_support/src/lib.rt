@@ -9,4 +9,4 @@ mod refusals;
 pub use ids::{first_run, message};
 pub use lending::lend;
 pub use letters::push_letters;
-pub use refusals::stop_refusing;
+pub use refusals::{stop_refusing, sweep};

@@ -4,8 +4,6 @@
 #[cfg(test)]
 mod calls;
 #[cfg(test)]
-mod counting;
-#[cfg(test)]
 mod node;
 #[cfg(test)]
 mod row_sweeps;

@@ -1,6 +1,5 @@
-//! Rows in which each allocation of each call is refused in turn: the call is refused for want of memory, the node shows what it
-//! did before, and the call made again and all that follow answer as if nothing had been refused.
-use crate::counting::count_refusals;
+//! Rows in which each allocation of each call is refused in turn: the call fails as out of memory, the node shows what it did
+//! before, and the call made again and all that follow answer as if nothing had been refused.
 use crate::node::{parse_names, start_with_p};
 use crate::rows::{Row, Turn, rows};
 use crate::turns::{Act, Answer, Refusal, ask};
@@ -10,7 +9,7 @@ use refusing_allocator::RefusingAllocator;
 use std::alloc::Allocator;
 use std::process::Abort;
 use std::test::Fail;
-use test_support::{lend, stop_refusing};
+use test_support::{lend, stop_refusing, sweep};
 use world::Core;
 
 /// What a node and its link show.
@@ -141,7 +140,7 @@ fn refuse_of_fresh<A: Allocator + Copy>(
 fn each_allocation_of_each_row(rt: HostRuntime) -> Result<(), Fail> {
     let heap = RefusingAllocator::new(rt.alloc());
     for row in rows() {
-        let most = count_refusals(|n| refuse_of_fresh(&rt, &heap, &heap, row, n))?;
+        let most = sweep(|n| refuse_of_fresh(&rt, &heap, &heap, row, n))?;
         assert!(rt;
             most.is_some_and(|most| most >= row.allocations),
             "at {}: {most:?}",

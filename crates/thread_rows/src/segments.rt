@@ -1,5 +1,5 @@
-//! The history of a node, handed out in parts; and each allocation of that refused in turn: the refusal is for memory, the node
-//! shows what it did before, and asked again it hands out the same part.
+//! The history of a node, handed out in parts; and each allocation of that refused in turn: the call fails as out of memory, the
+//! node shows what it did before, and asked again it hands out the same part.
 use crate::calls::broadcast;
 use crate::node::start_with_p;
 use node_core::PlumCore;
@@ -9,11 +9,8 @@ use refusing_allocator::RefusingAllocator;
 use std::alloc::Allocator;
 use std::process::Abort;
 use std::test::Fail;
-use test_support::{lend, stop_refusing};
+use test_support::{lend, stop_refusing, sweep};
 use world::Core;
-
-/// More allocations than a part has.
-const MANY: u64 = 200;
 
 /// A part: the place of its first step, how many steps it has, and how many broadcasts the core has made at its end.
 #[derive(Clone, Copy)]
@@ -162,26 +159,10 @@ fn refuse_of_fresh<A: Allocator + Copy>(
     lend(cell, |cell| refuse_first(heap, alloc, cell, n))
 }
 
-/// Refuses each allocation in turn, and at last none. How many there are, or none if something is wrong.
-fn sweep<A: Allocator + Copy>(
-    rt: &impl Abort,
-    heap: &RefusingAllocator,
-    alloc: A,
-) -> Result<Option<u64>, HostError> {
-    for n in 1..MANY {
-        match refuse_of_fresh(rt, heap, alloc, n)? {
-            Some(true) => {}
-            Some(false) => return Ok(Some(n - 1)),
-            None => return Ok(None),
-        }
-    }
-    Ok(None)
-}
-
 #[test]
 fn each_allocation_of_a_part(rt: HostRuntime) -> Result<(), Fail> {
     let heap = RefusingAllocator::new(rt.alloc());
-    let refused = sweep(&rt, &heap, &heap)?.unwrap_or(0);
+    let refused = sweep(|n| refuse_of_fresh(&rt, &heap, &heap, n))?.unwrap_or(0);
     assert!(rt;
         refused >= 5,
         "few allocations were refused, or a wrong answer: {refused}"

@@ -1,6 +1,5 @@
-//! The start of a node and of a link, each allocation refused in turn: the start is refused for want of memory, and made again it
-//! is not.
-use crate::counting::count_refusals;
+//! The start of a node and of a link, each allocation refused in turn: the start fails as out of memory, and made again it does
+//! not.
 use crate::node::{parse_names, start_with_p};
 use node_core::PlumCore;
 use node_names::NodeName;
@@ -9,7 +8,7 @@ use refusing_allocator::RefusingAllocator;
 use std::alloc::Allocator;
 use std::process::Abort;
 use std::test::Fail;
-use test_support::{lend, stop_refusing};
+use test_support::{lend, stop_refusing, sweep};
 use world::CoreError;
 
 /// Why a start was refused, if it was.
@@ -17,7 +16,7 @@ fn refusal_of<T: Drop>(answer: Result<T, HostError>) -> Option<HostError> {
     answer.err()
 }
 
-/// Whether a start was refused for want of memory, in the core or behind it.
+/// Whether a start failed as out of memory, in the core or behind it.
 fn is_out_of_memory(error: HostError) -> bool {
     matches!(
         error,
@@ -83,8 +82,8 @@ fn refuse_opening_of_fresh<A: Allocator + Copy>(
 #[test]
 fn each_allocation_of_a_start(rt: HostRuntime) -> Result<(), Fail> {
     let heap = RefusingAllocator::new(rt.alloc());
-    let started = count_refusals(|n| Ok(refuse_start(&rt, &heap, &heap, n)))?;
-    let opened = count_refusals(|n| refuse_opening_of_fresh(&rt, &heap, &heap, n))?;
+    let started = sweep(|n| Ok::<_, HostError>(refuse_start(&rt, &heap, &heap, n)))?;
+    let opened = sweep(|n| refuse_opening_of_fresh(&rt, &heap, &heap, n))?;
     assert!(rt;
         started.is_some_and(|count| count >= 2) && opened.is_some_and(|count| count >= 2),
         "{started:?} of a start, {opened:?} of a link"

@@ -1,4 +1,4 @@
-//! A broadcast while two links are open, each growth refused in turn: the refusal is for want of memory, the node shows what it
+//! A broadcast while two links are open, each growth refused in turn: the broadcast fails as out of memory, the node shows what it
 //! did before, and the broadcast made again answers as if nothing had been refused.
 use crate::calls::{broadcast, is_reported, refusal};
 use crate::node::{Names, parse_names, start_with_both};
@@ -10,11 +10,8 @@ use refusing_allocator::RefusingAllocator;
 use std::alloc::{AllocError, Allocator};
 use std::process::Abort;
 use std::test::Fail;
-use test_support::{lend, stop_refusing};
+use test_support::{lend, stop_refusing, sweep};
 use world::Stimulus;
-
-/// More growths than a broadcast has.
-const MANY: u64 = 200;
 
 /// More frames than come out.
 const FRAMES: u64 = 9;
@@ -181,26 +178,10 @@ fn refuse_of_fresh<A: Allocator + Copy>(
     })
 }
 
-/// Refuses each growth in turn, and at last none. How many there are, or none if something is wrong.
-fn sweep<A: Allocator + Copy>(
-    rt: &impl Abort,
-    heap: &RefusingAllocator,
-    alloc: A,
-) -> Result<Option<u64>, HostError> {
-    for n in 1..MANY {
-        match refuse_of_fresh(rt, heap, alloc, n)? {
-            Some(true) => {}
-            Some(false) => return Ok(Some(n - 1)),
-            None => return Ok(None),
-        }
-    }
-    Ok(None)
-}
-
 #[test]
 fn each_growth_of_a_broadcast(rt: HostRuntime) -> Result<(), Fail> {
     let heap = RefusingAllocator::new(rt.alloc());
-    let refused = sweep(&rt, &heap, &heap)?.unwrap_or(0);
+    let refused = sweep(|n| refuse_of_fresh(&rt, &heap, &heap, n))?.unwrap_or(0);
     assert!(rt;
         refused >= 5,
         "few growths were refused, or a wrong answer: {refused}"
