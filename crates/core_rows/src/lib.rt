@@ -19,3 +19,5 @@ mod spent;
 mod sweeps;
 #[cfg(test)]
 mod texts;
+#[cfg(test)]
+mod tuned_rows;

@@ -3,6 +3,7 @@ use crate::act::{Act, event};
 use crate::named::id;
 use crate::rows::{Row, Turn, rows};
 use crate::texts::{Group, push_given, push_standing, push_told, push_views, push_whole};
+use crate::tuned_rows::tuned_rows;
 use node_names::{Limits, MsgId};
 use std::alloc::{AllocError, Allocator};
 use std::process::Abort;
@@ -164,4 +165,10 @@ fn play_rows<A: Allocator + Copy>(
 fn plays_rows(rt: HostRuntime) -> Result<(), Fail> {
     let mut text = String::new(rt.alloc());
     Ok(play_rows(&rt, rt.alloc(), &mut text, rows())?)
+}
+
+#[test]
+fn plays_tuned_rows(rt: HostRuntime) -> Result<(), Fail> {
+    let mut text = String::new(rt.alloc());
+    Ok(play_rows(&rt, rt.alloc(), &mut text, tuned_rows())?)
 }

@@ -4,6 +4,7 @@ use crate::act::{Act, event};
 use crate::play::{apply, asked, compare, compare_whole, happen, play};
 use crate::rows::{Row, Turn, rows};
 use crate::texts::{Group, push_whole};
+use crate::tuned_rows::tuned_rows;
 use node_names::{Limits, MsgId};
 use refusing_allocator::RefusingAllocator;
 use std::alloc::Allocator;
@@ -193,5 +194,15 @@ fn each_growth_of_each_event(rt: HostRuntime) -> Result<(), Fail> {
     let mut stood = String::new(rt.alloc());
     let refused = sweep_rows(&rt, &heap, &heap, &mut text, &mut stood, rows())?;
     assert!(rt; refused > 200, "few growths were refused: {refused}");
+    Ok(())
+}
+
+#[test]
+fn each_growth_of_each_tuned_event(rt: HostRuntime) -> Result<(), Fail> {
+    let heap = RefusingAllocator::new(rt.alloc());
+    let mut text = String::new(rt.alloc());
+    let mut stood = String::new(rt.alloc());
+    let refused = sweep_rows(&rt, &heap, &heap, &mut text, &mut stood, tuned_rows())?;
+    assert!(rt; refused > 100, "few growths were refused: {refused}");
     Ok(())
 }
