@@ -1,7 +1,8 @@
 -- The numbers that bound what a node keeps, how far its messages walk and how long a way they may take.
 use Rattle.std.specs.Prelude.{ℕ, ◌≤◌, ◌+◌}
 
--- The limits of a node, by the names that the papers on HyParView and Plumtree give them.
+-- The limits of a node, by the names that the papers on HyParView and Plumtree give them; and how many of the messages that
+-- it delivered last it keeps at least, where 0 stands for all.
 pub record Limits : Type 0 where
   pub active : ℕ
   pub passive : ℕ
@@ -10,6 +11,7 @@ pub record Limits : Type 0 where
   pub ka : ℕ
   pub kp : ℕ
   pub threshold : ℕ
+  pub keep : ℕ
 
 -- The limits that a node may have: 1 to 16 places in the active view and 1 to 64 in the passive one,
 -- walks of at most 32 steps, the passive length no greater than the active one, and at most 7 names

@@ -6,8 +6,8 @@ use std::error::Error;
 use std::fmt;
 use std::marker::Model;
 
-/// The sizes of a node's views, walks and shuffles, under the names that the HyParView paper gives them, and the threshold of
-/// Plumtree's optimisation by hop count.
+/// The sizes of a node's views, walks and shuffles, under the names that the HyParView paper gives them, the threshold of
+/// Plumtree's optimisation by hop count, and how many payloads a node keeps.
 ///
 /// A contract sees them as the record of these numbers, and each reader says that they are allowed.
 #[derive(Clone, Copy, Debug, PartialEq, Eq, Hash)]
@@ -19,6 +19,7 @@ pub struct Limits {
     ka: u8,
     kp: u8,
     threshold: u32,
+    keep: u32,
 }
 
 impl Model for Limits {
@@ -27,13 +28,13 @@ impl Model for Limits {
     ghost Value = { Sizes };
 
     ghost view = { λ a.
-        record { active = a.active; passive = a.passive; arwl = a.arwl; prwl = a.prwl; ka = a.ka; kp = a.kp; threshold = a.threshold } };
+        record { active = a.active; passive = a.passive; arwl = a.arwl; prwl = a.prwl; ka = a.ka; kp = a.kp; threshold = a.threshold; keep = a.keep } };
 
     ghost invariant = { λ a. IsAllowed (
-        record { active = a.active; passive = a.passive; arwl = a.arwl; prwl = a.prwl; ka = a.ka; kp = a.kp; threshold = a.threshold }) };
+        record { active = a.active; passive = a.passive; arwl = a.arwl; prwl = a.prwl; ka = a.ka; kp = a.kp; threshold = a.threshold; keep = a.keep }) };
 
     ghost inverse = { λ l.
-        record { active = l.active; passive = l.passive; arwl = l.arwl; prwl = l.prwl; ka = l.ka; kp = l.kp; threshold = l.threshold } };
+        record { active = l.active; passive = l.passive; arwl = l.arwl; prwl = l.prwl; ka = l.ka; kp = l.kp; threshold = l.threshold; keep = l.keep } };
 }
 
 /// Why numbers are no limits.
@@ -53,12 +54,13 @@ impl Limits {
         ka: 3,
         kp: 4,
         threshold: 0,
+        keep: 0,
     };
 
     /// The limits of these sizes.
     ///
     /// An active view has 1 to 16 places and a passive one 1 to 64. `prwl` is at most `arwl`, which is at
-    /// most 32. `ka` and `kp` are at most 7 together. The threshold is 0.
+    /// most 32. `ka` and `kp` are at most 7 together. The threshold is 0, and all payloads are kept.
     pub fn new(
         active: u8,
         passive: u8,
@@ -68,9 +70,9 @@ impl Limits {
         kp: u8,
     ) -> Result<Limits, LimitsFault>
         ensures ok { IfOk result (λ limits. limits ≡
-            record { active = active; passive = passive; arwl = arwl; prwl = prwl; ka = ka; kp = kp; threshold = 0 }) }
+            record { active = active; passive = passive; arwl = arwl; prwl = prwl; ka = ka; kp = kp; threshold = 0; keep = 0 }) }
         ensures accepted { IsOk result ↔ IsAllowed (
-            record { active = active; passive = passive; arwl = arwl; prwl = prwl; ka = ka; kp = kp; threshold = 0 }) }
+            record { active = active; passive = passive; arwl = arwl; prwl = prwl; ka = ka; kp = kp; threshold = 0; keep = 0 }) }
     {
         let views = 1 <= active && active <= 16 && 1 <= passive && passive <= 64;
         let walks = prwl <= arwl && arwl <= 32;
@@ -86,6 +88,7 @@ impl Limits {
             ka,
             kp,
             threshold: 0,
+            keep: 0,
         })
     }
 
@@ -94,6 +97,13 @@ impl Limits {
         ensures { result ≡ record self { threshold = threshold } }
     {
         Limits { threshold, ..self }
+    }
+
+    /// The same limits with this number of payloads that a node keeps. With 0 it keeps all of them.
+    pub fn keeping(self, keep: u32) -> Limits
+        ensures { result ≡ record self { keep = keep } }
+    {
+        Limits { keep, ..self }
     }
 
     /// The number of places in the active view.
@@ -153,10 +163,18 @@ impl Limits {
     {
         self.threshold
     }
+
+    /// How many payloads a node keeps at least, those of the messages that it delivered last; 0 where it keeps all.
+    pub fn keep(&self) -> u32
+        ensures value { result ≡ self.now.keep }
+        ensures allowed { IsAllowed self.now }
+    {
+        self.keep
+    }
 }
 
 impl Default for Limits {
-    ghost is_default = { λ l. l ≡ record { active = 5; passive = 30; arwl = 6; prwl = 3; ka = 3; kp = 4; threshold = 0 } };
+    ghost is_default = { λ l. l ≡ record { active = 5; passive = 30; arwl = 6; prwl = 3; ka = 3; kp = 4; threshold = 0; keep = 0 } };
 
     fn default() -> Limits {
         Limits::STANDARD

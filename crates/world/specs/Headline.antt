@@ -20,5 +20,5 @@ pub record Headline {C N : Type 0} (state : C → CoreState) (content : N → Co
   pub once : Once (reverse world.log)
   pub views : ViewsAreSound state world.limits world.group
   pub parents : HaveParents world.group.sent (reverse world.log)
-  pub carried : (id : MsgId) → IsUndisturbed state (reverse world.log) world.group id → IsCarriedOn state content world.group id
-  pub delivered : IsDeliveredInReach state content (reverse world.log) world.group
+  pub carried : (id : MsgId) → IsUndisturbed state world.limits.keep (reverse world.log) world.group id → IsCarriedOn state content world.group id
+  pub delivered : IsDeliveredInReach state content world.limits.keep (reverse world.log) world.group

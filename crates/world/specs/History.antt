@@ -1,11 +1,12 @@
 -- What a history says of nodes and messages. A history is the log's entries, the newest first.
-use Rattle.std.specs.Prelude.{◌≡◌, ◌⊎◌, ℕ, suc, List, [], ◌∷◌, ◌++◌, Option, Some, None, if◌then◌else◌}
+use Rattle.std.specs.Prelude.{◌≡◌, ◌⊎◌, ℕ, suc, List, [], ◌∷◌, ◌++◌, Option, Some, None, filter, if◌then◌else◌}
 use Rattle.node_names.specs.NodeName.{Name}
-use Rattle.node_names.specs.Same.{same_name}
+use Rattle.node_names.specs.Same.{same_name, same_origin}
 use Rattle.node_names.specs.declared.ids.Incarnation.{Incarnation}
 use Rattle.node_names.specs.declared.ids.MsgId.{MsgId}
 use Rattle.node_names.specs.declared.ids.Origin.{Origin}
 use Rattle.world.specs.Delivery.{Delivery}
+use Rattle.world.specs.DeliveryLaw.{ids}
 use Rattle.world.specs.Entry.{Entry}
 use Rattle.world.specs.Event.{Event}
 use Rattle.world.specs.declared.event.EventOf.TheVariants.{Start, Broadcast, Arrive, Lose, Again, Fire, Flush, Down, Shuffle, Stop}
@@ -78,3 +79,7 @@ HasDelivery (d ∷ given) node id = ((d.node ≡ node) × (d.id ≡ id)) ⊎ Has
 -- This run of the node delivered the message.
 abbrev pub Delivered : List Entry → Origin → MsgId → Type 0
 Delivered history node id = HasDelivery (deliveries history) node id
+
+-- the ids of what this run of a node delivered, in order
+abbrev pub delivered_by : Origin → List Delivery → List MsgId
+delivered_by node given = ids (filter (λ d. same_origin node d.node) given)

@@ -1,5 +1,5 @@
 -- What a core holds, and how it answers.
-use Rattle.std.specs.Prelude.{◌≡◌, ◌⊎◌, ℕ, List, Some, true, IsSome, count_by}
+use Rattle.std.specs.Prelude.{◌≡◌, ◌⊎◌, ◌↔◌, ◌<◌, ◌≤◌, ℕ, List, [], ◌++◌, Some, true, IsSome, count_by, length}
 use Rattle.std.specs.List.{AllByRecursion as Each}
 use Rattle.node_names.specs.NodeName.{Name}
 use Rattle.node_names.specs.declared.ids.MsgId.{MsgId}
@@ -15,6 +15,23 @@ use Rattle.world.specs.declared.stimulus.StimulusOf.TheVariants.{Broadcast, Arri
 -- What a core has, it holds.
 abbrev pub HoldsWhatItHas : CoreState → Type 0
 HoldsWhatItHas core = (id : MsgId) → core.has id ≡ true → IsSome (core.payload id)
+
+-- The messages that a core holds are those that it lists.
+abbrev pub HoldsWhatItLists : CoreState → Type 0
+HoldsWhatItLists core = (id : MsgId) → IsSome (core.payload id) ↔ IsOneOf id core.held
+
+-- Of all these messages, in order of delivery, the last ones are held: all of them, or at least as many as are to be kept,
+-- where 0 stands for all.
+pub record AreLast (keep : ℕ) (all held : List MsgId) : Type 0 where
+  pub forgotten : List MsgId
+  pub in_order : all ≡ forgotten ++ held
+  pub enough : (forgotten ≡ []) ⊎ ((0 < keep) × (keep ≤ length held))
+
+-- A step lists what it delivers last. Only then ids leave the list, from its front, and only while there are more of them than
+-- are to be kept.
+pub record KeepsLast (keep : ℕ) (before delivered after : List MsgId) : Type 0 where
+  pub last : AreLast keep (before ++ delivered) after
+  pub stays : delivered ≡ [] → after ≡ before
 
 -- The stimulus is a packet by which the name asks for the id.
 abbrev pub IsAskedBy : {N : Type 0} → (N → Content) → Stimulus N → MsgId → Name → Type 0

@@ -9,8 +9,8 @@ use Rattle.world.specs.AskLaw.{AskLaw}
 use Rattle.world.specs.Content.{Content}
 use Rattle.world.specs.CoreState.{CoreState}
 use Rattle.world.specs.Delivery.{Delivery}
-use Rattle.world.specs.DeliveryLaw.{DeliveryLaw, HasCountedIds}
-use Rattle.world.specs.HoldLaw.{HoldLaw, HoldsWhatItHas}
+use Rattle.world.specs.DeliveryLaw.{DeliveryLaw, HasCountedIds, ids}
+use Rattle.world.specs.HoldLaw.{HoldLaw, HoldsWhatItHas, HoldsWhatItLists, KeepsLast}
 use Rattle.world.specs.IdentityLaw.{IdentityLaw}
 use Rattle.world.specs.PayloadLaw.{PayloadLaw}
 use Rattle.world.specs.Peers.{are_peers}
@@ -32,6 +32,7 @@ pub record StartLaws {N : Type 0} (content : N → Content) (me : Origin) (peers
   pub is_me : core.me ≡ me
   pub has_nothing : (id : MsgId) → core.has id ≡ false
   pub holds_nothing : (id : MsgId) → core.payload id ≡ None
+  pub lists_nothing : core.held ≡ []
   pub active_are_peers : core.active ≡ peers
   pub passive_is_empty : core.passive ≡ []
   pub queue_is_empty : core.queued ≡ []
@@ -41,11 +42,12 @@ pub record StartLaws {N : Type 0} (content : N → Content) (me : Origin) (peers
   pub sends_to_others : Each (λ send. send.0 ≢ me.name) sends
   pub sends_silent : Each (λ send. IsSilent (content send.1)) sends
 
--- What holds of a core at any time.
+-- What holds of a core at any time. Where all messages are to be kept, it holds all that it has.
 pub record StateLaws (limits : Limits) (core : CoreState) : Type 0 where
   pub views : SoundViews limits core
   pub counted : HasCountedIds core
-  pub holds : HoldsWhatItHas core
+  pub holds : limits.keep ≡ 0 → HoldsWhatItHas core
+  pub lists : HoldsWhatItLists core
   pub queue : SoundQueue core
   pub wants : SoundWants core
 
@@ -61,7 +63,8 @@ pub record StepLaws {N : Type 0} (content : N → Content) (before : CoreState) 
   pub asks : AskLaw content before stimulus sends given after
   pub holds : HoldLaw content before stimulus sends given
 
--- The starts and steps of a core meet the laws wherever packets come from others, and lead from sound cores to sound ones.
+-- The starts and steps of a core meet the laws wherever packets come from others, and lead from sound cores to sound ones; and
+-- each step leaves at least as many of the messages that were delivered last as the limits say.
 pub record Laws
     {C N : Type 0}
     (state : C → CoreState)
@@ -74,4 +77,5 @@ pub record Laws
   pub start_sound : (me : Origin) (limits : Limits) (peers : List Name) (contact : Option Name) (sends : List (Name × N)) (core : C) → IsTrue (are_peers limits me.name peers contact) → starts me limits peers contact sends core → is_sound limits core
   pub always : (limits : Limits) (core : C) → is_sound limits core → StateLaws limits (state core)
   pub step : (limits : Limits) (old : C) (stimulus : Stimulus N) (sends : List (Name × N)) (given : List Delivery) (new : C) → is_sound limits old → IsNotFrom (state old).me.name stimulus → steps old stimulus sends given new → StepLaws content (state old) stimulus sends given (state new)
+  pub keeps : (limits : Limits) (old : C) (stimulus : Stimulus N) (sends : List (Name × N)) (given : List Delivery) (new : C) → is_sound limits old → IsNotFrom (state old).me.name stimulus → steps old stimulus sends given new → KeepsLast limits.keep (state old).held (ids given) (state new).held
   pub step_sound : (limits : Limits) (old : C) (stimulus : Stimulus N) (sends : List (Name × N)) (given : List Delivery) (new : C) → is_sound limits old → IsNotFrom (state old).me.name stimulus → steps old stimulus sends given new → is_sound limits new

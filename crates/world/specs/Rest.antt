@@ -1,5 +1,5 @@
 -- When a run is undisturbed for a message, when it is at rest for it, and who gave it to whom.
-use Rattle.std.specs.Prelude.{◌≡◌, ◌≢◌, ◌⊎◌, ℕ, List, [], ◌∷◌, Option, Some, None, false, slice_get}
+use Rattle.std.specs.Prelude.{◌≡◌, ◌≢◌, ◌⊎◌, ◌<◌, ◌≤◌, ℕ, List, [], ◌∷◌, ◌++◌, Option, Some, None, false, length, slice_get}
 use Rattle.std.specs.List.{AllByRecursion as Each}
 use Rattle.std.specs.Option.{IfSome}
 use Rattle.node_names.specs.NodeName.{Name}
@@ -7,10 +7,11 @@ use Rattle.node_names.specs.declared.ids.MsgId.{MsgId}
 use Rattle.node_names.specs.declared.ids.Origin.{Origin}
 use Rattle.world.specs.Content.{Content}
 use Rattle.world.specs.CoreState.{CoreState}
+use Rattle.world.specs.Delivery.{Delivery}
 use Rattle.world.specs.Entry.{Entry}
 use Rattle.world.specs.Event.{Event}
 use Rattle.world.specs.Group.{Group, node_of, origin_of}
-use Rattle.world.specs.History.{Delivered, HasDelivery, Says}
+use Rattle.world.specs.History.{Delivered, HasDelivery, Says, deliveries, delivered_by}
 use Rattle.world.specs.Links.{IsSymmetric, Reaches, Runs}
 use Rattle.world.specs.Lists.{IsOneOf}
 use Rattle.world.specs.declared.event.EventOf.TheVariants.{Start, Broadcast, Arrive, Lose, Again, Fire, Flush, Down, Shuffle, Stop}
@@ -39,10 +40,16 @@ abbrev pub SaidAndCalm : List Entry → MsgId → Type 0
 SaidAndCalm [] id = ⊥
 SaidAndCalm (entry ∷ past) id = IsSaying entry.event past id ⊎ (IsCalm entry.event × (entry.moved ≡ false) × SaidAndCalm past id)
 
--- The run is undisturbed for the message: it was said, all was calm from then on, and the links go both ways.
-pub record IsUndisturbed {C N : Type 0} (state : C → CoreState) (history : List Entry) (group : Group C N) (id : MsgId) : Type 0 where
+-- No run of a node delivered more than so many messages from its delivery of this one on, this one counted.
+abbrev pub AreFewSince : ℕ → List Delivery → MsgId → Type 0
+AreFewSince keep given id = (node : Origin) (earlier later : List MsgId) → delivered_by node given ≡ earlier ++ id ∷ later → length (id ∷ later) ≤ keep
+
+-- The run is undisturbed for the message: it was said, all was calm from then on, and the links go both ways; and where not all
+-- messages are to be kept, no node delivered more than are kept since it delivered this one.
+pub record IsUndisturbed {C N : Type 0} (state : C → CoreState) (keep : ℕ) (history : List Entry) (group : Group C N) (id : MsgId) : Type 0 where
   pub calm : SaidAndCalm history id
   pub symmetric : IsSymmetric state group
+  pub few : 0 < keep → AreFewSince keep (deliveries history) id
 
 -- The packet neither carries nor announces nor asks for the message.
 pub record IsSilentOn (content : Content) (id : MsgId) : Type 0 where
@@ -77,5 +84,5 @@ DeliveredAt {C} group history name id = (node : NodeState C) × (core : C) × (n
 
 -- Wherever the run is undisturbed for a message and the group is at rest for it, every node in reach of its origin has
 -- delivered it.
-abbrev pub IsDeliveredInReach : {C N : Type 0} → (C → CoreState) → (N → Content) → List Entry → Group C N → Type 0
-IsDeliveredInReach state content history group = (id : MsgId) → IsUndisturbed state history group id → IsAtRest state content group id → (name : Name) → Reaches state group id.origin.name name → DeliveredAt group history name id
+abbrev pub IsDeliveredInReach : {C N : Type 0} → (C → CoreState) → (N → Content) → ℕ → List Entry → Group C N → Type 0
+IsDeliveredInReach state content keep history group = (id : MsgId) → IsUndisturbed state keep history group id → IsAtRest state content group id → (name : Name) → Reaches state group id.origin.name name → DeliveredAt group history name id

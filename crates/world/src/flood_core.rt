@@ -335,6 +335,10 @@ impl<A: Allocator + Copy> Core<A> for FloodCore<A> {
         self.held.get(id)
     }
 
+    fn held(&self) -> &[MsgId] {
+        self.held.keys().as_slice()
+    }
+
     fn active(&self) -> &NameSet<A> {
         &self.peers
     }

@@ -179,6 +179,10 @@ pub trait Core<A: Allocator>: Sized + Drop {
     fn payload(&self, id: &MsgId) -> Option<&Bytes<A>>
         ensures { option_copied result ≡ (state self.now).payload id.now };
 
+    /// The ids of the messages that it holds, in order of delivery.
+    fn held(&self) -> &[MsgId]
+        ensures { result.now ≡ (state self.now).held };
+
     /// The names that it keeps links to.
     fn active(&self) -> &NameSet<A>
         ensures { result.now.keys ≡ (state self.now).active };
