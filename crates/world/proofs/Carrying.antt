@@ -273,28 +273,27 @@ module _
         go (Down gone dice) leaves = keeps_queue leaves.1
         go (Shuffle dice) leaves = keeps_queue leaves.1
 
-    -- who asks for it gets it
-    answered : (peer : Name) → old.has id ≡ true → Comes (AsksForIt id) peer name → (note : N) × IsOneOf (peer, note) step.acts.sends × CarriesIt id (content note)
-    answered peer had comes =
-        let held : IsSome (old.payload id) = (laws.always limits step.acts.old step.core.sound).holds id had in
+    -- who asks for it gets it, where it is held
+    answered : (peer : Name) → IsSome (old.payload id) → Comes (AsksForIt id) peer name → (note : N) × IsOneOf (peer, note) step.acts.sends × CarriesIt id (content note)
+    answered peer held comes =
         let asked : IsAskedBy content by id peer = subst (λ s. IsAskedBy content s id peer) (sym comes.arrives) (comes.is_such, sym comes.of_sender) in
         let once : packets_carrying content id peer step.acts.sends ≡ 1 = (step.lawful.holds.answers id peer asked held).0 in
         carrying_one content id peer step.acts.sends (omega arith)
 
     -- so what is under way from it to another stays under way
-    sender_moves : (peer : Name) (other : CoreState) → (peer ≡ name → ⊥) → has_name new.active peer ≡ true → old.has id ≡ true → IsUnderWay content before.sent before.flight id name peer old other → IsUnderWay content after.sent after.flight id name peer new other
-    sender_moves peer other differs member had (Carried flight) = Carried (flies_elsewhere (CarriesIt id) name peer differs flight)
-    sender_moves peer other differs member had (Queued queued) =
+    sender_moves : (peer : Name) (other : CoreState) → (peer ≡ name → ⊥) → has_name new.active peer ≡ true → IsSome (old.payload id) → IsUnderWay content before.sent before.flight id name peer old other → IsUnderWay content after.sent after.flight id name peer new other
+    sender_moves peer other differs member held (Carried flight) = Carried (flies_elsewhere (CarriesIt id) name peer differs flight)
+    sender_moves peer other differs member held (Queued queued) =
         elim (queue_goes_on peer member queued) [
           | inl still ↦ Queued still
           | inr sent ↦ Announced (sends_fly (AnnouncesIt id) peer sent.0 sent.1 sent.2)
         ]
-    sender_moves peer other differs member had (Announced flight) = Announced (flies_elsewhere (AnnouncesIt id) name peer differs flight)
-    sender_moves peer other differs member had (Wanted wanted) = Wanted wanted
-    sender_moves peer other differs member had (Asked flight) =
+    sender_moves peer other differs member held (Announced flight) = Announced (flies_elsewhere (AnnouncesIt id) name peer differs flight)
+    sender_moves peer other differs member held (Wanted wanted) = Wanted wanted
+    sender_moves peer other differs member held (Asked flight) =
         elim (flies_on (AsksForIt id) peer name flight) [
           | inl on ↦ Asked on
-          | inr comes ↦ (let sent = answered peer had comes in Carried (sends_fly (CarriesIt id) peer sent.0 sent.1 sent.2))
+          | inr comes ↦ (let sent = answered peer held comes in Carried (sends_fly (CarriesIt id) peer sent.0 sent.1 sent.2))
         ]
 
     -- a message that it delivers gets under way to each other active member that did not send it
@@ -409,8 +408,8 @@ module _
         ]
 
     -- what was carried on is carried on, where the step moves no active view
-    carried_after : entry.moved ≡ false → ((core : C) → Runs before id.origin.name core → (state core).has id ≡ true) → SendersHave state content before id → IsCarriedOn state content before id → IsCarriedOn state content after id
-    carried_after calm origin senders carried one two first second runs_first runs_second member back has lacks = go (runs_after one first runs_first) (runs_after two second runs_second)
+    carried_after : (old.has id ≡ true → IsSome (old.payload id)) → entry.moved ≡ false → ((core : C) → Runs before id.origin.name core → (state core).has id ≡ true) → SendersHave state content before id → IsCarriedOn state content before id → IsCarriedOn state content after id
+    carried_after held calm origin senders carried one two first second runs_first runs_second member back has lacks = go (runs_after one first runs_first) (runs_after two second runs_second)
       where
         same : SameNames old.active new.active
         same = step.acts.moved.0 calm
@@ -426,7 +425,7 @@ module _
 
             by_has : (b : Bool) → old.has id ≡ b → IsUnderWay content after.sent after.flight id one two (state first) (state second)
             by_has true had =
-                moved (sender_moves two (state second) differs member_new had
+                moved (sender_moves two (state second) differs member_new (held had)
                 (carried name two step.acts.old second runs_old runs (same two ∙ member_new) (subst (λ n. has_name (state second).active n ≡ true) here back) had lacks))
             by_has false had = moved (spreads two second member_new had (subst (λ c. (state c).has id ≡ true) (sym this) has) lacks runs senders)
 
@@ -444,9 +443,9 @@ module _
         go (inr here) (inl there) = receiver there.0 there.1 here.0 here.1
         go (inr here) (inr there) = bystanders one two (state first) (state second) here.0 there.0 (carried one two first second here.1 there.1 member back has lacks)
 
-    -- so a step that moves no active view carries the message on
-    pub step_carries : entry.moved ≡ false → Carries state content before id → Carries state content after id
-    step_carries calm c =
+    -- so a step that moves no active view carries the message on, where the core that steps holds it once it has it
+    pub step_carries : (old.has id ≡ true → IsSome (old.payload id)) → entry.moved ≡ false → Carries state content before id → Carries state content after id
+    step_carries held calm c =
         record {
           origin_runs = origin_runs (same_name id.origin.name name) refl;
           origin_has = λ core runs. elim (runs_after id.origin.name core runs) [
@@ -454,7 +453,7 @@ module _
             | inr there ↦ c.origin_has core there.1
           ];
           senders_have = senders_after c.senders_have;
-          carried_on = carried_after calm c.origin_has c.senders_have c.carried_on;
+          carried_on = carried_after held calm c.origin_has c.senders_have c.carried_on;
         }
       where
         origin_runs : (b : Bool) → same_name id.origin.name name ≡ b → IsRunning after id.origin.name

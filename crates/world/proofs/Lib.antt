@@ -6,6 +6,7 @@ pub mod FloodMoves
 pub mod Flights
 mod Flying
 pub mod GivenLemmas
+pub mod Holding
 pub mod Kept
 pub mod NameSets
 pub mod NodeLemmas

@@ -1,7 +1,7 @@
 -- An undisturbed run carries a message on, and where the group is at rest for it all in reach have delivered it.
-use Rattle.std.proofs.Common.{◌≡◌, ◌∙◌, ◌+◌, ℕ, zero, suc, List, [], ◌∷◌, true, false, sym, ap, refl, subst, inl, inr, arith}
+use Rattle.std.proofs.Common.{◌≡◌, ◌∙◌, ◌+◌, ◌<◌, ℕ, zero, suc, List, [], ◌∷◌, true, false, sym, ap, refl, subst, inl, inr, arith}
 use Rattle.std.specs.Option.{IfSome}
-use Rattle.std.specs.Prelude.{◌≢◌, Bool, Option, Some, slice_get}
+use Rattle.std.specs.Prelude.{◌≢◌, Bool, IsSome, Option, Some, slice_get}
 use Rattle.node_names.specs.NodeName.{Name}
 use Rattle.node_names.specs.Limits.{Limits}
 use Rattle.node_names.specs.Same.{has_name}
@@ -13,11 +13,12 @@ use Rattle.world.specs.Delivery.{Delivery}
 use Rattle.world.specs.Entry.{Entry}
 use Rattle.world.specs.Event.{Event}
 use Rattle.world.specs.Group.{Group, origin_of}
-use Rattle.world.specs.History.{Said, Says, broadcasts_of}
+use Rattle.world.specs.History.{Said, Says, broadcasts_of, deliveries, delivered_by}
+use Rattle.world.specs.HoldLaw.{AreLast}
 use Rattle.world.specs.Laws.{Laws}
 use Rattle.world.specs.Links.{IsRunning, Linked, Path, Runs}
 use Rattle.world.specs.Lists.{IsOneOf}
-use Rattle.world.specs.Rest.{IsAtRest, IsCalm, IsDeliveredInReach, IsSilentOn, IsUndisturbed, SaidAndCalm}
+use Rattle.world.specs.Rest.{AreFewSince, IsAtRest, IsCalm, IsDeliveredInReach, IsSilentOn, IsUndisturbed, SaidAndCalm}
 use Rattle.world.specs.Run.{Effect, Run}
 use Rattle.world.specs.Stimulus.{Stimulus}
 use Rattle.world.specs.UnderWay.{IsCarriedOn, IsUnderWay, Carried, Queued, Announced, Wanted, Asked}
@@ -28,6 +29,7 @@ use Rattle.world.specs.declared.stimulus.StimulusOf.TheVariants as stimulus
 use Rattle.world.proofs.Carrying.{Carries, flies_carries, says_carries, step_carries}
 use Rattle.world.proofs.Delivering.{delivered_said, run_has}
 use Rattle.world.proofs.Flying.{each_one}
+use Rattle.world.proofs.Holding.{few_then, held_last, is_by, run_lists}
 use Rattle.world.proofs.Kept.{Keeps, KeepsPacket, each-at, highest_of-found}
 use Rattle.world.proofs.Runs.{are_fresh, run_keeps}
 use Rattle.world.proofs.Sayings.{not_again, said_counted}
@@ -52,18 +54,18 @@ module _
     (limits : Limits)
   where
     module _ (id : MsgId) (past : List Entry) (entry : Entry) (before after : Group C N) (kept : Keeps state content is_sound limits past before.nodes before.sent) where
-      -- an event that is calm carries the message on
-      event_carries : (event : Event) → IsCalm event → entry.moved ≡ false → Effect state starts steps limits before entry after event → Carries state content before id → Carries state content after id
-      event_carries (Broadcast name payload) calm still effect = step_carries state content is_sound starts steps laws limits past entry before after _ _ (broadcast_step state content is_sound starts steps laws limits past entry before after kept name payload effect.1) id still
-      event_carries (Arrive place dice) calm still effect = step_carries state content is_sound starts steps laws limits past entry before after _ _ (arrive_step state content is_sound starts steps laws limits past entry before after kept place dice effect) id still
-      event_carries (Again number) calm still effect = flies_carries state content entry before after id (number ∷ []) effect.others effect.flight
-      event_carries (Fire name fired) calm still effect = step_carries state content is_sound starts steps laws limits past entry before after _ _ (fire_step state content is_sound starts steps laws limits past entry before after kept name fired effect.1) id still
-      event_carries (Flush name) calm still effect = step_carries state content is_sound starts steps laws limits past entry before after _ _ (flush_step state content is_sound starts steps laws limits past entry before after kept name effect.1) id still
-      event_carries (Shuffle name dice) calm still effect = step_carries state content is_sound starts steps laws limits past entry before after _ _ (shuffle_step state content is_sound starts steps laws limits past entry before after kept name dice effect.1) id still
-      event_carries (Start name incarnation peers contact) calm still effect = absurd calm
-      event_carries (Lose place) calm still effect = absurd calm
-      event_carries (Down name peer dice) calm still effect = absurd calm
-      event_carries (Stop name) calm still effect = absurd calm
+      -- an event that is calm carries the message on, where all who have it hold it
+      event_carries : ((name : Name) (core : C) → Runs before name core → (state core).has id ≡ true → IsSome ((state core).payload id)) → (event : Event) → IsCalm event → entry.moved ≡ false → Effect state starts steps limits before entry after event → Carries state content before id → Carries state content after id
+      event_carries held (Broadcast name payload) calm still effect = step_carries state content is_sound starts steps laws limits past entry before after _ _ (broadcast_step state content is_sound starts steps laws limits past entry before after kept name payload effect.1) id (held name effect.1.old (effect.1.node, effect.1.known, effect.1.running)) still
+      event_carries held (Arrive place dice) calm still effect = step_carries state content is_sound starts steps laws limits past entry before after _ _ (arrive_step state content is_sound starts steps laws limits past entry before after kept place dice effect) id (held effect.packet.to effect.acts.old (effect.acts.node, effect.acts.known, effect.acts.running)) still
+      event_carries held (Again number) calm still effect = flies_carries state content entry before after id (number ∷ []) effect.others effect.flight
+      event_carries held (Fire name fired) calm still effect = step_carries state content is_sound starts steps laws limits past entry before after _ _ (fire_step state content is_sound starts steps laws limits past entry before after kept name fired effect.1) id (held name effect.1.old (effect.1.node, effect.1.known, effect.1.running)) still
+      event_carries held (Flush name) calm still effect = step_carries state content is_sound starts steps laws limits past entry before after _ _ (flush_step state content is_sound starts steps laws limits past entry before after kept name effect.1) id (held name effect.1.old (effect.1.node, effect.1.known, effect.1.running)) still
+      event_carries held (Shuffle name dice) calm still effect = step_carries state content is_sound starts steps laws limits past entry before after _ _ (shuffle_step state content is_sound starts steps laws limits past entry before after kept name dice effect.1) id (held name effect.1.old (effect.1.node, effect.1.known, effect.1.running)) still
+      event_carries held (Start name incarnation peers contact) calm still effect = absurd calm
+      event_carries held (Lose place) calm still effect = absurd calm
+      event_carries held (Down name peer dice) calm still effect = absurd calm
+      event_carries held (Stop name) calm still effect = absurd calm
 
       -- the message that a broadcast says is its core's next one
       broadcast_says : (name : Name) (payload p : List ℕ) (step : IsStep state content is_sound starts steps laws limits past entry before after name (stimulus.Broadcast payload)) → Says (Broadcast name payload) past id p → id ≡ record { origin = (state step.acts.old).me; seq = (state step.acts.old).count + 1 }
@@ -108,21 +110,31 @@ module _
             let said = delivered_said history (origin_of runs.0) id (run_keeps state content is_sound starts steps laws limits history group run).honest (run_has state content is_sound starts steps laws limits history group run other runs.0 core runs.1 runs.2 id is) in
             absurd (unsaid said.0 said.1)
 
+    -- where few messages were delivered since, all who have one hold it
+    run_holds : (id : MsgId) (history : List Entry) (group : Group C N) → Run state starts steps limits history group → (0 < limits.keep → AreFewSince limits.keep (deliveries history) id) → (name : Name) (core : C) → Runs group name core → (state core).has id ≡ true → IsSome ((state core).payload id)
+    run_holds id history group run few name core runs had =
+        let sound : is_sound limits core = ((run_keeps state content is_sound starts steps laws limits history group run).cores name runs.0 core runs.1 runs.2).sound in
+        let last : AreLast limits.keep (delivered_by (origin_of runs.0) (deliveries history)) (state core).held = run_lists state content is_sound starts steps laws limits history group run name runs.0 core runs.1 runs.2 in
+        let delivered : IsOneOf id (delivered_by (origin_of runs.0) (deliveries history)) = is_by (origin_of runs.0) (deliveries history) id (run_has state content is_sound starts steps laws limits history group run name runs.0 core runs.1 runs.2 id had) in
+        ((laws.always limits core sound).lists id).1 (held_last limits.keep (delivered_by (origin_of runs.0) (deliveries history)) (state core).held id last (λ some earlier later is. few some (origin_of runs.0) earlier later is) delivered)
+
     -- so an undisturbed run carries its message on
-    run_carries : (id : MsgId) (history : List Entry) (group : Group C N) → Run state starts steps limits history group → SaidAndCalm history id → Carries state content group id
-    run_carries id [] group run calm = absurd calm
-    run_carries id (entry ∷ past) group run calm =
+    run_carries : (id : MsgId) (history : List Entry) (group : Group C N) → Run state starts steps limits history group → SaidAndCalm history id → (0 < limits.keep → AreFewSince limits.keep (deliveries history) id) → Carries state content group id
+    run_carries id [] group run calm few = absurd calm
+    run_carries id (entry ∷ past) group run calm few =
         elim calm [
           | inl saying ↦ (
               let unsaid : (q : List ℕ) → Said past id q → ⊥ = λ q said. not_again id saying.0 past entry.event saying.1 (said_counted id q past (are_fresh state content is_sound starts steps laws limits past run.0 run.1) said) in
               saying_carries id past entry run.0 group (run_keeps state content is_sound starts steps laws limits past run.0 run.1) entry.event unsaid (none_has id past run.0 run.1 unsaid) saying.0 saying.1 run.2.1)
-          | inr on ↦ event_carries id past entry run.0 group (run_keeps state content is_sound starts steps laws limits past run.0 run.1) entry.event on.0 on.1 run.2.1 (run_carries id past run.0 run.1 on.2)
+          | inr on ↦ (
+              let few_before : 0 < limits.keep → AreFewSince limits.keep (deliveries past) id = λ some. few_then limits.keep id (deliveries past) entry.given (few some) in
+              event_carries id past entry run.0 group (run_keeps state content is_sound starts steps laws limits past run.0 run.1) (run_holds id past run.0 run.1 few_before) entry.event on.0 on.1 run.2.1 (run_carries id past run.0 run.1 on.2 few_before))
         ]
 
     module _ (history : List Entry) (group : Group C N) (run : Run state starts steps limits history group) where
       -- in an undisturbed run the message is carried on
-      pub carried_on : (id : MsgId) → IsUndisturbed state history group id → IsCarriedOn state content group id
-      carried_on id undisturbed = (run_carries id history group run undisturbed.calm).carried_on
+      pub carried_on : (id : MsgId) → IsUndisturbed state limits.keep history group id → IsCarriedOn state content group id
+      carried_on id undisturbed = (run_carries id history group run undisturbed.calm undisturbed.few).carried_on
 
       -- at rest every packet in flight is silent on the message
       flies_silent : (id : MsgId) → IsAtRest state content group id → (number : ℕ) (packet : Packet N) → IsOneOf number group.flight → slice_get group.sent number ≡ Some packet → IsSilentOn (content packet.note) id
@@ -140,7 +152,7 @@ module _
       nothing_under_way id rest name peer one other runs_one runs_other (Asked flight) = (flies_silent id rest flight.number flight.packet flight.flies flight.was_sent).asks_not flight.is_such
 
       -- so who is linked to one that has the message has it
-      linked_has : (id : MsgId) → IsUndisturbed state history group id → IsAtRest state content group id → (name peer : Name) → Linked state group name peer → ((core : C) → Runs group name core → (state core).has id ≡ true) → (core : C) → Runs group peer core → (state core).has id ≡ true
+      linked_has : (id : MsgId) → IsUndisturbed state limits.keep history group id → IsAtRest state content group id → (name peer : Name) → Linked state group name peer → ((core : C) → Runs group name core → (state core).has id ≡ true) → (core : C) → Runs group peer core → (state core).has id ≡ true
       linked_has id undisturbed rest name peer link has core runs = go ((state core).has id) refl
         where
           back : has_name (state core).active name ≡ true
@@ -153,7 +165,7 @@ module _
           go false is = absurd (nothing_under_way id rest name peer link.0 core link.1 runs (carried_on id undisturbed name peer link.0 core link.1 runs link.2 back (has link.0 link.1) is))
 
       -- and so on along every path
-      path_has : (id : MsgId) → IsUndisturbed state history group id → IsAtRest state content group id → (n : ℕ) (name end : Name) → Path state group n name end → ((core : C) → Runs group name core → (state core).has id ≡ true) → (core : C) → Runs group end core → (state core).has id ≡ true
+      path_has : (id : MsgId) → IsUndisturbed state limits.keep history group id → IsAtRest state content group id → (n : ℕ) (name end : Name) → Path state group n name end → ((core : C) → Runs group name core → (state core).has id ≡ true) → (core : C) → Runs group end core → (state core).has id ≡ true
       path_has id undisturbed rest zero name end path has = subst (λ n. (core : C) → Runs group n core → (state core).has id ≡ true) path.0 has
       path_has id undisturbed rest (suc n) name end path has = path_has id undisturbed rest n path.0 end path.2 (linked_has id undisturbed rest name path.0 path.1 has)
 
@@ -163,8 +175,8 @@ module _
       path_runs (suc n) name end path = path_runs n path.0 end path.2
 
       -- every node in reach of the origin has delivered the message
-      pub delivered_in_reach : IsDeliveredInReach state content history group
+      pub delivered_in_reach : IsDeliveredInReach state content limits.keep history group
       delivered_in_reach id undisturbed rest name reach =
           let end : IsRunning group name = path_runs reach.0 id.origin.name name reach.1 in
-          let had : (state end.0).has id ≡ true = path_has id undisturbed rest reach.0 id.origin.name name reach.1 (run_carries id history group run undisturbed.calm).origin_has end.0 end.1 in
+          let had : (state end.0).has id ≡ true = path_has id undisturbed rest reach.0 id.origin.name name reach.1 (run_carries id history group run undisturbed.calm undisturbed.few).origin_has end.0 end.1 in
           (end.1.0, end.0, end.1.1, end.1.2, run_has state content is_sound starts steps laws limits history group run name end.1.0 end.0 end.1.1 end.1.2 id had)

@@ -8,8 +8,10 @@ use Rattle.node_names.specs.declared.ids.Origin.{Origin}
 use Rattle.world.specs.Content.{Content}
 use Rattle.world.specs.CoreState.{CoreState}
 use Rattle.world.specs.Delivery.{Delivery}
+use Rattle.world.specs.DeliveryLaw.{ids}
 use Rattle.world.specs.Entry.{Entry}
 use Rattle.world.specs.Group.{Group}
+use Rattle.world.specs.HoldLaw.{KeepsLast}
 use Rattle.world.specs.Laws.{Laws, StepLaws}
 use Rattle.world.specs.Lists.{IsOneOf}
 use Rattle.world.specs.Run.{Acts, Arrives}
@@ -49,6 +51,7 @@ module _
       pub mine : name ≡ (state acts.old).me.name
       pub lawful : StepLaws content (state acts.old) by acts.sends entry.given (state acts.new)
       pub sound : is_sound limits acts.new
+      pub keeps : KeepsLast limits.keep (state acts.old).held (ids entry.given) (state acts.new).held
       pub stays : (number : ℕ) → IsOneOf number before.flight → IsOneOf number staying ⊎ IsArrivalOf before.sent name by number
       pub was_sent : (sender : Origin) (note : N) (dice : Dice) → by ≡ stimulus.Arrive sender note dice → (number : ℕ) × (packet : Packet N) × (slice_get before.sent number ≡ Some packet) × (packet.sender ≡ sender) × (packet.note ≡ note)
 
@@ -74,6 +77,7 @@ module _
             mine = mine;
             lawful = laws.step limits acts.old by acts.sends entry.given acts.new core.sound not_mine acts.stepped;
             sound = laws.step_sound limits acts.old by acts.sends entry.given acts.new core.sound not_mine acts.stepped;
+            keeps = laws.keeps limits acts.old by acts.sends entry.given acts.new core.sound not_mine acts.stepped;
             stays = stays;
             was_sent = was_sent;
           }

@@ -1,10 +1,10 @@
 -- The flooding core meets all nine laws: a proof, and nothing to believe.
-use Rattle.std.specs.Prelude.{◌≡◌, ◌≢◌, ◌⊎◌, ◌+◌, ◌<◌, ◌≤◌, ◌&&◌, ℕ, Bool, true, false, not, List, [], ◌∷◌, Option, Some, None, is_some, IsSome, length, refl, IsTrue, nat_le}
+use Rattle.std.specs.Prelude.{◌≡◌, ◌≢◌, ◌⊎◌, ◌+◌, ◌<◌, ◌≤◌, ◌&&◌, ℕ, Bool, true, false, not, List, [], ◌∷◌, ◌++◌, Option, Some, None, is_some, IsSome, length, refl, IsTrue, nat_le}
 use Rattle.std.specs.Bool.{MatchBool}
 use Rattle.std.specs.List.{AllByRecursion as Each, IsDistinct}
-use Rattle.std.specs.Map.{lookup}
+use Rattle.std.specs.Map.{keys_of, lookup}
 use Rattle.std.specs.Set.{remove_key}
-use Rattle.std.proofs.Common.{inl, inr, sym, ◌∙◌, ap, subst, zero-le}
+use Rattle.std.proofs.Common.{inl, inr, sym, ◌∙◌, ap, subst, append-nil, zero-le}
 use Rattle.std.proofs.Math.Nat.{le_trans, lt_irrefl}
 use Rattle.std.proofs.Math.Numerals.{lt-add-one}
 use Rattle.std.proofs.lemmas.Bool.{true≢false, false≢true}
@@ -16,13 +16,13 @@ use Rattle.node_names.specs.declared.ids.MsgId.{MsgId}
 use Rattle.node_names.specs.declared.ids.Origin.{Origin}
 use Rattle.world.specs.AskLaw.{Fires}
 use Rattle.world.specs.Delivery.{Delivery}
-use Rattle.world.specs.DeliveryLaw.{Delivers, IsNews, count_after}
+use Rattle.world.specs.DeliveryLaw.{Delivers, IsNews, count_after, ids}
 use Rattle.world.specs.FloodCore.{Flooding, Message, FloodStarts, FloodSteps, Takes, IsIdle, DropsPeer, IsSoundFlooding, HoldsCounted, flood_state, note_content, others, is_left_out, is_news, payload_of}
 use Rattle.world.specs.FloodLists.{and_left, and_right, not_true, within_bound, distinct_names, distinct_none, distinct-remove_key, shorter-remove_key, lacks-remove_key}
 use Rattle.world.specs.FloodSpread.{gets_share}
 use Rattle.world.specs.FloodTakes.{taken_sends, taken_given, taken_core, by_takes, each_carries, takes_views, announces_nothing, asks_nothing, takes_payloads, takes_deliveries}
-use Rattle.world.specs.Held.{counts_others, counts_next}
-use Rattle.world.specs.HoldLaw.{IsAskedBy}
+use Rattle.world.specs.Held.{counts_others, counts_next, found_by_key, keys_after_push}
+use Rattle.world.specs.HoldLaw.{AreLast, IsAskedBy, KeepsLast}
 use Rattle.world.specs.Laws.{IsSilent, Laws, StartLaws, StateLaws, StepLaws}
 use Rattle.world.specs.Lists.{IsOneOf}
 use Rattle.world.specs.PayloadLaw.{Brings}
@@ -53,6 +53,7 @@ starts_well me limits peers contact sends core started =
       is_me = started.is_me;
       has_nothing = λ id. ap (λ held. is_some (lookup (same_id id) held)) started.holds_nothing;
       holds_nothing = λ id. ap (lookup (same_id id)) started.holds_nothing;
+      lists_nothing = ap keys_of started.holds_nothing;
       active_are_peers = started.its_peers;
       passive_is_empty = refl;
       queue_is_empty = refl;
@@ -83,7 +84,8 @@ stays_lawful limits core sound =
     record {
       views = record { active_within = sound.within; passive_within = zero-le; active_distinct = sound.distinct; passive_distinct = distinct_none; active_of_others = sound.of_others; passive_of_others = refl };
       counted = sound.counted;
-      holds = λ id has. has;
+      holds = λ all id has. has;
+      lists = found_by_key core.held;
       queue = record { of_members = tt; of_had = tt; once = λ name id. zero-le };
       wants = record { by_members = tt; of_lacked = tt; once = λ id name. zero-le; armed = tt; timers_lack = tt };
     }
@@ -229,6 +231,34 @@ module _ (limits : Limits) (old : Flooding) (sound : IsSoundFlooding limits old)
   steps_lawfully (Down peer dice) sends given new h = by_drops old peer (Lawful limits old (Down peer dice)) h (drops_peer peer dice)
   steps_lawfully (Shuffle dice) sends given new h = by_idle old (Lawful limits old (Shuffle dice)) h (shuffles_nothing dice)
 
+-- ---- what is held
+
+-- the core lists what it listed and then what it delivers, and forgets nothing
+keeps_all : (keep : ℕ) (before delivered after : List MsgId) → after ≡ before ++ delivered → KeepsLast keep before delivered after
+keeps_all keep before delivered after is =
+    record {
+      last = record { forgotten = []; in_order = sym is; enough = inl refl };
+      stays = λ none. is ∙ ap (λ more. before ++ more) none ∙ append-nil before;
+    }
+
+takes_listed : (keep : ℕ) (old : Flooding) (id : MsgId) (payload : List ℕ) (left_out : Option Name) (count : ℕ) (sends : List (Name × Message)) (given : List Delivery) (new : Flooding) → Takes old id payload (others left_out old.peers) count sends given new → KeepsLast keep (flood_state old).held (ids given) (flood_state new).held
+takes_listed keep old id payload left_out count sends given new t = by_takes old id payload left_out count (λ _ g n. KeepsLast keep (flood_state old).held (ids g) (flood_state n).held) t (keeps_all keep (flood_state old).held (id ∷ []) (keys_of (taken_core old id payload count).held) (keys_after_push old.held id payload))
+
+idle_listed : (keep : ℕ) (old : Flooding) (sends : List (Name × Message)) (given : List Delivery) (new : Flooding) → IsIdle old sends given new → KeepsLast keep (flood_state old).held (ids given) (flood_state new).held
+idle_listed keep old sends given new idle = by_idle old (λ _ g n. KeepsLast keep (flood_state old).held (ids g) (flood_state n).held) idle (keeps_all keep (flood_state old).held [] (flood_state old).held (sym (append-nil (flood_state old).held)))
+
+steps_listed : (keep : ℕ) (old : Flooding) (stimulus : Stimulus Message) (sends : List (Name × Message)) (given : List Delivery) (new : Flooding) → FloodSteps old stimulus sends given new → KeepsLast keep (flood_state old).held (ids given) (flood_state new).held
+steps_listed keep old (Broadcast payload) sends given new h = takes_listed keep old (record { origin = old.me; seq = old.count + 1 }) payload None (old.count + 1) sends given new h.1
+steps_listed keep old (Arrive sender note dice) sends given new h = go (is_news old note.id) h
+  where
+    go : (b : Bool) → MatchBool b (Takes old note.id note.payload (others (Some sender.name) old.peers) old.count sends given new) (IsIdle old sends given new) → KeepsLast keep (flood_state old).held (ids given) (flood_state new).held
+    go true t = takes_listed keep old note.id note.payload (Some sender.name) old.count sends given new t
+    go false t = idle_listed keep old sends given new t
+steps_listed keep old (Fire id) sends given new h = idle_listed keep old sends given new h
+steps_listed keep old Flush sends given new h = idle_listed keep old sends given new h
+steps_listed keep old (Down peer dice) sends given new h = by_drops old peer (λ _ g n. KeepsLast keep (flood_state old).held (ids g) (flood_state n).held) h (keeps_all keep (flood_state old).held [] (flood_state old).held (sym (append-nil (flood_state old).held)))
+steps_listed keep old (Shuffle dice) sends given new h = idle_listed keep old sends given new h
+
 -- ---- all together
 
 pub flood_lawful : Laws flood_state note_content IsSoundFlooding FloodStarts FloodSteps
@@ -239,4 +269,5 @@ flood_lawful =
       always = stays_lawful;
       step = λ limits old stimulus sends given new sound from steps. (steps_lawfully limits old sound stimulus sends given new steps).0;
       step_sound = λ limits old stimulus sends given new sound from steps. (steps_lawfully limits old sound stimulus sends given new steps).1;
+      keeps = λ limits old stimulus sends given new sound from steps. steps_listed limits.keep old stimulus sends given new steps;
     }

@@ -1,6 +1,6 @@
 -- Lemmas on a list of messages to which one more is added: proofs, and nothing to believe.
-use Rattle.std.specs.Prelude.{◌≡◌, ◌⊎◌, ◌+◌, ◌<◌, ◌≤◌, ℕ, Bool, true, false, cond, List, [], ◌∷◌, ◌++◌, Option, Some, None, is_some, if◌then◌else◌, refl}
-use Rattle.std.specs.Map.{lookup}
+use Rattle.std.specs.Prelude.{◌≡◌, ◌⊎◌, ◌↔◌, ◌+◌, ◌<◌, ◌≤◌, ℕ, Bool, true, false, cond, List, [], ◌∷◌, ◌++◌, Option, Some, None, IsSome, is_some, if◌then◌else◌, refl}
+use Rattle.std.specs.Map.{keys_of, lookup}
 use Rattle.std.proofs.Common.{inl, inr, sym, ◌∙◌, ap, subst}
 use Rattle.std.proofs.Math.Nat.{le-add_left, le_of_lt, le_refl, le_trans}
 use Rattle.std.proofs.Math.Numerals.{lt-add-one}
@@ -10,6 +10,7 @@ use Rattle.node_names.specs.Same.{same_id, same_id-Decides}
 use Rattle.node_names.specs.declared.ids.MsgId.{MsgId}
 use Rattle.node_names.specs.declared.ids.Origin.{Origin}
 use Rattle.world.specs.FloodCore.{HoldsCounted}
+use Rattle.world.specs.Lists.{IsOneOf}
 
 -- what two equal options hold is equal
 pub same_inside : {X : Type 0} (x y : X) → Some x ≡ Some y → x ≡ y
@@ -63,6 +64,20 @@ module _ {X : Type 0} (held : List (MsgId × X)) (id : MsgId) (p : X) where
       go (Some r) b e = refl
       go None true e = refl
       go None false e = absurd (false≢true e)
+
+-- the key of a pushed entry goes last
+pub keys_after_push : {X : Type 0} (held : List (MsgId × X)) (id : MsgId) (p : X) → keys_of (held ++ (id, p) ∷ []) ≡ keys_of held ++ id ∷ []
+keys_after_push [] id p = refl
+keys_after_push (e ∷ held) id p = ap (λ is. e.0 ∷ is) (keys_after_push held id p)
+
+-- what is found is what has a key
+pub found_by_key : {X : Type 0} (held : List (MsgId × X)) (id : MsgId) → IsSome (lookup (same_id id) held) ↔ IsOneOf id (keys_of held)
+found_by_key [] id = ((λ found. absurd (false≢true found)), (λ one. absurd one))
+found_by_key {X} (e ∷ held) id = go (same_id id e.0) refl (found_by_key held id)
+  where
+    go : (b : Bool) → same_id id e.0 ≡ b → IsSome (lookup (same_id id) held) ↔ IsOneOf id (keys_of held) → IsSome (cond b (Some e.1) (lookup (same_id id) held)) ↔ IsOneOf id (e.0 ∷ keys_of held)
+    go true same later = ((λ found. inl ((same_id-Decides id e.0).0 same)), (λ one. refl))
+    go false apart later = ((λ found. inr (later.0 found)), (λ one. elim one [ inl here ↦ absurd (false≢true (sym apart ∙ (same_id-Decides id e.0).1 here)) | inr there ↦ later.1 there ]))
 
 -- a pushed message of another origin is not counted, and one of this origin with the next number is
 pub counts_others : (me : Origin) (held : List (MsgId × List ℕ)) (count : ℕ) (id : MsgId) (p : List ℕ) → HoldsCounted me held count → (id.origin ≡ me → ⊥) → HoldsCounted me (held ++ (id, p) ∷ []) count
