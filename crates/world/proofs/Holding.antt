@@ -3,6 +3,7 @@ use Rattle.std.proofs.Common.{◌≡◌, ◌∙◌, ◌+◌, ◌<◌, ◌≤◌,
 use Rattle.std.specs.List.{AllByRecursion as Each}
 use Rattle.std.specs.Prelude.{◌⊎◌, Bool, Option, Some, None, cond, filter, length}
 use Rattle.std.proofs.lemmas.Bool.{false≢true}
+use Rattle.std.proofs.lemmas.List.{length-append}
 use Rattle.node_names.specs.NodeName.{Name}
 use Rattle.node_names.specs.Limits.{Limits}
 use Rattle.node_names.specs.Same.{same_origin, same_origin-Decides}
@@ -32,11 +33,6 @@ use Rattle.world.proofs.Steps.{IsStep, arrive_step, broadcast_step, down_step, f
 
 -- ---- lists of ids
 
--- both lists together are as long as the two
-length_both : {X : Type 0} (xs ys : List X) → length (xs ++ ys) ≡ length xs + length ys
-length_both [] ys = omega arith
-length_both (x ∷ xs) ys = let later : length (xs ++ ys) ≡ length xs + length ys = length_both xs ys in omega arith
-
 -- one of both lists is in one of the two
 either_of : {X : Type 0} (xs ys : List X) (x : X) → IsOneOf x (xs ++ ys) → IsOneOf x xs ⊎ IsOneOf x ys
 either_of [] ys x one = inr one
@@ -55,17 +51,17 @@ stands_in (y ∷ xs) x one =
 pub held_last : (keep : ℕ) (all held : List MsgId) (id : MsgId) → AreLast keep all held → (0 < keep → (earlier later : List MsgId) → all ≡ earlier ++ id ∷ later → length (id ∷ later) ≤ keep) → IsOneOf id all → IsOneOf id held
 held_last keep all held id last few one =
     elim (either_of last.forgotten held id (subst (λ is. IsOneOf id is) last.in_order one)) [
-      | inr held_it ↦ held_it
       | inl gone ↦ elim last.enough [
-        | inl none ↦ absurd (subst (λ is. IsOneOf id is) none gone)
+        | inl none ↦ (let no_such : IsOneOf id [] = subst (λ is. IsOneOf id is) none gone in absurd no_such)
         | inr some ↦ (
             let found = stands_in last.forgotten id gone in
             let is : all ≡ found.0 ++ id ∷ (found.1 ++ held) = last.in_order ∙ ap (λ is. is ++ held) found.2 ∙ append_assoc found.0 (id ∷ found.1) held in
-            let few_from : length (id ∷ (found.1 ++ held)) ≤ keep = few some.0 found.0 (found.1 ++ held) is in
-            let both : length (found.1 ++ held) ≡ length found.1 + length held = length_both found.1 held in
+            let few_from : suc (length (found.1 ++ held)) ≤ keep = few some.0 found.0 (found.1 ++ held) is in
+            let both : length (found.1 ++ held) ≡ length found.1 + length held = length-append found.1 held in
             let enough : keep ≤ length held = some.1 in
             absurd (omega arith))
       ]
+      | inr held_it ↦ held_it
     ]
 
 -- the last of the last are the last
@@ -75,15 +71,15 @@ last_of_last keep all held more after first second =
       forgotten = first.forgotten ++ second.forgotten;
       in_order = ap (λ is. is ++ more) first.in_order ∙ append_assoc first.forgotten held more ∙ ap (λ is. first.forgotten ++ is) second.in_order ∙ sym (append_assoc first.forgotten second.forgotten after);
       enough = elim second.enough [
-        | inr some ↦ inr some
         | inl none ↦ elim first.enough [
           | inl nothing ↦ inl (ap (λ is. is ++ second.forgotten) nothing ∙ none)
           | inr some ↦ (
               let whole : length (held ++ more) ≡ length after = ap length (second.in_order ∙ ap (λ is. is ++ after) none) in
-              let both : length (held ++ more) ≡ length held + length more = length_both held more in
+              let both : length (held ++ more) ≡ length held + length more = length-append held more in
               let before : keep ≤ length held = some.1 in
               inr (some.0, omega arith))
         ]
+        | inr some ↦ inr some
       ];
     }
 
@@ -131,9 +127,10 @@ all_by node (d ∷ given) here = go (same_origin node d.node) refl (all_by node 
 pub few_then : (keep : ℕ) (id : MsgId) (past more : List Delivery) → AreFewSince keep (past ++ more) id → AreFewSince keep past id
 few_then keep id past more few node earlier later is =
     let whole : delivered_by node (past ++ more) ≡ earlier ++ id ∷ (later ++ delivered_by node more) = by_both node past more ∙ ap (λ is. is ++ delivered_by node more) is ∙ append_assoc earlier (id ∷ later) (delivered_by node more) in
-    let few_from : length (id ∷ (later ++ delivered_by node more)) ≤ keep = few node earlier (later ++ delivered_by node more) whole in
-    let both : length (later ++ delivered_by node more) ≡ length later + length (delivered_by node more) = length_both later (delivered_by node more) in
-    omega arith
+    let few_from : suc (length (later ++ delivered_by node more)) ≤ keep = few node earlier (later ++ delivered_by node more) whole in
+    let both : length (later ++ delivered_by node more) ≡ length later + length (delivered_by node more) = length-append later (delivered_by node more) in
+    let few_then_too : suc (length later) ≤ keep = omega arith in
+    few_then_too
 
 -- ---- every run
 

@@ -22,7 +22,7 @@ use Rattle.world.specs.FloodLists.{and_left, and_right, not_true, within_bound, 
 use Rattle.world.specs.FloodSpread.{gets_share}
 use Rattle.world.specs.FloodTakes.{taken_sends, taken_given, taken_core, by_takes, each_carries, takes_views, announces_nothing, asks_nothing, takes_payloads, takes_deliveries}
 use Rattle.world.specs.Held.{counts_others, counts_next, found_by_key, keys_after_push}
-use Rattle.world.specs.HoldLaw.{AreLast, IsAskedBy, KeepsLast}
+use Rattle.world.specs.HoldLaw.{IsAskedBy, KeepsLast}
 use Rattle.world.specs.Laws.{IsSilent, Laws, StartLaws, StateLaws, StepLaws}
 use Rattle.world.specs.Lists.{IsOneOf}
 use Rattle.world.specs.PayloadLaw.{Brings}
