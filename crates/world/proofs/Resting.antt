@@ -54,14 +54,22 @@ module _
     (limits : Limits)
   where
     module _ (id : MsgId) (past : List Entry) (entry : Entry) (before after : Group C N) (kept : Keeps state content is_sound limits past before.nodes before.sent) where
-      -- an event that is calm carries the message on, where all who have it hold it
-      event_carries : ((name : Name) (core : C) → Runs before name core → (state core).has id ≡ true → IsSome ((state core).payload id)) → (event : Event) → IsCalm event → entry.moved ≡ false → Effect state starts steps limits before entry after event → Carries state content before id → Carries state content after id
-      event_carries held (Broadcast name payload) calm still effect = step_carries state content is_sound starts steps laws limits past entry before after _ _ (broadcast_step state content is_sound starts steps laws limits past entry before after kept name payload effect.1) id (held name effect.1.old (effect.1.node, effect.1.known, effect.1.running)) still
-      event_carries held (Arrive place dice) calm still effect = step_carries state content is_sound starts steps laws limits past entry before after _ _ (arrive_step state content is_sound starts steps laws limits past entry before after kept place dice effect) id (held effect.packet.to effect.acts.old (effect.acts.node, effect.acts.known, effect.acts.running)) still
+      -- all who have the message hold it
+      abbrev AllHoldIt : Type 0
+      AllHoldIt = (name : Name) (core : C) → Runs before name core → (state core).has id ≡ true → IsSome ((state core).payload id)
+
+      -- then a step that moves no active view carries it on
+      step_goes_on : (name : Name) (by : Stimulus N) → IsStep state content is_sound starts steps laws limits past entry before after name by → AllHoldIt → entry.moved ≡ false → Carries state content before id → Carries state content after id
+      step_goes_on name by step held still = step_carries state content is_sound starts steps laws limits past entry before after name by step id (held name step.acts.old (step.acts.node, step.acts.known, step.acts.running)) still
+
+      -- and so does each event that is calm
+      event_carries : AllHoldIt → (event : Event) → IsCalm event → entry.moved ≡ false → Effect state starts steps limits before entry after event → Carries state content before id → Carries state content after id
+      event_carries held (Broadcast name payload) calm still effect = step_goes_on _ _ (broadcast_step state content is_sound starts steps laws limits past entry before after kept name payload effect.1) held still
+      event_carries held (Arrive place dice) calm still effect = step_goes_on _ _ (arrive_step state content is_sound starts steps laws limits past entry before after kept place dice effect) held still
       event_carries held (Again number) calm still effect = flies_carries state content entry before after id (number ∷ []) effect.others effect.flight
-      event_carries held (Fire name fired) calm still effect = step_carries state content is_sound starts steps laws limits past entry before after _ _ (fire_step state content is_sound starts steps laws limits past entry before after kept name fired effect.1) id (held name effect.1.old (effect.1.node, effect.1.known, effect.1.running)) still
-      event_carries held (Flush name) calm still effect = step_carries state content is_sound starts steps laws limits past entry before after _ _ (flush_step state content is_sound starts steps laws limits past entry before after kept name effect.1) id (held name effect.1.old (effect.1.node, effect.1.known, effect.1.running)) still
-      event_carries held (Shuffle name dice) calm still effect = step_carries state content is_sound starts steps laws limits past entry before after _ _ (shuffle_step state content is_sound starts steps laws limits past entry before after kept name dice effect.1) id (held name effect.1.old (effect.1.node, effect.1.known, effect.1.running)) still
+      event_carries held (Fire name fired) calm still effect = step_goes_on _ _ (fire_step state content is_sound starts steps laws limits past entry before after kept name fired effect.1) held still
+      event_carries held (Flush name) calm still effect = step_goes_on _ _ (flush_step state content is_sound starts steps laws limits past entry before after kept name effect.1) held still
+      event_carries held (Shuffle name dice) calm still effect = step_goes_on _ _ (shuffle_step state content is_sound starts steps laws limits past entry before after kept name dice effect.1) held still
       event_carries held (Start name incarnation peers contact) calm still effect = absurd calm
       event_carries held (Lose place) calm still effect = absurd calm
       event_carries held (Down name peer dice) calm still effect = absurd calm
