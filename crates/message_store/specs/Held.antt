@@ -1,5 +1,5 @@
 -- The messages that are held.
-use Rattle.std.specs.Prelude.{◌≡◌, ℕ, ◌-◌, ◌≤◌, List, length, drop, map, if◌then◌else◌, nat_eq}
+use Rattle.std.specs.Prelude.{ℕ, ◌-◌, List, length, drop, if◌then◌else◌, nat_eq}
 use Rattle.node_names.specs.declared.ids.MsgId.{MsgId}
 
 -- The ids and payloads in order of delivery, and for how many more there is room.
@@ -10,10 +10,3 @@ pub record Held : Type 0 where
 -- the last `keep` of them, or all for 0
 abbrev pub kept_last : ℕ → List (MsgId × List ℕ) → List (MsgId × List ℕ)
 kept_last keep messages = if nat_eq keep 0 then messages else drop (length messages - keep) messages
-
-abbrev pub ids_of : List (MsgId × List ℕ) → List MsgId
-ids_of messages = map (λ (m : MsgId × List ℕ). m.0) messages
-
--- So many of the front were forgotten.
-abbrev pub HasFront : ℕ → List (MsgId × List ℕ) → Type 0
-HasFront gone entries = gone ≤ length entries

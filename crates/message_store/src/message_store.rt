@@ -1,8 +1,11 @@
 //! The held messages.
-ghost use Rattle.std.specs.Prelude.{◌≡◌, ◌<◌, ◌≤◌, ◌++◌, ◌∷◌, [], None, map, IfOk, OnOk, option_copied};
-ghost use Rattle.std.specs.Map.{lookup};
+ghost use Rattle.std.specs.Prelude.{◌≡◌, ◌*◌, ◌<◌, ◌≤◌, ◌++◌, ◌∷◌, [], None, drop, IfOk, OnOk};
+ghost use Rattle.std.specs.List.{IsDistinct};
+ghost use Rattle.std.specs.Map.{keys_of, lookup};
+ghost use Rattle.std.specs.Option.{option_copied};
+ghost use Rattle.indexmap.specs.IndexMap.{index_map_len, spare, IsUnique};
 ghost use Rattle.node_names.specs.Same.{same_id};
-ghost use Rattle.message_store.specs.Held.{kept_last, ids_of, HasFront};
+ghost use Rattle.message_store.specs.Held.{kept_last};
 
 use bytes::Bytes;
 use indexmap::IndexMap;
@@ -11,6 +14,9 @@ use std::alloc::{AllocError, Allocator, Global};
 use std::hash::{BuildHasherDefault, FoldHasher};
 use std::marker::Model;
 
+/// Messages in order of delivery, those that were forgotten first.
+type Delivered<A> = IndexMap<MsgId, Bytes<A>, BuildHasherDefault<FoldHasher>, A>;
+
 /// The payloads of the messages that are held, by their ids and in order of delivery.
 ///
 /// What is forgotten leaves at the front, which keeps it until it is longer than the rest: so a message is moved once at most on
@@ -18,22 +24,50 @@ use std::marker::Model;
 #[derive(Drop)]
 pub struct MessageStore<A: Allocator = Global> {
     /// The messages, behind those that were forgotten.
-    messages: IndexMap<MsgId, Bytes<A>, BuildHasherDefault<FoldHasher>, A>,
+    messages: Delivered<A>,
     /// How many of the front were forgotten.
     gone: usize,
 }
 
 impl<A: Allocator> Model for MessageStore<A> {
-    ghost use Rattle.indexmap.specs.IndexMap.{IsUnique, spare};
+    ghost use Rattle.std.specs.Prelude.{◌*◌, ◌≤◌, drop};
+    ghost use Rattle.indexmap.specs.IndexMap.{IsUnique, index_map_len, spare};
     ghost use Rattle.node_names.specs.Same.{same_id};
-    ghost use Rattle.message_store.specs.Held.{Held, HasFront};
-    ghost use Rattle.std.specs.Prelude.{drop};
+    ghost use Rattle.message_store.specs.Held.{Held};
 
     ghost Value = { Held };
 
     ghost view = { λ s. record { messages = drop s.gone s.messages.entries; room = spare s.messages } };
 
-    ghost invariant = { λ s. IsUnique same_id s.messages × HasFront s.gone s.messages.entries };
+    ghost invariant = { λ s. IsUnique same_id s.messages × (2 * s.gone ≤ index_map_len s.messages) };
+}
+
+/// Drops so many of the front. It moves all the others, and takes no memory.
+fn drop_front<A: Allocator>(messages: &mut Delivered<A>, gone: usize)
+    requires { gone ≤ index_map_len messages.old }
+    ensures messages { messages.new.entries ≡ drop gone messages.old.entries }
+    ensures unique { IsUnique same_id messages.new }
+    ensures room { spare messages.old ≤ spare messages.new }
+{
+    messages.drain(..gone);
+}
+
+/// Drops the front if the id is in it, since a message that is put again takes the place that its id has. How many of the front
+/// are gone then.
+fn free_place<A: Allocator>(messages: &mut Delivered<A>, gone: usize, id: &MsgId) -> usize
+    requires front { 2 * gone ≤ index_map_len messages.old }
+    requires absent { lookup (same_id id.now) (drop gone messages.old.entries) ≡ None }
+    ensures messages { drop result messages.new.entries ≡ drop gone messages.old.entries }
+    ensures front { 2 * result ≤ index_map_len messages.new }
+    ensures absent { lookup (same_id id.now) messages.new.entries ≡ None }
+    ensures room { spare messages.old ≤ spare messages.new }
+{
+    if messages.contains_key(id) {
+        drop_front(messages, gone);
+        0
+    } else {
+        gone
+    }
 }
 
 impl<A: Allocator + Copy> MessageStore<A> {
@@ -67,16 +101,6 @@ impl<A: Allocator + Copy> MessageStore<A> {
 }
 
 impl<A: Allocator> MessageStore<A> {
-    /// Drops the front that was forgotten.
-    fn drop_front(&mut self)
-        ensures messages { self.new.messages ≡ self.old.messages }
-        ensures room { self.old.room ≤ self.new.room }
-        ensures none { self.new.gone ≡ 0 }
-    {
-        self.messages.drain(..self.gone);
-        self.gone = 0;
-    }
-
     /// Forgets the oldest where more than `keep` are held, if `keep` is not 0.
     fn forget(&mut self, keep: u32)
         ensures { self.new.messages ≡ kept_last keep self.old.messages }
@@ -86,21 +110,22 @@ impl<A: Allocator> MessageStore<A> {
         if keep != 0 && held > keep {
             self.gone += held - keep;
             if self.gone > keep {
-                self.drop_front();
+                drop_front(&mut self.messages, self.gone);
+                self.gone = 0;
             }
         }
     }
 
     /// Holds a message, in the room that there is, and then the last `keep` messages alone, or all for 0.
+    ///
+    /// It takes the same time on average however many are held, unless the message was held before: to hold one again that was
+    /// forgotten may move all.
     pub fn push(&mut self, id: &MsgId, payload: Bytes<A>, keep: u32)
         requires room { 0 < self.old.room }
         requires absent { lookup (same_id id.now) self.old.messages ≡ None }
         ensures { self.new.messages ≡ kept_last keep (self.old.messages ++ (id.now, payload) ∷ []) }
     {
-        if self.messages.contains_key(id) {
-            // It was forgotten, and its place must not be taken again.
-            self.drop_front();
-        }
+        self.gone = free_place(&mut self.messages, self.gone, id);
         let _ = self.messages.insert(*id, payload).unwrap();
         self.forget(keep);
     }
@@ -115,7 +140,8 @@ impl<A: Allocator> MessageStore<A> {
 
     /// The ids of the messages that are held, in order of delivery.
     pub fn ids(&self) -> &[MsgId]
-        ensures { result.now ≡ ids_of self.now.messages }
+        ensures ids { result.now ≡ keys_of self.now.messages }
+        ensures distinct { IsDistinct same_id result.now }
     {
         &self.messages.keys().as_slice()[self.gone..]
     }
