@@ -6,6 +6,7 @@ use Rattle.node_names.specs.NodeName.{Name}
 use Rattle.node_names.specs.Order.{id_cmp}
 use Rattle.node_names.specs.declared.ids.Origin.{Origin}
 use Rattle.node_names.specs.declared.ids.MsgId.{MsgId}
+use Rattle.message_store.specs.Held.{kept_last}
 use Rattle.missing.specs.Missing.{Missing, got, without_all}
 use Rattle.peer_sets.specs.Members.{lazy_but, with_kind, with_members, without_members}
 use Rattle.peer_sets.specs.PeerSets.{PeerSets, relinked}
@@ -18,11 +19,11 @@ use Rattle.gossip_core.specs.Table.{outcome, first_copy, next_round, after_downs
 use Rattle.gossip_core.specs.declared.call.CallOf.TheVariants.{Broadcast, Down, Up}
 
 -- what contracts see of these fields
-abbrev pub state_of : Origin → ℕ → ℕ → PeerSets → Missing → set.FinSet id_cmp → List (MsgId × List ℕ) → GossipState
-state_of me threshold spent peers missing known held = record { me = me; threshold = threshold; spent = spent; peers = peers; missing = missing; known = known; held = held }
+abbrev pub state_of : Origin → ℕ → ℕ → ℕ → PeerSets → Missing → set.FinSet id_cmp → List (MsgId × List ℕ) → GossipState
+state_of me threshold keep spent peers missing known held = record { me = me; threshold = threshold; keep = keep; spent = spent; peers = peers; missing = missing; known = known; held = held }
 
-pub sound_state : (me : Origin) (threshold spent : ℕ) (peers : PeerSets) (missing : Missing) (known : set.FinSet id_cmp) (held : List (MsgId × List ℕ)) → AreCounted me known spent → AreKnown known held peers.queued → IsSound (state_of me threshold spent peers missing known held)
-sound_state me threshold spent peers missing known held counted are = record { counted = counted.each; held_is_known = are.each_held }
+pub sound_state : (me : Origin) (threshold keep spent : ℕ) (peers : PeerSets) (missing : Missing) (known : set.FinSet id_cmp) (held : List (MsgId × List ℕ)) → AreCounted me known spent → AreKnown known held peers.queued → IsSound (state_of me threshold keep spent peers missing known held)
+sound_state me threshold keep spent peers missing known held counted are = record { counted = counted.each; held_is_known = are.each_held }
 
 -- the node's next message is not there
 pub lacks_next : (known : set.FinSet id_cmp) (me : Origin) (spent : ℕ) → AreCounted me known spent → set.contains known (record { origin = me; seq = spent + 1 }) ≡ false
@@ -57,39 +58,39 @@ module _ (known : set.FinSet id_cmp) (id : MsgId) (me : Origin) (spent : ℕ) (a
 
 -- ---- the rows of the table
 
-module _ (me : Origin) (threshold spent : ℕ) (peers : PeerSets) (missing : Missing) (known : set.FinSet id_cmp) (held : List (MsgId × List ℕ)) where
+module _ (me : Origin) (threshold keep spent : ℕ) (peers : PeerSets) (missing : Missing) (known : set.FinSet id_cmp) (held : List (MsgId × List ℕ)) where
   -- the message that is broadcast
   abbrev Broadcasts : ℕ → Type 0
   Broadcasts seq =
       (payload : List ℕ) (peers' : PeerSets) (known' : set.FinSet id_cmp) (held' : List (MsgId × List ℕ))
       → known' ≡ set.insert known (record { origin = me; seq = seq })
-      → held' ≡ held ++ (record { origin = me; seq = seq }, payload) ∷ []
+      → held' ≡ kept_last keep (held ++ (record { origin = me; seq = seq }, payload) ∷ [])
       → peers' ≡ record peers { queued = with_entries (lazy_but None peers.members) (record { origin = me; seq = seq }) 0 peers.queued }
-      → state_of me threshold seq peers' missing known' held' ≡ (outcome (state_of me threshold spent peers missing known held) (Broadcast payload)).state
+      → state_of me threshold keep seq peers' missing known' held' ≡ (outcome (state_of me threshold keep spent peers missing known held) (Broadcast payload)).state
 
   pub after_broadcast : (seq : ℕ) → seq ≡ spent + 1 → Broadcasts seq
   after_broadcast seq next =
       subst Broadcasts (sym next)
       (λ payload peers' known' held' is_known is_held is_peers.
-      λ i. record { me = me; threshold = threshold; spent = spent + 1; peers = is_peers i; missing = missing; known = is_known i; held = is_held i })
+      λ i. record { me = me; threshold = threshold; keep = keep; spent = spent + 1; peers = is_peers i; missing = missing; known = is_known i; held = is_held i })
 
   -- the first copy of a message
   abbrev Takes : ℕ → ℕ → Type 0
   Takes round next =
       (sender : Name) (id : MsgId) (payload : List ℕ) (peers' peers'' : PeerSets) (missing' : Missing) (known' : set.FinSet id_cmp) (held' : List (MsgId × List ℕ))
       → known' ≡ set.insert known id
-      → held' ≡ held ++ (id, payload) ∷ []
+      → held' ≡ kept_last keep (held ++ (id, payload) ∷ [])
       → peers' ≡ record peers { queued = with_entries (lazy_but (Some sender) peers.members) id next peers.queued }
       → missing' ≡ got id missing
       → peers'' ≡ record peers' { members = with_kind sender Eager peers'.members }
-      → state_of me threshold spent peers'' missing' known' held' ≡ (first_copy sender id round payload (state_of me threshold spent peers missing known held)).state
+      → state_of me threshold keep spent peers'' missing' known' held' ≡ (first_copy sender id round payload (state_of me threshold keep spent peers missing known held)).state
 
   pub after_first_copy : (round next : ℕ) → next ≡ next_round round → Takes round next
   after_first_copy round next is_next =
       subst (Takes round) (sym is_next)
       (λ sender id payload peers' peers'' missing' known' held' is_known is_held is_peers is_missing is_eager.
       let are_peers : peers'' ≡ record { members = with_kind sender Eager peers.members; queued = with_entries (lazy_but (Some sender) peers.members) id (next_round round) peers.queued } = is_eager ∙ ap (λ (p : PeerSets). record p { members = with_kind sender Eager p.members }) is_peers in
-      λ i. record { me = me; threshold = threshold; spent = spent; peers = are_peers i; missing = is_missing i; known = is_known i; held = is_held i })
+      λ i. record { me = me; threshold = threshold; keep = keep; spent = spent; peers = are_peers i; missing = is_missing i; known = is_known i; held = is_held i })
 
 -- ---- links go down and come up
 

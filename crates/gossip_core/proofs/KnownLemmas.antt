@@ -1,10 +1,11 @@
 -- What is held, and what waits to be announced, is known.
 use Rattle.std.proofs.Common.{◌≡◌, ◌∙◌, ◌⊎◌, inl, inr, ◌||◌, ℕ, Bool, true, false, not, cond, List, [], ◌∷◌, ◌++◌, Option, None, Some, map, filter, sym, ap, refl}
-use Rattle.std.specs.Prelude.{is_some}
+use Rattle.std.specs.Prelude.{◌-◌, drop, is_some, length, nat_eq}
 use Rattle.std.specs.FinSet as set
 use Rattle.std.specs.List.{AllByRecursion as Each}
 use Rattle.std.specs.Map.{lookup}
 use Rattle.std.proofs.lemmas.Bool.{false≢true}
+use Rattle.message_store.specs.Held.{kept_last}
 use Rattle.node_names.specs.NodeName.{Name}
 use Rattle.node_names.specs.Order.{id_cmp}
 use Rattle.node_names.specs.Same.{same_name, same_id, same_id-Decides}
@@ -35,6 +36,25 @@ module _ (known : set.FinSet id_cmp) (held : List (MsgId × List ℕ)) (queued :
           either : (same : Bool) → same_id id entry.1 ≡ same → has_entry_of id entries ≡ false → (same_id id entry.1 || has_entry_of id entries) ≡ false
           either false is later = ap (λ b. b || has_entry_of id entries) is ∙ later
           either true is later = absurd (false≢true (sym unknown ∙ ap (set.contains known) ((same_id-Decides id entry.1).0 is) ∙ h.0))
+
+-- ---- what is kept of a list
+
+found_in_drop : (n : ℕ) (held : List (MsgId × List ℕ)) (q : MsgId) → is_some (lookup (same_id q) (drop n held)) ≡ true → is_some (lookup (same_id q) held) ≡ true
+found_in_drop zero held q is = is
+found_in_drop (suc n) [] q is = is
+found_in_drop (suc n) (message ∷ held) q is = go (same_id q message.0) (found_in_drop n held q is)
+  where
+    go : (b : Bool) → is_some (lookup (same_id q) held) ≡ true → is_some (cond b (Some message.1) (lookup (same_id q) held)) ≡ true
+    go true later = refl
+    go false later = later
+
+-- was there before
+pub found_in_kept : (keep : ℕ) (held : List (MsgId × List ℕ)) (q : MsgId) → is_some (lookup (same_id q) (kept_last keep held)) ≡ true → is_some (lookup (same_id q) held) ≡ true
+found_in_kept keep held q = go (nat_eq keep 0)
+  where
+    go : (b : Bool) → is_some (lookup (same_id q) (cond b held (drop (length held - keep) held))) ≡ true → is_some (lookup (same_id q) held) ≡ true
+    go true is = is
+    go false is = found_in_drop (length held - keep) held q is
 
 -- ---- one more message
 
@@ -73,11 +93,11 @@ module _ (known : set.FinSet id_cmp) (id : MsgId) where
       go true later e = inl refl
       go false later e = later e
 
-  -- and its entries wait
-  pub known-with_entries : (names : List Name) (round : ℕ) (payload : List ℕ) (held : List (MsgId × List ℕ)) (queued : List (Name × MsgId × ℕ)) → AreKnown known held queued → AreKnown (set.insert known id) (held ++ (id, payload) ∷ []) (with_entries names id round queued)
-  known-with_entries names round payload held queued are =
+  -- and its entries wait, whatever is kept
+  pub known-with_entries : (names : List Name) (round : ℕ) (payload : List ℕ) (keep : ℕ) (held : List (MsgId × List ℕ)) (queued : List (Name × MsgId × ℕ)) → AreKnown known held queued → AreKnown (set.insert known id) (kept_last keep (held ++ (id, payload) ∷ [])) (with_entries names id round queued)
+  known-with_entries names round payload keep held queued are =
       record {
-        each_held = λ q is. elim (held_in_push payload q held is) [ inl was ↦ stays q (are.each_held q was) | inr same ↦ ap (set.contains (set.insert known id)) same ∙ is_there ];
+        each_held = λ q is. elim (held_in_push payload q held (found_in_kept keep (held ++ (id, payload) ∷ []) q is)) [ inl was ↦ stays q (are.each_held q was) | inr same ↦ ap (set.contains (set.insert known id)) same ∙ is_there ];
         each_queued = both queued are.each_queued;
       }
     where

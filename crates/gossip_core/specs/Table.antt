@@ -8,6 +8,7 @@ use Rattle.node_names.specs.Same.{same_id, same_name, same_origin, has_id}
 use Rattle.node_names.specs.declared.ids.MsgId.{MsgId}
 use Rattle.frames.specs.Body.{Body}
 use Rattle.frames.specs.declared.body.BodyOf.TheVariants.{Gossip, Graft, GraftPeer, Prune}
+use Rattle.message_store.specs.Held.{kept_last}
 use Rattle.missing.specs.Missing.{announced_all, taken_first, got, without}
 use Rattle.missing.specs.Wants.{first_want}
 use Rattle.peer_sets.specs.Members.{is_member, eager_but, lazy_but, with_member, without_member, with_kind}
@@ -56,7 +57,8 @@ with_peer name kind g = record g { peers = record g.peers { members = with_kind 
 abbrev pub gossip_to : MsgId → ℕ → List ℕ → Name → Name × Body
 gossip_to id round payload peer = (peer, Gossip id round payload)
 
--- The message is delivered and remembered, sent to the eager members and queued for the lazy ones, but for one.
+-- The message is delivered and known, sent to the eager members and queued for the lazy ones, but for one. Of the messages that
+-- were delivered the last ones are held.
 abbrev pub spread : Option Name → MsgId → ℕ → List ℕ → GossipState → Outcome
 spread left_out id round payload g =
     record {
@@ -64,7 +66,7 @@ spread left_out id round payload g =
           record g {
             peers = record g.peers { queued = with_entries (lazy_but left_out g.peers.members) id round g.peers.queued };
             known = set.insert g.known id;
-            held = g.held ++ (id, payload) ∷ [];
+            held = kept_last g.keep (g.held ++ (id, payload) ∷ []);
           };
       sends = map (gossip_to id round payload) (eager_but left_out g.peers.members);
       delivered = Some (id, payload);

@@ -2,7 +2,7 @@
 ghost use Rattle.std.specs.Prelude.{◌≡◌, ◌≢◌, ◌↔◌, false, ◌+◌, ◌<◌, ◌≤◌, [], length, filter, IfOk, OnOk, OnErr, IsErrOf};
 ghost use Rattle.std.specs.FinSet as set;
 ghost use Rattle.std.specs.List.{IsDistinct};
-ghost use Rattle.std.specs.Map.{lookup};
+ghost use Rattle.std.specs.Map.{keys_of, lookup};
 ghost use Rattle.std.specs.Option.{option_copied};
 ghost use Rattle.node_names.specs.Same.{same_id, same_name};
 ghost use Rattle.known_ids.specs.Known.{IsSpan};
@@ -16,10 +16,10 @@ use crate::answers::answers;
 use crate::call::{Call, CallOf};
 use crate::effects::Effects;
 use crate::fault::GossipFault;
-use crate::store::{self, Held};
+use crate::store;
 use bytes::Bytes;
-use indexmap::IndexMap;
 use known_ids::KnownIds;
+use message_store::MessageStore;
 use missing::Missing;
 use node_names::{MsgId, NodeName, Origin};
 use peer_sets::{PeerKind, PeerSets};
@@ -32,16 +32,18 @@ use world::MAX_PAYLOAD;
 /// A call has two halves: `answer` says what it will send and deliver, and `take` changes the state. A caller who makes
 /// room for the answer in between has nothing left that can be refused after `take`. The other calls are both halves in
 /// one. Looking a message up costs the same however many are held. A copy costs their number. Which messages are known takes
-/// memory by their origins and the gaps in their numbers, and not by the messages.
+/// memory by their origins and the gaps in their numbers, and not by the messages; what is held takes memory by `keep`, or by
+/// all messages where that is 0.
 #[derive(Drop)]
 pub struct Gossip<A: Allocator = Global> {
     me: Origin,
     threshold: u32,
+    keep: u32,
     spent: u64,
     peers: PeerSets<A>,
     missing: Missing<A>,
     known: KnownIds<A>,
-    held: Held<A>,
+    held: MessageStore<A>,
 }
 
 impl<A: Allocator> Model for Gossip<A> {
@@ -58,19 +60,20 @@ impl<A: Allocator> Model for Gossip<A> {
 
     ghost coded = { Prim.hlevel (codes, set.code {R = id_cmp} id.the_row.coded) };
 
-    ghost view = { λ g. record { me = g.me; threshold = g.threshold; spent = g.spent; peers = g.peers; missing = g.missing; known = ids g.known; held = g.held.entries } };
+    ghost view = { λ g. record { me = g.me; threshold = g.threshold; keep = g.keep; spent = g.spent; peers = g.peers; missing = g.missing; known = ids g.known; held = g.held.messages } };
 
-    ghost invariant = { λ g. AreCounted g.me (ids g.known) g.spent × AreKnown (ids g.known) g.held.entries g.peers.queued };
+    ghost invariant = { λ g. AreCounted g.me (ids g.known) g.spent × AreKnown (ids g.known) g.held.messages g.peers.queued };
 }
 
 impl<A: Allocator + Copy> Gossip<A> {
-    /// A node that has these peers, all eager, and has broadcast `seq_spent` messages; it knows none, and swaps no branches. The
-    /// peers are distinct.
+    /// A node that has these peers, all eager, and has broadcast `seq_spent` messages; it knows none, swaps no branches, and holds
+    /// all that it delivers. The peers are distinct.
     pub fn new(alloc: A, me: Origin, peers: &[NodeName], seq_spent: u64) -> Result<Self, AllocError>
         requires { IsDistinct same_name peers.now }
         ensures { IfOk result (λ gossip. gossip ≡ record {
           me = me;
           threshold = 0;
+          keep = 0;
           spent = seq_spent;
           peers = record { members = all_eager peers.now; queued = [] };
           missing = record { wants = []; timers = [] };
@@ -78,22 +81,26 @@ impl<A: Allocator + Copy> Gossip<A> {
           held = [];
         }) }
     {
-        Gossip::new_tuned(alloc, me, peers, seq_spent, 0)
+        Gossip::new_tuned(alloc, me, peers, seq_spent, 0, 0)
     }
 
-    /// The same node with a threshold. Where a member sends a message for the first time that another announced before, on a way
-    /// shorter by so many links or more, that other takes the sender's place as an eager peer. With 0 none does.
+    /// The same node with a threshold and a bound on its store. Where a member sends a message for the first time that another
+    /// announced before, on a way shorter by so many links or more, that other takes the sender's place as an eager peer. With 0
+    /// none does. Of the messages that it delivered the node holds the last `keep`, or all for 0; it knows the others too, and
+    /// has no payload for who asks.
     pub fn new_tuned(
         alloc: A,
         me: Origin,
         peers: &[NodeName],
         seq_spent: u64,
         threshold: u32,
+        keep: u32,
     ) -> Result<Self, AllocError>
         requires { IsDistinct same_name peers.now }
         ensures { IfOk result (λ gossip. gossip ≡ record {
           me = me;
           threshold = threshold;
+          keep = keep;
           spent = seq_spent;
           peers = record { members = all_eager peers.now; queued = [] };
           missing = record { wants = []; timers = [] };
@@ -104,11 +111,12 @@ impl<A: Allocator + Copy> Gossip<A> {
         Ok(Gossip {
             me,
             threshold,
+            keep,
             spent: seq_spent,
             peers: PeerSets::new(alloc, peers)?,
             missing: Missing::new(alloc),
             known: KnownIds::new(alloc),
-            held: IndexMap::new(alloc),
+            held: MessageStore::new(alloc),
         })
     }
 
@@ -222,6 +230,7 @@ impl<A: Allocator + Copy> Gossip<A> {
             &id,
             0,
             payload,
+            self.keep,
         )?;
         self.spent = seq;
         Ok(())
@@ -308,6 +317,7 @@ impl<A: Allocator + Copy> Gossip<A> {
             id,
             round.saturating_add(1),
             payload,
+            self.keep,
         )?;
         self.missing.got(id);
         self.peers.make_eager(sender);
@@ -500,11 +510,12 @@ impl<A: Allocator + Copy> Gossip<A> {
         Ok(Gossip {
             me: self.me,
             threshold: self.threshold,
+            keep: self.keep,
             spent: self.spent,
             peers: self.peers.copy()?,
             missing: self.missing.copy()?,
             known: self.known.copy()?,
-            held: self.held.clone()?,
+            held: self.held.copy()?,
         })
     }
 }
@@ -530,7 +541,14 @@ impl<A: Allocator> Gossip<A> {
     pub fn payload(&self, id: &MsgId) -> Option<&Bytes<A>>
         ensures { option_copied result ≡ lookup (same_id id.now) self.now.held }
     {
-        self.held.get(id)
+        self.held.payload(id)
+    }
+
+    /// The ids of the messages that are held, in order of delivery.
+    pub fn held(&self) -> &[MsgId]
+        ensures { result.now ≡ keys_of self.now.held }
+    {
+        self.held.ids()
     }
 
     /// Which run of which node it is.
