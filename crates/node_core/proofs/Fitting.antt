@@ -1,5 +1,5 @@
 -- What the core sends fits frames.
-use Rattle.std.specs.Prelude.{◌≡◌, ◌+◌, ◌<◌, ◌≤◌, ◌&&◌, ℕ, zero, suc, Bool, true, false, not, List, [], ◌∷◌, ◌++◌, Option, Some, None, is_some, map, filter, take, drop, length, refl, if◌then◌else◌, nat_lt, nat_le}
+use Rattle.std.specs.Prelude.{◌≡◌, ◌+◌, ◌<◌, ◌≤◌, ◌&&◌, ◌-◌, ℕ, zero, suc, Bool, true, false, not, cond, List, [], ◌∷◌, ◌++◌, Option, Some, None, is_some, map, filter, take, drop, length, refl, if◌then◌else◌, nat_eq, nat_lt, nat_le}
 use Rattle.std.specs.List.{AllByRecursion as Each, flat_map}
 use Rattle.std.specs.Map.{lookup}
 use Rattle.std.proofs.Common.{inl, inr, sym, ◌∙◌, ap, subst, arith, length-drop}
@@ -11,7 +11,7 @@ use Rattle.node_names.specs.Same.{same_id, same_id-Decides, same_name, has_id}
 use Rattle.node_names.specs.declared.dice.Dice.{Dice}
 use Rattle.node_names.specs.declared.ids.MsgId.{MsgId}
 use Rattle.world.specs.FloodLists.{and_left, and_right}
-use Rattle.world.specs.Held.{found_after_push}
+use Rattle.world.specs.Held.{same_inside}
 use Rattle.world.specs.Lists.{IsOneOf}
 use Rattle.world.specs.Stimulus.{Stimulus}
 use Rattle.world.specs.declared.TheConstants.{MAX_PAYLOAD}
@@ -26,6 +26,7 @@ use Rattle.membership.specs.Event.{Event}
 use Rattle.membership.specs.declared.event.EventOf.TheVariants as heard_of
 use Rattle.membership.specs.Membership.{still}
 use Rattle.membership.specs.Table.{table}
+use Rattle.message_store.specs.Held.{kept_last}
 use Rattle.missing.specs.Missing.{announced_all, taken_first}
 use Rattle.missing.specs.Wants.{first_want, with_wants, without_first}
 use Rattle.peer_sets.specs.Members.{is_member, eager_but, lazy_but}
@@ -143,6 +144,26 @@ to_each : (id : MsgId) (round : ℕ) (payload : List ℕ) (peers : List Name) �
 to_each id round payload [] fit = tt
 to_each id round payload (peer ∷ peers) fit = (fit, to_each id round payload peers fit)
 
+-- what holds of each held message holds of those that are kept, and of the one that is found
+abbrev HeldFit : List (MsgId × List ℕ) → Type 0
+HeldFit held = Each (λ message. (0 < message.0.seq) × (length message.1 ≤ MAX_PAYLOAD)) held
+
+dropped_fit : (n : ℕ) (held : List (MsgId × List ℕ)) → HeldFit held → HeldFit (drop n held)
+dropped_fit zero held fit = fit
+dropped_fit (suc n) [] fit = fit
+dropped_fit (suc n) (message ∷ held) fit = dropped_fit n held fit.1
+
+kept_fit : (keep : ℕ) (held : List (MsgId × List ℕ)) → HeldFit held → HeldFit (kept_last keep held)
+kept_fit keep held fit = either HeldFit (nat_eq keep 0) held (drop (length held - keep) held) (λ all. fit) (λ some. dropped_fit (length held - keep) held fit)
+
+held_fits : (held : List (MsgId × List ℕ)) → HeldFit held → (id : MsgId) (p : List ℕ) → lookup (same_id id) held ≡ Some p → (0 < id.seq) × (length p ≤ MAX_PAYLOAD)
+held_fits [] fit id p found = absurd (false≢true (ap is_some found))
+held_fits (message ∷ held) fit id p found = go (same_id id message.0) refl found (held_fits held fit.1 id p)
+  where
+    go : (b : Bool) → same_id id message.0 ≡ b → cond b (Some message.1) (lookup (same_id id) held) ≡ Some p → (lookup (same_id id) held ≡ Some p → (0 < id.seq) × (length p ≤ MAX_PAYLOAD)) → (0 < id.seq) × (length p ≤ MAX_PAYLOAD)
+    go true same is later = (subst (λ (i : MsgId). 0 < i.seq) (sym ((same_id-Decides id message.0).0 same)) fit.0.0, subst (λ q. length q ≤ MAX_PAYLOAD) (same_inside message.1 p is) fit.0.1)
+    go false apart is later = later is
+
 module _ (g : GossipState) (fits : FitsFrames g) where
   -- What a call leaves and sends fits.
   abbrev Fit : Outcome → Type 0
@@ -154,7 +175,7 @@ module _ (g : GossipState) (fits : FitsFrames g) where
   spread_fits : (left_out : Option Name) (id : MsgId) (round : ℕ) (payload : List ℕ) (spent : ℕ) (wants : List (MsgId × Name × ℕ)) (timers : List MsgId) → 0 < id.seq → length payload ≤ MAX_PAYLOAD → ((entry : MsgId × Name × ℕ) → IsOneOf entry wants → IsOneOf entry g.missing.wants) → FitMore left_out id round payload (record g { spent = spent; missing = record { wants = wants; timers = timers } })
   spread_fits left_out id round payload spent wants timers numbered short fewer = (
     record {
-      held = λ j p found. elim (found_after_push g.held id payload j p found) [ inl was ↦ fits.held j p was | inr same ↦ subst (λ k. (0 < k.seq) × (length p ≤ MAX_PAYLOAD)) (sym same.0) (numbered, subst (λ q. length q ≤ MAX_PAYLOAD) (sym same.1) short) ];
+      held = kept_fit g.keep (g.held ++ (id, payload) ∷ []) (each-append (λ (message : MsgId × List ℕ). (0 < message.0.seq) × (length message.1 ≤ MAX_PAYLOAD)) g.held ((id, payload) ∷ []) fits.held ((numbered, short), tt));
       queued = each-append (λ entry. 0 < entry.1.seq) g.peers.queued _ fits.queued (all_new (filter (λ peer. not (is_queued peer id g.peers.queued)) (lazy_but left_out g.peers.members)));
       wants = each_one _ wants (λ entry h. of_each (λ e. 0 < e.0.seq) g.missing.wants entry fits.wants (fewer entry h));
     },
@@ -167,7 +188,7 @@ module _ (g : GossipState) (fits : FitsFrames g) where
 
   answer_fits : (peer : Name) (id : MsgId) (round : ℕ) (o : Option (List ℕ)) → lookup (same_id id) g.held ≡ o → AreFit (answer peer id round o)
   answer_fits peer id round None is = tt
-  answer_fits peer id round (Some payload) is = (gossip_fits id round payload (fits.held id payload is).0 (fits.held id payload is).1, tt)
+  answer_fits peer id round (Some payload) is = let fit = held_fits g.held fits.held id payload is in (gossip_fits id round payload fit.0 fit.1, tt)
 
   fewer_first : (id : MsgId) (wants : List (MsgId × Name × ℕ)) (entry : MsgId × Name × ℕ) → IsOneOf entry (without_first id wants) → IsOneOf entry wants
   fewer_first id [] entry none = none
@@ -200,7 +221,7 @@ module _ (g : GossipState) (fits : FitsFrames g) where
   same_fits : (h : GossipState) → h.held ≡ g.held → h.peers.queued ≡ g.peers.queued → h.missing.wants ≡ g.missing.wants → FitsFrames h
   same_fits h held queued wants =
       record {
-        held = λ id p found. fits.held id p (sym (ap (lookup (same_id id)) held) ∙ found);
+        held = subst (Each (λ (message : MsgId × List ℕ). (0 < message.0.seq) × (length message.1 ≤ MAX_PAYLOAD))) (sym held) fits.held;
         queued = subst (Each (λ (entry : Name × MsgId × ℕ). 0 < entry.1.seq)) (sym queued) fits.queued;
         wants = subst (Each (λ (entry : MsgId × Name × ℕ). 0 < entry.0.seq)) (sym wants) fits.wants;
       }

@@ -1,9 +1,8 @@
 -- What a core starts with.
-use Rattle.std.specs.Prelude.{◌≡◌, ◌+◌, ◌++◌, ◌⊎◌, ◌<◌, ◌≤◌, ◌^◌, ◌-◌, ℕ, List, [], Option, None, Some, IsSome, is_some, length, refl, IfErr, IsErrAnd}
+use Rattle.std.specs.Prelude.{◌≡◌, ◌+◌, ◌++◌, ◌⊎◌, ◌<◌, ◌≤◌, ◌^◌, ◌-◌, ℕ, List, [], Option, None, Some, IsSome, length, refl, IfErr, IsErrAnd}
 use Rattle.std.specs.declared.result.Result.{Result}
 use Rattle.std.specs.declared.result.Result.TheVariants.{Ok, Err}
 use Rattle.std.proofs.Common.{◌∙◌, ap, arith, inl, inr, subst, sym}
-use Rattle.std.proofs.lemmas.Bool.{false≢true}
 use Rattle.std.proofs.lemmas.List.{append-nil}
 use Rattle.node_names.specs.NodeName.{Name}
 use Rattle.node_names.specs.Limits.{Limits, IsAllowed as AreAllowed}
@@ -29,7 +28,7 @@ opening_fits (Some contact) = ((refl, refl), tt)
 
 -- and so does a gossip that holds nothing
 pub newcomer_fits : (me : Origin) (limits : Limits) (peers : List Name) (spent framed : ℕ) → FitsFrames (newcomer me limits peers spent framed).gossip
-newcomer_fits me limits peers spent framed = record { held = λ id p found. absurd (false≢true (ap is_some found)); queued = tt; wants = tt }
+newcomer_fits me limits peers spent framed = record { held = tt; queued = tt; wants = tt }
 
 -- the contact is sent JOIN, and the membership stays as it was
 pub greets : (m : Membership) (o : Option Name) (contact : Name) → o ≡ Some contact → (none moves : Moves) (new : Membership) → none ≡ record { sends = []; downs = []; ups = [] } → ((dice : Dice) → Ends (table (on.Joins contact) dice (still m)) none new moves) → (sends : List (Name × Body)) → sends ≡ moves.sends → (new ≡ m) × (sends ≡ opening o)

@@ -1,10 +1,7 @@
 -- What a core holds and hears fits frames, so that what it sends does.
-use Rattle.std.specs.Prelude.{◌≡◌, ◌<◌, ◌≤◌, ℕ, true, List, Some, length}
+use Rattle.std.specs.Prelude.{◌≡◌, ◌<◌, ◌≤◌, ℕ, true, List, length}
 use Rattle.std.specs.List.{AllByRecursion as Each}
-use Rattle.std.specs.Map.{lookup}
 use Rattle.node_names.specs.NodeName.{Name}
-use Rattle.node_names.specs.Same.{same_id}
-use Rattle.node_names.specs.declared.ids.MsgId.{MsgId}
 use Rattle.world.specs.Stimulus.{Stimulus}
 use Rattle.world.specs.declared.TheConstants.{MAX_PAYLOAD}
 use Rattle.world.specs.declared.stimulus.StimulusOf.TheVariants.{Broadcast, Arrive, Fire, Flush, Down, Shuffle}
@@ -14,7 +11,7 @@ use Rattle.gossip_core.specs.State.{GossipState}
 
 -- The numbers of the messages that are held, wait or are wanted count from 1, and what is held is no longer than payloads may be.
 pub record FitsFrames (g : GossipState) : Type 0 where
-  pub held : (id : MsgId) (p : List ℕ) → lookup (same_id id) g.held ≡ Some p → (0 < id.seq) × (length p ≤ MAX_PAYLOAD)
+  pub held : Each (λ message. (0 < message.0.seq) × (length message.1 ≤ MAX_PAYLOAD)) g.held
   pub queued : Each (λ entry. 0 < entry.1.seq) g.peers.queued
   pub wants : Each (λ entry. 0 < entry.0.seq) g.missing.wants
 

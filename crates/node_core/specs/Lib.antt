@@ -11,6 +11,7 @@ pub mod Flushing
 pub mod Spreading
 pub mod Swapping
 pub mod Moving
+pub mod Keeping
 pub mod Whole
 pub mod Started
 pub mod Starting

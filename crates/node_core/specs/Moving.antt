@@ -21,6 +21,7 @@ use Rattle.node_core.specs.Members.{one_of_filter, one_of_passing}
 pub record SameButLinks (g h : GossipState) : Type 0 where
   pub me : h.me ≡ g.me
   pub threshold : h.threshold ≡ g.threshold
+  pub keep : h.keep ≡ g.keep
   pub spent : h.spent ≡ g.spent
   pub known : h.known ≡ g.known
   pub held : h.held ≡ g.held
@@ -50,7 +51,7 @@ first_gone name gone q is = ap (λ b. b || has_name gone q) (same_name-laws.symm
 pub after_all_downs : (downs : List Name) (g : GossipState) → Linked g downs (after_downs downs g)
 after_all_downs [] g =
     record {
-      same = record { me = refl; threshold = refl; spent = refl; known = refl; held = refl; timers = refl };
+      same = record { me = refl; threshold = refl; keep = refl; spent = refl; known = refl; held = refl; timers = refl };
       queue_was = λ entry h. h;
       queue_stays = λ entry h. inl h;
       wants_were = λ entry h. h;
@@ -59,7 +60,7 @@ after_all_downs [] g =
 after_all_downs (name ∷ names) g =
     let later : Linked (outcome g (call.Down name)).state names (after_downs names (outcome g (call.Down name)).state) = after_all_downs names (outcome g (call.Down name)).state in
     record {
-      same = record { me = later.same.me; threshold = later.same.threshold; spent = later.same.spent; known = later.same.known; held = later.same.held; timers = later.same.timers };
+      same = record { me = later.same.me; threshold = later.same.threshold; keep = later.same.keep; spent = later.same.spent; known = later.same.known; held = later.same.held; timers = later.same.timers };
       queue_was = λ entry h. (one_of_filter (λ e. not (same_name name e.0)) entry g.peers.queued (later.queue_was entry h)).0;
       queue_stays = λ entry h. queue_kept later entry h (same_name name entry.0) refl;
       wants_were = λ entry h. (one_of_filter (λ e. not (same_name name e.1)) entry g.missing.wants (later.wants_were entry h)).0;
@@ -84,7 +85,7 @@ after_all_downs (name ∷ names) g =
 pub after_all_ups : (ups : List Name) (g : GossipState) → Linked g [] (after_ups ups g)
 after_all_ups [] g =
     record {
-      same = record { me = refl; threshold = refl; spent = refl; known = refl; held = refl; timers = refl };
+      same = record { me = refl; threshold = refl; keep = refl; spent = refl; known = refl; held = refl; timers = refl };
       queue_was = λ entry h. h;
       queue_stays = λ entry h. inl h;
       wants_were = λ entry h. h;
@@ -93,7 +94,7 @@ after_all_ups [] g =
 after_all_ups (name ∷ names) g =
     let later : Linked (outcome g (call.Up name)).state [] (after_ups names (outcome g (call.Up name)).state) = after_all_ups names (outcome g (call.Up name)).state in
     record {
-      same = record { me = later.same.me; threshold = later.same.threshold; spent = later.same.spent; known = later.same.known; held = later.same.held; timers = later.same.timers };
+      same = record { me = later.same.me; threshold = later.same.threshold; keep = later.same.keep; spent = later.same.spent; known = later.same.known; held = later.same.held; timers = later.same.timers };
       queue_was = later.queue_was;
       queue_stays = later.queue_stays;
       wants_were = later.wants_were;

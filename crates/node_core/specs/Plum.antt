@@ -1,8 +1,8 @@
 -- What a node's core is seen as: its membership and its gossip, joined.
-use Rattle.std.specs.Prelude.{◌≡◌, ◌≢◌, ℕ, true, false, List, is_some}
+use Rattle.std.specs.Prelude.{◌≡◌, ◌≢◌, ℕ, true, false, List, [], ◌∷◌, None, is_some}
 use Rattle.std.specs.FinSet as set
 use Rattle.std.specs.List.{AllByRecursion as Each}
-use Rattle.std.specs.Map.{lookup}
+use Rattle.std.specs.Map.{keys_of, lookup}
 use Rattle.node_names.specs.NodeName.{Name}
 use Rattle.node_names.specs.Limits.{Limits}
 use Rattle.node_names.specs.Order.{id_cmp}
@@ -31,6 +31,7 @@ state_with active passive g =
       me = g.me;
       has = set.contains g.known;
       payload = λ id. lookup (same_id id) g.held;
+      held = keys_of g.held;
       active = active;
       passive = passive;
       queued = g.peers.queued;
@@ -48,23 +49,31 @@ pub record IsLacked (known : set.FinSet id_cmp) (me : Origin) (id : MsgId) : Typ
   pub unknown : set.contains known id ≡ false
   pub foreign : id.origin ≢ me
 
--- What always holds of a gossip: its sets, its announcements and its store are sound; it holds what it knows; what waits
--- to be announced is known, and what was announced to it is lacked, of another run, and was announced by members.
+-- Each message is held once.
+abbrev pub HeldOnce : List (MsgId × List ℕ) → Type 0
+HeldOnce [] = Unit {0}
+HeldOnce (message ∷ held) = (lookup (same_id message.0) held ≡ None) × HeldOnce held
+
+-- What always holds of a gossip: its sets, its announcements and its store are sound; it holds what it knows, where it is to keep
+-- all, and each message once; what waits to be announced is known, and what was announced to it is lacked, of another run, and was
+-- announced by members.
 pub record IsWhole (g : GossipState) : Type 0 where
   pub peers : ArePeerSetsSound g.peers
   pub missing : IsMissingSound g.missing
   pub store : IsGossipSound g
-  pub known_is_held : (id : MsgId) → set.contains g.known id ≡ true → is_some (lookup (same_id id) g.held) ≡ true
+  pub held_once : HeldOnce g.held
+  pub known_is_held : g.keep ≡ 0 → (id : MsgId) → set.contains g.known id ≡ true → is_some (lookup (same_id id) g.held) ≡ true
   pub queued_is_known : Each (λ entry. set.contains g.known entry.1 ≡ true) g.peers.queued
   pub wants_of_members : Each (λ entry. has_name (names g.peers.members) entry.1 ≡ true) g.missing.wants
   pub wants_lacked : Each (λ entry. IsLacked g.known g.me entry.0) g.missing.wants
   pub timers_lacked : Each (λ id. IsLacked g.known g.me id) g.missing.timers
 
--- What always holds of a core: its views are sound, and within these limits; it is their owner; its gossip is whole and its
--- own, and the members of the gossip are the active names, in their order.
+-- What always holds of a core: its views are sound, and within these limits, and its gossip keeps as many messages as these say; it
+-- is the owner of its views; its gossip is whole and its own, and the members of the gossip are the active names, in their order.
 pub record IsSoundPlum (limits : Limits) (core : Plum) : Type 0 where
   pub views : AreSound core.membership.views
   pub its_limits : core.membership.views.limits ≡ limits
+  pub its_keep : core.gossip.keep ≡ limits.keep
   pub owner : core.membership.views.owner ≡ core.me.name
   pub its_gossip : core.gossip.me ≡ core.me
   pub members : names core.gossip.peers.members ≡ core.membership.views.active

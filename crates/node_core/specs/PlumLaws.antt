@@ -2,7 +2,7 @@
 use Rattle.std.specs.Prelude.{◌≡◌, ◌≢◌, ◌⊎◌, ◌+◌, ◌<◌, ◌≤◌, ◌&&◌, ◌||◌, ℕ, Bool, true, false, not, cond, List, [], ◌∷◌, ◌++◌, Option, Some, None, is_some, IsSome, length, map, filter, refl, if◌then◌else◌}
 use Rattle.std.specs.FinSet as set
 use Rattle.std.specs.List.{AllByRecursion as Each, IsDistinct}
-use Rattle.std.specs.Map.{lookup}
+use Rattle.std.specs.Map.{keys_of, lookup}
 use Rattle.std.specs.Option.{unwrap_or}
 use Rattle.std.proofs.Common.{inl, inr, sym, ◌∙◌, ap, subst, arith}
 use Rattle.std.proofs.lemmas.Bool.{false≢true, true≢false}
@@ -19,10 +19,12 @@ use Rattle.node_names.specs.declared.ids.MsgId.{MsgId}
 use Rattle.node_names.specs.declared.ids.Origin.{Origin}
 use Rattle.world.specs.AskLaw.{Fires, AsksNothing}
 use Rattle.world.specs.CoreState.{CoreState}
-use Rattle.world.specs.DeliveryLaw.{IsNews, Delivers, count_after}
+use Rattle.world.specs.Delivery.{Delivery}
+use Rattle.world.specs.DeliveryLaw.{IsNews, Delivers, count_after, ids}
 use Rattle.world.specs.Content.{Content}
 use Rattle.world.specs.FloodLists.{and_left, and_right}
-use Rattle.world.specs.HoldLaw.{IsAskedBy, packets_with}
+use Rattle.world.specs.HoldLaw.{IsAskedBy, KeepsLast, packets_with}
+use Rattle.world.specs.Held.{found_by_key}
 use Rattle.world.specs.Laws.{IsSilent, Laws, StateLaws, StepLaws}
 use Rattle.world.specs.Lists.{IsOneOf}
 use Rattle.world.specs.QueueLaw.{FlushesQueue, AnnouncesNothing, KeepsQueue}
@@ -41,7 +43,7 @@ use Rattle.membership.proofs.LawfulRows.{table_is_lawful}
 use Rattle.membership.specs.Event.{Event}
 use Rattle.membership.specs.declared.event.EventOf.TheVariants as heard_of
 use Rattle.membership.specs.Laws.{IsFromAnother, Lawful}
-use Rattle.membership.specs.Membership.{Turn, still}
+use Rattle.membership.specs.Membership.{Membership, Turn, still}
 use Rattle.membership.specs.Table.{table}
 use Rattle.missing.proofs.SoundLemmas.{sound-got, sound-announced_all, sound-taken_first}
 use Rattle.missing.specs.Missing.{announced_all, taken_first}
@@ -63,6 +65,7 @@ use Rattle.node_core.specs.Steps.{Turned, PlumSteps, PlumStarts, turned, heard, 
 use Rattle.node_core.specs.Starting as starting
 use Rattle.node_core.specs.Firing.{fires_lawfully}
 use Rattle.node_core.specs.Flushing.{flushes_lawfully}
+use Rattle.node_core.specs.Keeping.{keeps_all_listed, keeps_delivered}
 use Rattle.node_core.specs.Moving.{Linked, after_all_downs, after_all_ups, members_after_downs, members_after_ups}
 use Rattle.node_core.specs.Resting.{leaves_all, delivers_nothing, carry_none, each_part, keeps_all, CarryNothing}
 use Rattle.node_core.specs.Spreading.{spreads_lawfully}
@@ -149,7 +152,7 @@ module _ (g : GossipState) (whole : IsWhole g) where
 
   pub stays_whole : (c : Call) → IsWhole (outcome g c).state
   stays_whole (call.Broadcast payload) =
-      whole-spread g whole None (next_id g) 0 payload (g.spent + 1) g.missing.wants g.missing.timers (omega arith) (λ own. (omega arith, omega arith)) whole.missing
+      whole-spread g whole None (next_id g) 0 payload (g.spent + 1) g.missing.wants g.missing.timers (next_is_lacked g whole) (omega arith) (λ own. (omega arith, omega arith)) whole.missing
       (λ entry h. (h, λ same. foreign entry.0 same (of_each (λ e. IsLacked g.known g.me e.0) g.missing.wants entry whole.wants_lacked h)))
       (λ j h. (h, λ same. foreign j same (of_each (λ i. IsLacked g.known g.me i) g.missing.timers j whole.timers_lacked h)))
     where
@@ -163,7 +166,7 @@ module _ (g : GossipState) (whole : IsWhole g) where
       first_whole : (sender : Name) (id : MsgId) (round : ℕ) (payload : List ℕ) → is_news g id ≡ true → IsWholeAfter (first_copy sender id round payload g)
       first_whole sender id round payload news =
           whole-with_kind _
-          (whole-spread g whole (Some sender) id (next_round round) payload g.spent (without_id id g.missing.wants) (without_timer id g.missing.timers) (omega arith) (λ own. absurd ((news_is g id news).foreign own)) (sound-got id g.missing whole.missing) (others_wanted id g.missing.wants) (others_armed id g.missing.timers))
+          (whole-spread g whole (Some sender) id (next_round round) payload g.spent (without_id id g.missing.wants) (without_timer id g.missing.timers) (news_is g id news).unknown (omega arith) (λ own. absurd ((news_is g id news).foreign own)) (sound-got id g.missing whole.missing) (others_wanted id g.missing.wants) (others_armed id g.missing.timers))
           sender Eager
   stays_whole (call.OnIHave sender entries) =
       either IsWholeAfter (is_member g.peers.members sender) (quiet (record g { missing = announced_all sender (filter (λ entry. is_news g entry.0) entries) g.missing })) (quiet g)
@@ -183,9 +186,9 @@ module _ (g : GossipState) (whole : IsWhole g) where
 
 -- ---- the gossip's calls
 
--- the members of a gossip that speaks stay, and so does who it is
+-- the members of a gossip that speaks stay, and so do who it is and how many messages it keeps
 abbrev Stays : GossipState → Outcome → Type 0
-Stays g done = (names done.state.peers.members ≡ names g.peers.members) × (done.state.me ≡ g.me)
+Stays g done = (names done.state.peers.members ≡ names g.peers.members) × (done.state.me ≡ g.me) × (done.state.keep ≡ g.keep)
 
 module _ (limits : Limits) (core : Plum) (sound : IsSoundPlum limits core) where
   abbrev g : GossipState
@@ -217,6 +220,7 @@ module _ (limits : Limits) (core : Plum) (sound : IsSoundPlum limits core) where
       record {
         views = sound.views;
         its_limits = sound.its_limits;
+        its_keep = stays.2 ∙ sound.its_keep;
         owner = sound.owner;
         its_gossip = stays.1 ∙ sound.its_gossip;
         members = stays.0 ∙ sound.members;
@@ -230,7 +234,7 @@ module _ (limits : Limits) (core : Plum) (sound : IsSoundPlum limits core) where
     spreads_lawfully core.gossip sound.whole active passive sound.members core.me not_active core.framed (next_id core.gossip) (next_is_lacked core.gossip sound.whole) None 0 payload core.gossip.missing.wants core.gossip.missing.timers (core.gossip.spent + 1) (on.Broadcast payload)
         sound.its_gossip (refl, refl) refl refl (λ name. refl) (λ h. h) (λ h. h) (λ name j round a. a) (λ j name a. a)
         (λ entry h. h) (λ entry h. inl h) (λ j h. h) (λ j h. inl h),
-    sound_after (call.Broadcast payload) (refl, refl),
+    sound_after (call.Broadcast payload) (refl, refl, refl),
   )
 
   -- ---- a packet of the gossip came
@@ -306,13 +310,13 @@ module _ (limits : Limits) (core : Plum) (sound : IsSoundPlum limits core) where
 
     swap_stays : (announcer : Option Name) (done : Outcome) → Stays core.gossip done → Stays core.gossip (swapped sender.name announcer done)
     swap_stays None done stays = stays
-    swap_stays (Some peer) done stays = (names-with_kind sender.name Lazy (with_kind peer Eager done.state.peers.members) ∙ names-with_kind peer Eager done.state.peers.members ∙ stays.0, stays.1)
+    swap_stays (Some peer) done stays = (names-with_kind sender.name Lazy (with_kind peer Eager done.state.peers.members) ∙ names-with_kind peer Eager done.state.peers.members ∙ stays.0, stays.1, stays.2)
 
     gossip_stays : (id : MsgId) (round : ℕ) (payload : List ℕ) → Stays core.gossip (outcome core.gossip (call.OnGossip sender.name id round payload))
     gossip_stays id round payload =
         either (Stays core.gossip) (set.contains core.gossip.known id) (repeated sender.name core.gossip) (if is_news core.gossip id then swapped sender.name (shortcut core.gossip sender.name id round) (first_copy sender.name id round payload core.gossip) else quiet core.gossip)
-        (λ known. either (Stays core.gossip) (is_member core.gossip.peers.members sender.name) (record { state = with_peer sender.name Lazy core.gossip; sends = (sender.name, body.Prune) ∷ []; delivered = None }) (quiet core.gossip) (λ member. (names-with_kind sender.name Lazy core.gossip.peers.members, refl)) (λ stranger. (refl, refl)))
-        (λ unknown. either (Stays core.gossip) (is_news core.gossip id) (swapped sender.name (shortcut core.gossip sender.name id round) (first_copy sender.name id round payload core.gossip)) (quiet core.gossip) (λ news. swap_stays (shortcut core.gossip sender.name id round) (first_copy sender.name id round payload core.gossip) (names-with_kind sender.name Eager core.gossip.peers.members, refl)) (λ own. (refl, refl)))
+        (λ known. either (Stays core.gossip) (is_member core.gossip.peers.members sender.name) (record { state = with_peer sender.name Lazy core.gossip; sends = (sender.name, body.Prune) ∷ []; delivered = None }) (quiet core.gossip) (λ member. (names-with_kind sender.name Lazy core.gossip.peers.members, refl, refl)) (λ stranger. (refl, refl, refl)))
+        (λ unknown. either (Stays core.gossip) (is_news core.gossip id) (swapped sender.name (shortcut core.gossip sender.name id round) (first_copy sender.name id round payload core.gossip)) (quiet core.gossip) (λ news. swap_stays (shortcut core.gossip sender.name id round) (first_copy sender.name id round payload core.gossip) (names-with_kind sender.name Eager core.gossip.peers.members, refl, refl)) (λ own. (refl, refl, refl)))
 
     -- ---- a packet asks for a message
 
@@ -367,17 +371,17 @@ module _ (limits : Limits) (core : Plum) (sound : IsSoundPlum limits core) where
   fire_stays : (id : MsgId) → Stays core.gossip (outcome core.gossip (call.Fire id))
   fire_stays id =
       either (Stays core.gossip) (has_id core.gossip.missing.timers id) (asked id (first_want id core.gossip.missing.wants) (record core.gossip { missing = taken_first id core.gossip.missing })) (quiet core.gossip)
-      (λ is. go (first_want id core.gossip.missing.wants)) (λ is. (refl, refl))
+      (λ is. go (first_want id core.gossip.missing.wants)) (λ is. (refl, refl, refl))
     where
       go : (first : Option (Name × ℕ)) → Stays core.gossip (asked id first (record core.gossip { missing = taken_first id core.gossip.missing }))
-      go None = (refl, refl)
-      go (Some first) = (names-with_kind first.0 Eager core.gossip.peers.members, refl)
+      go None = (refl, refl, refl)
+      go (Some first) = (names-with_kind first.0 Eager core.gossip.peers.members, refl, refl)
 
   fires : (id : MsgId) → Lawful_step (on.Fire id) (by_gossip core.membership core.gossip (call.Fire id))
   fires id = (fires_lawfully core.gossip sound.whole active passive sound.members core.me not_active core.framed id, sound_after (call.Fire id) (fire_stays id))
 
   flushes : Lawful_step on.Flush (by_gossip core.membership core.gossip call.Flush)
-  flushes = (flushes_lawfully core.gossip sound.whole active passive sound.members core.me not_active core.framed, sound_after call.Flush (refl, refl))
+  flushes = (flushes_lawfully core.gossip sound.whole active passive sound.members core.me not_active core.framed, sound_after call.Flush (refl, refl, refl))
 
 -- ---- the membership's events
 
@@ -471,6 +475,7 @@ module _ (limits : Limits) (core : Plum) (sound : IsSoundPlum limits core) (even
       record {
         views = lawful.sound;
         its_limits = lawful.limits_stay ∙ sound.its_limits;
+        its_keep = came.same.keep ∙ went.same.keep ∙ sound.its_keep;
         owner = lawful.owner_stays ∙ sound.owner;
         its_gossip = came.same.me ∙ went.same.me ∙ sound.its_gossip;
         members = members_now;
@@ -479,7 +484,7 @@ module _ (limits : Limits) (core : Plum) (sound : IsSoundPlum limits core) (even
 
   -- nothing but links changed
   same_otherwise : after ≡ record core.gossip { peers = after.peers; missing = record { wants = after.missing.wants; timers = core.gossip.missing.timers } }
-  same_otherwise = λ i. record { me = (came.same.me ∙ went.same.me) i; threshold = (came.same.threshold ∙ went.same.threshold) i; spent = (came.same.spent ∙ went.same.spent) i; peers = after.peers; missing = record { wants = after.missing.wants; timers = (came.same.timers ∙ went.same.timers) i }; known = (came.same.known ∙ went.same.known) i; held = (came.same.held ∙ went.same.held) i }
+  same_otherwise = λ i. record { me = (came.same.me ∙ went.same.me) i; threshold = (came.same.threshold ∙ went.same.threshold) i; keep = (came.same.keep ∙ went.same.keep) i; spent = (came.same.spent ∙ went.same.spent) i; peers = after.peers; missing = record { wants = after.missing.wants; timers = (came.same.timers ∙ went.same.timers) i }; known = (came.same.known ∙ went.same.known) i; held = (came.same.held ∙ went.same.held) i }
 
   sends : List (Name × Frame)
   sends = numbered core.me core.framed (table event dice (still core.membership)).sends
@@ -582,10 +587,10 @@ module _ (limits : Limits) (core : Plum) (sound : IsSoundPlum limits core) where
     hears (body.Shuffle origin ttl ns) = (moves_lawfully limits core sound (heard_of.Shuffle sender.name origin ttl ns) dice (other_owner sender.name another) (on.Arrive sender (record { sender = by; number = number; body = body.Shuffle origin ttl ns }) dice) refl refl (λ s a h. h) (λ s a h. h) (λ name j r a. a.1) (λ j name a. no_id j a.0), moved_soundly limits core sound (heard_of.Shuffle sender.name origin ttl ns) dice (other_owner sender.name another))
     hears (body.ShuffleReply ns) = (moves_lawfully limits core sound (heard_of.ShuffleReply sender.name ns) dice (other_owner sender.name another) (on.Arrive sender (record { sender = by; number = number; body = body.ShuffleReply ns }) dice) refl refl (λ s a h. h) (λ s a h. h) (λ name j r a. a.1) (λ j name a. no_id j a.0), moved_soundly limits core sound (heard_of.ShuffleReply sender.name ns) dice (other_owner sender.name another))
     hears (body.Gossip id round payload) = (gossips limits core sound sender another by number dice id round payload, sound_after limits core sound (call.OnGossip sender.name id round payload) (gossip_stays limits core sound sender another by number dice id round payload))
-    hears (body.IHave entries) = (hears_lawfully core.gossip core.membership.views.active core.membership.views.passive sound.members core.me core.framed sender by number dice entries, sound_after limits core sound (call.OnIHave sender.name entries) (either (Stays core.gossip) (is_member core.gossip.peers.members sender.name) (quiet (record core.gossip { missing = announced_all sender.name (filter (λ entry. is_news core.gossip entry.0) entries) core.gossip.missing })) (quiet core.gossip) (λ is. (refl, refl)) (λ is. (refl, refl))))
-    hears (body.Graft id round) = (grafts limits core sound sender another by number dice id round, sound_after limits core sound (call.OnGraft sender.name id round) (names-with_kind sender.name Eager core.gossip.peers.members, refl))
-    hears body.Prune = (prunes limits core sound sender another by number dice, sound_after limits core sound (call.OnPrune sender.name) (names-with_kind sender.name Lazy core.gossip.peers.members, refl))
-    hears body.GraftPeer = (grafts_peer limits core sound sender another by number dice, sound_after limits core sound (call.OnGraftPeer sender.name) (names-with_kind sender.name Eager core.gossip.peers.members, refl))
+    hears (body.IHave entries) = (hears_lawfully core.gossip core.membership.views.active core.membership.views.passive sound.members core.me core.framed sender by number dice entries, sound_after limits core sound (call.OnIHave sender.name entries) (either (Stays core.gossip) (is_member core.gossip.peers.members sender.name) (quiet (record core.gossip { missing = announced_all sender.name (filter (λ entry. is_news core.gossip entry.0) entries) core.gossip.missing })) (quiet core.gossip) (λ is. (refl, refl, refl)) (λ is. (refl, refl, refl))))
+    hears (body.Graft id round) = (grafts limits core sound sender another by number dice id round, sound_after limits core sound (call.OnGraft sender.name id round) (names-with_kind sender.name Eager core.gossip.peers.members, refl, refl))
+    hears body.Prune = (prunes limits core sound sender another by number dice, sound_after limits core sound (call.OnPrune sender.name) (names-with_kind sender.name Lazy core.gossip.peers.members, refl, refl))
+    hears body.GraftPeer = (grafts_peer limits core sound sender another by number dice, sound_after limits core sound (call.OnGraftPeer sender.name) (names-with_kind sender.name Eager core.gossip.peers.members, refl, refl))
 
   step_is_lawful : (stimulus : Stimulus Frame) → IsNotFrom core.gossip.me.name stimulus → Step stimulus (turned core.me core.membership core.gossip stimulus)
   step_is_lawful (on.Broadcast payload) from = broadcasts limits core sound payload
@@ -612,7 +617,8 @@ module _ (limits : Limits) (core : Plum) (sound : IsSoundPlum limits core) where
               passive_of_others = ap (has_name core.membership.views.passive) (own_is_owner limits core sound) ∙ sound.views.passive_of_others;
             };
         counted = sound.whole.store.counted;
-        holds = sound.whole.known_is_held;
+        holds = λ all. sound.whole.known_is_held (sound.its_keep ∙ all);
+        lists = found_by_key core.gossip.held;
         queue =
             record {
               of_members = each_one _ core.gossip.peers.queued (λ entry h. sym (is_member-names core.gossip.peers.members entry.0 ∙ ap (λ ns. has_name ns entry.0) sound.members) ∙ of_each (λ e. is_member core.gossip.peers.members e.0 ≡ true) core.gossip.peers.queued entry sound.whole.peers.for_members h);
@@ -632,6 +638,82 @@ module _ (limits : Limits) (core : Plum) (sound : IsSoundPlum limits core) where
       unknown : (id : MsgId) → IsLacked core.gossip.known core.gossip.me id → set.contains core.gossip.known id ≡ false
       unknown id lacked = lacked.unknown
 
+-- ---- what it lists
+
+-- a call lists what it delivers
+module _ (me : Origin) (g : GossipState) where
+  abbrev Lists : Outcome → Type 0
+  Lists done = KeepsLast g.keep (keys_of g.held) (ids (delivered_at me done.delivered)) (keys_of done.state.held)
+
+  swap_lists : (sender : Name) (announcer : Option Name) (done : Outcome) → Lists done → Lists (swapped sender announcer done)
+  swap_lists sender None done lists = lists
+  swap_lists sender (Some peer) done lists = lists
+
+  fire_lists : (id : MsgId) (first : Option (Name × ℕ)) → Lists (asked id first (record g { missing = taken_first id g.missing }))
+  fire_lists id None = keeps_all_listed g.keep (keys_of g.held)
+  fire_lists id (Some first) = keeps_all_listed g.keep (keys_of g.held)
+
+  still_listed : KeepsLast g.keep (keys_of g.held) [] (keys_of g.held)
+  still_listed = keeps_all_listed g.keep (keys_of g.held)
+
+  call_lists : (c : Call) → Lists (outcome g c)
+  call_lists (call.Broadcast payload) = keeps_delivered g.keep me g.held (next_id g) payload
+  call_lists (call.OnGossip sender id round payload) =
+      either Lists (set.contains g.known id) (repeated sender g) (if is_news g id then swapped sender (shortcut g sender id round) (first_copy sender id round payload g) else quiet g)
+      (λ is. either Lists (is_member g.peers.members sender) (record { state = with_peer sender Lazy g; sends = (sender, body.Prune) ∷ []; delivered = None }) (quiet g) (λ member. still_listed) (λ stranger. still_listed))
+      (λ is. either Lists (is_news g id) (swapped sender (shortcut g sender id round) (first_copy sender id round payload g)) (quiet g) (λ news. swap_lists sender (shortcut g sender id round) (first_copy sender id round payload g) (keeps_delivered g.keep me g.held id payload)) (λ old. still_listed))
+  call_lists (call.OnIHave sender entries) =
+      either Lists (is_member g.peers.members sender) (quiet (record g { missing = announced_all sender (filter (λ entry. is_news g entry.0) entries) g.missing })) (quiet g) (λ member. still_listed) (λ stranger. still_listed)
+  call_lists (call.Fire id) =
+      either Lists (has_id g.missing.timers id) (asked id (first_want id g.missing.wants) (record g { missing = taken_first id g.missing })) (quiet g) (λ is. fire_lists id (first_want id g.missing.wants)) (λ is. still_listed)
+  call_lists (call.OnGraft sender id round) = still_listed
+  call_lists (call.OnGraftPeer sender) = still_listed
+  call_lists (call.OnPrune sender) = still_listed
+  call_lists call.Flush = still_listed
+  call_lists (call.Up peer) = still_listed
+  call_lists (call.Down peer) = still_listed
+
+-- and so does a turn
+module _ (me : Origin) (m : Membership) (g : GossipState) where
+  abbrev TurnLists : Turned → Type 0
+  TurnLists t = KeepsLast g.keep (keys_of g.held) (ids (delivered_at me t.delivered)) (keys_of t.gossip.held)
+
+  moves_list : (event : Event) (dice : Dice) → TurnLists (by_membership m g event dice)
+  moves_list event dice =
+      let down : GossipState = after_downs (table event dice (still m)).downs g in
+      let went : Linked g (table event dice (still m)).downs down = after_all_downs (table event dice (still m)).downs g in
+      let came : Linked down [] (after_ups (table event dice (still m)).ups down) = after_all_ups (table event dice (still m)).ups down in
+      subst (λ held. KeepsLast g.keep (keys_of g.held) [] (keys_of held)) (sym (came.same.held ∙ went.same.held)) (keeps_all_listed g.keep (keys_of g.held))
+
+  heard_lists : (sender : Name) (said : Body) (dice : Dice) → TurnLists (heard m g sender said dice)
+  heard_lists sender body.Join dice = moves_list (heard_of.Join sender) dice
+  heard_lists sender (body.ForwardJoin new ttl) dice = moves_list (heard_of.ForwardJoin sender new ttl) dice
+  heard_lists sender (body.Neighbor high) dice = moves_list (heard_of.Neighbor sender high) dice
+  heard_lists sender (body.NeighborReply accepted) dice = moves_list (heard_of.Reply sender accepted) dice
+  heard_lists sender body.Disconnect dice = moves_list (heard_of.Disconnect sender) dice
+  heard_lists sender (body.Shuffle origin ttl ns) dice = moves_list (heard_of.Shuffle sender origin ttl ns) dice
+  heard_lists sender (body.ShuffleReply ns) dice = moves_list (heard_of.ShuffleReply sender ns) dice
+  heard_lists sender (body.Gossip id round payload) dice = call_lists me g (call.OnGossip sender id round payload)
+  heard_lists sender (body.IHave entries) dice = call_lists me g (call.OnIHave sender entries)
+  heard_lists sender (body.Graft id round) dice = call_lists me g (call.OnGraft sender id round)
+  heard_lists sender body.Prune dice = call_lists me g (call.OnPrune sender)
+  heard_lists sender body.GraftPeer dice = call_lists me g (call.OnGraftPeer sender)
+
+  turn_lists : (stimulus : Stimulus Frame) → TurnLists (turned me m g stimulus)
+  turn_lists (on.Broadcast payload) = call_lists me g (call.Broadcast payload)
+  turn_lists (on.Arrive sender frame dice) = either TurnLists (same_name sender.name me.name) (idle m g) (heard m g sender.name frame.body dice) (λ own. keeps_all_listed g.keep (keys_of g.held)) (λ apart. heard_lists sender.name frame.body dice)
+  turn_lists (on.Fire id) = call_lists me g (call.Fire id)
+  turn_lists on.Flush = call_lists me g call.Flush
+  turn_lists (on.Down peer dice) = moves_list (heard_of.Down peer) dice
+  turn_lists (on.Shuffle dice) = moves_list heard_of.Tick dice
+
+keeps_last : (limits : Limits) (old : Plum) → IsSoundPlum limits old → (stimulus : Stimulus Frame) (sends : List (Name × Frame)) (given : List Delivery) (new : Plum) → PlumSteps old stimulus sends given new → KeepsLast limits.keep (plum_state old).held (ids given) (plum_state new).held
+keeps_last limits old sound stimulus sends given new steps =
+    subst (λ keep. KeepsLast keep (plum_state old).held (ids given) (plum_state new).held) sound.its_keep
+    (subst (λ n. KeepsLast old.gossip.keep (plum_state old).held (ids given) (plum_state n).held) (sym steps.leaves)
+    (subst (λ d. KeepsLast old.gossip.keep (plum_state old).held (ids d) (plum_state (gone_on old (turned old.me old.membership old.gossip stimulus))).held) (sym steps.delivers)
+    (turn_lists old.me old.membership old.gossip stimulus)))
+
 -- The core meets the nine laws.
 pub plum_lawful : Laws plum_state frame_content IsSoundPlum PlumStarts PlumSteps
 plum_lawful =
@@ -639,6 +721,7 @@ plum_lawful =
       start = λ me limits peers contact sends core fit started. starting.starts_uncounted me limits peers contact sends core fit started;
       start_sound = λ me limits peers contact sends core fit started. starting.starts_soundly 0 0 me limits peers contact sends core fit started;
       always = always;
+      keeps = λ limits old stimulus sends given new sound from steps. keeps_last limits old sound stimulus sends given new steps;
       step = λ limits old stimulus sends given new sound from steps. subst (λ n. StepLaws frame_content (plum_state old) stimulus sends given (plum_state n)) (sym steps.leaves) (subst (λ d. StepLaws frame_content (plum_state old) stimulus sends d (plum_state (gone_on old (turned old.me old.membership old.gossip stimulus)))) (sym steps.delivers) (subst (λ s. StepLaws frame_content (plum_state old) stimulus s (delivered_at old.me (turned old.me old.membership old.gossip stimulus).delivered) (plum_state (gone_on old (turned old.me old.membership old.gossip stimulus)))) (sym steps.sent) (step_is_lawful limits old sound stimulus from).0));
       step_sound = λ limits old stimulus sends given new sound from steps. subst (IsSoundPlum limits) (sym steps.leaves) (step_is_lawful limits old sound stimulus from).1;
     }

@@ -2,7 +2,7 @@
 use Rattle.std.specs.Prelude.{◌≡◌, ◌≢◌, ◌⊎◌, ◌+◌, ◌&&◌, ◌||◌, ℕ, Bool, true, false, not, cond, List, [], ◌∷◌, ◌++◌, Option, Some, None, is_some, map, filter, count_by, refl}
 use Rattle.std.specs.FinSet as set
 use Rattle.std.specs.List.{AllByRecursion as Each, IsDistinct}
-use Rattle.std.specs.Map.{lookup}
+use Rattle.std.specs.Map.{keys_of, lookup}
 use Rattle.std.specs.Ordering.{eq_by_cmp}
 use Rattle.std.proofs.Common.{inl, inr, sym, ◌∙◌, ap, subst, zero-add, arith}
 use Rattle.std.proofs.lemmas.Bool.{false≢true, true≢false}
@@ -30,6 +30,7 @@ use Rattle.world.specs.WantLaw.{Announces}
 use Rattle.frames.specs.Body.{Body}
 use Rattle.frames.specs.Content.{body_content, frame_content}
 use Rattle.frames.specs.Frame.{Frame}
+use Rattle.message_store.specs.Held.{kept_last}
 use Rattle.peer_sets.specs.Members.{names, is_eager_kind, is_left_out, eager_but, lazy_but}
 use Rattle.peer_sets.specs.Queue.{with_entries, is_queued}
 use Rattle.peer_sets.specs.declared.kind.PeerKind.{PeerKind}
@@ -37,10 +38,12 @@ use Rattle.peer_sets.specs.declared.kind.PeerKind.TheVariants.{Eager, Lazy}
 use Rattle.gossip_core.proofs.IdOrder.{id_ties, id_total}
 use Rattle.gossip_core.specs.State.{GossipState}
 use Rattle.gossip_core.specs.Table.{gossip_to}
+use Rattle.node_core.specs.Keeping.{found_kept, once_pushed}
 use Rattle.node_core.specs.Members.{of_each, each_one, one_of_left, one_of_append, one_of_map, counts_once, counts_none, count-append}
 use Rattle.node_core.specs.Numbered.{each-numbered, carrying-numbered}
 use Rattle.node_core.specs.Plum.{IsWhole, state_with}
 use Rattle.node_core.specs.Steps.{numbered}
+use Rattle.node_core.specs.Whole.{not_held}
 
 -- ---- who gets a packet, and who an entry
 
@@ -244,7 +247,7 @@ module _ (g : GossipState) (whole : IsWhole g) (active passive : List Name) (mem
     before = state_with active passive g
 
     abbrev after : CoreState
-    after = record (state_with active passive g) { has = set.contains (set.insert g.known id); payload = λ j. lookup (same_id j) (g.held ++ (id, payload) ∷ []); queued = queue_now; wants = wants; timers = timers; count = count }
+    after = record (state_with active passive g) { has = set.contains (set.insert g.known id); payload = λ j. lookup (same_id j) (kept_last g.keep (g.held ++ (id, payload) ∷ [])); held = keys_of (kept_last g.keep (g.held ++ (id, payload) ∷ [])); queued = queue_now; wants = wants; timers = timers; count = count }
 
     abbrev given : List Delivery
     given = record { node = me; id = id; payload = payload } ∷ []
@@ -271,7 +274,7 @@ module _ (g : GossipState) (whole : IsWhole g) (active passive : List Name) (mem
               record {
                 sent = each_carries (λ peer j q. IsKnownPayload frame_content before stimulus j q) (λ peer. inr brings);
                 delivered = (inr brings, tt);
-                held = λ j q e. elim (found_after_push g.held id payload j q e) [ inl was ↦ inl was | inr same ↦ inr (subst (λ k. Brings frame_content before stimulus k q) (sym same.0) (subst (Brings frame_content before stimulus id) (sym same.1) brings)) ];
+                held = λ j q e. elim (found_after_push g.held id payload j q (found_kept g.keep (g.held ++ (id, payload) ∷ []) (once_pushed g.held id payload whole.held_once (not_held g whole id lacked)) j q e)) [ inl was ↦ inl was | inr same ↦ inr (subst (λ k. Brings frame_content before stimulus k q) (sym same.0) (subst (Brings frame_content before stimulus id) (sym same.1) brings)) ];
                 sender_has = each_carries (λ peer j q. set.contains (set.insert g.known id) j ≡ true) (λ peer. is_known);
               };
           deliveries =

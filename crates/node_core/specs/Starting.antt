@@ -58,6 +58,7 @@ module _ (spent framed : ℕ) (me : Origin) (limits : Limits) (peers : List Name
         is_me = refl;
         has_nothing = set.contains-empty id_cmp;
         holds_nothing = λ id. refl;
+        lists_nothing = refl;
         active_are_peers = refl;
         passive_is_empty = refl;
         queue_is_empty = refl;
@@ -87,6 +88,7 @@ module _ (spent framed : ℕ) (me : Origin) (limits : Limits) (peers : List Name
               disjoint = λ name is. refl;
             };
         its_limits = refl;
+        its_keep = refl;
         owner = refl;
         its_gossip = refl;
         members = names-all_eager peers;
@@ -95,7 +97,8 @@ module _ (spent framed : ℕ) (me : Origin) (limits : Limits) (peers : List Name
               peers = sound-new peers fits.distinct;
               missing = sound-empty;
               store = record { counted = λ id is own. absurd (false≢true (sym (set.contains-empty id_cmp id) ∙ is)); held_is_known = λ id is. absurd (false≢true is) };
-              known_is_held = λ id is. absurd (false≢true (sym (set.contains-empty id_cmp id) ∙ is));
+              held_once = tt;
+              known_is_held = λ none id is. absurd (false≢true (sym (set.contains-empty id_cmp id) ∙ is));
               queued_is_known = tt;
               wants_of_members = tt;
               wants_lacked = tt;

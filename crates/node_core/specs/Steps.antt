@@ -117,7 +117,7 @@ newcomer me limits peers spent framed =
     record {
       me = me;
       membership = record { views = fresh me.name limits peers; asked = None; shuffled = [] };
-      gossip = record { me = me; threshold = limits.threshold; spent = spent; peers = record { members = all_eager peers; queued = [] }; missing = record { wants = []; timers = [] }; known = set.empty; held = [] };
+      gossip = record { me = me; threshold = limits.threshold; keep = limits.keep; spent = spent; peers = record { members = all_eager peers; queued = [] }; missing = record { wants = []; timers = [] }; known = set.empty; held = [] };
       framed = framed;
     }
 

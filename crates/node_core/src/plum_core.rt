@@ -99,7 +99,14 @@ impl<A: Allocator + Copy> PlumCore<A> {
     {
         let _allowed = limits.active();
         let mut membership = Membership::new(alloc, me.name, limits, peers)?;
-        let gossip = Gossip::new_tuned(alloc, me, peers, seq_spent, limits.threshold())?;
+        let gossip = Gossip::new_tuned(
+            alloc,
+            me,
+            peers,
+            seq_spent,
+            limits.threshold(),
+            limits.keep(),
+        )?;
         let effects = greet(alloc, &mut membership, contact)?;
         let framed = append_numbered(&me, frames_spent, effects, out)?;
         Ok(PlumCore {
@@ -231,6 +238,10 @@ impl<A: Allocator + Copy> Core<A> for PlumCore<A> {
 
     fn payload(&self, id: &MsgId) -> Option<&Bytes<A>> {
         self.gossip.payload(id)
+    }
+
+    fn held(&self) -> &[MsgId] {
+        self.gossip.held()
     }
 
     fn active(&self) -> &NameSet<A> {
