@@ -301,7 +301,7 @@ fn sweep_row<A: Allocator + Copy>(
     ids: &[MsgId],
     row: &Row,
 ) -> Result<u64, AllocError> {
-    let gossip = start_tuned(rt, alloc, row.threshold)?;
+    let gossip = start_tuned(rt, alloc, row.tuning)?;
     lend(gossip, |gossip| {
         sweep_turns(rt, heap, alloc, text, ids, gossip, row.turns)
     })

@@ -1,8 +1,8 @@
 //! Playing the rows call by call.
 use crate::act::{call, payload};
 use crate::named::{id, origin, pair};
-use crate::rows::{ASKED, Row, START, Turn, rows};
-use crate::texts::{write_given, write_shown};
+use crate::rows::{ASKED, Row, START, Tuning, Turn, rows};
+use crate::texts::{write_given, write_held, write_shown};
 use bytes::Bytes;
 use gossip_core::{Effects, Gossip};
 use node_names::MsgId;
@@ -25,19 +25,18 @@ pub(crate) fn start<A: Allocator + Copy>(
     Gossip::new(alloc, origin(rt, "c"), &peers, 0)
 }
 
-/// The same node with a threshold.
+/// The same node, tuned so.
 pub(crate) fn start_tuned<A: Allocator + Copy>(
     rt: &impl Abort,
     alloc: A,
-    threshold: u32,
+    tuning: Tuning,
 ) -> Result<Gossip<A>, AllocError> {
-    match threshold {
-        0 => start(rt, alloc),
-        threshold => {
-            let peers = pair(rt, "a", "b");
-            Gossip::new_tuned(alloc, origin(rt, "c"), &peers, 0, threshold)
-        }
+    if tuning.threshold == 0 && tuning.keep == 0 {
+        return start(rt, alloc);
     }
+    let peers = pair(rt, "a", "b");
+    let me = origin(rt, "c");
+    Gossip::new_tuned(alloc, me, &peers, 0, tuning.threshold, tuning.keep)
 }
 
 /// Whether the readers answer so. What they answer otherwise is the text.
@@ -159,6 +158,16 @@ fn is_copied<A: Allocator + Copy>(
     lend(copy, |copy| is_copy(text, ids, copy, gossip, wanted))
 }
 
+/// Whether these messages are held.
+pub(crate) fn is_held<A: Allocator>(
+    text: &mut String,
+    gossip: &Gossip<A>,
+    wanted: &str,
+) -> Result<bool, AllocError> {
+    write_held(text, gossip)?;
+    Ok(text.as_str() == wanted)
+}
+
 /// Plays a row, and copies what it leaves. Whether all is as it should.
 fn is_row<A: Allocator + Copy>(
     rt: &impl Abort,
@@ -171,7 +180,10 @@ fn is_row<A: Allocator + Copy>(
     if !are_turns(rt, alloc, text, ids, gossip, row.turns)? {
         return Ok(false);
     }
-    is_copied(text, ids, gossip, left(row.turns))
+    if !is_copied(text, ids, gossip, left(row.turns))? {
+        return Ok(false);
+    }
+    is_held(text, gossip, row.held)
 }
 
 /// Does so at a fresh node.
@@ -182,7 +194,7 @@ fn is_row_from_start<A: Allocator + Copy>(
     ids: &[MsgId],
     row: &Row,
 ) -> Result<bool, AllocError> {
-    let gossip = start_tuned(rt, alloc, row.threshold)?;
+    let gossip = start_tuned(rt, alloc, row.tuning)?;
     lend(gossip, |gossip| is_row(rt, alloc, text, ids, gossip, row))
 }
 

@@ -9,10 +9,45 @@ pub(crate) type Turn = (Act, &'static str, &'static str);
 #[derive(Clone, Copy)]
 pub(crate) struct Row {
     pub(crate) name: &'static str,
+    pub(crate) tuning: Tuning,
+    pub(crate) turns: &'static [Turn],
+    /// The ids of the messages that are held at the end, in order of delivery.
+    pub(crate) held: &'static str,
+}
+
+/// How a node is tuned.
+#[derive(Clone, Copy)]
+pub(crate) struct Tuning {
     /// By how many links a way must be shorter for a branch to be swapped; 0 for never.
     pub(crate) threshold: u32,
-    pub(crate) turns: &'static [Turn],
+    /// How many of the messages that were delivered last are held; 0 for all.
+    pub(crate) keep: u32,
 }
+
+const PLAIN: Tuning = Tuning {
+    threshold: 0,
+    keep: 0,
+};
+
+const THREE_LINKS: Tuning = Tuning {
+    threshold: 3,
+    keep: 0,
+};
+
+const GREATEST_THRESHOLD: Tuning = Tuning {
+    threshold: u32::MAX,
+    keep: 0,
+};
+
+const KEEPS_ONE: Tuning = Tuning {
+    threshold: 0,
+    keep: 1,
+};
+
+const KEEPS_TWO: Tuning = Tuning {
+    threshold: 0,
+    keep: 2,
+};
 
 /// What the readers answer before any call.
 pub(crate) const START: &str = "a+ b+ | | | | ";
@@ -338,61 +373,168 @@ const UNTUNED: &[Turn] = &[
     ),
 ];
 
+/// A message whose payload was forgotten is known, and who asks for it is eager and gets nothing.
+const FORGOTTEN: &[Turn] = &[
+    (
+        Act::OnGossip("a", A1, 0, "m"),
+        "deliver a/1/1 m; to b gossip a/1/1 1 m; ",
+        "a+ b+ | | | | a/1/1=m ",
+    ),
+    (Act::OnPrune("b"), "", "a+ b- | | | | a/1/1=m "),
+    (
+        Act::OnGossip("a", A2, 0, "n"),
+        "deliver a/1/2 n; ",
+        "a+ b- | b:a/1/2:1 | | | a/1/1= a/1/2=n ",
+    ),
+    (
+        Act::OnGraft("b", A1, 1),
+        "",
+        "a+ b+ | b:a/1/2:1 | | | a/1/1= a/1/2=n ",
+    ),
+    (
+        Act::OnGraft("b", A2, 1),
+        "to b gossip a/1/2 1 n; ",
+        "a+ b+ | b:a/1/2:1 | | | a/1/1= a/1/2=n ",
+    ),
+    (
+        Act::OnGossip("b", A1, 2, "m"),
+        "to b prune; ",
+        "a+ b- | b:a/1/2:1 | | | a/1/1= a/1/2=n ",
+    ),
+    (
+        Act::OnIHave("b", A1, 2),
+        "",
+        "a+ b- | b:a/1/2:1 | | | a/1/1= a/1/2=n ",
+    ),
+    (
+        Act::Broadcast("o"),
+        "deliver c/1/1 o; to a gossip c/1/1 0 o; ",
+        "a+ b- | b:a/1/2:1 b:c/1/1:0 | | | a/1/1= a/1/2= c/1/1=o ",
+    ),
+    (
+        Act::Flush,
+        "to b ihave a/1/2:1 c/1/1:0; ",
+        "a+ b- | | | | a/1/1= a/1/2= c/1/1=o ",
+    ),
+];
+
+/// Of the messages that were delivered the last two are held, in whatever order their numbers are.
+const LAST_TWO: &[Turn] = &[
+    (
+        Act::OnGossip("a", A3, 0, "m"),
+        "deliver a/1/3 m; to b gossip a/1/3 1 m; ",
+        "a+ b+ | | | | a/1/3=m ",
+    ),
+    (
+        Act::OnGossip("a", A1, 0, "n"),
+        "deliver a/1/1 n; to b gossip a/1/1 1 n; ",
+        "a+ b+ | | | | a/1/1=n a/1/3=m ",
+    ),
+    (
+        Act::OnGossip("b", A5, 0, "o"),
+        "deliver a/1/5 o; to a gossip a/1/5 1 o; ",
+        "a+ b+ | | | | a/1/1=n a/1/3= a/1/5=o ",
+    ),
+    (
+        Act::Broadcast("p"),
+        "deliver c/1/1 p; to a gossip c/1/1 0 p; to b gossip c/1/1 0 p; ",
+        "a+ b+ | | | | a/1/1= a/1/3= a/1/5=o c/1/1=p ",
+    ),
+    (
+        Act::OnGossip("a", A2, 0, "q"),
+        "deliver a/1/2 q; to b gossip a/1/2 1 q; ",
+        "a+ b+ | | | | a/1/1= a/1/2=q a/1/3= a/1/5= c/1/1=p ",
+    ),
+    (
+        Act::Broadcast("r"),
+        "deliver c/1/2 r; to a gossip c/1/2 0 r; to b gossip c/1/2 0 r; ",
+        "a+ b+ | | | | a/1/1= a/1/2=q a/1/3= a/1/5= c/1/1= c/1/2=r ",
+    ),
+    (
+        Act::OnGraft("a", C1, 3),
+        "",
+        "a+ b+ | | | | a/1/1= a/1/2=q a/1/3= a/1/5= c/1/1= c/1/2=r ",
+    ),
+];
+
 const ROWS: &[Row] = &[
     Row {
         name: "a message is repaired, and another goes out",
-        threshold: 0,
+        tuning: PLAIN,
         turns: REPAIR,
+        held: "a/1/1 c/1/1 ",
     },
     Row {
         name: "strangers are answered and heard",
-        threshold: 0,
+        tuning: PLAIN,
         turns: STRANGERS,
+        held: "a/1/1 ",
     },
     Row {
         name: "announcers are asked one after the other",
-        threshold: 0,
+        tuning: PLAIN,
         turns: ANNOUNCERS,
+        held: "c/1/1 a/1/2 ",
     },
     Row {
         name: "a lazy peer is eager again",
-        threshold: 0,
+        tuning: PLAIN,
         turns: LAZY,
+        held: "a/1/1 a/1/2 c/1/1 ",
     },
     Row {
         name: "messages come out of their order",
-        threshold: 0,
+        tuning: PLAIN,
         turns: GAPS,
+        held: "a/1/1 a/1/3 a/1/2 a/1/5 ",
     },
     Row {
         name: "a branch is swapped for a shorter one",
-        threshold: 3,
+        tuning: THREE_LINKS,
         turns: SHORTCUT,
+        held: "a/1/1 c/1/1 ",
     },
     Row {
         name: "a branch that is hardly longer stays",
-        threshold: 3,
+        tuning: THREE_LINKS,
         turns: NO_SHORTCUT,
+        held: "a/1/1 ",
     },
     Row {
         name: "strangers and announcers are not passed",
-        threshold: 3,
+        tuning: THREE_LINKS,
         turns: NO_BRANCH,
+        held: "a/1/1 a/1/2 ",
     },
     Row {
         name: "the first announcer takes the place",
-        threshold: 3,
+        tuning: THREE_LINKS,
         turns: LAZY_SHORTCUT,
+        held: "a/1/1 ",
     },
     Row {
         name: "the greatest rounds",
-        threshold: u32::MAX,
+        tuning: GREATEST_THRESHOLD,
         turns: GREATEST,
+        held: "a/1/1 a/1/2 ",
     },
     Row {
         name: "no threshold, no swap",
-        threshold: 0,
+        tuning: PLAIN,
         turns: UNTUNED,
+        held: "a/1/1 ",
+    },
+    Row {
+        name: "a payload is forgotten, and its message is known",
+        tuning: KEEPS_ONE,
+        turns: FORGOTTEN,
+        held: "c/1/1 ",
+    },
+    Row {
+        name: "the last two messages are held",
+        tuning: KEEPS_TWO,
+        turns: LAST_TWO,
+        held: "a/1/2 c/1/2 ",
     },
 ];
 

@@ -2,7 +2,7 @@
 //! call, and the call made again answers as if nothing had been refused.
 use crate::act::{call, payload, takes_none};
 use crate::play::{are_turns, asked, is_call, is_left, is_shown, left, start, start_tuned};
-use crate::rows::{Row, Turn, rows};
+use crate::rows::{Row, Tuning, Turn, rows};
 use bytes::Bytes;
 use gossip_core::{Effects, Gossip, GossipFault};
 use node_names::MsgId;
@@ -198,11 +198,11 @@ fn sweep_call<A: Allocator + Copy>(
     alloc: A,
     text: &mut String,
     ids: &[MsgId],
-    threshold: u32,
+    tuning: Tuning,
     parts: Parts<'_>,
     n: u64,
 ) -> Result<bool, AllocError> {
-    let gossip = start_tuned(rt, alloc, threshold)?;
+    let gossip = start_tuned(rt, alloc, tuning)?;
     lend(gossip, |gossip| {
         sweep_parts(rt, heap, alloc, text, ids, gossip, parts, n)
     })
@@ -215,11 +215,11 @@ fn sweep<A: Allocator + Copy>(
     alloc: A,
     text: &mut String,
     ids: &[MsgId],
-    threshold: u32,
+    tuning: Tuning,
     parts: Parts<'_>,
 ) -> Result<u64, AllocError> {
     for n in 1..MANY {
-        if !sweep_call(rt, heap, alloc, text, ids, threshold, parts, n)? {
+        if !sweep_call(rt, heap, alloc, text, ids, tuning, parts, n)? {
             return Ok(n - 1);
         }
     }
@@ -239,7 +239,7 @@ fn sweep_row<A: Allocator + Copy>(
     let mut refused = 0u64;
     for at in 0..=row.turns.len() {
         let parts = row.turns.split_at(at.min(row.turns.len()));
-        let growths = sweep(rt, heap, alloc, text, ids, row.threshold, parts)?;
+        let growths = sweep(rt, heap, alloc, text, ids, row.tuning, parts)?;
         refused = refused.saturating_add(growths);
     }
     Ok(refused)

@@ -34,9 +34,9 @@ fn push_wants(text: &mut String, wants: &[(MsgId, NodeName, u32)]) -> Result<(),
     Ok(())
 }
 
-/// Appends armed ids.
-fn push_timers(text: &mut String, timers: &[MsgId]) -> Result<(), AllocError> {
-    for id in timers {
+/// Appends ids.
+fn push_ids(text: &mut String, ids: &[MsgId]) -> Result<(), AllocError> {
+    for id in ids {
         write!(text, "{id} ")?;
     }
     Ok(())
@@ -59,7 +59,7 @@ pub(crate) fn push_missing<A: Allocator>(
 ) -> Result<(), AllocError> {
     push_wants(text, missing.wants())?;
     text.push_str("| ")?;
-    push_timers(text, missing.timers())
+    push_ids(text, missing.timers())
 }
 
 /// Appends ids with their rounds.
@@ -157,6 +157,15 @@ fn push_messages<A: Allocator>(
         }
     }
     Ok(())
+}
+
+/// Writes the ids of the messages that are held in place of what the text said.
+pub(crate) fn write_held<A: Allocator>(
+    text: &mut String,
+    gossip: &Gossip<A>,
+) -> Result<(), AllocError> {
+    text.clear();
+    push_ids(text, gossip.held())
 }
 
 /// Writes what the readers answer in place of what the text said: members, queue, wants, timers, and those of these messages
