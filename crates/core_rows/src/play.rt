@@ -2,7 +2,7 @@
 use crate::act::{Act, event};
 use crate::named::id;
 use crate::rows::{Row, Turn, rows};
-use crate::texts::{Group, push_given, push_standing, push_told, push_views, push_whole};
+use crate::texts::{Group, push_given, push_listed, push_standing, push_told, push_views, push_whole};
 use crate::tuned_rows::tuned_rows;
 use node_names::{Limits, MsgId};
 use std::alloc::{AllocError, Allocator};
@@ -118,6 +118,9 @@ fn compare_end<A: Allocator + Copy>(
     row: &Row,
 ) -> Result<(), AllocError> {
     assert!(rt; world.sent().len() == row.sent);
+    text.clear();
+    push_listed(text, world.nodes())?;
+    compare_text(rt, text.as_str(), row.held);
     compare_told(rt, alloc, text, world, &ids[0], row.first.1)?;
     compare_told(rt, alloc, text, world, &ids[1], row.second.1)
 }
@@ -136,6 +139,11 @@ fn play_group<A: Allocator + Copy>(
     Ok(compare_end(rt, alloc, text, world, ids, row)?)
 }
 
+/// The limits of the group of a row.
+pub(crate) fn limits(row: &Row) -> Limits {
+    Limits::STANDARD.tuned(row.threshold).keeping(row.keep)
+}
+
 /// Plays a row in a fresh group.
 fn play_row<A: Allocator + Copy>(
     rt: &impl Abort,
@@ -144,7 +152,7 @@ fn play_row<A: Allocator + Copy>(
     ids: &[MsgId; 2],
     row: &Row,
 ) -> Result<(), WorldError> {
-    let world = Group::<A>::new(alloc, Limits::STANDARD.tuned(row.threshold));
+    let world = Group::<A>::new(alloc, limits(row));
     lend(world, |world| play_group(rt, alloc, text, world, ids, row))
 }
 

@@ -8,11 +8,13 @@ pub(crate) type Turn = (Act, &'static str, &'static str, &'static str);
 /// A message, and what is told of it at the end of a run: its tree, and who holds it.
 pub(crate) type Told = (Id, &'static str);
 
-/// A run of a group under the standard limits, but for the threshold.
+/// A run of a group under the standard limits, but for the threshold and the number of payloads that a node keeps.
 #[derive(Clone, Copy)]
 pub(crate) struct Row {
     /// How much longer a branch must be than an announced way to be swapped for it, and 0 where none is.
     pub(crate) threshold: u32,
+    /// How many of the messages that it delivered last a node holds, and 0 where it holds all.
+    pub(crate) keep: u32,
     /// Two messages that are asked about at the end.
     pub(crate) first: Told,
     pub(crate) second: Told,
@@ -22,6 +24,8 @@ pub(crate) struct Row {
     pub(crate) turns: &'static [Turn],
     /// How many packets were sent in all.
     pub(crate) sent: usize,
+    /// Which messages each node holds at the end, in order of delivery.
+    pub(crate) held: &'static str,
     /// Whether each growth is refused in turn.
     pub(crate) is_swept: bool,
 }
@@ -44,6 +48,7 @@ const PAIR: &str = "a: b /; b: a /; ";
 /// Three nodes know each other. What one gets twice prunes a link, and the next message is announced over that.
 const TRIANGLE: Row = Row {
     threshold: 0,
+    keep: 0,
     first: (A1, "a <- -; b <- a; c <- b; | a=m b=m c=m "),
     second: (A2, "a <- -; b <- a; c <- b; | a=n b=n c=n "),
     before: &[],
@@ -118,11 +123,12 @@ const TRIANGLE: Row = Row {
         (Act::Arrive(0), "", CORNERS, "| | "),
     ],
     sent: 10,
+    held: "?",
     is_swept: true,
 };
 
 /// In a line a repeated packet makes c lazy to b, so that c hears of the next message, waits, and asks for it.
-const ASKING: &[Turn] = &[
+pub(crate) const ASKING: &[Turn] = &[
     (Act::Start("a", "b"), "", "a: b /; ", "| | "),
     (Act::Start("b", "a c"), "", "a: b /; b: a c /; ", "| | "),
     (Act::Start("c", "b"), "", LINE, "| | "),
@@ -176,17 +182,20 @@ const ASKING: &[Turn] = &[
 
 const LAZY: Row = Row {
     threshold: 0,
+    keep: 0,
     first: (A1, "a <- -; b <- a; c <- b; | a=m b=m c=m "),
     second: (A2, "a <- -; b <- a; | a=n b=n "),
     before: &[],
     turns: ASKING,
     sent: 6,
+    held: "?",
     is_swept: true,
 };
 
 /// The message comes, after a timer that found nobody else to ask.
 const LAZY_REPAIR: Row = Row {
     threshold: 0,
+    keep: 0,
     first: (A1, "a <- -; b <- a; c <- b; | a=m b=m c=m "),
     second: (A2, "a <- -; b <- a; c <- b; | a=n b=n c=n "),
     before: ASKING,
@@ -201,12 +210,14 @@ const LAZY_REPAIR: Row = Row {
         (Act::Arrive(0), "c delivers a/1/2 n; ", LINE, "| | "),
     ],
     sent: 7,
+    held: "?",
     is_swept: true,
 };
 
 /// The announcement comes once more after its timer was dropped, and arms it again.
 const REPEATED_ANNOUNCEMENT: Row = Row {
     threshold: 0,
+    keep: 0,
     first: (A1, "a <- -; b <- a; c <- b; | a=m b=m c=m "),
     second: (A2, "a <- -; b <- a; c <- b; | a=n b=n c=n "),
     before: ASKING,
@@ -229,12 +240,14 @@ const REPEATED_ANNOUNCEMENT: Row = Row {
         (Act::Fire("c", A2), "", LINE, "| | "),
     ],
     sent: 7,
+    held: "?",
     is_swept: false,
 };
 
 /// A node joins at another, they exchange messages and names, and their link fails.
 const JOIN: Row = Row {
     threshold: 0,
+    keep: 0,
     first: (B1, "b <- -; a <- b; | a=x b=x "),
     second: (A1, "| "),
     before: &[],
@@ -277,12 +290,14 @@ const JOIN: Row = Row {
         (Act::Down("b", "a"), "", "a: b /; b: /; ", "| | "),
     ],
     sent: 6,
+    held: "?",
     is_swept: true,
 };
 
 /// A loss on the only way keeps the message from b for good, and nobody waits for it.
 const ONE_PEER: Row = Row {
     threshold: 0,
+    keep: 0,
     first: (A1, "a <- -; | a=m "),
     second: (A2, "| "),
     before: &[],
@@ -298,12 +313,14 @@ const ONE_PEER: Row = Row {
         (Act::Lose(0), "", PAIR, "| | "),
     ],
     sent: 1,
+    held: "?",
     is_swept: false,
 };
 
 /// Two nodes say hello.
 const HELLO: Row = Row {
     threshold: 0,
+    keep: 0,
     first: (A1, "a <- -; b <- a; | a=hello b=hello "),
     second: (A2, "| "),
     before: &[],
@@ -319,6 +336,7 @@ const HELLO: Row = Row {
         (Act::Arrive(0), "b delivers a/1/1 hello; ", PAIR, "| | "),
     ],
     sent: 1,
+    held: "?",
     is_swept: false,
 };
 
@@ -332,7 +350,7 @@ const ROWS: &[Row] = &[
     HELLO,
 ];
 
-/// All rows without a threshold.
+/// All rows without a threshold that hold all messages.
 pub(crate) fn rows() -> &'static [Row] {
     ROWS
 }

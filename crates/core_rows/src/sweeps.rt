@@ -1,7 +1,7 @@
 //! Rows in which each growth is refused in turn: the refusal is for want of memory, all readers answer as before the refused
 //! event, and the event made again answers as if nothing had been refused.
 use crate::act::{Act, event};
-use crate::play::{apply, asked, compare, compare_whole, happen, play};
+use crate::play::{apply, asked, compare, compare_whole, happen, limits, play};
 use crate::rows::{Row, Turn, rows};
 use crate::texts::{Group, push_whole};
 use crate::tuned_rows::tuned_rows;
@@ -156,7 +156,7 @@ fn sweep_row<A: Allocator + Copy>(
     row: &Row,
 ) -> Result<u64, WorldError> {
     let ids = asked(rt, row);
-    let limits = Limits::STANDARD.tuned(row.threshold);
+    let limits = limits(row);
     let mut refused = 0u64;
     for at in 0..row.turns.len() {
         let turns = row.turns.split_at(at.min(row.turns.len()));

@@ -245,6 +245,29 @@ pub(crate) fn push_whole<A: Allocator + Copy>(
     push_held(text, world.nodes(), &ids[1])
 }
 
+/// Appends ids.
+fn push_ids(text: &mut String, ids: &[MsgId]) -> Result<(), AllocError> {
+    for id in ids {
+        write!(text, " {id}")?;
+    }
+    Ok(())
+}
+
+/// Appends which messages each running node holds, in order of delivery.
+pub(crate) fn push_listed<A: Allocator + Copy>(
+    text: &mut String,
+    nodes: &[NodeState<PlumCore<A>>],
+) -> Result<(), AllocError> {
+    for node in nodes {
+        if let Some(core) = &node.core {
+            write!(text, "{}:", core.me().name)?;
+            push_ids(text, core.held())?;
+            text.push_str("; ")?;
+        }
+    }
+    Ok(())
+}
+
 /// Appends what a step gives: its deliveries, and the packets that it sends.
 pub(crate) fn push_out<A: Allocator>(
     text: &mut String,

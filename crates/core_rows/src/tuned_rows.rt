@@ -1,8 +1,10 @@
-//! Runs with a threshold, whose nodes swap branches. They stand apart from the other runs since a function that names a table costs by
-//! all of its rows.
+//! Runs of nodes that swap branches or forget payloads. They stand apart from the other runs since a function that names a table costs
+//! by all of its rows.
 use crate::act::Act;
 use crate::named::Id;
-use crate::rows::Row;
+use crate::rows::{ASKING, Row};
+
+const A1: Id = ("a", 1);
 
 const A2: Id = ("a", 2);
 
@@ -15,6 +17,7 @@ const SQUARE: &str = "a: b d /; b: a c /; c: b d /; d: c a /; ";
 /// sooner than it comes, and asks a in place of c for the next ones.
 const SHORTER_WAY: Row = Row {
     threshold: 2,
+    keep: 0,
     first: (A2, "a <- -; b <- a; c <- b; d <- c; | a=n b=n c=n d=n "),
     second: (A3, "a <- -; b <- a; d <- a; c <- b; | a=o b=o c=o d=o "),
     before: &[],
@@ -137,12 +140,49 @@ const SHORTER_WAY: Row = Row {
         ),
     ],
     sent: 17,
+    held: "?",
     is_swept: true,
 };
 
-const ROWS: &[Row] = &[SHORTER_WAY];
+/// Both views of the nodes of a line.
+const LINE: &str = "a: b /; b: a c /; c: b /; ";
 
-/// All rows with a threshold.
+/// A node that holds one message broadcasts its own before it is asked for the one that it announced. It sends nothing, and who asked
+/// lacks the message for good.
+const FORGOTTEN: Row = Row {
+    threshold: 0,
+    keep: 1,
+    first: (A1, "a <- -; b <- a; c <- b; | a= b= c=m "),
+    second: (A2, "a <- -; b <- a; | a=n b= "),
+    before: ASKING,
+    turns: &[
+        (
+            Act::Broadcast("b", "o"),
+            "b delivers b/1/1 o; #6 b to a GOSSIP b/1/1 0; ",
+            LINE,
+            "5 6 | b queues b/1/1 0 for c; c times a/1/2; | a/1/2 ",
+        ),
+        (
+            Act::Arrive(0),
+            "",
+            LINE,
+            "6 | b queues b/1/1 0 for c; c times a/1/2; | a/1/2 ",
+        ),
+        (
+            Act::Fire("c", A2),
+            "",
+            LINE,
+            "6 | b queues b/1/1 0 for c; | ",
+        ),
+    ],
+    sent: 7,
+    held: "a: a/1/2; b: b/1/1; c: a/1/1; ",
+    is_swept: true,
+};
+
+const ROWS: &[Row] = &[SHORTER_WAY, FORGOTTEN];
+
+/// All rows with a threshold, or whose nodes forget.
 pub(crate) fn tuned_rows() -> &'static [Row] {
     ROWS
 }

@@ -3,6 +3,7 @@ use Rattle.std.specs.Prelude.{◌≡◌, ◌⊎◌, ◌+◌, ◌-◌, ◌<◌, �
 use Rattle.std.specs.Map.{keys_of, lookup}
 use Rattle.std.proofs.Common.{inl, inr, sym, ◌∙◌, ap, subst, arith}
 use Rattle.std.proofs.lemmas.Bool.{false≢true}
+use Rattle.std.proofs.lemmas.List.{length-drop}
 use Rattle.node_names.specs.Same.{same_id, same_id-Decides}
 use Rattle.node_names.specs.declared.ids.MsgId.{MsgId}
 use Rattle.node_names.specs.declared.ids.Origin.{Origin}
@@ -64,16 +65,12 @@ found_kept keep held once j p = go (nat_eq keep 0)
     go true found = found
     go false found = found_dropped (length held - keep) held once j p found
 
--- and found or not
-is_kept : (keep : ℕ) (held : List (MsgId × List ℕ)) → HeldOnce held → (j : MsgId) → is_some (lookup (same_id j) (kept_last keep held)) ≡ true → is_some (lookup (same_id j) held) ≡ true
-is_kept keep held once j is = go (lookup (same_id j) (kept_last keep held)) refl is
+pub was_held : (keep : ℕ) (held : List (MsgId × List ℕ)) → HeldOnce held → (j : MsgId) → is_some (lookup (same_id j) (kept_last keep held)) ≡ true → is_some (lookup (same_id j) held) ≡ true
+was_held keep held once j is = go (lookup (same_id j) (kept_last keep held)) refl is
   where
     go : (o : Option (List ℕ)) → lookup (same_id j) (kept_last keep held) ≡ o → is_some o ≡ true → is_some (lookup (same_id j) held) ≡ true
     go None found e = absurd (false≢true e)
     go (Some p) found e = ap is_some (found_kept keep held once j p found)
-
-pub was_held : (keep : ℕ) (held : List (MsgId × List ℕ)) → HeldOnce held → (j : MsgId) → is_some (lookup (same_id j) (kept_last keep held)) ≡ true → is_some (lookup (same_id j) held) ≡ true
-was_held = is_kept
 
 -- where all are to be kept, all are
 pub all_kept : (keep : ℕ) (held : List (MsgId × List ℕ)) → keep ≡ 0 → kept_last keep held ≡ held
@@ -89,11 +86,6 @@ split_keys (suc n) (m ∷ held) = ap (λ is. m.0 ∷ is) (split_keys n held)
 length_keys : (held : List (MsgId × List ℕ)) → length (keys_of held) ≡ length held
 length_keys [] = refl
 length_keys (m ∷ held) = ap suc (length_keys held)
-
-length_dropped : (n : ℕ) (held : List (MsgId × List ℕ)) → length (drop n held) ≡ length held - n
-length_dropped zero held = refl
-length_dropped (suc n) [] = refl
-length_dropped (suc n) (m ∷ held) = length_dropped n held
 
 -- those of a dropped front are the last, if as many as are to be kept stay
 dropped_last : (keep n : ℕ) (held : List (MsgId × List ℕ)) → (n ≡ 0) ⊎ ((0 < keep) × (keep ≤ length (drop n held))) → AreLast keep (keys_of held) (keys_of (drop n held))
@@ -112,7 +104,7 @@ kept_are_last keep held = go (nat_eq keep 0) refl
       where
         either : (n : ℕ) → length held - keep ≡ n → (n ≡ 0) ⊎ ((0 < keep) × (keep ≤ length (drop n held)))
         either zero is = inl refl
-        either (suc n) is = inr (omega (arith, some), subst (λ l. keep ≤ l) (sym (length_dropped (suc n) held)) (omega (arith, is)))
+        either (suc n) is = inr (omega (arith, some), subst (λ l. keep ≤ l) (sym (length-drop (suc n) held)) (omega (arith, is)))
 
     go : (b : Bool) → nat_eq keep 0 ≡ b → AreLast keep (keys_of held) (keys_of (if b then held else drop (length held - keep) held))
     go true is = dropped_last keep 0 held (inl refl)
