@@ -2,7 +2,9 @@
 use crate::act::{Act, event};
 use crate::named::id;
 use crate::rows::{Row, Turn, rows};
-use crate::texts::{Group, push_given, push_listed, push_standing, push_told, push_views, push_whole};
+use crate::texts::{
+    Group, push_given, push_listed, push_standing, push_told, push_views, push_whole,
+};
 use crate::tuned_rows::tuned_rows;
 use node_names::{Limits, MsgId};
 use std::alloc::{AllocError, Allocator};

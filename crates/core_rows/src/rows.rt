@@ -123,7 +123,7 @@ const TRIANGLE: Row = Row {
         (Act::Arrive(0), "", CORNERS, "| | "),
     ],
     sent: 10,
-    held: "?",
+    held: "a: a/1/1 a/1/2; b: a/1/1 a/1/2; c: a/1/1 a/1/2; ",
     is_swept: true,
 };
 
@@ -188,7 +188,7 @@ const LAZY: Row = Row {
     before: &[],
     turns: ASKING,
     sent: 6,
-    held: "?",
+    held: "a: a/1/1 a/1/2; b: a/1/1 a/1/2; c: a/1/1; ",
     is_swept: true,
 };
 
@@ -210,7 +210,7 @@ const LAZY_REPAIR: Row = Row {
         (Act::Arrive(0), "c delivers a/1/2 n; ", LINE, "| | "),
     ],
     sent: 7,
-    held: "?",
+    held: "a: a/1/1 a/1/2; b: a/1/1 a/1/2; c: a/1/1 a/1/2; ",
     is_swept: true,
 };
 
@@ -240,7 +240,7 @@ const REPEATED_ANNOUNCEMENT: Row = Row {
         (Act::Fire("c", A2), "", LINE, "| | "),
     ],
     sent: 7,
-    held: "?",
+    held: "a: a/1/1 a/1/2; b: a/1/1 a/1/2; c: a/1/1 a/1/2; ",
     is_swept: false,
 };
 
@@ -290,7 +290,7 @@ const JOIN: Row = Row {
         (Act::Down("b", "a"), "", "a: b /; b: /; ", "| | "),
     ],
     sent: 6,
-    held: "?",
+    held: "a: b/1/1; b: b/1/1; ",
     is_swept: true,
 };
 
@@ -313,7 +313,7 @@ const ONE_PEER: Row = Row {
         (Act::Lose(0), "", PAIR, "| | "),
     ],
     sent: 1,
-    held: "?",
+    held: "a: a/1/1; b:; ",
     is_swept: false,
 };
 
@@ -336,7 +336,7 @@ const HELLO: Row = Row {
         (Act::Arrive(0), "b delivers a/1/1 hello; ", PAIR, "| | "),
     ],
     sent: 1,
-    held: "?",
+    held: "a: a/1/1; b: a/1/1; ",
     is_swept: false,
 };
 

@@ -140,7 +140,7 @@ const SHORTER_WAY: Row = Row {
         ),
     ],
     sent: 17,
-    held: "?",
+    held: "a: a/1/1 a/1/2 a/1/3; b: a/1/1 a/1/2 a/1/3; c: a/1/1 a/1/2 a/1/3; d: a/1/1 a/1/2 a/1/3; ",
     is_swept: true,
 };
 
