@@ -135,7 +135,11 @@ impl<A: Allocator> MessageStore<A> {
         ensures { option_copied result ≡ lookup (same_id id.now) self.now.messages }
     {
         let (place, _, payload) = self.messages.get_full(id)?;
-        if place < self.gone { None } else { Some(payload) }
+        if place < self.gone {
+            None
+        } else {
+            Some(payload)
+        }
     }
 
     /// The ids of the messages that are held, in order of delivery.

@@ -22,5 +22,5 @@ returns-clause-distinct g c =
     let now = c.self.inside in
     let all : List MsgId = c.as_slice.result.now in
     let behind : take (length all - now.gone) (drop now.gone all) ≡ drop now.gone (keys_of now.messages.entries) =
-      take_rest all now.gone ∙ ap (drop now.gone) (c.as_slice.ensures ∙ c.keys.ensures.rest) in
+    take_rest all now.gone ∙ ap (drop now.gone) (c.as_slice.ensures ∙ c.keys.ensures.rest) in
     subst (IsDistinct same_id) (sym behind) (distinct-drop same_id now.gone (keys_of now.messages.entries) c.self.invariant.0)

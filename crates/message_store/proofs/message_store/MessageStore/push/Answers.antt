@@ -16,8 +16,8 @@ returns g c =
     let put : c.insert.new.self.entries ≡ insert_entry same_id free.new.messages.entries id payload = rw c.unwrap.ensures at c.insert.ensures.entries in
     let within : free.result ≤ length free.new.messages.entries = omega (arith, free.ensures.front) in
     let last : drop free.result c.insert.new.self.entries ≡ drop c.self.inside.gone c.self.inside.messages.entries ++ (id, payload) ∷ [] =
-      ap (drop free.result) (put ∙ insert_entry-new same_id free.new.messages id payload free.ensures.absent)
-      ∙ drop-append-le free.result free.new.messages.entries ((id, payload) ∷ []) within
-      ∙ ap (λ held. held ++ (id, payload) ∷ []) free.ensures.messages in
+    ap (drop free.result) (put ∙ insert_entry-new same_id free.new.messages id payload free.ensures.absent)
+    ∙ drop-append-le free.result free.new.messages.entries ((id, payload) ∷ []) within
+    ∙ ap (λ held. held ++ (id, payload) ∷ []) free.ensures.messages in
     c.forget.ensures
     ∙ ap (kept_last c.args.keep) (last ∙ ap (λ (held : Held). held.messages ++ (id, payload) ∷ []) c.self.view_is)
