@@ -1,9 +1,8 @@
 -- A step of the core delivers at most one message: a proof, and nothing to believe.
-use Rattle.std.specs.Prelude.{◌≡◌, ◌≤◌, ℕ, List, [], ◌∷◌, Option, Some, None, length}
+use Rattle.std.specs.Prelude.{◌≤◌, ℕ, List, Option, Some, None, length}
 use Rattle.std.proofs.Common.{ap, arith, sym, subst}
 use Rattle.node_names.specs.declared.ids.MsgId.{MsgId}
 use Rattle.node_names.specs.declared.ids.Origin.{Origin}
-use Rattle.world.specs.Delivery.{Delivery}
 use Rattle.world.specs.DeliveryLaw.{ids}
 use Rattle.world.specs.OneDelivery.{OneDelivery}
 use Rattle.node_core.specs.Plum.{plum_state}

@@ -69,7 +69,7 @@ use Rattle.node_core.specs.Keeping.{keeps_all_listed, keeps_delivered}
 use Rattle.node_core.specs.Moving.{Linked, after_all_downs, after_all_ups, members_after_downs, members_after_ups}
 use Rattle.node_core.specs.Resting.{leaves_all, delivers_nothing, carry_none, each_part, keeps_all, CarryNothing}
 use Rattle.node_core.specs.Spreading.{spreads_lawfully}
-use Rattle.node_core.specs.Swapping.{Behind, behind, first_stands, shortcut_is_first, silent_besides}
+use Rattle.node_core.specs.Swapping.{behind, first_stands, shortcut_is_first, silent_besides}
 use Rattle.node_core.specs.Wanting.{hears_lawfully, news_is, is_news_to, stood, was_armed}
 use Rattle.node_core.specs.Whole.{whole-with_kind, whole-flushed, whole-with_missing, whole-with_member, whole-without_member, whole-spread}
 

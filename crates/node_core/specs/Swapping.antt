@@ -8,11 +8,11 @@ use Rattle.node_names.specs.Same.{same_id, same_name, has_name}
 use Rattle.node_names.specs.declared.dice.Dice.{Dice}
 use Rattle.node_names.specs.declared.ids.MsgId.{MsgId}
 use Rattle.node_names.specs.declared.ids.Origin.{Origin}
-use Rattle.world.specs.AskLaw.{AskLaw, AsksFor}
+use Rattle.world.specs.AskLaw.{AsksFor}
 use Rattle.world.specs.CoreState.{CoreState}
 use Rattle.world.specs.Delivery.{Delivery}
 use Rattle.world.specs.DeliveryLaw.{ids}
-use Rattle.world.specs.HoldLaw.{HoldLaw, IsAskedBy, packets_with}
+use Rattle.world.specs.HoldLaw.{IsAskedBy, packets_with}
 use Rattle.world.specs.Laws.{IsSilent, StepLaws}
 use Rattle.world.specs.Lists.{IsOneOf}
 use Rattle.world.specs.PayloadLaw.{IsKnownPayload}
@@ -21,7 +21,7 @@ use Rattle.world.specs.Stimulus.{Stimulus}
 use Rattle.world.specs.declared.stimulus.StimulusOf.TheVariants as on
 use Rattle.missing.specs.Wants.{first_want}
 use Rattle.frames.specs.Body.{Body}
-use Rattle.frames.specs.Content.{body_content, frame_content}
+use Rattle.frames.specs.Content.{frame_content}
 use Rattle.frames.specs.Frame.{Frame}
 use Rattle.peer_sets.specs.Members.{is_member}
 use Rattle.gossip_core.specs.State.{GossipState}

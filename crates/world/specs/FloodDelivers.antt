@@ -1,5 +1,5 @@
 -- A step of the flooding core delivers at most one message: a proof, and nothing to believe.
-use Rattle.std.specs.Prelude.{◌≡◌, ◌≤◌, ℕ, Bool, true, false, List, [], ◌∷◌, Some, length}
+use Rattle.std.specs.Prelude.{◌≡◌, ◌≤◌, Bool, true, false, List, [], ◌∷◌, Some, length}
 use Rattle.std.specs.Bool.{MatchBool}
 use Rattle.std.proofs.Common.{ap, arith}
 use Rattle.node_names.specs.NodeName.{Name}
