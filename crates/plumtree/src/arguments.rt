@@ -1,9 +1,11 @@
 //! What the words of the command line ask for.
 ghost use Rattle.std.specs.Prelude.{◌≡◌, Some, codes, option_map, if◌then◌else◌};
 ghost use Rattle.clap.specs.Matches.{first_value, found_of, one_text};
+ghost use Rattle.simulation.specs.declared.form.Form.{Form};
 
 use clap::error::ErrorKind;
 use clap::{Arg, ArgAction, ArgMatches, Command, Error};
+use simulation::Form;
 use std::alloc::{AllocError, Global};
 
 /// What stands below the help of all.
@@ -28,15 +30,6 @@ pub struct Request<'a> {
     pub file: Option<&'a str>,
     /// The form in which the outcome is written.
     pub form: Form,
-}
-
-/// How the outcome of a scenario is written.
-#[derive(Clone, Copy, Debug, PartialEq, Eq)]
-pub enum Form {
-    /// The lines of deliveries and trees.
-    Lines,
-    /// A Graphviz document.
-    Graph,
 }
 
 /// Reads the words, of which the first is the program's own name.

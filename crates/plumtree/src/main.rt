@@ -3,22 +3,13 @@
 
 mod arguments;
 mod code;
-mod failure;
-mod graph;
-mod origins;
-mod output;
-mod play;
+mod group;
+mod member;
 mod program;
 mod progress;
-mod ranks;
-mod read;
-mod rolls;
 mod run_group;
-mod scenario;
-mod simulate;
-mod trees;
 
-use scenario::ScenarioFault;
+use simulation::{ScenarioFault, report};
 use std::io::BufWriter;
 use std::process::ExitCode;
 
@@ -29,7 +20,7 @@ fn main(rt: HostRuntime) -> ExitCode {
     let mut faults = rt.stderr();
     let status = match BufWriter::with_capacity(rt.alloc(), OUTPUT_ROOM, rt.stdout()) {
         Ok(mut out) => program::run(&rt, &mut out, &mut faults),
-        Err(_) => program::report(&mut faults, ScenarioFault::OutOfMemory, 1),
+        Err(_) => report(&mut faults, ScenarioFault::OutOfMemory, 1),
     };
     ExitCode::from(status)
 }

@@ -1,30 +1,16 @@
 //! The program over any system: its words, its scenario and its two streams.
-ghost use Rattle.std.specs.Prelude.{◌≡◌, ◌≢◌, ◌⊎◌, ◌≤◌, ◌<◌, ℕ, List, Option, Err, IfSome, IsOk, OnOk};
-ghost use Rattle.node_names.specs.Limits.{Limits as Sizes};
-ghost use Rattle.frames.specs.Content.{frame_content};
-ghost use Rattle.node_core.specs.Plum.{plum_state};
-ghost use Rattle.node_core.specs.Steps.{PlumStarts, PlumSteps};
-ghost use Rattle.plumtree.specs.declared.play.TheConstants.{MOST_ARRIVALS};
-ghost use Rattle.plumtree.specs.declared.read.TheConstants.{LONGEST};
-ghost use Rattle.plumtree.specs.declared.scenario.TheConstants.{MOST_EVENTS};
-ghost use Rattle.plumtree.specs.declared.scenario.action.Action.{Action};
-ghost use Rattle.plumtree.specs.declared.scenario.fault.ScenarioFault.{ScenarioFault};
-ghost use Rattle.plumtree.specs.Form.{IsWritten};
-ghost use Rattle.plumtree.specs.Scenario.{IsScenario};
+ghost use Rattle.std.specs.Prelude.{◌≡◌, ◌≤◌};
 
 use crate::arguments;
-use crate::arguments::{Form, Request, Task};
+use crate::arguments::{Request, Task};
 use crate::code::RunCode;
-use crate::failure::Failure;
 use crate::progress::{Progress, is_terminal};
-use crate::read::read_text;
 use crate::run_group::{RunFailure, run_group};
-use crate::scenario::ScenarioFault;
-use crate::simulate::{draw, simulate};
 use clap::error::ErrorKind;
-use std::alloc::Global;
+use simulation::{
+    Form, ScenarioFault, play_input, read_text, report, report_unread, status_after,
+};
 use std::env::Env;
-use std::fmt::Display;
 use std::io::{Input, Read, Write};
 use std::net::{Net, TcpListener, TcpStream};
 use std::rt::Files;
@@ -189,107 +175,6 @@ fn conclude_run<F: Write>(form: Form, ended: Result<(), RunFailure>, faults: &mu
     }
 }
 
-/// Plays the scenario of an input and writes its outcome in this form, and why it ended early to `faults`.
-fn play_input<R: Read, W: Write, F: Write>(
-    alloc: Global,
-    form: Form,
-    input: &mut R,
-    out: &mut W,
-    faults: &mut F,
-) -> u8
-    ensures status { result ≤ 2 }
-    ensures quiet { result ≡ 0 → faults.new ≡ faults.old }
-    ensures unplayed { result ≡ 2 → out.new ≡ out.old }
-    ensures played { result ≡ 0 → IfSome (R.remaining input.old) (λ text. (seed : Option ℕ) × (sizes : Sizes) × (actions : List Action)
-        × IsScenario LONGEST MOST_EVENTS text seed sizes actions
-        × IsWritten plum_state frame_content PlumStarts PlumSteps MOST_ARRIVALS form seed sizes actions (W.contents out.old) (W.contents out.new)) }
-{
-    match read_text(alloc, input) {
-        Ok(text) => play(alloc, form, text.as_slice(), out, faults),
-        Err(error) => report_unread(&error, faults),
-    }
-}
-
-/// Plays the scenario of a text.
-fn play<W: Write, F: Write>(
-    alloc: Global,
-    form: Form,
-    text: &[u8],
-    out: &mut W,
-    faults: &mut F,
-) -> u8
-    ensures status { result ≤ 2 }
-    ensures quiet { result ≡ 0 → faults.new ≡ faults.old }
-    ensures unplayed { result ≡ 2 → out.new ≡ out.old }
-    ensures played { result ≡ 0 → (seed : Option ℕ) × (sizes : Sizes) × (actions : List Action)
-        × IsScenario LONGEST MOST_EVENTS text.now seed sizes actions
-        × IsWritten plum_state frame_content PlumStarts PlumSteps MOST_ARRIVALS form seed sizes actions (W.contents out.old) (W.contents out.new) }
-    ensures refused { result ≡ 2 → (seed : Option ℕ) (sizes : Sizes) (actions : List Action) → ¬ IsScenario LONGEST MOST_EVENTS text.now seed sizes actions }
-{
-    conclude(write_outcome(alloc, form, text, out), faults)
-}
-
-/// Plays the scenario of a text and writes its outcome in this form.
-fn write_outcome<W: Write>(
-    alloc: Global,
-    form: Form,
-    text: &[u8],
-    out: &mut W,
-) -> Result<(), Failure>
-    ensures played { OnOk result ((seed : Option ℕ) × (sizes : Sizes) × (actions : List Action)
-        × IsScenario LONGEST MOST_EVENTS text.now seed sizes actions
-        × IsWritten plum_state frame_content PlumStarts PlumSteps MOST_ARRIVALS form seed sizes actions (W.contents out.old) (W.contents out.new)) }
-    ensures refused { (fault : ScenarioFault) → result ≡ Err (Failure.Refused fault) → fault ≢ ScenarioFault.OutOfMemory → (seed : Option ℕ) (sizes : Sizes) (actions : List Action)
-        → ¬ IsScenario LONGEST MOST_EVENTS text.now seed sizes actions }
-    ensures unplayed { (fault : ScenarioFault) → result ≡ Err (Failure.Refused fault) → out.new ≡ out.old }
-{
-    match form {
-        Form::Lines => simulate(alloc, text, out),
-        Form::Graph => draw(alloc, text, out),
-    }
-}
-
-/// Writes that the input could not be read.
-fn report_unread<F: Write>(error: &io::Error, faults: &mut F) -> u8
-    ensures { (result ≡ 1) ⊎ (result ≡ 2) }
-{
-    if error.kind() == io::ErrorKind::OutOfMemory {
-        report(faults, ScenarioFault::OutOfMemory, 1)
-    } else {
-        report(faults, ScenarioFault::Unreadable, 2)
-    }
-}
-
-/// Writes why a run ended early, if it did. The number is the status that the program ends with.
-fn conclude<F: Write>(ended: Result<(), Failure>, faults: &mut F) -> u8
-    ensures status { result ≤ 2 }
-    ensures quiet { result ≡ 0 → (faults.new ≡ faults.old) × IsOk ended }
-    ensures refused { result ≡ 2 → (fault : ScenarioFault) × (ended ≡ Err (Failure.Refused fault)) × (fault ≢ ScenarioFault.OutOfMemory) }
-{
-    match ended {
-        Ok(()) => 0,
-        Err(Failure::Refused(ScenarioFault::OutOfMemory)) => {
-            report(faults, ScenarioFault::OutOfMemory, 1)
-        }
-        Err(Failure::Refused(fault)) => report(faults, fault, 2),
-        Err(Failure::Stopped(fault)) => report(faults, fault, 1),
-        Err(Failure::Unwritten(Some(fault))) => report(faults, fault, 1),
-        Err(Failure::Unwritten(None)) => 1,
-    }
-}
-
-/// Writes why the program ends with this status. A write that fails is a fault of the run.
-pub fn report<F: Write, D: Display + Drop>(faults: &mut F, fault: D, status: u8) -> u8
-    ensures { (result ≡ status) ⊎ (result ≡ 1) }
-{
-    status_after(write_fault(faults, fault), status)
-}
-
-fn write_fault<F: Write, D: Display + Drop>(faults: &mut F, fault: D) -> io::Result<()> {
-    writeln!(faults, "plumtree: {fault}")?;
-    faults.flush()
-}
-
 /// Writes the help that was asked for, or what is wrong with the words.
 pub fn explain<W: Write, F: Write>(error: clap::Error, out: &mut W, faults: &mut F) -> u8
     ensures status { result ≤ 2 }
@@ -309,14 +194,4 @@ pub fn explain<W: Write, F: Write>(error: clap::Error, out: &mut W, faults: &mut
 fn write_text<W: Write>(stream: &mut W, error: &clap::Error) -> io::Result<()> {
     write!(stream, "{error}")?;
     stream.flush()
-}
-
-/// The status, unless the write failed.
-fn status_after(written: io::Result<()>, status: u8) -> u8
-    ensures { (result ≡ status) ⊎ (result ≡ 1) }
-{
-    match written {
-        Ok(()) => status,
-        Err(_) => 1,
-    }
 }

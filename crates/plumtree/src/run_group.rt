@@ -1,14 +1,11 @@
 //! A group that runs, and what is written of it.
-use crate::arguments::Form;
-use crate::graph::write_graph;
-use crate::output;
-use crate::output::OutputFault;
-use crate::read::read_document;
-use crate::scenario::{GroupScenario, ScenarioFault};
-use crate::trees::{broadcasts, write_trees};
+use crate::group::GroupScenario;
 use loopback::{Ran, RunFault, Watch, run};
 use node_core::PlumCore;
 use node_names::Limits;
+use simulation::{
+    Form, OutputFault, ScenarioFault, broadcasts, deliveries, read_document, sort, write_graph, write_lines, write_trees,
+};
 use std::alloc::{AllocError, Global};
 use std::io::Write;
 use std::net::{Net, TcpListener, TcpStream};
@@ -139,8 +136,8 @@ fn write_deliveries<W: Write>(
     out: &mut W,
 ) -> Result<(), OutputFault> {
     let mut sorted = references(alloc, deliveries)?;
-    output::sort(&mut sorted)?;
-    output::write_lines(text, sorted.as_slice(), out)
+    sort(&mut sorted)?;
+    write_lines(text, sorted.as_slice(), out)
 }
 
 /// Writes whether the histories are those of one run.
@@ -192,8 +189,8 @@ fn write_group<W: Write>(
     group: &World<PlumCore>,
     out: &mut W,
 ) -> Result<(), RunFailure> {
-    let deliveries = output::deliveries(alloc, group.log())?;
-    let messages = broadcasts(alloc, deliveries.as_slice())?;
+    let given = deliveries(alloc, group.log())?;
+    let messages = broadcasts(alloc, given.as_slice())?;
     Ok(write_trees(alloc, text, group, messages.as_slice(), out)?)
 }
 
@@ -203,7 +200,7 @@ fn draw_group<W: Write>(
     group: &World<PlumCore>,
     out: &mut W,
 ) -> Result<(), RunFailure> {
-    let deliveries = output::deliveries(alloc, group.log())?;
-    let messages = broadcasts(alloc, deliveries.as_slice())?;
+    let given = deliveries(alloc, group.log())?;
+    let messages = broadcasts(alloc, given.as_slice())?;
     Ok(write_graph(alloc, group, messages.as_slice(), out)?)
 }

@@ -1,6 +1,0 @@
-use Rattle.std.proofs.Common.{◌≡◌, ◌++◌, string_bytes, take}
-use Rattle.plumtree.specs.Graph.{link_lines}
-use Rattle.plumtree.proofs.graph.overlay.push_links.Given as goal
-
-abbrev pub invariant-loop-member : goal.invariant-loop-member
-invariant-loop-member g l = string_bytes l.text ≡ string_bytes l.initial.text ++ link_lines l.name (take l.member-index l.members)

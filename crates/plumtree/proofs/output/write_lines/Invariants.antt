@@ -1,7 +1,0 @@
-use Rattle.std.proofs.Common.{map, take}
-use Rattle.std.specs.Io.KnownBytes.{Appends}
-use Rattle.plumtree.specs.Lines.{lines_of}
-use Rattle.plumtree.proofs.output.write_lines.Given as goal
-
-abbrev pub invariant-loop-delivery : goal.invariant-loop-delivery
-invariant-loop-delivery g l = Appends (g.W.Write.contents l.initial.out) (g.W.Write.contents l.out) (lines_of (map (λ d. d.now) (take l.delivery-index l.deliveries)))

@@ -1,7 +1,0 @@
--- The text is refused in either form where it is no scenario.
-use Rattle.plumtree.proofs.program.play.Goals as goal
-
-pub returns-clause-refused : goal.returns-clause-refused
-returns-clause-refused g c status =
-    let (fault, is, has_memory) = c.conclude.ensures.refused status in
-    c.write_outcome.ensures.refused fault is has_memory

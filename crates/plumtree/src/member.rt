@@ -1,0 +1,86 @@
+//! One node of a scenario of a group that is to run.
+use loopback::{Member, may_start};
+use node_names::{Incarnation, Limits, NodeName, Origin};
+use simulation::{Key, ScenarioFault, Section};
+use std::alloc::Global;
+
+/// The least port that a node may have: those below are the system's.
+const LEAST_PORT: u64 = 1_024;
+
+/// The greatest port that there is.
+const GREATEST_PORT: u64 = 65_535;
+
+/// Reads the table of one node, of a group with these names. No two nodes have one name.
+pub fn member(
+    alloc: Global,
+    limits: &Limits,
+    names: &[NodeName],
+    earlier: &[Member],
+    section: &Section<'_>,
+) -> Result<Member, ScenarioFault> {
+    let name = name(earlier, section)?;
+    let port = port(section)?;
+    let incarnation = section.optional_number(Key::Incarnation, u64::MAX)?;
+    let peers = peers(alloc, limits, &name, names, section)?;
+    let contact = contact(&name, names, section)?;
+    let texts = section.texts(alloc, Key::Say)?;
+    Ok(Member {
+        me: Origin {
+            name,
+            incarnation: Incarnation(incarnation.unwrap_or(1)),
+        },
+        port,
+        peers,
+        contact,
+        texts,
+    })
+}
+
+/// A node's name, which no earlier one has.
+fn name(earlier: &[Member], section: &Section<'_>) -> Result<NodeName, ScenarioFault> {
+    let name = section.name(Key::Name)?;
+    if earlier.iter().any(|member| member.me.name == name) {
+        return Err(section.refused(Key::Name));
+    }
+    Ok(name)
+}
+
+/// The port where a node takes connections.
+fn port(section: &Section<'_>) -> Result<u16, ScenarioFault> {
+    let port = section.optional_number_between(Key::Port, LEAST_PORT, GREATEST_PORT)?;
+    match port.and_then(|port| u16::try_from(port).ok()) {
+        Some(port) => Ok(port),
+        None => Err(section.refused(Key::Port)),
+    }
+}
+
+/// A node's first active view: distinct other nodes, as many as it has room for.
+fn peers(
+    alloc: Global,
+    limits: &Limits,
+    me: &NodeName,
+    names: &[NodeName],
+    section: &Section<'_>,
+) -> Result<Vec<NodeName>, ScenarioFault> {
+    let peers = section.names(alloc, Key::Peers)?.into_vec();
+    let are_known = peers.iter().all(|peer| names.contains(peer));
+    if !are_known || !may_start(limits, me, peers.as_slice(), &None) {
+        return Err(section.refused(Key::Peers));
+    }
+    Ok(peers)
+}
+
+/// The other node that a node asks to be taken into the group, if it has one.
+fn contact(
+    me: &NodeName,
+    names: &[NodeName],
+    section: &Section<'_>,
+) -> Result<Option<NodeName>, ScenarioFault> {
+    let contact = section.optional_name(Key::Contact)?;
+    match contact {
+        Some(contact) if contact == *me || !names.contains(&contact) => {
+            Err(section.refused(Key::Contact))
+        }
+        contact => Ok(contact),
+    }
+}

@@ -1,0 +1,30 @@
+//! Scenarios: read from TOML, played in a simulated group, and what came of them printed or drawn.
+#![tactic(auto)]
+
+mod code;
+mod failure;
+mod form;
+mod graph;
+mod origins;
+mod outcome;
+mod output;
+mod play;
+mod program;
+mod ranks;
+mod read;
+mod rolls;
+mod scenario;
+mod trees;
+
+pub use code::Code;
+pub use failure::Failure;
+pub use form::Form;
+pub use graph::write_graph;
+pub use outcome::{draw, play_and_print, simulate};
+pub use output::{OutputFault, deliveries, sort, write_lines};
+pub use play::{Halt, MOST_ARRIVALS, PlayFault, Player};
+pub use program::{conclude, play_input, report, report_unread, status_after};
+pub use read::{LONGEST, read_document, read_text};
+pub use rolls::Rolls;
+pub use scenario::{Action, Key, MOST_EVENTS, Place, Scenario, ScenarioFault, Section, limits_of};
+pub use trees::{broadcasts, write_trees};

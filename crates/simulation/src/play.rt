@@ -1,0 +1,191 @@
+//! Playing a scenario in a simulated group.
+ghost use Rattle.std.specs.Prelude.{◌≡◌, ◌≢◌, IfOk, IfErr, OnOk};
+ghost use Rattle.simulation.specs.Play.{event_of, fault_of, empty_group, rolls_after, HaltsIn, IsHalted, PlaysAction, PlaysActions, Refuses, Takes};
+ghost use Rattle.simulation.specs.Rolls.{rolled, rolls_in, rolls_of};
+
+use crate::code::Code;
+use crate::rolls::Rolls;
+use crate::scenario::Action;
+use bytes::Bytes;
+use node_names::{Limits, Listed};
+use std::alloc::{AllocError, Allocator};
+use thiserror::Error;
+use world::{Core, Event, World, WorldError};
+
+/// The most arrivals that one action plays.
+pub const MOST_ARRIVALS: usize = 10_000;
+
+/// Why a run ended before its scenario did. Events are counted from 0.
+#[derive(Clone, Copy, Debug, PartialEq, Eq, Error)]
+pub enum PlayFault {
+    /// The group refused an event.
+    #[error("event {event}: {code}")]
+    Refused { event: usize, code: Code },
+    /// Packets were still in flight after the most arrivals.
+    #[error("event {event}: no end after {most} arrivals", most = MOST_ARRIVALS)]
+    NoEnd { event: usize },
+    /// There was no memory left.
+    #[error("out of memory")]
+    OutOfMemory,
+}
+
+/// Why an action was not played to its end.
+#[derive(Clone, Copy, Debug, PartialEq, Eq)]
+pub enum Halt {
+    /// The group refused its event, or one of its arrivals.
+    Refused(WorldError),
+    /// Packets were still in flight after the most arrivals.
+    NoEnd,
+}
+
+impl Halt {
+    /// The fault of a run that halts so at this event.
+    fn at(self, event: usize) -> PlayFault
+        ensures { result ≡ fault_of event self }
+    {
+        match self {
+            Halt::Refused(WorldError::OutOfMemory) => PlayFault::OutOfMemory,
+            Halt::Refused(why) => PlayFault::Refused {
+                event,
+                code: Code(why),
+            },
+            Halt::NoEnd => PlayFault::NoEnd { event },
+        }
+    }
+}
+
+/// A group of nodes, and what its next dice are drawn from.
+#[derive(Drop)]
+pub struct Player<C: Core<A>, A: Allocator> {
+    group: World<C, A>,
+    rolls: Rolls,
+}
+
+impl<C: Core<A>, A: Allocator + Copy> Player<C, A> {
+    /// A group without nodes, whose dice are drawn by this seed.
+    pub fn new(alloc: A, seed: Option<u64>, limits: Limits) -> Player<C, A>
+        ensures rolls { rolls_in result.rolls ≡ rolls_of seed }
+        ensures group { result.group ≡ empty_group limits }
+    {
+        Player {
+            group: World::new(alloc, limits),
+            rolls: Rolls::new(seed),
+        }
+    }
+
+    /// The group as it stands.
+    pub fn group(&self) -> &World<C, A>
+        ensures { result.now ≡ self.now.group }
+    {
+        &self.group
+    }
+
+    /// Plays actions in order.
+    pub fn play(&mut self, alloc: A, actions: &[Action]) -> Result<(), PlayFault>
+        ensures ok { OnOk result (PlaysActions C.state C.starts C.steps MOST_ARRIVALS actions.now (record { rolls = rolls_in self.old.rolls; group = self.old.group }) (record { rolls = rolls_in self.new.rolls; group = self.new.group })) }
+        ensures stopped { IfErr result (λ fault. fault ≢ PlayFault.OutOfMemory → IsHalted C.state C.starts C.steps C.is_spent MOST_ARRIVALS actions.now fault (record { rolls = rolls_in self.old.rolls; group = self.old.group }) self.new.group) }
+    {
+        for (number, action) in actions.iter().enumerate() {
+            if let Err(halt) = self.play_action(alloc, action) {
+                return Err(halt.at(number));
+            }
+        }
+        Ok(())
+    }
+
+    /// Plays one action.
+    fn play_action(&mut self, alloc: A, action: &Action) -> Result<(), Halt>
+        ensures ok { OnOk result (PlaysAction C.state C.starts C.steps MOST_ARRIVALS action.now (record { rolls = rolls_in self.old.rolls; group = self.old.group }) (record { rolls = rolls_in self.new.rolls; group = self.new.group })) }
+        ensures halted { IfErr result (λ halt. halt ≢ Halt.Refused WorldError.OutOfMemory → HaltsIn C.state C.starts C.steps C.is_spent MOST_ARRIVALS action.now halt (record { rolls = rolls_in self.old.rolls; group = self.old.group }) self.new.group) }
+    {
+        match event_of(alloc, &mut self.rolls, action) {
+            Ok(Some(event)) => match self.step(event) {
+                Ok(()) => Ok(()),
+                Err(why) => Err(Halt::Refused(why)),
+            },
+            Ok(None) => self.arrive_all(),
+            Err(_) => Err(Halt::Refused(WorldError::OutOfMemory)),
+        }
+    }
+
+    /// Lets the oldest packet arrive until none is in flight.
+    fn arrive_all(&mut self) -> Result<(), Halt>
+        ensures ok { OnOk result (PlaysAction C.state C.starts C.steps MOST_ARRIVALS Action.ArriveAll (record { rolls = rolls_in self.old.rolls; group = self.old.group }) (record { rolls = rolls_in self.new.rolls; group = self.new.group })) }
+        ensures halted { IfErr result (λ halt. halt ≢ Halt.Refused WorldError.OutOfMemory → HaltsIn C.state C.starts C.steps C.is_spent MOST_ARRIVALS Action.ArriveAll halt (record { rolls = rolls_in self.old.rolls; group = self.old.group }) self.new.group) }
+    {
+        for _ in 0..MOST_ARRIVALS {
+            if self.group.flight().is_empty() {
+                return Ok(());
+            }
+            let oldest = Event::Arrive {
+                place: 0,
+                dice: self.rolls.roll(),
+            };
+            if let Err(why) = self.step(oldest) {
+                return Err(Halt::Refused(why));
+            }
+        }
+        if self.group.flight().is_empty() {
+            Ok(())
+        } else {
+            Err(Halt::NoEnd)
+        }
+    }
+
+    /// Plays one event.
+    fn step(&mut self, event: Event<A>) -> Result<(), WorldError>
+        ensures ok { OnOk result (Takes C.state C.starts C.steps event self.old.group self.new.group) }
+        ensures refused { IfErr result (λ why. why ≢ WorldError.OutOfMemory → (self.new.group ≡ self.old.group) × Refuses C.state C.starts C.steps C.is_spent event why self.new.group) }
+        ensures rolls { self.new.rolls ≡ self.old.rolls }
+    {
+        self.group.play(&event)?;
+        Ok(())
+    }
+}
+
+/// The event that an action is, or `None` where it is as many arrivals as there are packets.
+fn event_of<A: Allocator + Copy>(
+    alloc: A,
+    rolls: &mut Rolls,
+    action: &Action,
+) -> Result<Option<Event<A>>, AllocError>
+    ensures event { IfOk result (λ event. event ≡ event_of (rolled (rolls_in rolls.old)) action.now) }
+    ensures rolls { OnOk result (rolls_in rolls.new ≡ rolls_after action.now (rolls_in rolls.old)) }
+{
+    Ok(Some(match *action {
+        Action::Start {
+            node,
+            incarnation,
+            ref peers,
+            contact,
+        } => Event::Start {
+            name: node,
+            incarnation,
+            peers: Listed::from_vec(Vec::from_slice(alloc, peers.as_slice())?),
+            contact,
+        },
+        Action::Broadcast { node, ref text } => Event::Broadcast {
+            name: node,
+            payload: Bytes::copy_from_slice(alloc, text.as_slice())?,
+        },
+        Action::Arrive { place } => Event::Arrive {
+            place,
+            dice: rolls.roll(),
+        },
+        Action::Lose { place } => Event::Lose { place },
+        Action::Again { number } => Event::Again { number },
+        Action::Fire { node, id } => Event::Fire { name: node, id },
+        Action::Flush { node } => Event::Flush { name: node },
+        Action::Shuffle { node } => Event::Shuffle {
+            name: node,
+            dice: rolls.roll(),
+        },
+        Action::Down { node, peer } => Event::Down {
+            name: node,
+            peer,
+            dice: rolls.roll(),
+        },
+        Action::Stop { node } => Event::Stop { name: node },
+        Action::ArriveAll => return Ok(None),
+    }))
+}

@@ -1,0 +1,134 @@
+//! What a program answers for a scenario that it plays: a status, and why it ended early.
+ghost use Rattle.std.specs.Prelude.{◌≡◌, ◌≢◌, ◌⊎◌, ◌≤◌, ◌<◌, ℕ, List, Option, Err, IfSome, IsOk, OnOk};
+ghost use Rattle.node_names.specs.Limits.{Limits as Sizes};
+ghost use Rattle.frames.specs.Content.{frame_content};
+ghost use Rattle.node_core.specs.Plum.{plum_state};
+ghost use Rattle.node_core.specs.Steps.{PlumStarts, PlumSteps};
+ghost use Rattle.simulation.specs.declared.play.TheConstants.{MOST_ARRIVALS};
+ghost use Rattle.simulation.specs.declared.read.TheConstants.{LONGEST};
+ghost use Rattle.simulation.specs.declared.scenario.TheConstants.{MOST_EVENTS};
+ghost use Rattle.simulation.specs.declared.scenario.action.Action.{Action};
+ghost use Rattle.simulation.specs.declared.scenario.fault.ScenarioFault.{ScenarioFault};
+ghost use Rattle.simulation.specs.Form.{IsWritten};
+ghost use Rattle.simulation.specs.Scenario.{IsScenario};
+
+use crate::failure::Failure;
+use crate::form::Form;
+use crate::outcome::{draw, simulate};
+use crate::read::read_text;
+use crate::scenario::ScenarioFault;
+use std::alloc::Global;
+use std::fmt::Display;
+use std::io;
+use std::io::{Read, Write};
+
+/// Plays the scenario of an input and writes its outcome in this form, and why it ended early to `faults`.
+pub fn play_input<R: Read, W: Write, F: Write>(
+    alloc: Global,
+    form: Form,
+    input: &mut R,
+    out: &mut W,
+    faults: &mut F,
+) -> u8
+    ensures status { result ≤ 2 }
+    ensures quiet { result ≡ 0 → faults.new ≡ faults.old }
+    ensures unplayed { result ≡ 2 → out.new ≡ out.old }
+    ensures played { result ≡ 0 → IfSome (R.remaining input.old) (λ text. (seed : Option ℕ) × (sizes : Sizes) × (actions : List Action)
+        × IsScenario LONGEST MOST_EVENTS text seed sizes actions
+        × IsWritten plum_state frame_content PlumStarts PlumSteps MOST_ARRIVALS form seed sizes actions (W.contents out.old) (W.contents out.new)) }
+{
+    match read_text(alloc, input) {
+        Ok(text) => play(alloc, form, text.as_slice(), out, faults),
+        Err(error) => report_unread(&error, faults),
+    }
+}
+
+/// Plays the scenario of a text.
+fn play<W: Write, F: Write>(
+    alloc: Global,
+    form: Form,
+    text: &[u8],
+    out: &mut W,
+    faults: &mut F,
+) -> u8
+    ensures status { result ≤ 2 }
+    ensures quiet { result ≡ 0 → faults.new ≡ faults.old }
+    ensures unplayed { result ≡ 2 → out.new ≡ out.old }
+    ensures played { result ≡ 0 → (seed : Option ℕ) × (sizes : Sizes) × (actions : List Action)
+        × IsScenario LONGEST MOST_EVENTS text.now seed sizes actions
+        × IsWritten plum_state frame_content PlumStarts PlumSteps MOST_ARRIVALS form seed sizes actions (W.contents out.old) (W.contents out.new) }
+    ensures refused { result ≡ 2 → (seed : Option ℕ) (sizes : Sizes) (actions : List Action) → ¬ IsScenario LONGEST MOST_EVENTS text.now seed sizes actions }
+{
+    conclude(write_outcome(alloc, form, text, out), faults)
+}
+
+/// Plays the scenario of a text and writes its outcome in this form.
+fn write_outcome<W: Write>(
+    alloc: Global,
+    form: Form,
+    text: &[u8],
+    out: &mut W,
+) -> Result<(), Failure>
+    ensures played { OnOk result ((seed : Option ℕ) × (sizes : Sizes) × (actions : List Action)
+        × IsScenario LONGEST MOST_EVENTS text.now seed sizes actions
+        × IsWritten plum_state frame_content PlumStarts PlumSteps MOST_ARRIVALS form seed sizes actions (W.contents out.old) (W.contents out.new)) }
+    ensures refused { (fault : ScenarioFault) → result ≡ Err (Failure.Refused fault) → fault ≢ ScenarioFault.OutOfMemory → (seed : Option ℕ) (sizes : Sizes) (actions : List Action)
+        → ¬ IsScenario LONGEST MOST_EVENTS text.now seed sizes actions }
+    ensures unplayed { (fault : ScenarioFault) → result ≡ Err (Failure.Refused fault) → out.new ≡ out.old }
+{
+    match form {
+        Form::Lines => simulate(alloc, text, out),
+        Form::Graph => draw(alloc, text, out),
+    }
+}
+
+/// Writes that the input could not be read.
+pub fn report_unread<F: Write>(error: &io::Error, faults: &mut F) -> u8
+    ensures { (result ≡ 1) ⊎ (result ≡ 2) }
+{
+    if error.kind() == io::ErrorKind::OutOfMemory {
+        report(faults, ScenarioFault::OutOfMemory, 1)
+    } else {
+        report(faults, ScenarioFault::Unreadable, 2)
+    }
+}
+
+/// Writes why a run ended early, if it did. The number is the status that the program ends with.
+pub fn conclude<F: Write>(ended: Result<(), Failure>, faults: &mut F) -> u8
+    ensures status { result ≤ 2 }
+    ensures quiet { result ≡ 0 → (faults.new ≡ faults.old) × IsOk ended }
+    ensures refused { result ≡ 2 → (fault : ScenarioFault) × (ended ≡ Err (Failure.Refused fault)) × (fault ≢ ScenarioFault.OutOfMemory) }
+{
+    match ended {
+        Ok(()) => 0,
+        Err(Failure::Refused(ScenarioFault::OutOfMemory)) => {
+            report(faults, ScenarioFault::OutOfMemory, 1)
+        }
+        Err(Failure::Refused(fault)) => report(faults, fault, 2),
+        Err(Failure::Stopped(fault)) => report(faults, fault, 1),
+        Err(Failure::Unwritten(Some(fault))) => report(faults, fault, 1),
+        Err(Failure::Unwritten(None)) => 1,
+    }
+}
+
+/// Writes why the program ends with this status. A write that fails is a fault of the run.
+pub fn report<F: Write, D: Display + Drop>(faults: &mut F, fault: D, status: u8) -> u8
+    ensures { (result ≡ status) ⊎ (result ≡ 1) }
+{
+    status_after(write_fault(faults, fault), status)
+}
+
+fn write_fault<F: Write, D: Display + Drop>(faults: &mut F, fault: D) -> io::Result<()> {
+    writeln!(faults, "plumtree: {fault}")?;
+    faults.flush()
+}
+
+/// The status, unless the write failed.
+pub fn status_after(written: io::Result<()>, status: u8) -> u8
+    ensures { (result ≡ status) ⊎ (result ≡ 1) }
+{
+    match written {
+        Ok(()) => status,
+        Err(_) => 1,
+    }
+}

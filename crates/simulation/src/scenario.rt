@@ -1,0 +1,92 @@
+//! A scenario: what a simulated group is to do.
+ghost use Rattle.std.specs.Prelude.{◌≡◌, ◌≢◌, ℕ, List, Option, IfOk, IfErr};
+ghost use Rattle.toml.specs.View.{view, table_view, items_view};
+ghost use Rattle.toml.specs.Data.{Members, table};
+ghost use Rattle.node_names.specs.Limits.{Limits as Sizes};
+ghost use Rattle.simulation.specs.Reading.{tables};
+ghost use Rattle.simulation.specs.Scenario.{AreActions, Describes, IsAction};
+
+mod action;
+mod fault;
+mod limits;
+mod section;
+
+pub use action::Action;
+pub use fault::{Key, Place, ScenarioFault};
+use node_names::Limits;
+pub use limits::limits_of;
+pub use section::Section;
+use std::alloc::Global;
+use toml::{Table, Value};
+
+/// The most events that a scenario may have.
+pub const MOST_EVENTS: usize = 100_000;
+
+/// What a simulated group is to do.
+#[derive(Drop)]
+pub struct Scenario {
+    /// What the dice are drawn from, if they are drawn at all.
+    pub seed: Option<u64>,
+    /// The limits of every node.
+    pub limits: Limits,
+    /// What happens, in order.
+    pub actions: Vec<Action>,
+}
+
+impl Scenario {
+    /// Reads a document as a scenario: what stands at its top first, then the limits, then each event.
+    pub fn from_document(alloc: Global, document: &Table) -> Result<Scenario, ScenarioFault>
+        ensures ok { IfOk result (λ scenario. Describes MOST_EVENTS (table_view document.now) scenario.seed scenario.limits scenario.actions.items) }
+        ensures refused { IfErr result (λ e. e ≢ ScenarioFault.OutOfMemory → (seed : Option ℕ) (sizes : Sizes) (actions : List Action) → ¬ Describes MOST_EVENTS (table_view document.now) seed sizes actions) }
+    {
+        let top = Section {
+            place: Place::Top,
+            table: document,
+        };
+        let seed = top.optional_number(Key::Seed, u64::MAX)?;
+        let limits = top.optional_table(Key::Limits)?;
+        let events = top.tables(Key::Event, MOST_EVENTS)?;
+        let limits = match limits {
+            Some(table) => limits::limits(&Section {
+                place: Place::Limits,
+                table,
+            })?,
+            None => Limits::STANDARD,
+        };
+        let actions = actions(alloc, events)?;
+        Ok(Scenario {
+            seed,
+            limits,
+            actions,
+        })
+    }
+}
+
+/// The actions of a list of tables.
+fn actions(alloc: Global, events: &[Value]) -> Result<Vec<Action>, ScenarioFault>
+    ensures ok { IfOk result (λ actions. (members : List Members) → items_view events.now ≡ tables members → AreActions members actions.items) }
+    ensures refused { IfErr result (λ e. e ≢ ScenarioFault.OutOfMemory → (members : List Members) → items_view events.now ≡ tables members → (actions : List Action) → ¬ AreActions members actions) }
+{
+    let mut actions = Vec::new(alloc);
+    for (number, event) in events.iter().enumerate() {
+        actions.push(numbered_action(alloc, number, event)?)?;
+    }
+    Ok(actions)
+}
+
+/// The action of the table with this number.
+fn numbered_action(alloc: Global, number: usize, event: &Value) -> Result<Action, ScenarioFault>
+    ensures ok { IfOk result (λ action. (members : Members) → view event.now ≡ table members → IsAction members action) }
+    ensures refused { IfErr result (λ e. e ≢ ScenarioFault.OutOfMemory → (members : Members) → view event.now ≡ table members → (action : Action) → ¬ IsAction members action) }
+{
+    match event.as_table() {
+        Some(table) => {
+            let place = Place::Event(number);
+            Action::from_section(alloc, &Section { place, table })
+        }
+        None => Err(ScenarioFault::Refused {
+            place: Place::Top,
+            key: Key::Event,
+        }),
+    }
+}

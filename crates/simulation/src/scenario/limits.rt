@@ -1,0 +1,63 @@
+//! The limits of a scenario's nodes.
+ghost use Rattle.std.specs.Prelude.{◌^◌, ◌-◌, IfOk, IfErr, option_map};
+ghost use Rattle.toml.specs.Data.{table as as_data};
+ghost use Rattle.toml.specs.View.{table_view};
+ghost use Rattle.node_names.specs.Limits.{Limits as Sizes};
+ghost use Rattle.simulation.specs.Reading.{at_key, ReadsRequired};
+ghost use Rattle.simulation.specs.Scenario.{AreLimits, HasLimits, IsLimit};
+
+use super::fault::{Key, Place, ScenarioFault};
+use super::section::Section;
+use node_names::Limits;
+use toml::Table;
+
+/// The limits of a table, or the standard ones where there is none.
+pub fn limits_of(table: Option<&Table>) -> Result<Limits, ScenarioFault>
+    ensures ok { IfOk result (HasLimits (option_map (λ found. as_data (table_view found.now)) table)) }
+    ensures refused { IfErr result (λ _. (sizes : Sizes) → ¬ HasLimits (option_map (λ found. as_data (table_view found.now)) table) sizes) }
+{
+    match table {
+        Some(table) => limits(&Section {
+            place: Place::Limits,
+            table,
+        }),
+        None => Ok(Limits::STANDARD),
+    }
+}
+
+/// The limits, of which each that is left out is the standard one.
+pub fn limits(section: &Section<'_>) -> Result<Limits, ScenarioFault>
+    ensures ok { IfOk result (AreLimits (table_view section.now.table.now)) }
+    ensures refused { IfErr result (λ _. (sizes : Sizes) → ¬ AreLimits (table_view section.now.table.now) sizes) }
+{
+    let standard = Limits::STANDARD;
+    let active = limit(section, Key::Active, standard.active())?;
+    let passive = limit(section, Key::Passive, standard.passive())?;
+    let arwl = limit(section, Key::Arwl, standard.arwl())?;
+    let prwl = limit(section, Key::Prwl, standard.prwl())?;
+    let ka = limit(section, Key::Ka, standard.ka())?;
+    let kp = limit(section, Key::Kp, standard.kp())?;
+    let threshold = threshold(section)?;
+    match Limits::new(active, passive, arwl, prwl, ka, kp) {
+        Ok(limits) => Ok(limits.tuned(threshold)),
+        Err(_) => Err(section.refused(Key::LimitsTogether)),
+    }
+}
+
+fn limit(section: &Section<'_>, key: Key, standard: u8) -> Result<u8, ScenarioFault>
+    ensures { ReadsRequired (IsLimit 255 standard) (at_key key (table_view section.now.table.now)) (ScenarioFault.Refused section.now.place key) result }
+{
+    match section.optional_number(key, 255)? {
+        Some(number) => Ok(number as u8),
+        None => Ok(standard),
+    }
+}
+
+fn threshold(section: &Section<'_>) -> Result<u32, ScenarioFault>
+    ensures { ReadsRequired (IsLimit (2 ^ 32 - 1) 0) (at_key Key.Threshold (table_view section.now.table.now)) (ScenarioFault.Refused section.now.place Key.Threshold) result }
+{
+    match section.optional_number(Key::Threshold, u64::from(u32::MAX))? {
+        Some(number) => Ok(number as u32),
+        None => Ok(0),
+    }
+}
