@@ -7,9 +7,7 @@ use crate::code::RunCode;
 use crate::progress::{Progress, is_terminal};
 use crate::run_group::{RunFailure, run_group};
 use clap::error::ErrorKind;
-use simulation::{
-    Form, ScenarioFault, play_input, read_text, report, report_unread, status_after,
-};
+use simulation::{Form, ScenarioFault, play_input, read_text, report, report_unread, status_after};
 use std::env::Env;
 use std::io::{Input, Read, Write};
 use std::net::{Net, TcpListener, TcpStream};

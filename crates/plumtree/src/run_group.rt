@@ -4,7 +4,8 @@ use loopback::{Ran, RunFault, Watch, run};
 use node_core::PlumCore;
 use node_names::Limits;
 use simulation::{
-    Form, OutputFault, ScenarioFault, broadcasts, deliveries, read_document, sort, write_graph, write_lines, write_trees,
+    Form, OutputFault, ScenarioFault, broadcasts, deliveries, read_document, sort, write_graph,
+    write_lines, write_trees,
 };
 use std::alloc::{AllocError, Global};
 use std::io::Write;

@@ -13,8 +13,8 @@ mod section;
 
 pub use action::Action;
 pub use fault::{Key, Place, ScenarioFault};
-use node_names::Limits;
 pub use limits::limits_of;
+use node_names::Limits;
 pub use section::Section;
 use std::alloc::Global;
 use toml::{Table, Value};

@@ -89,9 +89,7 @@ fn sweep_scenario<A: Allocator + Copy>(
 ) -> Result<u64, ScenarioFault> {
     let mut short = 0u64;
     let count = sweep(|n| {
-        Ok::<Option<bool>, ScenarioFault>(count_short(
-            heap, alloc, writers, scenario, &mut short, n,
-        ))
+        Ok::<_, ScenarioFault>(count_short(heap, alloc, writers, scenario, &mut short, n))
     })?;
     Ok(if count.is_some() { short } else { 0 })
 }

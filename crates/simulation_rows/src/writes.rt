@@ -2,7 +2,7 @@
 use crate::hello::{hello, is_front, is_told};
 use links::{MeteredWrite, TapeWriter};
 use simulation::{Form, play_input};
-use std::alloc::Global;
+use std::alloc::{AllocError, Global};
 use std::test::Fail;
 use test_support::sweep;
 
@@ -36,9 +36,10 @@ fn play_failing(alloc: Global, n: u64) -> Option<bool> {
 
 #[test]
 fn each_write(rt: HostRuntime) -> Result<(), Fail> {
-    let failed = sweep(|n| Ok::<Option<bool>, Fail>(play_failing(rt.alloc(), n)))?;
-    // (two lines of 31 bytes, and a tree's of 42 together)
-    assert!(rt; failed == Some(13), "{failed:?} writes");
+    let failed = sweep(|n| Ok::<_, AllocError>(play_failing(rt.alloc(), n)))?;
+    let count = failed.unwrap_or(0);
+    // (two lines of 31 bytes, and the 44 bytes of a tree)
+    assert!(rt; count == 13, "{count} writes");
     Ok(())
 }
 
@@ -75,7 +76,7 @@ fn refuse_failing(alloc: Global, n: u64) -> Option<bool> {
 
 #[test]
 fn each_write_of_a_fault(rt: HostRuntime) -> Result<(), Fail> {
-    let failed = sweep(|n| Ok::<Option<bool>, Fail>(refuse_failing(rt.alloc(), n)))?;
+    let failed = sweep(|n| Ok::<_, AllocError>(refuse_failing(rt.alloc(), n)))?;
     let count = failed.unwrap_or(0);
     assert!(rt; count >= 3, "{count} writes");
     Ok(())
