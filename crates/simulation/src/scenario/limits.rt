@@ -13,8 +13,8 @@ use toml::Table;
 
 /// The limits of a table, or the standard ones where there is none.
 pub fn limits_of(table: Option<&Table>) -> Result<Limits, ScenarioFault>
-    ensures ok { IfOk result (HasLimits (option_map (λ found. as_data (table_view found.now)) table)) }
-    ensures refused { IfErr result (λ _. (sizes : Sizes) → ¬ HasLimits (option_map (λ found. as_data (table_view found.now)) table) sizes) }
+    ensures ok { IfOk result (HasLimits (option_map (λ found. as_data (table_view found.now)) table.entry)) }
+    ensures refused { IfErr result (λ _. (sizes : Sizes) → ¬ HasLimits (option_map (λ found. as_data (table_view found.now)) table.entry) sizes) }
 {
     match table {
         Some(table) => limits(&Section {
