@@ -25,4 +25,5 @@ AreSizes-same table a b h k = λ i. record {
   ka = IsLimit-same 255 3 _ a.ka b.ka h.ka k.ka i;
   kp = IsLimit-same 255 4 _ a.kp b.kp h.kp k.kp i;
   threshold = IsLimit-same (2 ^ 32 - 1) 0 _ a.threshold b.threshold h.threshold k.threshold i;
+  keep = IsLimit-same (2 ^ 32 - 1) 0 _ a.keep b.keep h.keep k.keep i;
 }

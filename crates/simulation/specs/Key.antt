@@ -1,7 +1,7 @@
 -- How the keys of a scenario are written.
 use Rattle.std.specs.Prelude.{ℕ, List, codes}
 use Rattle.simulation.specs.declared.scenario.fault.Key.{Key}
-use Rattle.simulation.specs.declared.scenario.fault.Key.TheVariants.{Seed, Limits, Event, Active, Passive, Arwl, Prwl, Ka, Kp, Threshold, LimitsTogether, Do, Node, Incarnation, Peers, Contact, Text, Place, Number, Origin, Seq, Peer, Ticks, Name, Port, Say}
+use Rattle.simulation.specs.declared.scenario.fault.Key.TheVariants.{Seed, Limits, Event, Active, Passive, Arwl, Prwl, Ka, Kp, Threshold, Keep, LimitsTogether, Do, Node, Incarnation, Peers, Contact, Text, Place, Number, Origin, Seq, Peer, Ticks, Name, Port, Say}
 
 -- the word for each key; limits that do not go together have the code of their fault
 abbrev pub word_of : Key → List ℕ
@@ -15,6 +15,7 @@ word_of Prwl = codes "prwl"
 word_of Ka = codes "ka"
 word_of Kp = codes "kp"
 word_of Threshold = codes "threshold"
+word_of Keep = codes "keep"
 word_of LimitsTogether = codes "N4"
 word_of Do = codes "do"
 word_of Node = codes "node"

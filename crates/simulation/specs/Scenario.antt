@@ -5,7 +5,7 @@ use Rattle.toml.specs.Parse.{parse_document}
 use Rattle.toml.specs.Data.{Data, Members, no_members, table}
 use Rattle.node_names.specs.Limits.{Limits as Sizes, IsAllowed}
 use Rattle.simulation.specs.Reading.{at_key, IsOptional, IsNumber, IsNumberFromOne, IsText, IsName, IsNames, IsTables}
-use Rattle.simulation.specs.declared.scenario.fault.Key.TheVariants.{Seed, Limits, Event, Active, Passive, Arwl, Prwl, Ka, Kp, Threshold, Do, Node, Incarnation, Peers, Contact, Text, Place, Number, Origin, Seq, Peer}
+use Rattle.simulation.specs.declared.scenario.fault.Key.TheVariants.{Seed, Limits, Event, Active, Passive, Arwl, Prwl, Ka, Kp, Threshold, Keep, Do, Node, Incarnation, Peers, Contact, Text, Place, Number, Origin, Seq, Peer}
 use Rattle.simulation.specs.declared.scenario.action.Action.{Action}
 use Rattle.simulation.specs.declared.scenario.action.Action.TheVariants.{Start, Broadcast, Arrive, Lose, Again, Fire, Flush, Shuffle, Down, Stop, ArriveAll}
 
@@ -27,6 +27,7 @@ pub record AreSizes (members : Members) (sizes : Sizes) : Type 0 where
   pub ka : IsLimit 255 3 (at_key Ka members) sizes.ka
   pub kp : IsLimit 255 4 (at_key Kp members) sizes.kp
   pub threshold : IsLimit (2 ^ 32 - 1) 0 (at_key Threshold members) sizes.threshold
+  pub keep : IsLimit (2 ^ 32 - 1) 0 (at_key Keep members) sizes.keep
 
 -- the limits that a table gives, where they go together
 pub record AreLimits (members : Members) (sizes : Sizes) : Type 0 where

@@ -76,6 +76,7 @@ pub enum Key {
     Ka,
     Kp,
     Threshold,
+    Keep,
     /// Each limit is in its range, but they do not go together.
     LimitsTogether,
     Do,
@@ -111,6 +112,7 @@ impl Key {
             Key::Ka => "ka",
             Key::Kp => "kp",
             Key::Threshold => "threshold",
+            Key::Keep => "keep",
             Key::LimitsTogether => "N4",
             Key::Do => "do",
             Key::Node => "node",

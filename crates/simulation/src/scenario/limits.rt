@@ -37,9 +37,10 @@ pub fn limits(section: &Section<'_>) -> Result<Limits, ScenarioFault>
     let prwl = limit(section, Key::Prwl, standard.prwl())?;
     let ka = limit(section, Key::Ka, standard.ka())?;
     let kp = limit(section, Key::Kp, standard.kp())?;
-    let threshold = threshold(section)?;
+    let threshold = number(section, Key::Threshold)?;
+    let keep = number(section, Key::Keep)?;
     match Limits::new(active, passive, arwl, prwl, ka, kp) {
-        Ok(limits) => Ok(limits.tuned(threshold)),
+        Ok(limits) => Ok(limits.tuned(threshold).keeping(keep)),
         Err(_) => Err(section.refused(Key::LimitsTogether)),
     }
 }
@@ -53,10 +54,11 @@ fn limit(section: &Section<'_>, key: Key, standard: u8) -> Result<u8, ScenarioFa
     }
 }
 
-fn threshold(section: &Section<'_>) -> Result<u32, ScenarioFault>
-    ensures { ReadsRequired (IsLimit (2 ^ 32 - 1) 0) (at_key Key.Threshold (table_view section.now.table.now)) (ScenarioFault.Refused section.now.place Key.Threshold) result }
+/// A number that is 0 where it is left out.
+fn number(section: &Section<'_>, key: Key) -> Result<u32, ScenarioFault>
+    ensures { ReadsRequired (IsLimit (2 ^ 32 - 1) 0) (at_key key (table_view section.now.table.now)) (ScenarioFault.Refused section.now.place key) result }
 {
-    match section.optional_number(Key::Threshold, u64::from(u32::MAX))? {
+    match section.optional_number(key, u64::from(u32::MAX))? {
         Some(number) => Ok(number as u32),
         None => Ok(0),
     }

@@ -16,6 +16,7 @@ returns-in-Err-clause-refused c sizes are =
       ka = c.in_ok-ka.ka;
       kp = c.in_ok-kp.kp;
       threshold = c.in_ok-threshold.threshold;
+      keep = c.in_ok-keep.keep;
     } in
     let read : AreSizes (table_view c.args.section.now.table.now) given = record {
       active = rw c.active.ensures.value at c.in_ok-active.ensures;
@@ -25,6 +26,7 @@ returns-in-Err-clause-refused c sizes are =
       ka = rw c.ka.ensures.value at c.in_ok-ka.ensures;
       kp = rw c.kp.ensures.value at c.in_ok-kp.ensures;
       threshold = c.in_ok-threshold.ensures;
+      keep = c.in_ok-keep.ensures;
     } in
     let allowed : IsAllowed given = subst IsAllowed (AreSizes-same _ sizes given are.sizes_are read) are.allowed in
     absurd (cc (c.in-Err.ensures.accepted.1 (record {
