@@ -708,7 +708,7 @@ module _ (me : Origin) (m : Membership) (g : GossipState) where
   turn_lists (on.Shuffle dice) = moves_list heard_of.Tick dice
 
 keeps_last : (limits : Limits) (old : Plum) → IsSoundPlum limits old → (stimulus : Stimulus Frame) (sends : List (Name × Frame)) (given : List Delivery) (new : Plum) → PlumSteps old stimulus sends given new → KeepsLast limits.keep (plum_state old).held (ids given) (plum_state new).held
-keeps_last limits old sound stimulus sends given new steps =
+keeps_last limits old sound stimulus packets given new steps =
     subst (λ keep. KeepsLast keep (plum_state old).held (ids given) (plum_state new).held) sound.its_keep
     (subst (λ n. KeepsLast old.gossip.keep (plum_state old).held (ids given) (plum_state n).held) (sym steps.leaves)
     (subst (λ d. KeepsLast old.gossip.keep (plum_state old).held (ids d) (plum_state (gone_on old (turned old.me old.membership old.gossip stimulus))).held) (sym steps.delivers)
