@@ -10,11 +10,12 @@ use std::time::{Clock, Instant};
 use test_support::lend;
 use world::{Core, Out, Stimulus};
 
-/// A node without peers.
-fn start(alloc: Global) -> Result<PlumCore> {
+/// A node without peers that holds so many of the messages that it delivered last, or all for 0.
+fn start(alloc: Global, keep: u32) -> Result<PlumCore> {
     let me = first_run(b"a")?;
     let mut opening = Out::new(alloc);
-    Ok(PlumCore::start(alloc, me, Limits::STANDARD, &[], None, &mut opening)?)
+    let limits = Limits::STANDARD.keeping(keep);
+    Ok(PlumCore::start(alloc, me, limits, &[], None, &mut opening)?)
 }
 
 /// Lets a core take a stimulus, and returns how many frames come out.
@@ -53,7 +54,7 @@ fn time_steps<R: Clock>(
 /// Lets a core take so many messages of one of four peers.
 pub(crate) fn step_core<R: Clock>(rt: &R, alloc: Global, count: u64) -> Result<Taken> {
     let stimuli = arrivals(alloc, count)?;
-    lend(start(alloc)?, |core| {
+    lend(start(alloc, 0)?, |core| {
         time_steps(rt, alloc, core, stimuli.as_slice())
     })
 }
@@ -95,9 +96,10 @@ fn time_rounds<R: Clock>(rt: &R, alloc: Global, core: &mut PlumCore, rounds: u64
     })
 }
 
-/// Lets a core without peers take so many messages of one byte, of 64 origins in turn.
-pub(crate) fn see_all<R: Clock>(rt: &R, alloc: Global, count: u64) -> Result<Taken> {
-    lend(start(alloc)?, |core| {
+/// Lets a core without peers take so many messages of one byte, of 64 origins in turn, of which it holds the last `keep`, or all
+/// for 0.
+pub(crate) fn see_all<R: Clock>(rt: &R, alloc: Global, count: u64, keep: u32) -> Result<Taken> {
+    lend(start(alloc, keep)?, |core| {
         time_rounds(rt, alloc, core, count / ORIGINS)
     })
 }

@@ -22,6 +22,9 @@ use std::time::Clock;
 /// So many messages are told of, where no number is given: a hundred of each origin.
 const TOLD: u64 = 6_400;
 
+/// How many payloads a core holds that does not hold all.
+const KEPT: u32 = 1_000;
+
 /// Prints how many messages came in and frames went out, and in how long, if that is asked for.
 fn tell(rt: &impl Print, what: &str, taken: Taken, is_timed: bool) -> Result<()> {
     let Taken { came, sent, nanos } = taken;
@@ -46,10 +49,11 @@ fn measure<R: Print + Clock>(
         "cell" => step_cell(rt, alloc, count)?,
         "ids" => know_all(rt, alloc, count, 0)?,
         "gaps" => know_all(rt, alloc, count, 100)?,
-        "seen" => see_all(rt, alloc, count)?,
+        "seen" => see_all(rt, alloc, count, 0)?,
+        "kept" => see_all(rt, alloc, count, KEPT)?,
         "seal" => seal(rt, alloc, count, false)?,
         "copy" => seal(rt, alloc, count, true)?,
-        _ => bail!("core, cell, ids, gaps, seen, seal or copy"),
+        _ => bail!("core, cell, ids, gaps, seen, kept, seal or copy"),
     };
     tell(rt, word, taken, is_timed)
 }
@@ -64,7 +68,9 @@ fn main(rt: HostRuntime) -> Result<()> {
     match words.get(1) {
         Some(word) => measure(&rt, alloc, word, count, true),
         None => {
-            for word in ["core", "cell", "ids", "gaps", "seen", "seal", "copy"] {
+            for word in [
+                "core", "cell", "ids", "gaps", "seen", "kept", "seal", "copy",
+            ] {
                 measure(&rt, alloc, word, count, false)?;
             }
             Ok(())
