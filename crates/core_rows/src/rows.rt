@@ -26,7 +26,7 @@ pub(crate) struct Row {
     pub(crate) sent: usize,
     /// Which messages each node holds at the end, in order of delivery.
     pub(crate) held: &'static str,
-    /// Whether each growth is refused in turn.
+    /// Whether each allocation is refused in turn.
     pub(crate) is_swept: bool,
 }
 

@@ -14,7 +14,7 @@ use std::test::Fail;
 use test_support::{first_run, lend, stop_refusing};
 use world::{Core, CoreError, Out, Stimulus, StimulusOf};
 
-/// More growths than any step has.
+/// More allocations than any step has.
 const MANY: u64 = 200;
 
 /// A node `a` that has spent frame numbers.
@@ -87,7 +87,7 @@ fn broadcast<A: Allocator + Copy>(alloc: A) -> Result<Stimulus<Frame<A>, A>, All
     Ok(StimulusOf::Broadcast(Bytes::copy_from_slice(alloc, b"x")?))
 }
 
-/// Whether the answer is a refusal for want of a number, or, if a growth was refused, of memory.
+/// Whether the answer is a refusal for want of a number, or, if an allocation was refused, of memory.
 fn is_refusal(answer: Result<(), CoreError>, is_spent: bool) -> bool {
     match answer {
         Err(CoreError::SeqSpent) => true,
@@ -112,7 +112,7 @@ fn compare<A: Allocator + Copy>(
     assert!(rt; out.deliveries.len() == accepted);
 }
 
-/// Takes a step whose growth with this number is refused, and which is refused in any case. Whether it had so many.
+/// Takes a step whose allocation with this number is refused, and which is refused in any case. Whether it had so many.
 fn refuse_step<A: Allocator + Copy>(
     rt: &impl Abort,
     heap: &RefusingAllocator,
@@ -128,7 +128,7 @@ fn refuse_step<A: Allocator + Copy>(
     is_spent
 }
 
-/// Refuses each growth of a step in turn, and then the step itself.
+/// Refuses each allocation of a step in turn, and then the step itself.
 fn sweep<A: Allocator + Copy>(
     rt: &impl Abort,
     heap: &RefusingAllocator,

@@ -1,4 +1,4 @@
-//! Rows in which each growth is refused in turn: the refusal is for want of memory, all readers answer as before the refused
+//! Rows in which each allocation is refused in turn: the refusal is as out of memory, all readers answer as before the refused
 //! event, and the event made again answers as if nothing had been refused.
 use crate::act::{Act, event};
 use crate::play::{apply, asked, compare, compare_whole, happen, limits, play};
@@ -13,10 +13,10 @@ use std::test::Fail;
 use test_support::{lend, stop_refusing};
 use world::WorldError;
 
-/// More growths than any event has.
+/// More allocations than any event has.
 const MANY: u64 = 400;
 
-/// Plays an event whose growth with this number is refused. Whether it had so many, and whether it was refused.
+/// Plays an event whose allocation with this number is refused. Whether it had so many, and whether it was refused.
 fn try_event<A: Allocator + Copy>(
     rt: &impl Abort,
     heap: &RefusingAllocator,
@@ -35,7 +35,7 @@ fn try_event<A: Allocator + Copy>(
     Ok((is_spent, answer.is_err()))
 }
 
-/// Plays an event whose growth with this number is refused, and makes it again if it is refused. Whether it had so many.
+/// Plays an event whose allocation with this number is refused, and makes it again if it is refused. Whether it had so many.
 fn refuse_event<A: Allocator + Copy>(
     rt: &impl Abort,
     heap: &RefusingAllocator,
@@ -85,7 +85,7 @@ fn sweep_turn<A: Allocator + Copy>(
     Ok(is_spent)
 }
 
-/// Plays turns up to one, and refuses its event's growth with this number. Whether it had so many.
+/// Plays turns up to one, and refuses its event's allocation with this number. Whether it had so many.
 fn sweep_world<A: Allocator + Copy>(
     rt: &impl Abort,
     heap: &RefusingAllocator,
@@ -125,7 +125,7 @@ fn sweep_event<A: Allocator + Copy>(
     })
 }
 
-/// Refuses each growth of one event in turn. How many it has.
+/// Refuses each allocation of one event in turn. How many it has.
 fn sweep<A: Allocator + Copy>(
     rt: &impl Abort,
     heap: &RefusingAllocator,
@@ -146,7 +146,7 @@ fn sweep<A: Allocator + Copy>(
     Ok(MANY)
 }
 
-/// Refuses each growth of each of a row's own events in turn. How many they have.
+/// Refuses each allocation of each of a row's own events in turn. How many they have.
 fn sweep_row<A: Allocator + Copy>(
     rt: &impl Abort,
     heap: &RefusingAllocator,
@@ -167,7 +167,7 @@ fn sweep_row<A: Allocator + Copy>(
     Ok(refused)
 }
 
-/// Does so for all rows that are swept. How many growths they have.
+/// Does so for all rows that are swept. How many allocations they have.
 fn sweep_rows<A: Allocator + Copy>(
     rt: &impl Abort,
     heap: &RefusingAllocator,
@@ -179,30 +179,33 @@ fn sweep_rows<A: Allocator + Copy>(
     let mut refused = 0u64;
     for row in rows {
         if row.is_swept {
-            let growths = sweep_row(rt, heap, alloc, text, stood, row)?;
-            assert!(rt; growths > 5, "few growths were refused: {growths}");
-            refused = refused.saturating_add(growths);
+            let allocations = sweep_row(rt, heap, alloc, text, stood, row)?;
+            assert!(rt;
+                allocations > 5,
+                "few allocations were refused: {allocations}"
+            );
+            refused = refused.saturating_add(allocations);
         }
     }
     Ok(refused)
 }
 
 #[test]
-fn each_growth_of_each_event(rt: HostRuntime) -> Result<(), Fail> {
+fn each_allocation_of_each_event(rt: HostRuntime) -> Result<(), Fail> {
     let heap = RefusingAllocator::new(rt.alloc());
     let mut text = String::new(rt.alloc());
     let mut stood = String::new(rt.alloc());
     let refused = sweep_rows(&rt, &heap, &heap, &mut text, &mut stood, rows())?;
-    assert!(rt; refused > 200, "few growths were refused: {refused}");
+    assert!(rt; refused > 200, "few allocations were refused: {refused}");
     Ok(())
 }
 
 #[test]
-fn each_growth_of_each_tuned_event(rt: HostRuntime) -> Result<(), Fail> {
+fn each_allocation_of_each_tuned_event(rt: HostRuntime) -> Result<(), Fail> {
     let heap = RefusingAllocator::new(rt.alloc());
     let mut text = String::new(rt.alloc());
     let mut stood = String::new(rt.alloc());
     let refused = sweep_rows(&rt, &heap, &heap, &mut text, &mut stood, tuned_rows())?;
-    assert!(rt; refused > 100, "few growths were refused: {refused}");
+    assert!(rt; refused > 100, "few allocations were refused: {refused}");
     Ok(())
 }

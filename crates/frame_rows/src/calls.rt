@@ -1,4 +1,4 @@
-//! A pump and a drain over memory, each called once while one growth is refused, or none.
+//! A pump and a drain over memory, each called once while one allocation is refused, or none.
 use crate::compare::end_of_frame;
 use crate::doubles::{Kept, PRUNE, Same, count_given, prunes};
 use bytes::Bytes;
@@ -24,7 +24,7 @@ pub(crate) struct PumpCall<'a> {
 #[derive(Clone, Copy)]
 pub(crate) struct Pumped {
     pub(crate) end: LinkEnd,
-    /// Whether there was a growth to refuse.
+    /// Whether there was an allocation to refuse.
     pub(crate) is_refused: bool,
     /// How many frames the sink took.
     pub(crate) frames: usize,
@@ -52,7 +52,7 @@ fn read_rest<A: Allocator>(reader: &mut TapeReader<A>) -> usize {
     reader.read(&mut rest).unwrap_or(0)
 }
 
-/// Pumps while the growth with this number is refused.
+/// Pumps while the allocation with this number is refused.
 fn pump_between<A: Allocator + Copy>(
     heap: &RefusingAllocator,
     alloc: A,
@@ -75,7 +75,7 @@ fn pump_between<A: Allocator + Copy>(
     }
 }
 
-/// Does so to a fresh sink. It has room for all frames of a row, so that its growths are not among those refused.
+/// Does so to a fresh sink. It has room for all frames of a row, so that its allocations are not among those refused.
 fn pump_to_sink<A: Allocator + Copy>(
     heap: &RefusingAllocator,
     alloc: A,
@@ -105,7 +105,7 @@ fn pump_from_reader<A: Allocator + Copy>(
     pump_to_sink(heap, alloc, reader, &mut cutter, call, n)
 }
 
-/// Makes a call of a pump, of which the growth with this number is refused.
+/// Makes a call of a pump, of which the allocation with this number is refused.
 pub(crate) fn call_pump<A: Allocator + Copy>(
     heap: &RefusingAllocator,
     alloc: A,
@@ -130,7 +130,7 @@ pub(crate) struct DrainCall {
 #[derive(Clone, Copy)]
 pub(crate) struct Drained {
     pub(crate) answer: Result<u64, LinkEnd>,
-    /// Whether there was a growth to refuse.
+    /// Whether there was an allocation to refuse.
     pub(crate) is_refused: bool,
     /// How many items the source gave.
     pub(crate) gave: usize,
@@ -166,7 +166,7 @@ pub(crate) fn drained_of<A: Allocator>(
     }
 }
 
-/// Drains while the growth with this number is refused.
+/// Drains while the allocation with this number is refused.
 fn drain_between<A: Allocator + Copy, B: Allocator>(
     heap: &RefusingAllocator,
     source: &mut Same<A>,
@@ -192,7 +192,7 @@ fn drain_from_source<A: Allocator + Copy, B: Allocator>(
     drain_between(heap, source, &mut writer, call.frames, n)
 }
 
-/// Makes a call of a drain, of which the growth with this number is refused. The source and the writer have heaps of their own.
+/// Makes a call of a drain, of which the allocation with this number is refused. The source and the writer have heaps of their own.
 pub(crate) fn call_drain<A: Allocator + Copy, B: Allocator>(
     heap: &RefusingAllocator,
     sources: A,

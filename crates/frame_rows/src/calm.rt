@@ -1,4 +1,4 @@
-//! Calls that take no memory: they succeed where the next growth is refused, and leave the refusal unspent.
+//! Calls that take no memory: they succeed where the next allocation is refused, and leave the refusal unspent.
 use bytes::Bytes;
 use frames::{Body, Cutter, Frame, FrameFault};
 use node_names::{Listed, MsgId, NodeName, Origin};
@@ -47,7 +47,7 @@ fn is_told<A: Allocator + Copy>(
     is_sender && is_number && is_kind && is_other
 }
 
-/// Makes a frame, reads it, and takes it apart. Whether all of that went as it should while the next growth was refused.
+/// Makes a frame, reads it, and takes it apart. Whether all of that went as it should while the next allocation was refused.
 fn is_calm<A: Allocator + Copy>(
     rt: &impl Abort,
     heap: &RefusingAllocator,
@@ -100,7 +100,7 @@ fn is_payload_calm<A: Allocator + Copy>(
     Ok(is_calm(rt, heap, gossip, false))
 }
 
-/// Whether a cutter is made while the next growth is refused.
+/// Whether a cutter is made while the next allocation is refused.
 fn is_cutter_calm<A: Allocator + Copy>(heap: &RefusingAllocator, alloc: A) -> bool {
     heap.refuse(1);
     let left = Cutter::new(alloc).left();
@@ -109,7 +109,7 @@ fn is_cutter_calm<A: Allocator + Copy>(heap: &RefusingAllocator, alloc: A) -> bo
 }
 
 #[test]
-fn calls_without_growths(rt: HostRuntime) -> Result<(), Fail> {
+fn calls_without_allocations(rt: HostRuntime) -> Result<(), Fail> {
     let heap = RefusingAllocator::new(rt.alloc());
     let are_names = are_names_calm(&rt, &heap, &heap)?;
     let are_entries = are_entries_calm(&rt, &heap, &heap)?;

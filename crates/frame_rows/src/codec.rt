@@ -1,4 +1,4 @@
-//! Reading and writing a frame, each growth of a call refused in turn: the refusal is for want of memory, and the call made
+//! Reading and writing a frame, each allocation of a call refused in turn: the refusal is as out of memory, and the call made
 //! again answers as if nothing had been refused.
 use crate::compare::{is_written, read_as, write_gossip};
 use crate::rows::{Row, rows};
@@ -9,10 +9,10 @@ use std::test::Fail;
 use test_support::stop_refusing;
 use world::Wire;
 
-/// More growths than any call has.
+/// More allocations than any call has.
 const MANY: u64 = 40;
 
-/// Reads bytes while the growth with this number is refused, and again. Whether there is such a growth, or none if an answer
+/// Reads bytes while the allocation with this number is refused, and again. Whether there is such an allocation, or none if an answer
 /// is wrong.
 ///
 /// Where the bytes have a fault, it is told, whatever was refused.
@@ -36,7 +36,7 @@ fn refuse_decode<A: Allocator + Copy>(
     (is_right && is_again).then_some(is_spent)
 }
 
-/// Writes a frame while the growth with this number is refused, and again. Whether there is such a growth, or none if an
+/// Writes a frame while the allocation with this number is refused, and again. Whether there is such an allocation, or none if an
 /// answer is wrong.
 fn refuse_encode<A: Allocator + Copy>(
     heap: &RefusingAllocator,
@@ -53,7 +53,7 @@ fn refuse_encode<A: Allocator + Copy>(
     (is_right && is_again).then_some(is_spent)
 }
 
-/// Copies a frame. Whether the copy is equal to it, or none if a growth was refused.
+/// Copies a frame. Whether the copy is equal to it, or none if an allocation was refused.
 fn is_copied<A: Allocator + Copy>(frame: &Frame<A>) -> Option<bool> {
     match frame.copy() {
         Ok(copy) => Some(copy == *frame),
@@ -61,7 +61,7 @@ fn is_copied<A: Allocator + Copy>(frame: &Frame<A>) -> Option<bool> {
     }
 }
 
-/// Copies a frame while the growth with this number is refused, and again. Whether there is such a growth, or none if an
+/// Copies a frame while the allocation with this number is refused, and again. Whether there is such an allocation, or none if an
 /// answer is wrong.
 fn refuse_copy<A: Allocator + Copy>(
     heap: &RefusingAllocator,
@@ -76,7 +76,7 @@ fn refuse_copy<A: Allocator + Copy>(
     (is_right && is_again).then_some(is_spent)
 }
 
-/// Refuses each growth of reading in turn. How many there are, or none if an answer is wrong.
+/// Refuses each allocation of reading in turn. How many there are, or none if an answer is wrong.
 fn sweep_decode<A: Allocator + Copy>(
     heap: &RefusingAllocator,
     alloc: A,
@@ -91,7 +91,7 @@ fn sweep_decode<A: Allocator + Copy>(
     None
 }
 
-/// Refuses each growth of writing and copying in turn. How many the one has that has more, or none if an answer is wrong.
+/// Refuses each allocation of writing and copying in turn. How many the one has that has more, or none if an answer is wrong.
 fn sweep_frame<A: Allocator + Copy>(
     heap: &RefusingAllocator,
     alloc: A,
@@ -120,7 +120,7 @@ fn sweep_first<A: Allocator + Copy>(
     }
 }
 
-/// All three calls of a stream's first frame. How many growths the one has that has most, or none if an answer is wrong.
+/// All three calls of a stream's first frame. How many allocations the one has that has most, or none if an answer is wrong.
 fn sweep<A: Allocator + Copy>(
     heap: &RefusingAllocator,
     alloc: A,
@@ -135,19 +135,19 @@ fn sweep<A: Allocator + Copy>(
     Some(of_reading.max(of_frame))
 }
 
-/// All three calls of each frame of a row, and the reading of what follows. How many growths there are, or none if an answer
+/// All three calls of each frame of a row, and the reading of what follows. How many allocations there are, or none if an answer
 /// is wrong.
 fn sweep_row<A: Allocator + Copy>(heap: &RefusingAllocator, alloc: A, row: &Row) -> Option<u64> {
     let mut at = 0usize;
-    let mut growths = 0u64;
+    let mut allocations = 0u64;
     for len in row.frames {
         let of_frame = sweep(heap, alloc, row.bytes.get(at..)?, Ok(*len))?;
-        growths = growths.saturating_add(of_frame);
+        allocations = allocations.saturating_add(of_frame);
         at = at.saturating_add(*len);
     }
     let fault = row.fault.unwrap_or(FrameFault::Short);
     let of_rest = sweep(heap, alloc, row.bytes.get(at..)?, Err(fault))?;
-    Some(growths.saturating_add(of_rest))
+    Some(allocations.saturating_add(of_rest))
 }
 
 /// A GOSSIP with the longest payload, and one with a longer.
@@ -164,23 +164,23 @@ fn sweep_longest<A: Allocator + Copy>(
 }
 
 #[test]
-fn each_growth_of_the_codec(rt: HostRuntime) -> Result<(), Fail> {
+fn each_allocation_of_the_codec(rt: HostRuntime) -> Result<(), Fail> {
     let heap = RefusingAllocator::new(rt.alloc());
     let mut refused = 0u64;
     for row in rows() {
-        let growths = sweep_row(&heap, &heap, row);
-        assert!(rt; growths.is_some(), "at {}", row.name);
-        refused = refused.saturating_add(growths.unwrap_or(0));
+        let allocations = sweep_row(&heap, &heap, row);
+        assert!(rt; allocations.is_some(), "at {}", row.name);
+        refused = refused.saturating_add(allocations.unwrap_or(0));
     }
-    assert!(rt; refused > 30, "few growths were refused: {refused}");
+    assert!(rt; refused > 30, "few allocations were refused: {refused}");
     Ok(())
 }
 
 #[test]
-fn each_growth_of_the_longest(rt: HostRuntime) -> Result<(), Fail> {
+fn each_allocation_of_the_longest(rt: HostRuntime) -> Result<(), Fail> {
     let heap = RefusingAllocator::new(rt.alloc());
     let mut bytes = Vec::new(&heap);
-    let growths = sweep_longest(&heap, &heap, &mut bytes)?;
-    assert!(rt; growths.unwrap_or(0) > 0);
+    let allocations = sweep_longest(&heap, &heap, &mut bytes)?;
+    assert!(rt; allocations.unwrap_or(0) > 0);
     Ok(())
 }

@@ -1,4 +1,4 @@
-//! Cutting a stream into frames, each growth of each call refused in turn: the refusal is for want of memory, the cutter is as
+//! Cutting a stream into frames, each allocation of each call refused in turn: the refusal is as out of memory, the cutter is as
 //! it was, and the call made again answers as if nothing had been refused.
 use crate::compare::end_of_frame;
 use crate::rows::{Row, rows};
@@ -8,7 +8,7 @@ use std::alloc::Allocator;
 use std::test::Fail;
 use test_support::stop_refusing;
 
-/// More growths than any call has, and more pieces and frames than any row.
+/// More allocations than any call has, and more pieces and frames than any row.
 const MANY: u64 = 120;
 
 /// How far a row was played.
@@ -20,11 +20,11 @@ struct SoFar {
     bytes: usize,
     /// The fault that was met.
     fault: Option<FrameFault>,
-    /// Whether a call had so many growths that one was refused.
+    /// Whether a call had so many allocations that one was refused.
     is_refused: bool,
 }
 
-/// Feeds a piece while the growth with this number is refused, and again if it is. Whether there is such a growth, or none if
+/// Feeds a piece while the allocation with this number is refused, and again if it is. Whether there is such an allocation, or none if
 /// an answer is wrong.
 fn feed_refused<A: Allocator + Copy>(
     heap: &RefusingAllocator,
@@ -78,8 +78,8 @@ fn is_given<A: Allocator + Copy>(
     }
 }
 
-/// Asks for a frame while the growth with this number is refused. Whether one is given, or none if that is a wrong one, and
-/// whether there is such a growth.
+/// Asks for a frame while the allocation with this number is refused. Whether one is given, or none if that is a wrong one, and
+/// whether there is such an allocation.
 fn next_refused<A: Allocator + Copy>(
     heap: &RefusingAllocator,
     alloc: A,
@@ -95,7 +95,7 @@ fn next_refused<A: Allocator + Copy>(
 }
 
 /// Does so, and again if it is refused. Whether a frame is given, or none if an answer is wrong. A fault may be told although a
-/// growth was refused.
+/// allocation was refused.
 fn take_frame<A: Allocator + Copy>(
     heap: &RefusingAllocator,
     alloc: A,
@@ -145,7 +145,7 @@ fn is_end(row: &Row, so_far: &SoFar, left: usize) -> bool {
     is_fault && so_far.frames == row.frames.len() && left == rest
 }
 
-/// Feeds a row in pieces of this size, and refuses the growth with this number of each call. Whether a call has so many, or
+/// Feeds a row in pieces of this size, and refuses the allocation with this number of each call. Whether a call has so many, or
 /// none if an answer is wrong.
 fn play_pieces<A: Allocator + Copy>(
     heap: &RefusingAllocator,
@@ -181,7 +181,7 @@ fn sweep_pieces<A: Allocator + Copy>(
     play_pieces(heap, alloc, &mut cutter, row, size, n)
 }
 
-/// Refuses each growth in turn. How many the call has that has most, or none if an answer is wrong.
+/// Refuses each allocation in turn. How many the call has that has most, or none if an answer is wrong.
 fn sweep_size<A: Allocator + Copy>(
     heap: &RefusingAllocator,
     alloc: A,
@@ -205,14 +205,14 @@ fn sweep_row<A: Allocator + Copy>(heap: &RefusingAllocator, alloc: A, row: &Row)
 }
 
 #[test]
-fn each_growth_of_a_cutter(rt: HostRuntime) -> Result<(), Fail> {
+fn each_allocation_of_a_cutter(rt: HostRuntime) -> Result<(), Fail> {
     let heap = RefusingAllocator::new(rt.alloc());
     let mut refused = 0u64;
     for row in rows() {
-        let growths = sweep_row(&heap, &heap, row);
-        assert!(rt; growths.is_some(), "at {}", row.name);
-        refused = refused.saturating_add(growths.unwrap_or(0));
+        let allocations = sweep_row(&heap, &heap, row);
+        assert!(rt; allocations.is_some(), "at {}", row.name);
+        refused = refused.saturating_add(allocations.unwrap_or(0));
     }
-    assert!(rt; refused > 40, "few growths were refused: {refused}");
+    assert!(rt; refused > 40, "few allocations were refused: {refused}");
     Ok(())
 }

@@ -1,4 +1,4 @@
-//! How pumps and drains end, each growth refused in turn.
+//! How pumps and drains end, each allocation refused in turn.
 use crate::calls::{DrainCall, PumpCall};
 use crate::doubles::PRUNE;
 use crate::linking::{DrainRow, PumpRow, Refused, sweep_drain, sweep_pump};
@@ -95,11 +95,11 @@ fn pumps(rt: HostRuntime) -> Result<(), Fail> {
     let heap = RefusingAllocator::new(rt.alloc());
     let mut refused = 0u64;
     for row in PUMPS {
-        let growths = sweep_pump(&heap, &heap, row)?;
-        assert!(rt; growths.is_some(), "at {}", row.name);
-        refused = refused.saturating_add(growths.unwrap_or(0));
+        let allocations = sweep_pump(&heap, &heap, row)?;
+        assert!(rt; allocations.is_some(), "at {}", row.name);
+        refused = refused.saturating_add(allocations.unwrap_or(0));
     }
-    assert!(rt; refused > 7, "few growths were refused: {refused}");
+    assert!(rt; refused > 7, "few allocations were refused: {refused}");
     Ok(())
 }
 
@@ -141,7 +141,7 @@ const DRAINS: &[DrainRow] = &[
     },
 ];
 
-/// Refuses each growth of the source and then of the writer. How many there are, or none if an answer is wrong.
+/// Refuses each allocation of the source and then of the writer. How many there are, or none if an answer is wrong.
 fn sweep_both<A: Allocator + Copy, B: Allocator + Copy>(
     heap: &RefusingAllocator,
     refusing: A,
@@ -161,10 +161,10 @@ fn drains(rt: HostRuntime) -> Result<(), Fail> {
     let heap = RefusingAllocator::new(rt.alloc());
     let mut refused = 0u64;
     for row in DRAINS {
-        let growths = sweep_both(&heap, &heap, rt.alloc(), row)?;
-        assert!(rt; growths.is_some(), "with {} bytes", row.len);
-        refused = refused.saturating_add(growths.unwrap_or(0));
+        let allocations = sweep_both(&heap, &heap, rt.alloc(), row)?;
+        assert!(rt; allocations.is_some(), "with {} bytes", row.len);
+        refused = refused.saturating_add(allocations.unwrap_or(0));
     }
-    assert!(rt; refused > 10, "few growths were refused: {refused}");
+    assert!(rt; refused > 10, "few allocations were refused: {refused}");
     Ok(())
 }

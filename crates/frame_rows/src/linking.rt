@@ -1,5 +1,5 @@
-//! Reading frames from a stream and writing them to one, each growth refused in turn: the end is for want of memory, and what
-//! the sink took or the writer has is a front of the whole. The call in which no growth is left to refuse ends as its row says.
+//! Reading frames from a stream and writing them to one, each allocation refused in turn: the end is as out of memory, and what
+//! the sink took or the writer has is a front of the whole. The call in which no allocation is left to refuse ends as its row says.
 use crate::calls::{DrainCall, Drained, PumpCall, Pumped, call_drain, call_pump};
 use crate::rows::{Row, rows};
 use links::LinkEnd;
@@ -7,7 +7,7 @@ use refusing_allocator::RefusingAllocator;
 use std::alloc::{AllocError, Allocator};
 use std::test::Fail;
 
-/// More growths than any call has.
+/// More allocations than any call has.
 const MANY: u64 = 120;
 
 /// A call of a pump, its end, and how many frames the sink took and bytes are left for one more read.
@@ -20,7 +20,7 @@ pub(crate) struct PumpRow {
     pub(crate) rest: usize,
 }
 
-/// Whether a pump ended as its row says, or for want of memory if a growth was refused. The fault of a frame may be told even
+/// Whether a pump ended as its row says, or as out of memory if an allocation was refused. The fault of a frame may be told even
 /// then.
 fn is_pumped(row: &PumpRow, pumped: &Pumped) -> bool {
     let are_counts = pumped.frames == row.frames && pumped.rest == row.rest;
@@ -34,7 +34,7 @@ fn is_pumped(row: &PumpRow, pumped: &Pumped) -> bool {
     is_end && pumped.is_front
 }
 
-/// Pumps while each growth of the cutter is refused in turn. How many there are, or none if an answer is wrong.
+/// Pumps while each allocation of the cutter is refused in turn. How many there are, or none if an answer is wrong.
 pub(crate) fn sweep_pump<A: Allocator + Copy>(
     heap: &RefusingAllocator,
     alloc: A,
@@ -84,15 +84,15 @@ fn pump_of(row: &Row) -> PumpRow {
 }
 
 #[test]
-fn each_growth_of_a_pump(rt: HostRuntime) -> Result<(), Fail> {
+fn each_allocation_of_a_pump(rt: HostRuntime) -> Result<(), Fail> {
     let heap = RefusingAllocator::new(rt.alloc());
     let mut refused = 0u64;
     for row in rows() {
-        let growths = sweep_pump(&heap, &heap, &pump_of(row))?;
-        assert!(rt; growths.is_some(), "at {}", row.name);
-        refused = refused.saturating_add(growths.unwrap_or(0));
+        let allocations = sweep_pump(&heap, &heap, &pump_of(row))?;
+        assert!(rt; allocations.is_some(), "at {}", row.name);
+        refused = refused.saturating_add(allocations.unwrap_or(0));
     }
-    assert!(rt; refused > 40, "few growths were refused: {refused}");
+    assert!(rt; refused > 40, "few allocations were refused: {refused}");
     Ok(())
 }
 
@@ -104,14 +104,14 @@ pub(crate) struct DrainRow {
     pub(crate) len: usize,
 }
 
-/// Whose growths are refused.
+/// Whose allocations are refused.
 #[derive(Clone, Copy)]
 pub(crate) enum Refused {
     Source,
     Writer,
 }
 
-/// Whether a drain ended at a refused growth: after all that the source gave, or within it where the writer's call failed.
+/// Whether a drain ended at a refused allocation: after all that the source gave, or within it where the writer's call failed.
 fn is_cut_off(drained: &Drained, refused: Refused) -> bool {
     let given = drained.gave.saturating_mul(24);
     let bytes = drained.len as u64;
@@ -122,7 +122,7 @@ fn is_cut_off(drained: &Drained, refused: Refused) -> bool {
     is_there && drained.answer == Err(end)
 }
 
-/// Whether a drain ended as its row says, or at a refused growth if there was one.
+/// Whether a drain ended as its row says, or at a refused allocation if there was one.
 fn is_drained(row: &DrainRow, drained: &Drained, refused: Refused) -> bool {
     let is_whole = drained.answer == row.answer && drained.len == row.len;
     let is_end = if drained.is_refused {
@@ -133,7 +133,7 @@ fn is_drained(row: &DrainRow, drained: &Drained, refused: Refused) -> bool {
     is_end && drained.is_front
 }
 
-/// Drains while each growth of the one is refused in turn. How many there are, or none if an answer is wrong.
+/// Drains while each allocation of the one is refused in turn. How many there are, or none if an answer is wrong.
 pub(crate) fn sweep_drain<A: Allocator + Copy, B: Allocator + Copy>(
     heap: &RefusingAllocator,
     sources: A,

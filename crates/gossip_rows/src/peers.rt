@@ -409,18 +409,18 @@ fn sweep_all<A: Allocator + Copy>(
 ) -> Result<u64, AllocError> {
     let mut refused = 0u64;
     for at in 0..turns.len() {
-        let growths = sweep(rt, heap, alloc, text, turns.split_at(at))?;
-        refused = refused.saturating_add(growths);
+        let allocations = sweep(rt, heap, alloc, text, turns.split_at(at))?;
+        refused = refused.saturating_add(allocations);
     }
     Ok(refused)
 }
 
 #[test]
-fn each_growth_of_each_call(rt: HostRuntime) -> Result<(), Fail> {
+fn each_allocation_of_each_call(rt: HostRuntime) -> Result<(), Fail> {
     let heap = RefusingAllocator::new(rt.alloc());
     let mut text = String::new(rt.alloc());
     let refused = sweep_all(&rt, &heap, &heap, &mut text, turns())?;
-    assert!(rt; refused > 5, "few growths were refused: {refused}");
+    assert!(rt; refused > 5, "few allocations were refused: {refused}");
     Ok(())
 }
 
@@ -501,13 +501,13 @@ fn sweep_left_from_start<A: Allocator + Copy>(
 
 /// A copy of what the first eight calls leave.
 #[test]
-fn each_growth_of_a_copy(rt: HostRuntime) -> Result<(), Fail> {
+fn each_allocation_of_a_copy(rt: HostRuntime) -> Result<(), Fail> {
     let heap = RefusingAllocator::new(rt.alloc());
     let mut text = String::new(rt.alloc());
     let turns = turns();
     let (before, _) = turns.split_at(8.min(turns.len()));
     let refused = sweep_left_from_start(&rt, &heap, &heap, &mut text, before)?;
-    assert!(rt; refused > 1, "few growths were refused: {refused}");
+    assert!(rt; refused > 1, "few allocations were refused: {refused}");
     Ok(())
 }
 

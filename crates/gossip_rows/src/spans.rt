@@ -227,16 +227,16 @@ fn sweep_all<A: Allocator + Copy>(
 ) -> Result<u64, AllocError> {
     let mut refused = 0u64;
     for at in 0..steps.len() {
-        let growths = sweep(rt, heap, alloc, steps.split_at(at))?;
-        refused = refused.saturating_add(growths);
+        let allocations = sweep(rt, heap, alloc, steps.split_at(at))?;
+        refused = refused.saturating_add(allocations);
     }
     Ok(refused)
 }
 
 #[test]
-fn each_growth_of_each_id(rt: HostRuntime) -> Result<(), Fail> {
+fn each_allocation_of_each_id(rt: HostRuntime) -> Result<(), Fail> {
     let heap = RefusingAllocator::new(rt.alloc());
     let refused = sweep_all(&rt, &heap, &heap, steps())?;
-    assert!(rt; refused > 1, "few growths were refused: {refused}");
+    assert!(rt; refused > 1, "few allocations were refused: {refused}");
     Ok(())
 }

@@ -239,20 +239,20 @@ fn sweep_row<A: Allocator + Copy>(
     let mut refused = 0u64;
     for at in 0..=row.turns.len() {
         let parts = row.turns.split_at(at.min(row.turns.len()));
-        let growths = sweep(rt, heap, alloc, text, ids, row.tuning, parts)?;
-        refused = refused.saturating_add(growths);
+        let allocations = sweep(rt, heap, alloc, text, ids, row.tuning, parts)?;
+        refused = refused.saturating_add(allocations);
     }
     Ok(refused)
 }
 
 #[test]
-fn each_growth_of_each_call(rt: HostRuntime) -> Result<(), Fail> {
+fn each_allocation_of_each_call(rt: HostRuntime) -> Result<(), Fail> {
     let heap = RefusingAllocator::new(rt.alloc());
     let mut text = String::new(rt.alloc());
     let ids = asked(&rt);
     for row in rows() {
         let refused = sweep_row(&rt, &heap, &heap, &mut text, &ids, row)?;
-        assert!(rt; refused > 5, "few growths were refused: {refused}");
+        assert!(rt; refused > 5, "few allocations were refused: {refused}");
     }
     Ok(())
 }

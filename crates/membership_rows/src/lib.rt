@@ -1,4 +1,4 @@
-//! Worked examples of views and of memberships, as tests, and sweeps in which each growth is refused in turn.
+//! Worked examples of views and of memberships, as tests, and sweeps in which each allocation is refused in turn.
 #![tactic(auto)]
 
 #[cfg(test)]

@@ -1,4 +1,4 @@
-//! The rows with each growth refused in turn: the event answers the want of memory, all readers answer as before it, and the
+//! The rows with each allocation refused in turn: the event answers out of memory, all readers answer as before it, and the
 //! event made again answers as if nothing had been refused.
 use crate::act::hear;
 use crate::named::{dice, name};
@@ -12,7 +12,7 @@ use std::process::Abort;
 use std::test::Fail;
 use test_support::stop_refusing;
 
-/// More growths than any event has.
+/// More allocations than any event has.
 const MANY: u64 = 100;
 
 /// Two texts, in which what was shown before and after an event is written.
@@ -22,7 +22,7 @@ struct Texts {
     after: String,
 }
 
-/// Plays an event while the growth with this number is refused. Whether it has so many, and whether it is refused.
+/// Plays an event while the allocation with this number is refused. Whether it has so many, and whether it is refused.
 fn try_event<A: Allocator + Copy>(
     rt: &impl Abort,
     heap: &RefusingAllocator,
@@ -51,7 +51,7 @@ fn is_unchanged<A: Allocator>(
     is_shown(&mut texts.after, membership, texts.before.as_str())
 }
 
-/// Plays an event whose growth with this number is refused, and plays it again if it is refused. Whether it has so many.
+/// Plays an event whose allocation with this number is refused, and plays it again if it is refused. Whether it has so many.
 fn refuse_event<A: Allocator + Copy>(
     rt: &impl Abort,
     heap: &RefusingAllocator,
@@ -92,7 +92,7 @@ fn refuse_alone<A: Allocator + Copy>(
     refuse_event(rt, heap, alloc, texts, membership, &mut moves, turn, n)
 }
 
-/// Whether a copy that there is shows what was copied, and there is one just if no growth was refused.
+/// Whether a copy that there is shows what was copied, and there is one just if no allocation was refused.
 fn is_made<A: Allocator>(
     texts: &mut Texts,
     made: &Result<Membership<A>, AllocError>,
@@ -107,7 +107,7 @@ fn is_made<A: Allocator>(
     }
 }
 
-/// Copies a membership while the growth with this number is refused. Whether the copy has so many.
+/// Copies a membership while the allocation with this number is refused. Whether the copy has so many.
 fn sweep_copy<A: Allocator + Copy>(
     rt: &impl Abort,
     heap: &RefusingAllocator,
@@ -130,7 +130,7 @@ fn parts(row: &Row, at: usize) -> (&'static [Turn], &'static [Turn]) {
     turns.split_at(at.min(turns.len()))
 }
 
-/// Plays the events before a place, and refuses the growth with this number of the event there. Behind the last event, a
+/// Plays the events before a place, and refuses the allocation with this number of the event there. Behind the last event, a
 /// copy stands in its place. Whether it has so many.
 fn sweep_at<A: Allocator + Copy>(
     rt: &impl Abort,
@@ -163,7 +163,7 @@ fn sweep_event<A: Allocator + Copy>(
     sweep_at(rt, heap, alloc, texts, &mut membership, parts(row, at), n)
 }
 
-/// Refuses each growth of one event in turn. How many it has.
+/// Refuses each allocation of one event in turn. How many it has.
 fn sweep<A: Allocator + Copy>(
     rt: &impl Abort,
     heap: &RefusingAllocator,
@@ -181,7 +181,7 @@ fn sweep<A: Allocator + Copy>(
     Ok(MANY)
 }
 
-/// Refuses each growth of each event of a row, and of the copy of what the row leaves, in turn. How many they have.
+/// Refuses each allocation of each event of a row, and of the copy of what the row leaves, in turn. How many they have.
 fn sweep_row<A: Allocator + Copy>(
     rt: &impl Abort,
     heap: &RefusingAllocator,
@@ -196,7 +196,7 @@ fn sweep_row<A: Allocator + Copy>(
     Ok(refused)
 }
 
-/// Sweeps each row. How many growths the row with the fewest has.
+/// Sweeps each row. How many allocations the row with the fewest has.
 fn sweep_rows<A: Allocator + Copy>(
     rt: &impl Abort,
     heap: &RefusingAllocator,
@@ -211,13 +211,13 @@ fn sweep_rows<A: Allocator + Copy>(
 }
 
 #[test]
-fn each_growth_of_each_event(rt: HostRuntime) -> Result<(), Fail> {
+fn each_allocation_of_each_event(rt: HostRuntime) -> Result<(), Fail> {
     let heap = RefusingAllocator::new(rt.alloc());
     let mut texts = Texts {
         before: String::new(rt.alloc()),
         after: String::new(rt.alloc()),
     };
     let fewest = sweep_rows(&rt, &heap, &heap, &mut texts)?;
-    assert!(rt; fewest > 5, "few growths were refused: {fewest}");
+    assert!(rt; fewest > 5, "few allocations were refused: {fewest}");
     Ok(())
 }

@@ -1,4 +1,4 @@
-//! Calls of the views of `x`, worked out by hand, and each of their growths refused in turn.
+//! Calls of the views of `x`, worked out by hand, and each of their allocations refused in turn.
 use crate::named::{Words, dice, limits, name, names};
 use crate::texts::{push_names, write_views};
 use node_names::{Dice, Limits, NodeName};
@@ -51,7 +51,7 @@ fn turns() -> &'static [Turn] {
     TURNS
 }
 
-/// More growths than any call has.
+/// More allocations than any call has.
 const MANY: u64 = 50;
 
 /// Three texts: what a call gives, and what the views show before and after it.
@@ -212,7 +212,7 @@ fn are_turns<A: Allocator + Copy>(
     Ok(true)
 }
 
-/// Makes a call while the growth with this number is refused. Whether it has so many, and whether it is refused.
+/// Makes a call while the allocation with this number is refused. Whether it has so many, and whether it is refused.
 fn try_call<A: Allocator + Copy>(
     rt: &impl Abort,
     heap: &RefusingAllocator,
@@ -242,7 +242,7 @@ fn look<A: Allocator>(
     written
 }
 
-/// Makes a call while the growth with this number is refused, and makes it again if it is refused. Whether it has so many.
+/// Makes a call while the allocation with this number is refused, and makes it again if it is refused. Whether it has so many.
 fn refuse_call<A: Allocator + Copy>(
     rt: &impl Abort,
     heap: &RefusingAllocator,
@@ -266,7 +266,7 @@ fn refuse_call<A: Allocator + Copy>(
     Ok(is_spent)
 }
 
-/// Whether a copy that there is shows what was copied, and there is one just if no growth was refused.
+/// Whether a copy that there is shows what was copied, and there is one just if no allocation was refused.
 fn is_made<A: Allocator>(
     texts: &mut Texts,
     made: &Result<Views<A>, AllocError>,
@@ -281,7 +281,7 @@ fn is_made<A: Allocator>(
     }
 }
 
-/// Copies views while the growth with this number is refused. Whether the copy has so many.
+/// Copies views while the allocation with this number is refused. Whether the copy has so many.
 fn sweep_copy<A: Allocator + Copy>(
     rt: &impl Abort,
     heap: &RefusingAllocator,
@@ -298,7 +298,7 @@ fn sweep_copy<A: Allocator + Copy>(
     Ok(is_spent)
 }
 
-/// Makes the calls before a place, and refuses the growth with this number of the call there. Behind the last call, a copy
+/// Makes the calls before a place, and refuses the allocation with this number of the call there. Behind the last call, a copy
 /// stands in its place. Whether it has so many.
 fn sweep_at<A: Allocator + Copy>(
     rt: &impl Abort,
@@ -337,7 +337,7 @@ fn sweep_call<A: Allocator + Copy>(
     )
 }
 
-/// Refuses each growth of one call in turn. How many it has.
+/// Refuses each allocation of one call in turn. How many it has.
 fn sweep<A: Allocator + Copy>(
     rt: &impl Abort,
     heap: &RefusingAllocator,
@@ -354,7 +354,7 @@ fn sweep<A: Allocator + Copy>(
     Ok(MANY)
 }
 
-/// Refuses each growth of each call, and of the copy of what they leave, in turn. How many they have.
+/// Refuses each allocation of each call, and of the copy of what they leave, in turn. How many they have.
 fn sweep_all<A: Allocator + Copy>(
     rt: &impl Abort,
     heap: &RefusingAllocator,
@@ -378,9 +378,9 @@ fn is_played<A: Allocator + Copy>(
     are_turns(rt, texts, &mut views, turns())
 }
 
-/// All calls over ample memory, and then each of their growths refused in turn.
+/// All calls over ample memory, and then each of their allocations refused in turn.
 #[test]
-fn calls_and_each_of_their_growths(rt: HostRuntime) -> Result<(), Fail> {
+fn calls_and_each_of_their_allocations(rt: HostRuntime) -> Result<(), Fail> {
     let heap = RefusingAllocator::new(rt.alloc());
     let mut texts = Texts {
         given: String::new(rt.alloc()),
@@ -390,6 +390,6 @@ fn calls_and_each_of_their_growths(rt: HostRuntime) -> Result<(), Fail> {
     let is_right = is_played(&rt, &heap, &mut texts)?;
     assert!(rt; is_right, "found {} and {}", texts.given, texts.after);
     let refused = sweep_all(&rt, &heap, &heap, &mut texts)?;
-    assert!(rt; refused > 5, "few growths were refused: {refused}");
+    assert!(rt; refused > 5, "few allocations were refused: {refused}");
     Ok(())
 }

@@ -1,4 +1,4 @@
-//! Calls of which each allocation is refused in turn: the call is refused for want of memory, and made again answers as before.
+//! Calls of which each allocation is refused in turn: the call is refused as out of memory, and made again answers as before.
 use crate::act::play_acts;
 use crate::merged::{project_all, push_project};
 use crate::named::run;
@@ -91,7 +91,7 @@ fn try_call<A: Allocator + Copy>(
     Ok((is_right && texts.are_same()).then_some(is_spent))
 }
 
-/// Refuses each allocation of a call in turn. How often it is refused for want of memory, or 0 if something is wrong.
+/// Refuses each allocation of a call in turn. How often it is refused as out of memory, or 0 if something is wrong.
 fn sweep<A: Allocator + Copy>(
     rt: &impl Abort,
     heap: &RefusingAllocator,

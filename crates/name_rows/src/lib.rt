@@ -2,6 +2,6 @@
 #![tactic(auto)]
 
 #[cfg(test)]
-mod growths;
+mod allocations;
 #[cfg(test)]
 mod names;

@@ -1,4 +1,4 @@
-//! A broadcast while two links are open, each growth refused in turn: the broadcast fails as out of memory, the node shows what it
+//! A broadcast while two links are open, each allocation refused in turn: the broadcast fails as out of memory, the node shows what it
 //! did before, and the broadcast made again answers as if nothing had been refused.
 use crate::calls::{broadcast, is_reported, refusal};
 use crate::node::{Names, parse_names, start_with_both};
@@ -34,7 +34,7 @@ fn is_second<A: Allocator + Copy>(
     )
 }
 
-/// Takes a broadcast while the growth with this number is refused, or none at 0. Whether there is such a growth, and what the
+/// Takes a broadcast while the allocation with this number is refused, or none at 0. Whether there is such an allocation, and what the
 /// node answers.
 fn try_second<A: Allocator + Copy>(
     heap: &RefusingAllocator,
@@ -103,9 +103,9 @@ fn takes_again<A: Allocator + Copy>(
     Ok(answer? && shows(cell, to_p, to_q, 2, 1)?)
 }
 
-/// Takes the second broadcast of a node while the growth with this number is refused, and again if the node refuses. Whether
-/// there is such a growth, or none if something is wrong.
-fn refuse_growth<A: Allocator + Copy>(
+/// Takes the second broadcast of a node while the allocation with this number is refused, and again if the node refuses. Whether
+/// there is such an allocation, or none if something is wrong.
+fn refuse_allocation<A: Allocator + Copy>(
     heap: &RefusingAllocator,
     alloc: A,
     cell: &mut NodeCell<PlumCore<A>, A>,
@@ -136,7 +136,7 @@ fn refuse_second<A: Allocator + Copy>(
     if refusal(alloc, cell, 1)?.is_some() {
         return Ok(None);
     }
-    refuse_growth(heap, alloc, cell, to_p, to_q, n)
+    refuse_allocation(heap, alloc, cell, to_p, to_q, n)
 }
 
 /// Does so with a node that has no link to `q`.
@@ -179,12 +179,12 @@ fn refuse_of_fresh<A: Allocator + Copy>(
 }
 
 #[test]
-fn each_growth_of_a_broadcast(rt: HostRuntime) -> Result<(), Fail> {
+fn each_allocation_of_a_broadcast(rt: HostRuntime) -> Result<(), Fail> {
     let heap = RefusingAllocator::new(rt.alloc());
     let refused = sweep(|n| refuse_of_fresh(&rt, &heap, &heap, n))?.unwrap_or(0);
     assert!(rt;
         refused >= 5,
-        "few growths were refused, or a wrong answer: {refused}"
+        "few allocations were refused, or a wrong answer: {refused}"
     );
     Ok(())
 }

@@ -1,4 +1,4 @@
-//! Worked examples of groups of flooding nodes, as tests, and sweeps in which each growth is refused in turn.
+//! Worked examples of groups of flooding nodes, as tests, and sweeps in which each allocation is refused in turn.
 #![tactic(auto)]
 
 #[cfg(test)]

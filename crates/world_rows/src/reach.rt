@@ -11,7 +11,7 @@ use std::test::Fail;
 use test_support::{lend, stop_refusing};
 use world::WorldError;
 
-/// More growths than the call has.
+/// More allocations than the call has.
 const MANY: u64 = 40;
 
 /// A name, and those in reach of it between blanks.
@@ -181,7 +181,7 @@ fn are_named(names: &[NodeName], text: &str) -> bool {
     words.next().is_none()
 }
 
-/// Whether the answer is the whole list, or want of memory if a growth was refused.
+/// Whether the answer is the whole list, or out of memory if an allocation was refused.
 fn is_answer<A: Allocator>(
     answer: &Result<Vec<NodeName, A>, AllocError>,
     is_refused: bool,
@@ -193,8 +193,8 @@ fn is_answer<A: Allocator>(
     }
 }
 
-/// Asks while the growth with this number is refused. Whether there is such a growth, or none if the answer is wrong.
-fn refuse_growth<A: Allocator + Copy>(
+/// Asks while the allocation with this number is refused. Whether there is such an allocation, or none if the answer is wrong.
+fn refuse_allocation<A: Allocator + Copy>(
     heap: &RefusingAllocator,
     alloc: A,
     world: &Group<A>,
@@ -208,7 +208,7 @@ fn refuse_growth<A: Allocator + Copy>(
     lend(answer, |answer| is_answer(answer, is_spent, whole)).then_some(is_spent)
 }
 
-/// Asks while each growth is refused in turn, and at last while none is. How many there are, or none if an answer is wrong.
+/// Asks while each allocation is refused in turn, and at last while none is. How many there are, or none if an answer is wrong.
 fn sweep<A: Allocator + Copy>(
     heap: &RefusingAllocator,
     alloc: A,
@@ -217,7 +217,7 @@ fn sweep<A: Allocator + Copy>(
     whole: &str,
 ) -> Option<u64> {
     for n in 1..MANY {
-        if !refuse_growth(heap, alloc, world, from, whole, n)? {
+        if !refuse_allocation(heap, alloc, world, from, whole, n)? {
             return Some(n - 1);
         }
     }
@@ -234,8 +234,8 @@ fn sweep_asked<A: Allocator + Copy>(
 ) -> Option<u64> {
     let mut refused = 0u64;
     for (from, whole) in asked {
-        let growths = sweep(heap, alloc, world, name(rt, from), whole)?;
-        refused = refused.saturating_add(growths);
+        let allocations = sweep(heap, alloc, world, name(rt, from), whole)?;
+        refused = refused.saturating_add(allocations);
     }
     Some(refused)
 }
@@ -263,15 +263,15 @@ fn sweep_case_from_start<A: Allocator + Copy>(
     lend(world, |world| sweep_case(rt, heap, alloc, world, case))
 }
 
-/// Who is in reach, each growth of the answer refused in turn.
+/// Who is in reach, each allocation of the answer refused in turn.
 #[test]
 fn names_in_reach(rt: HostRuntime) -> Result<(), Fail> {
     let heap = RefusingAllocator::new(rt.alloc());
     let mut refused = 0u64;
     for case in cases() {
-        let growths = sweep_case_from_start(&rt, &heap, &heap, case)?;
-        assert!(rt; growths.is_some(), "at {}", case.name);
-        refused = refused.saturating_add(growths.unwrap_or(0));
+        let allocations = sweep_case_from_start(&rt, &heap, &heap, case)?;
+        assert!(rt; allocations.is_some(), "at {}", case.name);
+        refused = refused.saturating_add(allocations.unwrap_or(0));
     }
     assert!(rt; refused > 50);
     Ok(())

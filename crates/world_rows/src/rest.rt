@@ -11,7 +11,7 @@ use std::test::Fail;
 use test_support::{lend, stop_refusing};
 use world::{Event, WorldError};
 
-/// More growths than a call has.
+/// More allocations than a call has.
 const MANY: u64 = 20;
 
 /// A run, and what is told of its end.
@@ -174,7 +174,7 @@ pub(crate) fn is_drawn<A: Allocator>(
     Ok(text.as_str() == wanted)
 }
 
-/// Whether the answer is the whole tree, or want of memory if a growth was refused.
+/// Whether the answer is the whole tree, or out of memory if an allocation was refused.
 fn is_answer<A: Allocator>(
     answer: &Result<Vec<Branch, A>, AllocError>,
     is_refused: bool,
@@ -186,8 +186,8 @@ fn is_answer<A: Allocator>(
     }
 }
 
-/// Asks while the growth with this number is refused. Whether there is such a growth, or none if the answer is wrong.
-fn refuse_growth<A: Allocator + Copy>(
+/// Asks while the allocation with this number is refused. Whether there is such an allocation, or none if the answer is wrong.
+fn refuse_allocation<A: Allocator + Copy>(
     heap: &RefusingAllocator,
     alloc: A,
     world: &Group<A>,
@@ -201,7 +201,7 @@ fn refuse_growth<A: Allocator + Copy>(
     lend(answer, |answer| is_answer(answer, is_spent, whole)).then_some(is_spent)
 }
 
-/// Asks while each growth is refused in turn. How many there are, or none if an answer is wrong.
+/// Asks while each allocation is refused in turn. How many there are, or none if an answer is wrong.
 fn sweep<A: Allocator + Copy>(
     heap: &RefusingAllocator,
     alloc: A,
@@ -210,14 +210,14 @@ fn sweep<A: Allocator + Copy>(
     whole: &[Branch],
 ) -> Option<u64> {
     for n in 1..MANY {
-        if !refuse_growth(heap, alloc, world, message, whole, n)? {
+        if !refuse_allocation(heap, alloc, world, message, whole, n)? {
             return Some(n - 1);
         }
     }
     None
 }
 
-/// Compares a tree with its text, and then asks for it while each growth is refused in turn. How many growths there are, or
+/// Compares a tree with its text, and then asks for it while each allocation is refused in turn. How many allocations there are, or
 /// none if an answer is wrong.
 fn sweep_tree<A: Allocator + Copy>(
     heap: &RefusingAllocator,
@@ -235,7 +235,7 @@ fn sweep_tree<A: Allocator + Copy>(
     }
 }
 
-/// Whether two questions are answered as they should be, without a growth.
+/// Whether two questions are answered as they should be, without an allocation.
 fn is_told<A: Allocator + Copy>(
     heap: &RefusingAllocator,
     world: &Group<A>,
@@ -249,7 +249,7 @@ fn is_told<A: Allocator + Copy>(
     is_rest_told && is_symmetry_told && !is_spent
 }
 
-/// Asks all three questions. How many growths the tree has, or none if an answer is wrong.
+/// Asks all three questions. How many allocations the tree has, or none if an answer is wrong.
 fn sweep_told<A: Allocator + Copy>(
     rt: &impl Abort,
     heap: &RefusingAllocator,
@@ -295,16 +295,16 @@ fn sweep_case_from_start<A: Allocator + Copy>(
     )
 }
 
-/// Trees with each of their growths refused in turn, and two questions whose answers have none.
+/// Trees with each of their allocations refused in turn, and two questions whose answers have none.
 #[test]
 fn trees_and_rest(rt: HostRuntime) -> Result<(), Fail> {
     let heap = RefusingAllocator::new(rt.alloc());
     let mut text = String::new(&heap);
     let mut refused = 0u64;
     for case in cases() {
-        let growths = sweep_case_from_start(&rt, &heap, &heap, &mut text, case)?;
-        assert!(rt; growths.is_some(), "at {}: {text}", case.name);
-        refused = refused.saturating_add(growths.unwrap_or(0));
+        let allocations = sweep_case_from_start(&rt, &heap, &heap, &mut text, case)?;
+        assert!(rt; allocations.is_some(), "at {}: {text}", case.name);
+        refused = refused.saturating_add(allocations.unwrap_or(0));
     }
     assert!(rt; refused > 5);
     Ok(())

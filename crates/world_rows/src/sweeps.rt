@@ -1,4 +1,4 @@
-//! Rows in which each growth is refused in turn: the refusal is for want of memory, the group is as it was before the refused
+//! Rows in which each allocation is refused in turn: the refusal is as out of memory, the group is as it was before the refused
 //! event, and the event made again answers as if nothing had been refused.
 use crate::act::event;
 use crate::alike::{Group, are_alike, holds_given};
@@ -12,10 +12,10 @@ use std::test::Fail;
 use test_support::{lend, stop_refusing};
 use world::{Event, Given, RunFault, WorldError};
 
-/// More growths than any event or row has.
+/// More allocations than any event or row has.
 const MANY: u64 = 400;
 
-/// Plays turns, none of which is refused a growth.
+/// Plays turns, none of which is refused an allocation.
 fn play_turns<A: Allocator + Copy>(
     rt: &impl Abort,
     alloc: A,
@@ -28,7 +28,7 @@ fn play_turns<A: Allocator + Copy>(
     Ok(())
 }
 
-/// Whether an event was refused for want of memory. Otherwise it gave what it should.
+/// Whether an event was refused as out of memory. Otherwise it gave what it should.
 fn is_refused<A: Allocator + Copy>(
     rt: &impl Abort,
     text: &mut String<A>,
@@ -43,7 +43,7 @@ fn is_refused<A: Allocator + Copy>(
     Ok(false)
 }
 
-/// Plays an event while the growth with this number is refused. Whether there is such a growth, and whether it is refused.
+/// Plays an event while the allocation with this number is refused. Whether there is such an allocation, and whether it is refused.
 fn try_event<A: Allocator + Copy>(
     rt: &impl Abort,
     heap: &RefusingAllocator,
@@ -60,7 +60,7 @@ fn try_event<A: Allocator + Copy>(
     Ok((is_spent, is_refused))
 }
 
-/// Plays a turn while the growth with this number is refused, and again if it is refused. Whether there is such a growth.
+/// Plays a turn while the allocation with this number is refused, and again if it is refused. Whether there is such an allocation.
 fn refuse_turn<A: Allocator + Copy>(
     rt: &impl Abort,
     heap: &RefusingAllocator,
@@ -81,7 +81,7 @@ fn refuse_turn<A: Allocator + Copy>(
     Ok(is_spent)
 }
 
-/// Goes on in two groups, the growth with this number of the first event refused in the one. Whether there is such a growth.
+/// Goes on in two groups, the allocation with this number of the first event refused in the one. Whether there is such an allocation.
 fn go_on<A: Allocator + Copy>(
     rt: &impl Abort,
     heap: &RefusingAllocator,
@@ -101,8 +101,8 @@ fn go_on<A: Allocator + Copy>(
     Ok(is_spent)
 }
 
-/// Plays a row in two groups, the growth with this number of the event at this place refused in the one. Whether there is such a
-/// growth.
+/// Plays a row in two groups, the allocation with this number of the event at this place refused in the one. Whether there is such a
+/// allocation.
 fn sweep_groups<A: Allocator + Copy>(
     rt: &impl Abort,
     heap: &RefusingAllocator,
@@ -157,7 +157,7 @@ fn sweep_turn<A: Allocator + Copy>(
     )
 }
 
-/// Refuses each growth of an event in turn. How many there are.
+/// Refuses each allocation of an event in turn. How many there are.
 fn sweep_event<A: Allocator + Copy>(
     rt: &impl Abort,
     heap: &RefusingAllocator,
@@ -185,23 +185,23 @@ fn sweep_row<A: Allocator + Copy>(
 ) -> Result<u64, AllocError> {
     let mut refused = 0u64;
     for at in 0..row.turns.len() {
-        let growths = sweep_event(rt, heap, alloc, text, row, at)?;
-        refused = refused.saturating_add(growths);
+        let allocations = sweep_event(rt, heap, alloc, text, row, at)?;
+        refused = refused.saturating_add(allocations);
     }
     Ok(refused)
 }
 
-/// Every event of every row, each of its growths refused in turn.
+/// Every event of every row, each of its allocations refused in turn.
 #[test]
-fn each_growth_of_each_event(rt: HostRuntime) -> Result<(), Fail> {
+fn each_allocation_of_each_event(rt: HostRuntime) -> Result<(), Fail> {
     let heap = RefusingAllocator::new(rt.alloc());
     let mut text = String::new(&heap);
     let mut refused = 0u64;
     for row in rows() {
-        let growths = sweep_row(&rt, &heap, &heap, &mut text, row)?;
-        refused = refused.saturating_add(growths);
+        let allocations = sweep_row(&rt, &heap, &heap, &mut text, row)?;
+        refused = refused.saturating_add(allocations);
     }
-    assert!(rt; refused > 100, "few growths were refused: {refused}");
+    assert!(rt; refused > 100, "few allocations were refused: {refused}");
     Ok(())
 }
 
@@ -221,7 +221,7 @@ fn push_accepted<A: Allocator + Copy>(
     Ok(())
 }
 
-/// Where a run stopped for want of memory, if it did.
+/// Where a run stopped as out of memory, if it did.
 fn stop_of<A: Allocator + Copy>(
     rt: &impl Abort,
     outcome: &Result<Vec<Given<A>, A>, RunFault<A>>,
@@ -235,7 +235,7 @@ fn stop_of<A: Allocator + Copy>(
     }
 }
 
-/// Plays events while the growth with this number is refused. Whether there is such a growth, and where the run stopped.
+/// Plays events while the allocation with this number is refused. Whether there is such an allocation, and where the run stopped.
 fn try_run<A: Allocator + Copy>(
     rt: &impl Abort,
     heap: &RefusingAllocator,
@@ -270,7 +270,7 @@ fn resume<A: Allocator + Copy>(
     run(rt, twin, from);
 }
 
-/// Plays events in two groups, the growth with this number refused in the one. Whether there is such a growth.
+/// Plays events in two groups, the allocation with this number refused in the one. Whether there is such an allocation.
 fn run_groups<A: Allocator + Copy>(
     rt: &impl Abort,
     heap: &RefusingAllocator,
@@ -316,7 +316,7 @@ fn sweep_run<A: Allocator + Copy>(
     lend(world, |world| run_beside(rt, heap, alloc, world, events, n))
 }
 
-/// Refuses each growth of a run in turn. How many there are.
+/// Refuses each allocation of a run in turn. How many there are.
 fn sweep_events<A: Allocator + Copy>(
     rt: &impl Abort,
     heap: &RefusingAllocator,
@@ -344,13 +344,13 @@ fn sweep_accepted<A: Allocator + Copy>(
     Ok(sweep_events(rt, heap, alloc, events.as_slice()))
 }
 
-/// Every row as one run, each of its growths refused in turn.
+/// Every row as one run, each of its allocations refused in turn.
 #[test]
-fn each_growth_of_each_run(rt: HostRuntime) -> Result<(), Fail> {
+fn each_allocation_of_each_run(rt: HostRuntime) -> Result<(), Fail> {
     let heap = RefusingAllocator::new(rt.alloc());
     for row in rows() {
         let refused = sweep_accepted(&rt, &heap, &heap, row)?;
-        assert!(rt; refused > 5, "few growths were refused: {refused}");
+        assert!(rt; refused > 5, "few allocations were refused: {refused}");
     }
     Ok(())
 }

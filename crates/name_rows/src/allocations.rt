@@ -1,16 +1,16 @@
-//! Which growths the refusing allocator refuses.
+//! Which allocations the refusing allocator refuses.
 use refusing_allocator::RefusingAllocator;
 use std::alloc::AllocError;
 use std::test::Fail;
 
 type Heap<'a> = &'a RefusingAllocator;
 
-// One growth: the list has no block yet.
+// One allocation: the list has no block yet.
 fn is_granted(heap: Heap<'_>) -> bool {
     Vec::new(heap).push(7u8).is_ok()
 }
 
-/// A request, which of the next four growths are granted, and after which of them it has been spent.
+/// A request, which of the next four allocations are granted, and after which of them it has been spent.
 type Row = (u64, [bool; 4], [bool; 4]);
 
 const ROWS: &[Row] = &[
@@ -27,7 +27,7 @@ const ROWS: &[Row] = &[
     (1, [false, true, true, true], [true, true, true, true]),
 ];
 
-/// Grows as often as there are answers. Whether each growth is granted, and the request spent after it, as they say.
+/// Grows as often as there are answers. Whether each allocation is granted, and the request spent after it, as they say.
 fn are_granted(heap: Heap<'_>, granted: &[bool], spent: &[bool]) -> bool {
     for (granted, spent) in granted.iter().zip(spent.iter()) {
         if is_granted(heap) != *granted || heap.is_spent() != *spent {
@@ -44,7 +44,7 @@ fn is_answered(heap: Heap<'_>, row: &Row) -> bool {
 }
 
 #[test]
-fn refuses_the_growth_that_is_named(rt: HostRuntime) {
+fn refuses_the_allocation_that_is_named(rt: HostRuntime) {
     let heap = RefusingAllocator::new(rt.alloc());
     assert!(rt; is_granted(&heap) && !heap.is_spent(), "before any request");
     for row in ROWS {
@@ -82,7 +82,7 @@ fn one(heap: Heap<'_>, capacity: usize) -> Result<Vec<u8, Heap<'_>>, AllocError>
     Ok(list)
 }
 
-/// Pushes a byte while the growth for it is refused. Whether the byte comes back, and the list is as it was.
+/// Pushes a byte while the allocation for it is refused. Whether the byte comes back, and the list is as it was.
 fn is_refused(heap: Heap<'_>, list: &mut Vec<u8, Heap<'_>>) -> bool {
     heap.refuse(1);
     let value = list.push(8).err().map(|e| e.value);
