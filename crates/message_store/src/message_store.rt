@@ -19,14 +19,13 @@ type Delivered<A> = IndexMap<MsgId, Bytes<A>, BuildHasherDefault<FoldHasher>, A>
 
 /// The payloads of the messages that are held, by their ids and in order of delivery.
 ///
-/// What is forgotten stays at the front, and leaves together once the front is longer than the rest. So to forget a message takes
-/// the same time on average however many are held, the ids of those that are held stand side by side, and there are never more
-/// than twice as many in memory as are held.
+/// What is forgotten leaves at the front, which keeps it until it is longer than the rest: so a message is moved once at most on
+/// average, and the memory is that of at most twice as many messages as are held.
 #[derive(Drop)]
 pub struct MessageStore<A: Allocator = Global> {
-    /// The messages that are held, behind the front of those that were forgotten.
+    /// The messages, behind those that were forgotten.
     messages: Delivered<A>,
-    /// How many stand in the front.
+    /// How many of the front were forgotten.
     gone: usize,
 }
 
@@ -43,7 +42,7 @@ impl<A: Allocator> Model for MessageStore<A> {
     ghost invariant = { λ s. IsUnique same_id s.messages × (2 * s.gone ≤ index_map_len s.messages) };
 }
 
-/// Drops the front of so many. It moves all the others, and takes no memory.
+/// Drops so many of the front. It moves all the others, and takes no memory.
 fn drop_front<A: Allocator>(messages: &mut Delivered<A>, gone: usize)
     requires { gone ≤ index_map_len messages.old }
     ensures messages { messages.new.entries ≡ drop gone messages.old.entries }
@@ -53,8 +52,8 @@ fn drop_front<A: Allocator>(messages: &mut Delivered<A>, gone: usize)
     messages.drain(..gone);
 }
 
-/// Drops the front if the id stands in it, so that its message can be put last: an id that is there keeps its place when it is put
-/// again. How many stand in the front then.
+/// Drops the front if the id is in it, since a message that is put again takes the place that its id has. How many of the front
+/// are gone then.
 fn free_place<A: Allocator>(messages: &mut Delivered<A>, gone: usize, id: &MsgId) -> usize
     requires front { 2 * gone ≤ index_map_len messages.old }
     requires absent { lookup (same_id id.now) (drop gone messages.old.entries) ≡ None }
@@ -119,7 +118,8 @@ impl<A: Allocator> MessageStore<A> {
 
     /// Holds a message, in the room that there is, and then the last `keep` messages alone, or all for 0.
     ///
-    /// On average it takes the same time however many are held. Only to hold a message again that was forgotten may move all.
+    /// It takes the same time on average however many are held, unless the message was held before: to hold one again that was
+    /// forgotten may move all.
     pub fn push(&mut self, id: &MsgId, payload: Bytes<A>, keep: u32)
         requires room { 0 < self.old.room }
         requires absent { lookup (same_id id.now) self.old.messages ≡ None }
