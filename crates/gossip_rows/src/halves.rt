@@ -4,6 +4,7 @@ ghost use Rattle.gossip_core.specs.Refusals.{CanTake};
 ghost use Rattle.gossip_core.specs.Table.{lent};
 
 use crate::act::{Act, payload};
+use crate::kept_rows::kept_rows;
 use crate::named::{id, name};
 use crate::play::{asked, is_left, is_shown, left, start_tuned};
 use crate::rows::{Row, Turn, rows};
@@ -307,14 +308,32 @@ fn sweep_row<A: Allocator + Copy>(
     })
 }
 
+/// Sweeps rows, each of which has allocations.
+fn sweep_rows<A: Allocator + Copy>(
+    rt: &impl Abort,
+    heap: &RefusingAllocator,
+    alloc: A,
+    text: &mut String,
+    rows: &[Row],
+) -> Result<(), AllocError> {
+    let ids = asked(rt);
+    for row in rows {
+        let refused = sweep_row(rt, heap, alloc, text, &ids, row)?;
+        assert!(rt; refused > 5, "few allocations were refused: {refused}");
+    }
+    Ok(())
+}
+
 #[test]
 fn each_allocation_of_each_half(rt: HostRuntime) -> Result<(), Fail> {
     let heap = RefusingAllocator::new(rt.alloc());
     let mut text = String::new(rt.alloc());
-    let ids = asked(&rt);
-    for row in rows() {
-        let refused = sweep_row(&rt, &heap, &heap, &mut text, &ids, row)?;
-        assert!(rt; refused > 5, "few allocations were refused: {refused}");
-    }
-    Ok(())
+    Ok(sweep_rows(&rt, &heap, &heap, &mut text, rows())?)
+}
+
+#[test]
+fn each_allocation_of_each_kept_half(rt: HostRuntime) -> Result<(), Fail> {
+    let heap = RefusingAllocator::new(rt.alloc());
+    let mut text = String::new(rt.alloc());
+    Ok(sweep_rows(&rt, &heap, &heap, &mut text, kept_rows())?)
 }

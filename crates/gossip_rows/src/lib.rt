@@ -8,6 +8,8 @@ mod announcements;
 #[cfg(test)]
 mod halves;
 #[cfg(test)]
+mod kept_rows;
+#[cfg(test)]
 mod limits;
 #[cfg(test)]
 mod links;

@@ -1,5 +1,6 @@
 //! Playing the rows call by call.
 use crate::act::{call, payload};
+use crate::kept_rows::kept_rows;
 use crate::named::{id, origin, pair};
 use crate::rows::{ASKED, Row, START, Tuning, Turn, rows};
 use crate::texts::{write_given, write_held, write_shown};
@@ -198,13 +199,29 @@ fn is_row_from_start<A: Allocator + Copy>(
     lend(gossip, |gossip| is_row(rt, alloc, text, ids, gossip, row))
 }
 
-#[test]
-fn plays_rows(rt: HostRuntime) -> Result<(), Fail> {
-    let mut text = String::new(rt.alloc());
-    let ids = asked(&rt);
-    for row in rows() {
-        let is_right = is_row_from_start(&rt, rt.alloc(), &mut text, &ids, row)?;
+/// Plays rows, each at a fresh node.
+fn play_rows<A: Allocator + Copy>(
+    rt: &impl Abort,
+    alloc: A,
+    text: &mut String,
+    rows: &[Row],
+) -> Result<(), AllocError> {
+    let ids = asked(rt);
+    for row in rows {
+        let is_right = is_row_from_start(rt, alloc, text, &ids, row)?;
         assert!(rt; is_right, "at {}: {text}", row.name);
     }
     Ok(())
+}
+
+#[test]
+fn plays_rows(rt: HostRuntime) -> Result<(), Fail> {
+    let mut text = String::new(rt.alloc());
+    Ok(play_rows(&rt, rt.alloc(), &mut text, rows())?)
+}
+
+#[test]
+fn plays_kept_rows(rt: HostRuntime) -> Result<(), Fail> {
+    let mut text = String::new(rt.alloc());
+    Ok(play_rows(&rt, rt.alloc(), &mut text, kept_rows())?)
 }

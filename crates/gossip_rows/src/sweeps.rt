@@ -1,6 +1,7 @@
 //! The rows with each allocation refused in turn: the refusal is for memory, everything is as it was before the refused
 //! call, and the call made again answers as if nothing had been refused.
 use crate::act::{call, payload, takes_none};
+use crate::kept_rows::kept_rows;
 use crate::play::{are_turns, asked, is_call, is_left, is_shown, left, start, start_tuned};
 use crate::rows::{Row, Tuning, Turn, rows};
 use bytes::Bytes;
@@ -245,16 +246,34 @@ fn sweep_row<A: Allocator + Copy>(
     Ok(refused)
 }
 
+/// Sweeps rows, each of which has allocations.
+fn sweep_rows<A: Allocator + Copy>(
+    rt: &impl Abort,
+    heap: &RefusingAllocator,
+    alloc: A,
+    text: &mut String,
+    rows: &[Row],
+) -> Result<(), AllocError> {
+    let ids = asked(rt);
+    for row in rows {
+        let refused = sweep_row(rt, heap, alloc, text, &ids, row)?;
+        assert!(rt; refused > 5, "few allocations were refused: {refused}");
+    }
+    Ok(())
+}
+
 #[test]
 fn each_allocation_of_each_call(rt: HostRuntime) -> Result<(), Fail> {
     let heap = RefusingAllocator::new(rt.alloc());
     let mut text = String::new(rt.alloc());
-    let ids = asked(&rt);
-    for row in rows() {
-        let refused = sweep_row(&rt, &heap, &heap, &mut text, &ids, row)?;
-        assert!(rt; refused > 5, "few allocations were refused: {refused}");
-    }
-    Ok(())
+    Ok(sweep_rows(&rt, &heap, &heap, &mut text, rows())?)
+}
+
+#[test]
+fn each_allocation_of_each_kept_call(rt: HostRuntime) -> Result<(), Fail> {
+    let heap = RefusingAllocator::new(rt.alloc());
+    let mut text = String::new(rt.alloc());
+    Ok(sweep_rows(&rt, &heap, &heap, &mut text, kept_rows())?)
 }
 
 fn can_start<A: Allocator + Copy>(rt: &impl Abort, alloc: A) -> bool {
