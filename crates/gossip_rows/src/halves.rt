@@ -8,6 +8,7 @@ use crate::kept_rows::kept_rows;
 use crate::named::{id, name};
 use crate::play::{asked, is_left, is_shown, left, start_tuned};
 use crate::rows::{Row, Turn, rows};
+use crate::tuned_rows::tuned_rows;
 use bytes::Bytes;
 use gossip_core::{Call, CallOf, Effects, Gossip, GossipFault};
 use node_names::MsgId;
@@ -329,6 +330,13 @@ fn each_allocation_of_each_half(rt: HostRuntime) -> Result<(), Fail> {
     let heap = RefusingAllocator::new(rt.alloc());
     let mut text = String::new(rt.alloc());
     Ok(sweep_rows(&rt, &heap, &heap, &mut text, rows())?)
+}
+
+#[test]
+fn each_allocation_of_each_tuned_half(rt: HostRuntime) -> Result<(), Fail> {
+    let heap = RefusingAllocator::new(rt.alloc());
+    let mut text = String::new(rt.alloc());
+    Ok(sweep_rows(&rt, &heap, &heap, &mut text, tuned_rows())?)
 }
 
 #[test]

@@ -27,3 +27,5 @@ mod spans;
 mod sweeps;
 #[cfg(test)]
 mod texts;
+#[cfg(test)]
+mod tuned_rows;

@@ -4,6 +4,7 @@ use crate::kept_rows::kept_rows;
 use crate::named::{id, origin, pair};
 use crate::rows::{ASKED, Row, START, Tuning, Turn, rows};
 use crate::texts::{write_given, write_held, write_shown};
+use crate::tuned_rows::tuned_rows;
 use bytes::Bytes;
 use gossip_core::{Effects, Gossip};
 use node_names::MsgId;
@@ -218,6 +219,12 @@ fn play_rows<A: Allocator + Copy>(
 fn plays_rows(rt: HostRuntime) -> Result<(), Fail> {
     let mut text = String::new(rt.alloc());
     Ok(play_rows(&rt, rt.alloc(), &mut text, rows())?)
+}
+
+#[test]
+fn plays_tuned_rows(rt: HostRuntime) -> Result<(), Fail> {
+    let mut text = String::new(rt.alloc());
+    Ok(play_rows(&rt, rt.alloc(), &mut text, tuned_rows())?)
 }
 
 #[test]

@@ -4,6 +4,7 @@ use crate::act::{call, payload, takes_none};
 use crate::kept_rows::kept_rows;
 use crate::play::{are_turns, asked, is_call, is_left, is_shown, left, start, start_tuned};
 use crate::rows::{Row, Tuning, Turn, rows};
+use crate::tuned_rows::tuned_rows;
 use bytes::Bytes;
 use gossip_core::{Effects, Gossip, GossipFault};
 use node_names::MsgId;
@@ -267,6 +268,13 @@ fn each_allocation_of_each_call(rt: HostRuntime) -> Result<(), Fail> {
     let heap = RefusingAllocator::new(rt.alloc());
     let mut text = String::new(rt.alloc());
     Ok(sweep_rows(&rt, &heap, &heap, &mut text, rows())?)
+}
+
+#[test]
+fn each_allocation_of_each_tuned_call(rt: HostRuntime) -> Result<(), Fail> {
+    let heap = RefusingAllocator::new(rt.alloc());
+    let mut text = String::new(rt.alloc());
+    Ok(sweep_rows(&rt, &heap, &heap, &mut text, tuned_rows())?)
 }
 
 #[test]
