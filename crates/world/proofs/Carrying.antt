@@ -102,7 +102,7 @@ times_some name id round queued one =
     both true true false x y z = absurd (false≢true z)
 
 -- a delivered message has what holds of each delivery
-each_id : (P : MsgId → Type 0) (given : List Delivery) (id : MsgId) → Each (λ d. P d.id) given → IsOneOf id (ids given) → P id
+pub each_id : (P : MsgId → Type 0) (given : List Delivery) (id : MsgId) → Each (λ d. P d.id) given → IsOneOf id (ids given) → P id
 each_id P [] id h one = absurd one
 each_id P (d ∷ given) id h one = elim one [ inl here ↦ subst P (sym here) h.0 | inr later ↦ each_id P given id h.1 later ]
 

@@ -23,3 +23,8 @@ pub mod Segments
 pub mod StartKeeps
 pub mod StepKeeps
 pub mod Steps
+pub mod Weights
+pub mod Crossing
+pub mod Rounds
+pub mod Traffic
+pub mod TrafficRuns

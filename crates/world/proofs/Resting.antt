@@ -109,7 +109,7 @@ module _
       saying_carries (Stop name) unsaid none_has p says effect = absurd says
 
     -- before a message is said nobody has it
-    none_has : (id : MsgId) (history : List Entry) (group : Group C N) → Run state starts steps limits history group → ((q : List ℕ) → Said history id q → ⊥) → (other : Name) (core : C) → Runs group other core → (state core).has id ≡ false
+    pub none_has : (id : MsgId) (history : List Entry) (group : Group C N) → Run state starts steps limits history group → ((q : List ℕ) → Said history id q → ⊥) → (other : Name) (core : C) → Runs group other core → (state core).has id ≡ false
     none_has id history group run unsaid other core runs = go ((state core).has id) refl
       where
         go : (b : Bool) → (state core).has id ≡ b → b ≡ false

@@ -1,5 +1,6 @@
 -- What holds of every group of lawful cores, whatever was played in it.
-use Rattle.std.specs.Prelude.{reverse}
+use Rattle.std.specs.Prelude.{◌≢◌, reverse}
+use Rattle.node_names.specs.NodeName.{Name}
 use Rattle.node_names.specs.declared.ids.MsgId.{MsgId}
 use Rattle.world.specs.Content.{Content}
 use Rattle.world.specs.CoreState.{CoreState}
@@ -8,12 +9,15 @@ use Rattle.world.specs.Honest.{HasOnePayload, Honest, Once}
 use Rattle.world.specs.Links.{ViewsAreSound}
 use Rattle.world.specs.Parents.{HaveParents}
 use Rattle.world.specs.Rest.{IsDeliveredInReach, IsUndisturbed}
+use Rattle.world.specs.Traffic.{CrossesOnce, IsUnrepeated}
 use Rattle.world.specs.UnderWay.{IsCarriedOn}
 
 -- Each delivery is of a message that was said by then, with the payload that was said; a message is said with one payload
 -- alone; no run of a node delivers a message twice; and no view of a running node exceeds its bound, names a node twice or
--- names its owner. Each delivery is its origin's own, or came from one who had delivered the message before. Where the group stayed undisturbed since a message was said, it is carried on between every two linked
--- nodes; and where the group is also at rest for it, every node in reach of its origin has delivered it.
+-- names its owner. Each delivery is its origin's own, or came from one who had delivered the message before. Where the group
+-- stayed undisturbed since a message was said, it is carried on between every two linked nodes; where no packet was repeated
+-- either, it crosses from any node to any other once at most, as a payload, as an announcement and as a request; and where the
+-- group is also at rest for it, every node in reach of its origin has delivered it.
 pub record Headline {C N : Type 0} (state : C → CoreState) (content : N → Content) (world : Logged C N) : Type 0 where
   pub honest : Honest (reverse world.log)
   pub agreed : HasOnePayload (reverse world.log)
@@ -21,4 +25,5 @@ pub record Headline {C N : Type 0} (state : C → CoreState) (content : N → Co
   pub views : ViewsAreSound state world.limits world.group
   pub parents : HaveParents world.group.sent (reverse world.log)
   pub carried : (id : MsgId) → IsUndisturbed state world.limits.keep (reverse world.log) world.group id → IsCarriedOn state content world.group id
+  pub traffic : (id : MsgId) → IsUndisturbed state world.limits.keep (reverse world.log) world.group id → IsUnrepeated (reverse world.log) id → (name peer : Name) → name ≢ peer → CrossesOnce content world.group.sent id name peer
   pub delivered : IsDeliveredInReach state content world.limits.keep (reverse world.log) world.group

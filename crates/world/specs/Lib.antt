@@ -41,6 +41,7 @@ pub mod SoundViews
 pub mod SpreadLaw
 pub mod Stimulus
 pub mod Trace
+pub mod Traffic
 pub mod UnderWay
 pub mod ViewLaw
 pub mod WantLaw

@@ -1,7 +1,9 @@
 //! A group of nodes that takes one event after the other.
-ghost use Rattle.std.specs.Prelude.{◌≡◌, [], option_copied};
+ghost use Rattle.std.specs.Prelude.{◌≡◌, [], option_copied, reverse};
 ghost use Rattle.world.specs.Group.{core_of};
 ghost use Rattle.world.specs.Headline.{Headline};
+ghost use Rattle.world.specs.Plan.{names_of};
+ghost use Rattle.world.specs.Run.{Run};
 
 use crate::entry::Entry;
 use crate::flight::Flight;
@@ -106,6 +108,20 @@ impl<C: Core<A>, A: Allocator + Copy> World<C, A> {
         ensures { result.now ≡ self.now.log }
     {
         self.log.as_slice()
+    }
+
+    /// The names of the nodes, in the order of their first starts. The place of a name among them is that of its node.
+    pub fn names(&self) -> &NameSet<A>
+        ensures { result.now.keys ≡ names_of self.now.group.nodes }
+    {
+        &self.names
+    }
+
+    /// Tells a caller's proof that the log is a run that leaves this group. It does nothing.
+    pub fn history(&self)
+        ensures { Run C.state C.starts C.steps self.now.limits (reverse self.now.log) self.now.group }
+    {
+        let _log = &self.log;
     }
 
     /// Tells a caller's proof what holds of every group of lawful cores. It does nothing.
