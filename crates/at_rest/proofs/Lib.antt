@@ -10,3 +10,17 @@ pub mod Oks
 pub mod Forests
 pub mod Adding
 pub mod Unrests
+pub mod Lengths
+pub mod Batched
+pub mod Lighter
+pub mod Receivers
+pub mod Turning
+pub mod Sums
+pub mod Loads
+pub mod Calms
+pub mod Fits
+pub mod Settled
+pub mod Calming
+pub mod Lefts
+pub mod Taking
+pub mod Settlings

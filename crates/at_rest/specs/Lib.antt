@@ -4,3 +4,9 @@ pub mod Reach
 pub mod Silence
 pub mod Tree
 pub mod Unrest
+pub mod Load
+pub mod Calm
+pub mod Settling
+pub mod Left
+pub mod SettleErrorText
+pub mod Next

@@ -1,18 +1,27 @@
-//! Looking at a group: who is in reach of whom, whether the group is at rest for a message, and who gave it to whom.
+//! Looking at a group: who is in reach of whom, whether the group is at rest for a message, and who gave it to whom; and bringing a
+//! group to rest.
 #![tactic(auto)]
 
 mod branch;
+mod calm;
+mod error;
 mod forest;
+mod left;
 mod links;
+mod next;
 mod reaching;
 mod rest;
+mod settling;
 mod trees;
 mod unrest;
 
 pub use branch::Branch;
+pub use calm::is_calm;
+pub use error::SettleError;
 pub use forest::Forest;
 pub use links::is_symmetric;
 pub use reaching::reach;
 pub use rest::is_at_rest;
+pub use settling::settle;
 pub use trees::tree;
 pub use unrest::Unrest;
