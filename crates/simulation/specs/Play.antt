@@ -20,11 +20,16 @@ use Rattle.world.specs.declared.error.WorldError.TheVariants as world
 use Rattle.world.specs.declared.event.EventOf.TheVariants as event
 use Rattle.rand_core.specs.Stream.{Stream}
 use Rattle.node_names.specs.declared.dice.Dice.{Dice}
+use Rattle.at_rest.specs.Calm.{IsCalm}
+use Rattle.at_rest.specs.Next.{IsNextSpent}
+use Rattle.at_rest.specs.Settling.{IsSettled, Settles}
+use Rattle.at_rest.specs.declared.error.SettleError.{SettleError}
+use Rattle.at_rest.specs.declared.error.SettleError.TheVariants as settle
 use Rattle.simulation.specs.Rolls.{after_roll, rolled, rolls_of}
 use Rattle.simulation.specs.Lines.{line_cmp, lines_of}
 use Rattle.simulation.specs.Trees.{broadcasts_of, TellsTrees}
 use Rattle.simulation.specs.declared.scenario.action.Action.{Action}
-use Rattle.simulation.specs.declared.scenario.action.Action.TheVariants.{Start, Broadcast, Arrive, Lose, Again, Fire, Flush, Shuffle, Down, Stop, ArriveAll}
+use Rattle.simulation.specs.declared.scenario.action.Action.TheVariants.{Start, Broadcast, Arrive, Lose, Again, Fire, Flush, Shuffle, Down, Stop, ArriveAll, Settle}
 use Rattle.simulation.specs.declared.play.Halt.{Halt}
 use Rattle.simulation.specs.declared.play.Halt.TheVariants as halt
 use Rattle.simulation.specs.declared.play.PlayFault.{PlayFault}
@@ -34,7 +39,7 @@ use Rattle.simulation.specs.declared.play.PlayFault.TheVariants as fault
 abbrev pub oldest : Dice → Event
 oldest dice = event.Arrive 0 dice
 
--- the event that an action is played as, with these dice if it draws any; `arrive_all` is as many arrivals as it takes
+-- the event that an action is played as, with these dice if it draws any; `arrive_all` and `settle` are as many events as it takes
 abbrev pub event_of : Dice → Action → Option Event
 event_of dice (Start node incarnation peers contact) = Some (event.Start node incarnation peers contact)
 event_of dice (Broadcast node text) = Some (event.Broadcast node text)
@@ -47,6 +52,7 @@ event_of dice (Shuffle node) = Some (event.Shuffle node dice)
 event_of dice (Down node peer) = Some (event.Down node peer dice)
 event_of dice (Stop node) = Some (event.Stop node)
 event_of dice ArriveAll = None
+event_of dice Settle = None
 
 -- what the dice are drawn from after the event of an action: arrivals, ticks and failed links have drawn theirs
 abbrev pub rolls_after : Action → Option Stream → Option Stream
@@ -61,12 +67,15 @@ rolls_after (Shuffle node) rolls = after_roll rolls
 rolls_after (Down node peer) rolls = after_roll rolls
 rolls_after (Stop node) rolls = rolls
 rolls_after ArriveAll rolls = rolls
+rolls_after Settle rolls = rolls
 
 -- the fault of a halt at this event; want of memory is no matter of the event
 abbrev pub fault_of : ℕ → Halt → PlayFault
 fault_of number (halt.Refused world.OutOfMemory) = fault.OutOfMemory
 fault_of number (halt.Refused why) = fault.Refused number (record { 0 = why })
 fault_of number halt.NoEnd = fault.NoEnd number
+fault_of number (halt.Unsettled settle.OutOfMemory) = fault.OutOfMemory
+fault_of number (halt.Unsettled why) = fault.Unsettled number (record { 0 = why })
 
 -- all deliveries of a group, in the order in which they were given
 abbrev pub delivered : {C N : Type 0} → Logged C N → List Delivery
@@ -101,11 +110,22 @@ module _
     Drains zero old new = new ≡ old
     Drains (suc n) old new = (between : Standing C N) × Drains n old between × Arrives between new
 
-    -- The action is played: as its event, with the next dice if it draws any, or by arrivals until none is in flight, at
-    -- most so many.
+    -- The group was brought to rest, event by event, without dice.
+    pub record Rests (old new : Standing C N) : Type 0 where
+      pub events : List Event
+      pub settles : Settles state starts steps events old.group new.group
+      pub settled : IsSettled state new.group.group
+      pub no_roll : new.rolls ≡ old.rolls
+
+    -- An action of many events is played: by arrivals until none is in flight, at most so many, or by settling.
+    abbrev pub PlaysMany : ℕ → Action → Standing C N → Standing C N → Type 0
+    PlaysMany most Settle old new = Rests old new
+    PlaysMany most action old new = (n : ℕ) × (n ≤ most) × Drains n old new × (new.group.group.flight ≡ [])
+
+    -- The action is played: as its event, with the next dice if it draws any, or as many events.
     abbrev pub PlaysAction : ℕ → Action → Standing C N → Standing C N → Type 0
     PlaysAction most action old new = MatchOption (event_of (rolled old.rolls) action)
-        ((n : ℕ) × (n ≤ most) × Drains n old new × (new.group.group.flight ≡ []))
+        (PlaysMany most action old new)
         (λ e. Takes e old.group new.group × (new.rolls ≡ rolls_after action old.rolls))
 
     -- The actions are played in order.
@@ -113,17 +133,24 @@ module _
     PlaysActions most [] old new = new ≡ old
     PlaysActions most (action ∷ actions) old new = (between : Standing C N) × PlaysAction most action old between × PlaysActions most actions between new
 
-    module _ (is_spent : C → Stimulus N → Type 0) where
+    module _ (content : N → Content) (is_spent : C → Stimulus N → Type 0) where
       -- The event is refused so by the group.
       abbrev pub Refuses : Event → WorldError → Logged C N → Type 0
       Refuses e why group = IsRefusal is_spent group.limits group.group e why
 
+      -- Settling ends early: the group is not calm, or a node is out of numbers, or memory is refused, after some events.
+      abbrev pub StopsSettling : SettleError → Logged C N → Logged C N → Type 0
+      StopsSettling settle.NotCalm old new = (new ≡ old) × (IsCalm state content old.group → ⊥)
+      StopsSettling settle.SeqSpent old new = (events : List Event) × Settles state starts steps events old new × IsNextSpent state starts steps is_spent new.group
+      StopsSettling settle.OutOfMemory old new = (events : List Event) × Settles state starts steps events old new
+
       -- The playing of an action halts: its event, or an arrival after some others, is refused, or something is still in
-      -- flight after the most arrivals.
+      -- flight after the most arrivals, or settling ends early.
       abbrev pub HaltsIn : ℕ → Action → Halt → Standing C N → Logged C N → Type 0
       HaltsIn most action (halt.Refused why) old new = MatchOption (event_of (rolled old.rolls) action)
           ((n : ℕ) × (n < most) × (between : Standing C N) × Drains n old between × (new ≡ between.group) × Refuses (oldest (rolled between.rolls)) why new)
           (λ e. (new ≡ old.group) × Refuses e why new)
+      HaltsIn most action (halt.Unsettled why) old new = (event_of (rolled old.rolls) action ≡ None) × StopsSettling why old.group new
       HaltsIn most action halt.NoEnd old new = (event_of (rolled old.rolls) action ≡ None) × (n : ℕ) × (n ≡ most) × (between : Standing C N) × Drains n old between × (new ≡ between.group) × (new.group.flight ≢ [])
 
       -- The playing halts at the action with this number, after all those before it.
@@ -199,5 +226,5 @@ pub record PrintsHalted
     (before after : Option (List ℕ))
     : Type 0 where
   pub group : Logged C N
-  pub halted : IsHalted state starts steps is_spent most actions stopped (record { rolls = rolls_of seed; group = empty_group limits }) group
+  pub halted : IsHalted state starts steps content is_spent most actions stopped (record { rolls = rolls_of seed; group = empty_group limits }) group
   pub printed : PrintsGroup state content group (delivered group) before after

@@ -7,7 +7,7 @@ use Rattle.node_names.specs.Limits.{Limits as Sizes, IsAllowed}
 use Rattle.simulation.specs.Reading.{at_key, IsOptional, IsNumber, IsNumberFromOne, IsText, IsName, IsNames, IsTables}
 use Rattle.simulation.specs.declared.scenario.fault.Key.TheVariants.{Seed, Limits, Event, Active, Passive, Arwl, Prwl, Ka, Kp, Threshold, Keep, Do, Node, Incarnation, Peers, Contact, Text, Place, Number, Origin, Seq, Peer}
 use Rattle.simulation.specs.declared.scenario.action.Action.{Action}
-use Rattle.simulation.specs.declared.scenario.action.Action.TheVariants.{Start, Broadcast, Arrive, Lose, Again, Fire, Flush, Shuffle, Down, Stop, ArriveAll}
+use Rattle.simulation.specs.declared.scenario.action.Action.TheVariants.{Start, Broadcast, Arrive, Lose, Again, Fire, Flush, Shuffle, Down, Stop, ArriveAll, Settle}
 
 -- the greatest number that fits 64 bits
 abbrev pub greatest : ℕ
@@ -59,6 +59,7 @@ IsAction members (Down node peer) = IsText (at_key Do members) (codes "down")
     × IsName (at_key Peer members) peer
 IsAction members (Stop node) = IsText (at_key Do members) (codes "stop") × IsName (at_key Node members) node
 IsAction members ArriveAll = IsText (at_key Do members) (codes "arrive_all")
+IsAction members Settle = IsText (at_key Do members) (codes "settle")
 
 -- what the tables of all events describe, in order
 abbrev pub AreActions : List Members → List Action → Type 0

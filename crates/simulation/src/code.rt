@@ -1,7 +1,8 @@
 //! The codes under which refusals are printed.
 ghost use Rattle.std.specs.Prelude.{Some};
-ghost use Rattle.simulation.specs.Code.{code_of};
+ghost use Rattle.simulation.specs.Code.{code_of, settle_code_of};
 
+use at_rest::SettleError;
 use std::fmt;
 use world::WorldError;
 
@@ -25,6 +26,22 @@ impl fmt::Display for Code {
             WorldError::PayloadTooLong => f.write_str("W6"),
             WorldError::SeqSpent => f.write_str("W7"),
             WorldError::OutOfMemory => f.write_str("W8"),
+        }
+    }
+}
+
+/// Why a group was not brought to rest, which prints as the refusal's code.
+#[derive(Clone, Copy, Debug, PartialEq, Eq)]
+pub struct SettleCode(pub SettleError);
+
+impl fmt::Display for SettleCode {
+    ghost output = { λ code. Some (settle_code_of code.0) };
+
+    fn fmt<W: fmt::Write>(&self, f: &mut fmt::Formatter<W>) -> fmt::Result {
+        match self.0 {
+            SettleError::NotCalm => f.write_str("S1"),
+            SettleError::SeqSpent => f.write_str("S2"),
+            SettleError::OutOfMemory => f.write_str("S3"),
         }
     }
 }

@@ -16,7 +16,7 @@ mod rolls;
 mod scenario;
 mod trees;
 
-pub use code::Code;
+pub use code::{Code, SettleCode};
 pub use failure::Failure;
 pub use form::Form;
 pub use graph::write_graph;

@@ -40,7 +40,7 @@ pub fn simulate<W: Write>(alloc: Global, text: &[u8], out: &mut W) -> Result<(),
     ensures unplayed { (fault : ScenarioFault) → result ≡ Err (Failure.Refused fault) → out.new ≡ out.old }
 {
     let scenario = read_scenario(alloc, text)?;
-    play_and_print::<PlumCore, Global, W>(alloc, &scenario, out)
+    play_and_print::<Global, W>(alloc, &scenario, out)
 }
 
 /// Reads a text as a scenario, plays it, and writes the group as it stands then as a Graphviz document.
@@ -67,19 +67,19 @@ fn read_scenario(alloc: Global, text: &[u8]) -> Result<Scenario, ScenarioFault>
 }
 
 /// Plays a scenario and prints what came of it.
-pub fn play_and_print<C: Core<A>, A: Allocator + Copy, W: Write>(
+pub fn play_and_print<A: Allocator + Copy, W: Write>(
     alloc: A,
     scenario: &Scenario,
     out: &mut W,
 ) -> Result<(), Failure>
-    ensures printed { OnOk result (Prints C.state C.Note.content C.starts C.steps MOST_ARRIVALS scenario.now.seed scenario.now.limits scenario.now.actions.items (W.contents out.old) (W.contents out.new)) }
-    ensures stopped { (fault : PlayFault) → result ≡ Err (Failure.Stopped fault) → fault ≢ PlayFault.OutOfMemory → PrintsHalted C.state C.Note.content C.starts C.steps C.is_spent MOST_ARRIVALS scenario.now.seed scenario.now.limits scenario.now.actions.items fault (W.contents out.old) (W.contents out.new) }
+    ensures printed { OnOk result (Prints plum_state frame_content PlumStarts PlumSteps MOST_ARRIVALS scenario.now.seed scenario.now.limits scenario.now.actions.items (W.contents out.old) (W.contents out.new)) }
+    ensures stopped { (fault : PlayFault) → result ≡ Err (Failure.Stopped fault) → fault ≢ PlayFault.OutOfMemory → PrintsHalted plum_state frame_content PlumStarts PlumSteps PlumIsSpent MOST_ARRIVALS scenario.now.seed scenario.now.limits scenario.now.actions.items fault (W.contents out.old) (W.contents out.new) }
     ensures read { (fault : ScenarioFault) → result ≢ Err (Failure.Refused fault) }
 {
     let Ok(mut text) = String::with_capacity(alloc, LINE_ROOM) else {
         return Err(Failure::Stopped(PlayFault::OutOfMemory));
     };
-    let mut player = Player::<C, A>::new(alloc, scenario.seed, scenario.limits);
+    let mut player = Player::<PlumCore<A>, A>::new(alloc, scenario.seed, scenario.limits);
     let played = player.play(alloc, scenario.actions.as_slice());
     let printed = print(alloc, &mut text, player.group(), out);
     leave(player);

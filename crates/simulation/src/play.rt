@@ -1,12 +1,17 @@
 //! Playing a scenario in a simulated group.
-ghost use Rattle.std.specs.Prelude.{◌≡◌, ◌≢◌, IfOk, IfErr, OnOk};
+ghost use Rattle.std.specs.Prelude.{◌≡◌, ◌≢◌, None, IfOk, IfErr, OnOk};
+ghost use Rattle.frames.specs.Content.{frame_content};
+ghost use Rattle.node_core.specs.Plum.{plum_state};
+ghost use Rattle.node_core.specs.Steps.{PlumIsSpent, PlumStarts, PlumSteps};
 ghost use Rattle.simulation.specs.Play.{event_of, fault_of, empty_group, rolls_after, HaltsIn, IsHalted, PlaysAction, PlaysActions, Refuses, Takes};
 ghost use Rattle.simulation.specs.Rolls.{rolled, rolls_in, rolls_of};
 
-use crate::code::Code;
+use crate::code::{Code, SettleCode};
 use crate::rolls::Rolls;
 use crate::scenario::Action;
+use at_rest::SettleError;
 use bytes::Bytes;
+use node_core::PlumCore;
 use node_names::{Limits, Listed};
 use std::alloc::{AllocError, Allocator};
 use thiserror::Error;
@@ -24,6 +29,9 @@ pub enum PlayFault {
     /// Packets were still in flight after the most arrivals.
     #[error("event {event}: no end after {most} arrivals", most = MOST_ARRIVALS)]
     NoEnd { event: usize },
+    /// The group was not brought to rest.
+    #[error("event {event}: {code}")]
+    Unsettled { event: usize, code: SettleCode },
     /// There was no memory left.
     #[error("out of memory")]
     OutOfMemory,
@@ -36,6 +44,8 @@ pub enum Halt {
     Refused(WorldError),
     /// Packets were still in flight after the most arrivals.
     NoEnd,
+    /// The group was not brought to rest.
+    Unsettled(SettleError),
 }
 
 impl Halt {
@@ -50,6 +60,11 @@ impl Halt {
                 code: Code(why),
             },
             Halt::NoEnd => PlayFault::NoEnd { event },
+            Halt::Unsettled(SettleError::OutOfMemory) => PlayFault::OutOfMemory,
+            Halt::Unsettled(why) => PlayFault::Unsettled {
+                event,
+                code: SettleCode(why),
+            },
         }
     }
 }
@@ -80,38 +95,10 @@ impl<C: Core<A>, A: Allocator + Copy> Player<C, A> {
         &self.group
     }
 
-    /// Plays actions in order.
-    pub fn play(&mut self, alloc: A, actions: &[Action]) -> Result<(), PlayFault>
-        ensures ok { OnOk result (PlaysActions C.state C.starts C.steps MOST_ARRIVALS actions.now (record { rolls = rolls_in self.old.rolls; group = self.old.group }) (record { rolls = rolls_in self.new.rolls; group = self.new.group })) }
-        ensures stopped { IfErr result (λ fault. fault ≢ PlayFault.OutOfMemory → IsHalted C.state C.starts C.steps C.is_spent MOST_ARRIVALS actions.now fault (record { rolls = rolls_in self.old.rolls; group = self.old.group }) self.new.group) }
-    {
-        for (number, action) in actions.iter().enumerate() {
-            if let Err(halt) = self.play_action(alloc, action) {
-                return Err(halt.at(number));
-            }
-        }
-        Ok(())
-    }
-
-    /// Plays one action.
-    fn play_action(&mut self, alloc: A, action: &Action) -> Result<(), Halt>
-        ensures ok { OnOk result (PlaysAction C.state C.starts C.steps MOST_ARRIVALS action.now (record { rolls = rolls_in self.old.rolls; group = self.old.group }) (record { rolls = rolls_in self.new.rolls; group = self.new.group })) }
-        ensures halted { IfErr result (λ halt. halt ≢ Halt.Refused WorldError.OutOfMemory → HaltsIn C.state C.starts C.steps C.is_spent MOST_ARRIVALS action.now halt (record { rolls = rolls_in self.old.rolls; group = self.old.group }) self.new.group) }
-    {
-        match event_of(alloc, &mut self.rolls, action) {
-            Ok(Some(event)) => match self.step(event) {
-                Ok(()) => Ok(()),
-                Err(why) => Err(Halt::Refused(why)),
-            },
-            Ok(None) => self.arrive_all(),
-            Err(_) => Err(Halt::Refused(WorldError::OutOfMemory)),
-        }
-    }
-
     /// Lets the oldest packet arrive until none is in flight.
     fn arrive_all(&mut self) -> Result<(), Halt>
         ensures ok { OnOk result (PlaysAction C.state C.starts C.steps MOST_ARRIVALS Action.ArriveAll (record { rolls = rolls_in self.old.rolls; group = self.old.group }) (record { rolls = rolls_in self.new.rolls; group = self.new.group })) }
-        ensures halted { IfErr result (λ halt. halt ≢ Halt.Refused WorldError.OutOfMemory → HaltsIn C.state C.starts C.steps C.is_spent MOST_ARRIVALS Action.ArriveAll halt (record { rolls = rolls_in self.old.rolls; group = self.old.group }) self.new.group) }
+        ensures halted { IfErr result (λ halt. halt ≢ Halt.Refused WorldError.OutOfMemory → HaltsIn C.state C.starts C.steps C.Note.content C.is_spent MOST_ARRIVALS Action.ArriveAll halt (record { rolls = rolls_in self.old.rolls; group = self.old.group }) self.new.group) }
     {
         for _ in 0..MOST_ARRIVALS {
             if self.group.flight().is_empty() {
@@ -135,7 +122,7 @@ impl<C: Core<A>, A: Allocator + Copy> Player<C, A> {
     /// Plays one event.
     fn step(&mut self, event: Event<A>) -> Result<(), WorldError>
         ensures ok { OnOk result (Takes C.state C.starts C.steps event self.old.group self.new.group) }
-        ensures refused { IfErr result (λ why. why ≢ WorldError.OutOfMemory → (self.new.group ≡ self.old.group) × Refuses C.state C.starts C.steps C.is_spent event why self.new.group) }
+        ensures refused { IfErr result (λ why. why ≢ WorldError.OutOfMemory → (self.new.group ≡ self.old.group) × Refuses C.state C.starts C.steps C.Note.content C.is_spent event why self.new.group) }
         ensures rolls { self.new.rolls ≡ self.old.rolls }
     {
         self.group.play(&event)?;
@@ -143,7 +130,61 @@ impl<C: Core<A>, A: Allocator + Copy> Player<C, A> {
     }
 }
 
-/// The event that an action is, or `None` where it is as many arrivals as there are packets.
+impl<A: Allocator + Copy> Player<PlumCore<A>, A> {
+    /// Plays actions in order.
+    pub fn play(&mut self, alloc: A, actions: &[Action]) -> Result<(), PlayFault>
+        ensures ok { OnOk result (PlaysActions plum_state PlumStarts PlumSteps MOST_ARRIVALS actions.now (record { rolls = rolls_in self.old.rolls; group = self.old.group }) (record { rolls = rolls_in self.new.rolls; group = self.new.group })) }
+        ensures stopped { IfErr result (λ fault. fault ≢ PlayFault.OutOfMemory → IsHalted plum_state PlumStarts PlumSteps frame_content PlumIsSpent MOST_ARRIVALS actions.now fault (record { rolls = rolls_in self.old.rolls; group = self.old.group }) self.new.group) }
+    {
+        for (number, action) in actions.iter().enumerate() {
+            if let Err(halt) = self.play_action(alloc, action) {
+                return Err(halt.at(number));
+            }
+        }
+        Ok(())
+    }
+
+    /// Plays one action.
+    fn play_action(&mut self, alloc: A, action: &Action) -> Result<(), Halt>
+        ensures ok { OnOk result (PlaysAction plum_state PlumStarts PlumSteps MOST_ARRIVALS action.now (record { rolls = rolls_in self.old.rolls; group = self.old.group }) (record { rolls = rolls_in self.new.rolls; group = self.new.group })) }
+        ensures halted { IfErr result (λ halt. halt ≢ Halt.Refused WorldError.OutOfMemory → HaltsIn plum_state PlumStarts PlumSteps frame_content PlumIsSpent MOST_ARRIVALS action.now halt (record { rolls = rolls_in self.old.rolls; group = self.old.group }) self.new.group) }
+    {
+        match event_of(alloc, &mut self.rolls, action) {
+            Ok(Some(event)) => match self.step(event) {
+                Ok(()) => Ok(()),
+                Err(why) => Err(Halt::Refused(why)),
+            },
+            Ok(None) => self.play_many(alloc, action),
+            Err(_) => Err(Halt::Refused(WorldError::OutOfMemory)),
+        }
+    }
+
+    /// Plays an action of many events.
+    fn play_many(&mut self, alloc: A, action: &Action) -> Result<(), Halt>
+        requires { event_of (rolled (rolls_in self.old.rolls)) action.now ≡ None }
+        ensures ok { OnOk result (PlaysAction plum_state PlumStarts PlumSteps MOST_ARRIVALS action.now (record { rolls = rolls_in self.old.rolls; group = self.old.group }) (record { rolls = rolls_in self.new.rolls; group = self.new.group })) }
+        ensures halted { IfErr result (λ halt. halt ≢ Halt.Refused WorldError.OutOfMemory → HaltsIn plum_state PlumStarts PlumSteps frame_content PlumIsSpent MOST_ARRIVALS action.now halt (record { rolls = rolls_in self.old.rolls; group = self.old.group }) self.new.group) }
+    {
+        match action {
+            Action::ArriveAll => self.arrive_all(),
+            Action::Settle => self.settle(alloc),
+            _ => unreachable!(),
+        }
+    }
+
+    /// Brings the group to rest.
+    fn settle(&mut self, alloc: A) -> Result<(), Halt>
+        ensures ok { OnOk result (PlaysAction plum_state PlumStarts PlumSteps MOST_ARRIVALS Action.Settle (record { rolls = rolls_in self.old.rolls; group = self.old.group }) (record { rolls = rolls_in self.new.rolls; group = self.new.group })) }
+        ensures halted { IfErr result (λ halt. HaltsIn plum_state PlumStarts PlumSteps frame_content PlumIsSpent MOST_ARRIVALS Action.Settle halt (record { rolls = rolls_in self.old.rolls; group = self.old.group }) self.new.group) }
+    {
+        match at_rest::settle(alloc, &mut self.group) {
+            Ok(_) => Ok(()),
+            Err(why) => Err(Halt::Unsettled(why)),
+        }
+    }
+}
+
+/// The event that an action is, or `None` where it is many.
 fn event_of<A: Allocator + Copy>(
     alloc: A,
     rolls: &mut Rolls,
@@ -186,6 +227,6 @@ fn event_of<A: Allocator + Copy>(
             dice: rolls.roll(),
         },
         Action::Stop { node } => Event::Stop { name: node },
-        Action::ArriveAll => return Ok(None),
+        Action::ArriveAll | Action::Settle => return Ok(None),
     }))
 }

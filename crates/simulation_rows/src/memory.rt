@@ -2,7 +2,6 @@
 //! nothing is missing.
 use crate::hello::{hello, is_told};
 use links::TapeWriter;
-use node_core::PlumCore;
 use refusing_allocator::RefusingAllocator;
 use simulation::{Scenario, ScenarioFault, conclude, play_and_print, read_document};
 use std::alloc::{Allocator, Global};
@@ -44,7 +43,7 @@ fn play_refused<A: Allocator + Copy>(
     n: u64,
 ) -> (End, bool) {
     heap.refuse(n);
-    let ended = play_and_print::<PlumCore<A>, A, TapeWriter>(alloc, scenario, out);
+    let ended = play_and_print::<A, TapeWriter>(alloc, scenario, out);
     let is_spent = stop_refusing(heap);
     let status = conclude(ended, faults);
     (end_of(status, out.as_slice(), faults.as_slice()), is_spent)

@@ -61,6 +61,8 @@ pub enum Action {
     },
     /// The oldest packet in flight arrives, again and again until none is in flight.
     ArriveAll,
+    /// The group is brought to rest.
+    Settle,
 }
 
 impl Action {
@@ -81,6 +83,7 @@ impl Action {
             "down" => down(section),
             "stop" => stop(section),
             "arrive_all" => Ok(Action::ArriveAll),
+            "settle" => Ok(Action::Settle),
             _ => Err(section.refused(Key::Do)),
         }
     }

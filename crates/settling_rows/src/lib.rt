@@ -1,0 +1,13 @@
+//! Small groups of Plumtree nodes that are brought to rest, as tests, and a sweep in which each allocation is refused in turn.
+#![tactic(auto)]
+
+#[cfg(test)]
+mod act;
+#[cfg(test)]
+mod play;
+#[cfg(test)]
+mod rows;
+#[cfg(test)]
+mod sweeps;
+#[cfg(test)]
+mod texts;

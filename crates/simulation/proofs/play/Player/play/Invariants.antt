@@ -1,8 +1,0 @@
-use Rattle.std.proofs.Common.{take}
-use Rattle.simulation.specs.Play.{PlaysActions}
-use Rattle.simulation.specs.declared.play.TheConstants.{MOST_ARRIVALS}
-use Rattle.simulation.specs.Rolls.{rolls_in}
-use Rattle.simulation.proofs.play.Player.play.Given as goal
-
-abbrev pub invariant-loop-number : goal.invariant-loop-number
-invariant-loop-number g l = PlaysActions g.C.Core.state g.C.Core.starts g.C.Core.steps MOST_ARRIVALS (take l.number l.actions) (record { rolls = rolls_in l.initial.self.rolls; group = l.initial.self.group }) (record { rolls = rolls_in l.self.rolls; group = l.self.group })
