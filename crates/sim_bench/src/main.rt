@@ -1,10 +1,12 @@
 //! Broadcasts in a group of 64 Plumtree nodes. Without an argument it prints how many packets each of the first few takes, with a
-//! count how long so many take, and with `hops` and a threshold how far messages go where branches are swapped.
+//! count how long so many take, with `hops` and a threshold how far messages go where branches are swapped, and with `settle` and
+//! a count how long it takes to bring the group to rest with so many queued announcements.
 #![tactic(auto)]
 
 mod hops;
 mod overlay;
 mod play;
+mod settling;
 
 use crate::overlay::started;
 use crate::play::broadcast;
@@ -64,12 +66,26 @@ fn measure<R: Print + Clock>(
     Ok(())
 }
 
+/// Measures what the first word says, with this number.
+fn measure_named<R: Print + Clock>(
+    rt: &R,
+    alloc: Global,
+    payload: &Bytes,
+    what: &str,
+    number: &str,
+) -> Result<()> {
+    match what {
+        "settle" => settling::measure(rt, alloc, payload, number.parse()?),
+        _ => hops::measure(rt, alloc, payload, number.parse()?),
+    }
+}
+
 fn main(rt: HostRuntime) -> Result<()> {
     let alloc = rt.alloc();
     let words: Vec<String> = env::args(&rt)?.collect(alloc)?;
     let payload = payload(alloc)?;
-    if let Some(threshold) = words.get(2) {
-        return hops::measure(&rt, alloc, &payload, threshold.parse()?);
+    if let (Some(what), Some(number)) = (words.get(1), words.get(2)) {
+        return measure_named(&rt, alloc, &payload, what.as_str(), number.as_str());
     }
     let mut group = started(alloc, Limits::STANDARD)?;
     match words.get(1) {
