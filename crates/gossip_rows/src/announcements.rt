@@ -10,14 +10,14 @@ use std::process::Abort;
 use std::test::Fail;
 use test_support::{lend, stop_refusing};
 
-/// A call in plain texts and numbers.
+/// A call in letters and numbers.
 #[derive(Clone, Copy)]
 enum Act {
-    Announce(Id, &'static str, u32),
+    Announce(Id, u8, u32),
     TakeFirst(Id),
     Armed(Id),
     Got(Id),
-    Down(&'static str),
+    Down(u8),
 }
 
 /// What a call gives.
@@ -34,15 +34,15 @@ type Turn = (Act, &'static str, &'static str);
 /// Calls before one, and those from it on.
 type Parts<'a> = (&'a [Turn], &'a [Turn]);
 
-const A1: Id = ("a", 1);
+const A1: Id = (b'a', 1);
 
-const A2: Id = ("a", 2);
+const A2: Id = (b'a', 2);
 
 const TURNS: &[Turn] = &[
-    (Act::Announce(A1, "b", 1), "true", "a/1/1:b:1 | a/1/1 "),
-    (Act::Announce(A1, "b", 5), "false", "a/1/1:b:1 | a/1/1 "),
+    (Act::Announce(A1, b'b', 1), "true", "a/1/1:b:1 | a/1/1 "),
+    (Act::Announce(A1, b'b', 5), "false", "a/1/1:b:1 | a/1/1 "),
     (
-        Act::Announce(A1, "c", 2),
+        Act::Announce(A1, b'c', 2),
         "false",
         "a/1/1:b:1 a/1/1:c:2 | a/1/1 ",
     ),
@@ -51,18 +51,18 @@ const TURNS: &[Turn] = &[
     (Act::Armed(A1), "true", "| a/1/1 "),
     (Act::TakeFirst(A1), "", "| "),
     (Act::Armed(A1), "false", "| "),
-    (Act::Announce(A2, "b", 0), "true", "a/1/2:b:0 | a/1/2 "),
+    (Act::Announce(A2, b'b', 0), "true", "a/1/2:b:0 | a/1/2 "),
     (
-        Act::Announce(A1, "c", 3),
+        Act::Announce(A1, b'c', 3),
         "true",
         "a/1/2:b:0 a/1/1:c:3 | a/1/2 a/1/1 ",
     ),
     (
-        Act::Announce(A2, "c", 4),
+        Act::Announce(A2, b'c', 4),
         "false",
         "a/1/2:b:0 a/1/1:c:3 a/1/2:c:4 | a/1/2 a/1/1 ",
     ),
-    (Act::Down("b"), "", "a/1/1:c:3 a/1/2:c:4 | a/1/2 a/1/1 "),
+    (Act::Down(b'b'), "", "a/1/1:c:3 a/1/2:c:4 | a/1/2 a/1/1 "),
     (Act::Got(A2), "", "a/1/1:c:3 | a/1/1 "),
 ];
 
@@ -106,12 +106,28 @@ fn announce<A: Allocator + Copy>(
     rt: &impl Abort,
     missing: &mut Missing<A>,
     message: Id,
-    peer: &str,
+    peer: u8,
     round: u32,
-) -> Result<Given, AllocError> {
+) -> Result<bool, AllocError> {
     let message = id(rt, message);
     let peer = name(rt, peer);
-    Ok(Given::Flag(missing.announce(&message, &peer, round)?))
+    missing.announce(&message, &peer, round)
+}
+
+/// What an announcement gives.
+fn told(answer: Result<bool, AllocError>) -> Result<Given, AllocError> {
+    match answer {
+        Ok(is_armed) => Ok(Given::Flag(is_armed)),
+        Err(why) => Err(why),
+    }
+}
+
+fn take_first<A: Allocator>(rt: &impl Abort, missing: &mut Missing<A>, message: Id) -> Given {
+    Given::First(missing.take_first(&id(rt, message)))
+}
+
+fn armed<A: Allocator>(rt: &impl Abort, missing: &mut Missing<A>, message: Id) -> Given {
+    Given::Flag(missing.armed(&id(rt, message)))
 }
 
 fn got<A: Allocator>(rt: &impl Abort, missing: &mut Missing<A>, message: Id) -> Given {
@@ -119,7 +135,7 @@ fn got<A: Allocator>(rt: &impl Abort, missing: &mut Missing<A>, message: Id) -> 
     Given::Nothing
 }
 
-fn down<A: Allocator>(rt: &impl Abort, missing: &mut Missing<A>, peer: &str) -> Given {
+fn down<A: Allocator>(rt: &impl Abort, missing: &mut Missing<A>, peer: u8) -> Given {
     missing.down(&name(rt, peer));
     Given::Nothing
 }
@@ -131,9 +147,9 @@ fn call<A: Allocator + Copy>(
     act: &Act,
 ) -> Result<Given, AllocError> {
     match *act {
-        Act::Announce(message, peer, round) => announce(rt, missing, message, peer, round),
-        Act::TakeFirst(message) => Ok(Given::First(missing.take_first(&id(rt, message)))),
-        Act::Armed(message) => Ok(Given::Flag(missing.armed(&id(rt, message)))),
+        Act::Announce(message, peer, round) => told(announce(rt, missing, message, peer, round)),
+        Act::TakeFirst(message) => Ok(take_first(rt, missing, message)),
+        Act::Armed(message) => Ok(armed(rt, missing, message)),
         Act::Got(message) => Ok(got(rt, missing, message)),
         Act::Down(peer) => Ok(down(rt, missing, peer)),
     }
@@ -203,15 +219,24 @@ fn are_turns<A: Allocator + Copy>(
     Ok(true)
 }
 
-#[test]
-fn plays_calls(rt: HostRuntime) -> Result<(), Fail> {
-    let mut text = String::new(rt.alloc());
-    let missing = Missing::new(rt.alloc());
-    let are_right = lend(missing, |missing| {
-        are_turns(&rt, &mut text, missing, turns())
-    })?;
+/// Makes all calls.
+fn play<A: Allocator + Copy>(
+    rt: &impl Abort,
+    alloc: A,
+    text: &mut String,
+) -> Result<(), AllocError> {
+    let are_right = lend(
+        Missing::new(alloc),
+        |missing| are_turns(rt, text, missing, turns()),
+    )?;
     assert!(rt; are_right, "{text}");
     Ok(())
+}
+
+#[test]
+fn plays_calls(rt: HostRuntime) -> Result<(), Fail> {
+    let text = String::new(rt.alloc());
+    Ok(lend(text, |text| play(&rt, rt.alloc(), text))?)
 }
 
 /// Makes a call while the allocation with this number is refused. Whether there is such an allocation, and what the call gives.

@@ -1,5 +1,5 @@
 //! The rows played in two halves, an answer and a take, with each allocation of each half refused in turn.
-ghost use Rattle.std.specs.Prelude.{IsTrue};
+ghost use Rattle.std.specs.Prelude.{◌≡◌, IsTrue};
 ghost use Rattle.gossip_core.specs.Refusals.{CanTake};
 ghost use Rattle.gossip_core.specs.Table.{lent};
 
@@ -25,7 +25,7 @@ const MANY: u64 = 50;
 fn entries(rt: &impl Abort, act: &Act) -> [(MsgId, u32); 1] {
     match *act {
         Act::OnIHave(_, message, round) => [(id(rt, message), round)],
-        _ => [(id(rt, ("a", 1)), 0)],
+        _ => [(id(rt, (b'a', 1)), 0)],
     }
 }
 
@@ -105,8 +105,9 @@ fn refuse_answer<A: Allocator + Copy>(
     heap.refuse(n);
     let answer = gossip.answer(call);
     let is_spent = stop_refusing(heap);
+    let given = turn.1;
     let is_right = lend(answer, |answer| {
-        is_answered(text, ids, gossip, answer, is_spent, stood, turn.1)
+        is_answered(text, ids, gossip, answer, is_spent, stood, given)
     })?;
     assert!(rt; is_right);
     Ok(is_spent)
@@ -148,6 +149,41 @@ fn is_taken<A: Allocator + Copy>(
     is_shown(text, ids, gossip, wanted)
 }
 
+/// Takes a call that was refused. Whether the refusal left what stood, and the call is not refused now, and leaves what
+/// it should.
+fn is_taken_again<A: Allocator + Copy>(
+    text: &mut String,
+    ids: &[MsgId],
+    gossip: &mut Gossip<A>,
+    call: &Call<'_, A>,
+    stood: &str,
+    wanted: &str,
+) -> Result<bool, AllocError>
+    requires { CanTake gossip.old (lent call.now) }
+{
+    if !is_shown(text, ids, gossip, stood)? {
+        return Ok(false);
+    }
+    is_taken(text, ids, gossip, call, wanted)
+}
+
+/// Takes a call while the allocation with this number is refused. Whether there is such an allocation, and whether the
+/// call is refused.
+fn try_take<A: Allocator + Copy>(
+    heap: &RefusingAllocator,
+    gossip: &mut Gossip<A>,
+    call: &Call<'_, A>,
+    n: u64,
+) -> (bool, bool)
+    requires { CanTake gossip.old (lent call.now) }
+    ensures { IsTrue result.1 → gossip.new ≡ gossip.old }
+{
+    heap.refuse(n);
+    let answer = gossip.take(call);
+    let is_spent = stop_refusing(heap);
+    (is_spent, answer.is_err())
+}
+
 /// Takes a call while the allocation with this number is refused, and again if it is refused. Whether there is such an
 /// allocation.
 fn refuse_take<A: Allocator + Copy>(
@@ -163,17 +199,13 @@ fn refuse_take<A: Allocator + Copy>(
 ) -> Result<bool, AllocError>
     requires { CanTake gossip.old (lent call.now) }
 {
-    heap.refuse(n);
-    let answer = gossip.take(call);
-    let is_spent = stop_refusing(heap);
-    let is_right = match answer {
-        Ok(()) => is_shown(text, ids, gossip, turn.2)? && !is_spent,
-        Err(_) => {
-            let stands = is_shown(text, ids, gossip, stood)?;
-            stands && is_spent && is_taken(text, ids, gossip, call, turn.2)?
-        }
+    let (is_spent, is_refused) = try_take(heap, gossip, call, n);
+    let is_right = if is_refused {
+        is_taken_again(text, ids, gossip, call, stood, turn.2)?
+    } else {
+        is_shown(text, ids, gossip, turn.2)?
     };
-    assert!(rt; is_right);
+    assert!(rt; is_right && is_refused == is_spent);
     Ok(is_spent)
 }
 
@@ -329,19 +361,19 @@ fn sweep_rows<A: Allocator + Copy>(
 fn each_allocation_of_each_half(rt: HostRuntime) -> Result<(), Fail> {
     let heap = RefusingAllocator::new(rt.alloc());
     let mut text = String::new(rt.alloc());
-    Ok(sweep_rows(&rt, &heap, &heap, &mut text, rows())?)
+    Ok(sweep_rows(&rt, &heap, &heap, &mut text, &rows())?)
 }
 
 #[test]
 fn each_allocation_of_each_tuned_half(rt: HostRuntime) -> Result<(), Fail> {
     let heap = RefusingAllocator::new(rt.alloc());
     let mut text = String::new(rt.alloc());
-    Ok(sweep_rows(&rt, &heap, &heap, &mut text, tuned_rows())?)
+    Ok(sweep_rows(&rt, &heap, &heap, &mut text, &tuned_rows())?)
 }
 
 #[test]
 fn each_allocation_of_each_kept_half(rt: HostRuntime) -> Result<(), Fail> {
     let heap = RefusingAllocator::new(rt.alloc());
     let mut text = String::new(rt.alloc());
-    Ok(sweep_rows(&rt, &heap, &heap, &mut text, kept_rows())?)
+    Ok(sweep_rows(&rt, &heap, &heap, &mut text, &kept_rows())?)
 }

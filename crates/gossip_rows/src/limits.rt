@@ -34,7 +34,7 @@ fn lone<A: Allocator + Copy>(
     alloc: A,
     spent: u64,
 ) -> Result<Gossip<A>, AllocError> {
-    Gossip::new(alloc, origin(rt, "a"), &[], spent)
+    Gossip::new(alloc, origin(rt, b'a'), &[], spent)
 }
 
 /// Whether a broadcast answers this.
@@ -79,7 +79,7 @@ fn are_answers<A: Allocator + Copy>(
 
 /// Whether the node knows of its own messages the last one alone.
 fn knows_last_alone<A: Allocator>(rt: &impl Abort, gossip: &Gossip<A>) -> bool {
-    gossip.span(&origin(rt, "a")) == (0, 1) && !gossip.knows(&id(rt, ("a", 1)))
+    gossip.span(&origin(rt, b'a')) == (0, 1) && !gossip.knows(&id(rt, (b'a', 1)))
 }
 
 /// Whether they do so, and the node knows the last one alone then.
@@ -112,15 +112,23 @@ fn refuses_long_payloads_and_spent_numbers(rt: HostRuntime) -> Result<(), Fail> 
     Ok(())
 }
 
-/// Broadcasts a payload. Whether it is not sent at once.
+/// Broadcasts a payload into these effects. Whether it is not sent at once.
+fn is_silent<A: Allocator + Copy>(
+    gossip: &mut Gossip<A>,
+    payload: &Bytes<A>,
+    out: &mut Effects<A>,
+) -> Result<bool, GossipFault> {
+    gossip.broadcast(payload, out)?;
+    Ok(out.sends.is_empty())
+}
+
+/// Does so with effects of its own.
 fn waits<A: Allocator + Copy>(
     alloc: A,
     gossip: &mut Gossip<A>,
     payload: &Bytes<A>,
 ) -> Result<bool, GossipFault> {
-    let mut out = Effects::new(alloc);
-    gossip.broadcast(payload, &mut out)?;
-    Ok(out.sends.is_empty())
+    lend(Effects::new(alloc), |out| is_silent(gossip, payload, out))
 }
 
 /// Broadcasts so many empty payloads. Whether none of them is sent at once.
@@ -176,8 +184,8 @@ fn are_cut<A: Allocator + Copy>(
     gossip: &mut Gossip<A>,
     wanted: &str,
 ) -> Result<bool, GossipFault> {
-    gossip.on_prune(&name(rt, "a"));
-    gossip.on_prune(&name(rt, "b"));
+    gossip.on_prune(&name(rt, b'a'));
+    gossip.on_prune(&name(rt, b'b'));
     if !wait(alloc, gossip, 65)? {
         return Ok(false);
     }

@@ -14,18 +14,18 @@ use test_support::{lend, stop_refusing};
 /// More allocations than the call has.
 const MANY: u64 = 50;
 
-const A1: Id = ("a", 1);
+const A1: Id = (b'a', 1);
 
 /// `b` is lazy and has announced a message, and one waits for it.
 const BEFORE: &[Turn] = &[
-    (Act::OnPrune("b"), "", "a+ b- | | | | "),
+    (Act::OnPrune(b'b'), "", "a+ b- | | | | "),
     (
-        Act::Broadcast("n"),
+        Act::Broadcast(Some(b'n')),
         "deliver c/1/1 n; to a gossip c/1/1 0 n; ",
         "a+ b- | b:c/1/1:0 | | | c/1/1=n ",
     ),
     (
-        Act::OnIHave("b", A1, 2),
+        Act::OnIHave(b'b', A1, 2),
         "",
         "a+ b- | b:c/1/1:0 | a/1/1:b:2 | a/1/1 | c/1/1=n ",
     ),
@@ -41,12 +41,12 @@ fn before() -> &'static [Turn] {
 
 /// Who goes down.
 fn downs(rt: &impl Abort) -> [NodeName; 2] {
-    [name(rt, "b"), name(rt, "z")]
+    [name(rt, b'b'), name(rt, b'z')]
 }
 
 /// Who comes up.
 fn ups(rt: &impl Abort) -> [NodeName; 3] {
-    [name(rt, "d"), name(rt, "b"), name(rt, "a")]
+    [name(rt, b'd'), name(rt, b'b'), name(rt, b'a')]
 }
 
 /// Whether the call is not refused, and leaves this.
@@ -62,6 +62,19 @@ fn is_relinked<A: Allocator + Copy>(
     is_shown(text, ids, gossip, AFTER)
 }
 
+/// Makes the call while the allocation with this number is refused. Whether there is such an allocation, and whether
+/// the call is refused.
+fn try_relink<A: Allocator + Copy>(
+    rt: &impl Abort,
+    heap: &RefusingAllocator,
+    gossip: &mut Gossip<A>,
+    n: u64,
+) -> (bool, bool) {
+    heap.refuse(n);
+    let is_refused = gossip.relink(&downs(rt), &ups(rt)).is_err();
+    (stop_refusing(heap), is_refused)
+}
+
 /// Makes the call while the allocation with this number is refused, and again if it is refused. Whether there is such an
 /// allocation.
 fn refuse<A: Allocator + Copy>(
@@ -73,16 +86,13 @@ fn refuse<A: Allocator + Copy>(
     stood: &str,
     n: u64,
 ) -> Result<bool, AllocError> {
-    heap.refuse(n);
-    let is_refused = gossip.relink(&downs(rt), &ups(rt)).is_err();
-    let is_spent = stop_refusing(heap);
-    assert!(rt; is_refused == is_spent);
+    let (is_spent, is_refused) = try_relink(rt, heap, gossip, n);
     let is_right = if is_refused {
         is_shown(text, ids, gossip, stood)? && is_relinked(rt, text, ids, gossip)?
     } else {
         is_shown(text, ids, gossip, AFTER)?
     };
-    assert!(rt; is_right, "{text}");
+    assert!(rt; is_right && is_refused == is_spent, "{text}");
     Ok(is_spent)
 }
 

@@ -1,4 +1,4 @@
-//! Names and ids written as texts and numbers.
+//! Names and ids written as letters and numbers.
 ghost use Rattle.std.specs.List.{IsDistinct};
 ghost use Rattle.node_names.specs.Same.{same_name};
 
@@ -7,15 +7,15 @@ use std::process::Abort;
 use test_support::{first_run, message};
 
 /// A message by the name of its origin, whose incarnation is 1, and its number.
-pub(crate) type Id = (&'static str, u64);
+pub(crate) type Id = (u8, u64);
 
-/// The name of this text.
-pub(crate) fn name(rt: &impl Abort, text: &str) -> NodeName {
-    NodeName::parse(text.as_bytes()).expect(rt, "a name")
+/// The name of this letter.
+pub(crate) fn name(rt: &impl Abort, letter: u8) -> NodeName {
+    NodeName::parse(&[letter]).expect(rt, "a name")
 }
 
-/// The names of two texts that differ.
-pub(crate) fn pair(rt: &impl Abort, one: &str, other: &str) -> [NodeName; 2]
+/// The names of two letters that differ.
+pub(crate) fn pair(rt: &impl Abort, one: u8, other: u8) -> [NodeName; 2]
     ensures { IsDistinct same_name result }
 {
     let one = name(rt, one);
@@ -25,8 +25,8 @@ pub(crate) fn pair(rt: &impl Abort, one: &str, other: &str) -> [NodeName; 2]
 }
 
 /// The first incarnation of this name.
-pub(crate) fn origin(rt: &impl Abort, text: &str) -> Origin {
-    first_run(name(rt, text))
+pub(crate) fn origin(rt: &impl Abort, letter: u8) -> Origin {
+    first_run(name(rt, letter))
 }
 
 /// The id of the message.

@@ -13,16 +13,16 @@ use std::process::Abort;
 use std::test::Fail;
 use test_support::{lend, stop_refusing};
 
-/// A call in plain texts and numbers.
+/// A call in letters and numbers.
 #[derive(Clone, Copy)]
 enum Act {
-    Up(&'static str),
-    Down(&'static str),
-    MakeEager(&'static str),
-    MakeLazy(&'static str),
-    Queue(&'static str, Id, u32),
+    Up(u8),
+    Down(u8),
+    MakeEager(u8),
+    MakeLazy(u8),
+    Queue(u8, Id, u32),
     QueueLazy(Id, u32),
-    Relink(&'static str, &'static str, &'static str),
+    Relink(u8, u8, u8),
     Flush,
 }
 
@@ -34,50 +34,50 @@ type Parts<'a> = (&'a [Turn], &'a [Turn]);
 
 /// Calls of peer sets of `b` and `c`.
 const TURNS: &[Turn] = &[
-    (Act::MakeLazy("c"), "true", "b+ c- | "),
-    (Act::Queue("c", ("a", 1), 0), "", "b+ c- | c:a/1/1:0 "),
-    (Act::Queue("c", ("a", 1), 0), "", "b+ c- | c:a/1/1:0 "),
+    (Act::MakeLazy(b'c'), "true", "b+ c- | "),
+    (Act::Queue(b'c', (b'a', 1), 0), "", "b+ c- | c:a/1/1:0 "),
+    (Act::Queue(b'c', (b'a', 1), 0), "", "b+ c- | c:a/1/1:0 "),
     (Act::Flush, "c a/1/1:0; ", "b+ c- | "),
-    (Act::MakeEager("z"), "false", "b+ c- | "),
-    (Act::Up("d"), "", "b+ c- d+ | "),
-    (Act::Up("c"), "", "b+ c- d+ | "),
-    (Act::QueueLazy(("a", 2), 3), "", "b+ c- d+ | c:a/1/2:3 "),
-    (Act::MakeEager("c"), "true", "b+ c+ d+ | c:a/1/2:3 "),
-    (Act::Down("c"), "", "b+ d+ | "),
-    (Act::MakeLazy("b"), "true", "b- d+ | "),
-    (Act::MakeLazy("d"), "true", "b- d- | "),
+    (Act::MakeEager(b'z'), "false", "b+ c- | "),
+    (Act::Up(b'd'), "", "b+ c- d+ | "),
+    (Act::Up(b'c'), "", "b+ c- d+ | "),
+    (Act::QueueLazy((b'a', 2), 3), "", "b+ c- d+ | c:a/1/2:3 "),
+    (Act::MakeEager(b'c'), "true", "b+ c+ d+ | c:a/1/2:3 "),
+    (Act::Down(b'c'), "", "b+ d+ | "),
+    (Act::MakeLazy(b'b'), "true", "b- d+ | "),
+    (Act::MakeLazy(b'd'), "true", "b- d- | "),
     (
-        Act::QueueLazy(("a", 3), 1),
+        Act::QueueLazy((b'a', 3), 1),
         "",
         "b- d- | b:a/1/3:1 d:a/1/3:1 ",
     ),
     (
-        Act::Queue("d", ("a", 2), 4),
+        Act::Queue(b'd', (b'a', 2), 4),
         "",
         "b- d- | b:a/1/3:1 d:a/1/3:1 d:a/1/2:4 ",
     ),
     (
-        Act::Queue("b", ("a", 4), 0),
+        Act::Queue(b'b', (b'a', 4), 0),
         "",
         "b- d- | b:a/1/3:1 d:a/1/3:1 d:a/1/2:4 b:a/1/4:0 ",
     ),
     (
-        Act::Relink("b", "e", "d"),
+        Act::Relink(b'b', b'e', b'd'),
         "",
         "d- e+ | d:a/1/3:1 d:a/1/2:4 ",
     ),
     (
-        Act::Relink("e", "b", "e"),
+        Act::Relink(b'e', b'b', b'e'),
         "",
         "d- b+ e+ | d:a/1/3:1 d:a/1/2:4 ",
     ),
     (
-        Act::Queue("b", ("a", 4), 0),
+        Act::Queue(b'b', (b'a', 4), 0),
         "",
         "d- b+ e+ | d:a/1/3:1 d:a/1/2:4 b:a/1/4:0 ",
     ),
     (
-        Act::Queue("d", ("a", 4), 0),
+        Act::Queue(b'd', (b'a', 4), 0),
         "",
         "d- b+ e+ | d:a/1/3:1 d:a/1/2:4 b:a/1/4:0 d:a/1/4:0 ",
     ),
@@ -106,7 +106,7 @@ fn takes_none(act: &Act) -> bool {
 
 /// Peer sets of `b` and `c`.
 fn start<A: Allocator + Copy>(rt: &impl Abort, alloc: A) -> Result<PeerSets<A>, AllocError> {
-    let names = pair(rt, "b", "c");
+    let names = pair(rt, b'b', b'c');
     PeerSets::new(alloc, &names)
 }
 
@@ -133,7 +133,7 @@ fn is_shown<A: Allocator>(
 fn queue<A: Allocator + Copy>(
     rt: &impl Abort,
     peers: &mut PeerSets<A>,
-    peer: &str,
+    peer: u8,
     message: Id,
     round: u32,
 ) -> Result<(), AllocError> {
@@ -170,9 +170,9 @@ fn queue_lazy<A: Allocator + Copy>(
 fn relink<A: Allocator + Copy>(
     rt: &impl Abort,
     peers: &mut PeerSets<A>,
-    down: &str,
-    one: &str,
-    other: &str,
+    down: u8,
+    one: u8,
+    other: u8,
 ) -> Result<(), AllocError> {
     let downs = [name(rt, down)];
     let ups = [name(rt, one), name(rt, other)];
@@ -201,10 +201,18 @@ fn flush<A: Allocator + Copy>(
     push_batches(text, batches.as_slice())
 }
 
+fn up<A: Allocator + Copy>(
+    rt: &impl Abort,
+    peers: &mut PeerSets<A>,
+    peer: u8,
+) -> Result<(), AllocError> {
+    peers.up(&name(rt, peer))
+}
+
 fn down<A: Allocator + Copy>(
     rt: &impl Abort,
     peers: &mut PeerSets<A>,
-    peer: &str,
+    peer: u8,
 ) -> Result<(), AllocError> {
     peers.down(&name(rt, peer));
     Ok(())
@@ -215,7 +223,7 @@ fn make_eager<A: Allocator + Copy>(
     rt: &impl Abort,
     text: &mut String,
     peers: &mut PeerSets<A>,
-    peer: &str,
+    peer: u8,
 ) -> Result<(), AllocError> {
     let is_found = peers.make_eager(&name(rt, peer));
     write!(text, "{is_found}")
@@ -226,7 +234,7 @@ fn make_lazy<A: Allocator + Copy>(
     rt: &impl Abort,
     text: &mut String,
     peers: &mut PeerSets<A>,
-    peer: &str,
+    peer: u8,
 ) -> Result<(), AllocError> {
     let is_found = peers.make_lazy(&name(rt, peer));
     write!(text, "{is_found}")
@@ -241,7 +249,7 @@ fn call<A: Allocator + Copy>(
 ) -> Result<(), AllocError> {
     text.clear();
     match *act {
-        Act::Up(peer) => peers.up(&name(rt, peer)),
+        Act::Up(peer) => up(rt, peers, peer),
         Act::Down(peer) => down(rt, peers, peer),
         Act::MakeEager(peer) => make_eager(rt, text, peers, peer),
         Act::MakeLazy(peer) => make_lazy(rt, text, peers, peer),
@@ -291,13 +299,22 @@ fn are_turns<A: Allocator + Copy>(
     Ok(true)
 }
 
-#[test]
-fn plays_calls(rt: HostRuntime) -> Result<(), Fail> {
-    let mut text = String::new(rt.alloc());
-    let peers = start(&rt, rt.alloc())?;
-    let are_right = lend(peers, |peers| are_turns(&rt, &mut text, peers, turns()))?;
+/// Makes all calls.
+fn play<A: Allocator + Copy>(
+    rt: &impl Abort,
+    alloc: A,
+    text: &mut String,
+) -> Result<(), AllocError> {
+    let peers = start(rt, alloc)?;
+    let are_right = lend(peers, |peers| are_turns(rt, text, peers, turns()))?;
     assert!(rt; are_right, "{text}");
     Ok(())
+}
+
+#[test]
+fn plays_calls(rt: HostRuntime) -> Result<(), Fail> {
+    let text = String::new(rt.alloc());
+    Ok(lend(text, |text| play(&rt, rt.alloc(), text))?)
 }
 
 /// Makes a call while the allocation with this number is refused. Whether there is such an allocation, and whether it is refused.

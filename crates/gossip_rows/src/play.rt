@@ -23,8 +23,8 @@ pub(crate) fn start<A: Allocator + Copy>(
     rt: &impl Abort,
     alloc: A,
 ) -> Result<Gossip<A>, AllocError> {
-    let peers = pair(rt, "a", "b");
-    Gossip::new(alloc, origin(rt, "c"), &peers, 0)
+    let peers = pair(rt, b'a', b'b');
+    Gossip::new(alloc, origin(rt, b'c'), &peers, 0)
 }
 
 /// The same node, tuned so.
@@ -36,8 +36,8 @@ pub(crate) fn start_tuned<A: Allocator + Copy>(
     if tuning.threshold == 0 && tuning.keep == 0 {
         return start(rt, alloc);
     }
-    let peers = pair(rt, "a", "b");
-    let me = origin(rt, "c");
+    let peers = pair(rt, b'a', b'b');
+    let me = origin(rt, b'c');
     Gossip::new_tuned(alloc, me, &peers, 0, tuning.threshold, tuning.keep)
 }
 
@@ -93,8 +93,11 @@ fn is_alone<A: Allocator + Copy>(
     turn: &Turn,
     payload: &Bytes<A>,
 ) -> Result<bool, AllocError> {
-    let mut out = Effects::new(alloc);
-    is_call(rt, text, ids, gossip, turn, payload, &mut out)
+    let out = Effects::new(alloc);
+    lend(
+        out,
+        |out| is_call(rt, text, ids, gossip, turn, payload, out),
+    )
 }
 
 /// Makes a call with a payload of its own too. Whether it does so.
@@ -217,18 +220,18 @@ fn play_rows<A: Allocator + Copy>(
 
 #[test]
 fn plays_rows(rt: HostRuntime) -> Result<(), Fail> {
-    let mut text = String::new(rt.alloc());
-    Ok(play_rows(&rt, rt.alloc(), &mut text, rows())?)
+    let text = String::new(rt.alloc());
+    Ok(lend(text, |text| play_rows(&rt, rt.alloc(), text, &rows()))?)
 }
 
 #[test]
 fn plays_tuned_rows(rt: HostRuntime) -> Result<(), Fail> {
-    let mut text = String::new(rt.alloc());
-    Ok(play_rows(&rt, rt.alloc(), &mut text, tuned_rows())?)
+    let text = String::new(rt.alloc());
+    Ok(lend(text, |text| play_rows(&rt, rt.alloc(), text, &tuned_rows()))?)
 }
 
 #[test]
 fn plays_kept_rows(rt: HostRuntime) -> Result<(), Fail> {
-    let mut text = String::new(rt.alloc());
-    Ok(play_rows(&rt, rt.alloc(), &mut text, kept_rows())?)
+    let text = String::new(rt.alloc());
+    Ok(lend(text, |text| play_rows(&rt, rt.alloc(), text, &kept_rows()))?)
 }

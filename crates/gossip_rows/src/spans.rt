@@ -47,7 +47,7 @@ const MANY: u64 = 20;
 
 /// Whether the span of `a` is this, and nothing is known of `b`.
 fn is_span<A: Allocator>(rt: &impl Abort, gossip: &Gossip<A>, wanted: &(u64, usize)) -> bool {
-    gossip.span(&origin(rt, "a")) == *wanted && gossip.span(&origin(rt, "b")) == (0, 0)
+    gossip.span(&origin(rt, b'a')) == *wanted && gossip.span(&origin(rt, b'b')) == (0, 0)
 }
 
 /// Whether a copy says the same.
@@ -60,6 +60,28 @@ fn is_span_of_copy<A: Allocator + Copy>(
     Ok(lend(copy, |copy| is_span(rt, copy, wanted)))
 }
 
+/// Brings a message. Whether it is delivered.
+fn deliver<A: Allocator + Copy>(
+    gossip: &mut Gossip<A>,
+    sender: &NodeName,
+    message: &MsgId,
+    payload: &Bytes<A>,
+    out: &mut Effects<A>,
+) -> Result<bool, AllocError> {
+    gossip.on_gossip(sender, message, 0, payload, out)?;
+    Ok(out.delivered.is_some())
+}
+
+/// Whether a message is known, and the span of `a` is this.
+fn is_in_span<A: Allocator>(
+    rt: &impl Abort,
+    gossip: &Gossip<A>,
+    message: &MsgId,
+    wanted: &(u64, usize),
+) -> bool {
+    gossip.knows(message) && is_span(rt, gossip, wanted)
+}
+
 /// Brings a message. Whether it is delivered if it is new, and known then, with the span that it should leave.
 fn is_delivered<A: Allocator + Copy>(
     rt: &impl Abort,
@@ -69,10 +91,9 @@ fn is_delivered<A: Allocator + Copy>(
     out: &mut Effects<A>,
     step: &Step,
 ) -> Result<bool, AllocError> {
-    let message = id(rt, ("a", step.0));
-    gossip.on_gossip(sender, &message, 0, payload, out)?;
-    let is_new = out.delivered.is_some();
-    let is_right = is_new == step.1 && gossip.knows(&message) && is_span(rt, gossip, &step.2);
+    let message = id(rt, (b'a', step.0));
+    let is_new = deliver(gossip, sender, &message, payload, out)?;
+    let is_right = is_new == step.1 && is_in_span(rt, gossip, &message, &step.2);
     Ok(is_right && is_span_of_copy(rt, gossip, &step.2)?)
 }
 
@@ -84,8 +105,10 @@ fn is_step<A: Allocator + Copy>(
     step: &Step,
 ) -> Result<bool, AllocError> {
     let payload = Bytes::copy_from_slice(alloc, b"m")?;
-    let mut out = Effects::new(alloc);
-    is_delivered(rt, gossip, &name(rt, "b"), &payload, &mut out, step)
+    let sender = name(rt, b'b');
+    lend(Effects::new(alloc), |out| {
+        is_delivered(rt, gossip, &sender, &payload, out, step)
+    })
 }
 
 /// Brings messages to a node that knows none. Whether each of them does so.
@@ -132,7 +155,7 @@ fn add_all<A: Allocator + Copy>(
     steps: &[Step],
 ) -> Result<(), AllocError> {
     for step in steps {
-        add(known, &id(rt, ("a", step.0)))?;
+        add(known, &id(rt, (b'a', step.0)))?;
     }
     Ok(())
 }
@@ -155,6 +178,29 @@ fn is_known<A: Allocator>(
     known.contains(id) == wanted && known.span(&id.origin) == *span
 }
 
+/// Makes room for an id while the allocation with this number is refused. Whether there is such an allocation, and
+/// whether that is refused.
+fn try_room<A: Allocator + Copy>(
+    heap: &RefusingAllocator,
+    known: &mut KnownIds<A>,
+    message: &MsgId,
+    n: u64,
+) -> (bool, bool) {
+    heap.refuse(n);
+    let is_refused = known.make_room(message).is_err();
+    (stop_refusing(heap), is_refused)
+}
+
+/// Adds an id. Whether it is known then, with this span of its origin.
+fn is_added<A: Allocator + Copy>(
+    known: &mut KnownIds<A>,
+    message: &MsgId,
+    wanted: &(u64, usize),
+) -> Result<bool, AllocError> {
+    add(known, message)?;
+    Ok(is_known(known, message, true, wanted))
+}
+
 /// Adds an id while the allocation with this number is refused, and then without. Whether there is such an allocation.
 fn refuse_add<A: Allocator + Copy>(
     rt: &impl Abort,
@@ -164,14 +210,11 @@ fn refuse_add<A: Allocator + Copy>(
     step: &Step,
     n: u64,
 ) -> Result<bool, AllocError> {
-    let message = id(rt, ("a", step.0));
-    heap.refuse(n);
-    let is_refused = known.make_room(&message).is_err();
-    let is_spent = stop_refusing(heap);
+    let message = id(rt, (b'a', step.0));
+    let (is_spent, is_refused) = try_room(heap, known, &message, n);
     let stands = is_known(known, &message, !step.1, stood);
-    assert!(rt; stands && is_refused == is_spent);
-    add(known, &message)?;
-    assert!(rt; is_known(known, &message, true, &step.2));
+    let is_right = stands && is_added(known, &message, &step.2)?;
+    assert!(rt; is_right && is_refused == is_spent);
     Ok(is_spent)
 }
 

@@ -267,21 +267,21 @@ fn sweep_rows<A: Allocator + Copy>(
 fn each_allocation_of_each_call(rt: HostRuntime) -> Result<(), Fail> {
     let heap = RefusingAllocator::new(rt.alloc());
     let mut text = String::new(rt.alloc());
-    Ok(sweep_rows(&rt, &heap, &heap, &mut text, rows())?)
+    Ok(sweep_rows(&rt, &heap, &heap, &mut text, &rows())?)
 }
 
 #[test]
 fn each_allocation_of_each_tuned_call(rt: HostRuntime) -> Result<(), Fail> {
     let heap = RefusingAllocator::new(rt.alloc());
     let mut text = String::new(rt.alloc());
-    Ok(sweep_rows(&rt, &heap, &heap, &mut text, tuned_rows())?)
+    Ok(sweep_rows(&rt, &heap, &heap, &mut text, &tuned_rows())?)
 }
 
 #[test]
 fn each_allocation_of_each_kept_call(rt: HostRuntime) -> Result<(), Fail> {
     let heap = RefusingAllocator::new(rt.alloc());
     let mut text = String::new(rt.alloc());
-    Ok(sweep_rows(&rt, &heap, &heap, &mut text, kept_rows())?)
+    Ok(sweep_rows(&rt, &heap, &heap, &mut text, &kept_rows())?)
 }
 
 fn can_start<A: Allocator + Copy>(rt: &impl Abort, alloc: A) -> bool {
