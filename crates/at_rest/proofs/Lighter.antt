@@ -1,4 +1,5 @@
--- Each packet of a broadcast that comes, each flush and each firing leave a gossip and its packets with less load than there was.
+-- Each packet of a broadcast that comes, each flush and each firing leave a gossip and its packets with less load than
+-- there was.
 use Rattle.std.proofs.Common.{◌≡◌, ◌∙◌, ◌+◌, ◌*◌, ◌≤◌, ℕ, suc, List, [], ◌∷◌, ◌++◌, length, true, false, sym, ap, refl, subst, arith}
 use Rattle.std.specs.Prelude.{Bool, Option, Some, None, cond, filter, is_some, map, not}
 use Rattle.std.specs.FinSet as set

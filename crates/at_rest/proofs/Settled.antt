@@ -1,4 +1,5 @@
--- Each event of the settling of a calm group makes its load less, and leaves it calm; so there are no more of them than its load.
+-- Each event of the settling of a calm group makes its load less, and leaves it calm; so there are no more of them than
+-- its load.
 use Rattle.std.proofs.Common.{◌≡◌, ◌∙◌, ◌+◌, ◌≤◌, ℕ, List, [], ◌∷◌, ◌++◌, length, true, false, sym, ap, refl, subst, inl, inr, arith}
 use Rattle.std.specs.List.{AllByRecursion as Each}
 use Rattle.std.specs.Option.{IfSome}

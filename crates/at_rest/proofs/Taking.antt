@@ -1,4 +1,5 @@
--- What the next event of a calm group leaves: less load, a calm group, and another state of the node that it steps alone.
+-- What the next event of a calm group leaves: less load, a calm group, and another state of the node that it steps
+-- alone.
 use Rattle.std.proofs.Common.{◌≡◌, ◌∙◌, ◌+◌, ◌≤◌, List, [], ◌∷◌, false, sym, ap, subst, inr}
 use Rattle.std.specs.List.{IsDistinct, position}
 use Rattle.std.specs.Prelude.{Some, None, reverse}

@@ -9,8 +9,8 @@ use Rattle.world.specs.Group.{Group, core_of}
 use Rattle.world.specs.Links.{IsRunning, IsSymmetric}
 use Rattle.world.specs.declared.packet.Packet.{Packet}
 
--- The packet is not about membership, it goes to a running node, and if it asks for a message, so that it is answered, it comes
--- from one.
+-- The packet is not about membership, it goes to a running node, and if it asks for a message, so that it is answered,
+-- it comes from one.
 pub record IsCalmPacket {C N : Type 0} (content : N → Content) (group : Group C N) (packet : Packet N) : Type 0 where
   pub broadcasts : (content packet.note).is_membership ≡ false
   pub arrives : IsRunning group packet.to

@@ -17,8 +17,8 @@ module _ {C : Type 0} (state : C → CoreState) (nodes : List (NodeState C)) whe
   abbrev pub runs : Name → Bool
   runs name = is_some (core_of name nodes)
 
-  -- whether the name comes next after these in reach and the last level of them: it runs, is not among them, and a member of
-  -- the level is linked to it
+  -- whether the name comes next after these in reach and the last level of them: it runs, is not among them, and a
+  -- member of the level is linked to it
   abbrev pub is_next : List Name → List Name → Name → Bool
   is_next reached level name = runs name && (not (has_name reached name) && (not (has_name level name) && list_any (λ member. has_link member name) level))
 

@@ -16,7 +16,8 @@ use Rattle.frames.specs.Frame.{Frame}
 use Rattle.frames.specs.declared.body.BodyOf.TheVariants as body
 use Rattle.node_core.specs.Plum.{Plum, plum_state}
 
--- the load of a packet: 3 for a message, 7 for each announcement, 4 for a request, and 1 where it says which set its sender is in
+-- the load of a packet: 3 for a message, 7 for each announcement, 4 for a request, and 1 where it says which set its
+-- sender is in
 abbrev pub body_load : Body → ℕ
 body_load (body.Gossip id round payload) = 3
 body_load (body.IHave entries) = 7 * length entries

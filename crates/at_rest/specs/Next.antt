@@ -44,8 +44,8 @@ module _
       abbrev pub IsNextSpent : Group C N → Type 0
       IsNextSpent group = (event : Event) × IsNext state group event × IsSpentBy is_spent group event
 
-      -- Why an event was not played, or played last: numbers that are used up leave the group as it is, and memory that is
-      -- refused leaves it so, or after the next event.
+      -- Why an event was not played, or played last: numbers that are used up leave the group as it is, and memory that
+      -- is refused leaves it so, or after the next event.
       abbrev pub Stops : SettleError → Logged C N → Logged C N → Type 0
       Stops NotCalm old new = ⊥
       Stops SeqSpent old new = (new ≡ old) × IsNextSpent old.group

@@ -48,8 +48,8 @@ abbrev pub no_dice : Dice
 no_dice = record { 0 = replicate 16 0 }
 
 module _ {C N : Type 0} (state : C → CoreState) where
-  -- The event is the next to be played: while anything flies, the oldest packet arrives; else the first node with a queue flushes
-  -- it; else the first timer of the first node with one fires.
+  -- The event is the next to be played: while anything flies, the oldest packet arrives; else the first node with a
+  -- queue flushes it; else the first timer of the first node with one fires.
   abbrev pub IsNext : Group C N → Event → Type 0
   IsNext group (Arrive place dice) = (group.flight ≢ []) × (place ≡ 0) × (dice ≡ no_dice)
   IsNext group (Flush name) = (group.flight ≡ []) × ((entry : Name × MsgId × ℕ) × IsFirstWith (queue_of state) group.nodes name entry)
@@ -77,7 +77,8 @@ module _ {C N : Type 0} (state : C → CoreState) where
       Settles [] old new = new ≡ old
       Settles (event ∷ events) old new = IsNext old.group event × ((given : List Delivery) × (between : Logged C N) × Applied state starts steps event given old between × Settles events between new)
 
--- In a group that came to rest: where a message had been said and all was calm since when it began to settle, and where not all
--- messages are to be kept no node has delivered more than are kept since, every node in reach of its origin has delivered it.
+-- In a group that came to rest: where a message had been said and all was calm since when it began to settle, and where
+-- not all messages are to be kept no node has delivered more than are kept since, every node in reach of its origin has
+-- delivered it.
 abbrev pub AreDelivered : {C N : Type 0} → (C → CoreState) → Logged C N → Logged C N → Type 0
 AreDelivered state old new = (id : MsgId) → SaidAndCalm (reverse old.log) id → (0 < new.limits.keep → AreFewSince new.limits.keep (deliveries (reverse new.log)) id) → (name : Name) → Reaches state new.group id.origin.name name → DeliveredAt new.group (reverse new.log) name id

@@ -9,8 +9,8 @@ use node_names::{MsgId, NodeName};
 use std::alloc::Allocator;
 use world::{Core, Packet, Wire, World};
 
-/// Whether the group is at rest for the message: no packet in flight carries it, announces it or asks for it, and no running
-/// node has an announcement of it queued or a timer for it.
+/// Whether the group is at rest for the message: no packet in flight carries it, announces it or asks for it, and no
+/// running node has an announcement of it queued or a timer for it.
 pub fn is_at_rest<C: Core<A>, A: Allocator + Copy>(world: &World<C, A>, id: &MsgId) -> bool
     ensures { IsTrue result ↔ IsAtRest C.state C.Note.content world.now.group id.now }
 {

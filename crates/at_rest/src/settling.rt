@@ -68,12 +68,14 @@ fn play_next<A: Allocator + Copy>(
 
 /// Brings a calm group to rest. Returns how many events it played.
 ///
-/// While anything is in flight, the oldest packet arrives, with dice that show 0 alone; else the first node with a queue flushes
-/// it; else the first timer of the first node with one fires. docs/settling.md says what is left to do in a group as a number,
-/// which each of these events makes smaller. An event costs what it does in the group, and a look into a sorted set.
+/// While anything is in flight, the oldest packet arrives, with dice that show 0 alone; else the first node with a
+/// queue flushes it; else the first timer of the first node with one fires. docs/settling.md says what is left to do in
+/// a group as a number, which each of these events makes smaller. An event costs what it does in the group, and a look
+/// into a sorted set.
 ///
-/// It is refused with `NotCalm` where `is_calm` says no, and then nothing was played. A node whose numbers are used up and an
-/// allocation that is refused end it earlier: the group stands after the events that were played, and another call goes on.
+/// It is refused with `NotCalm` where `is_calm` says no, and then nothing was played. A node whose numbers are used up
+/// and an allocation that is refused end it earlier: the group stands after the events that were played, and another
+/// call goes on.
 pub fn settle<A: Allocator + Copy>(
     alloc: A,
     world: &mut World<PlumCore<A>, A>,
@@ -82,11 +84,13 @@ pub fn settle<A: Allocator + Copy>(
     ensures not_calm { (result ≡ Err NotCalm) ↔ (IsCalm plum_state frame_content world.old.group → ⊥) }
     ensures unchanged { result ≡ Err NotCalm → world.new ≡ world.old }
 
-    // The next event was played again and again, as often as is answered, and no more often than the load of the group was.
+    // The next event was played again and again, as often as is answered, and no more often than the load of the group
+    // was.
     ensures played { (events : List Event) × Settles plum_state PlumStarts PlumSteps events world.old world.new × IfOk result (λ k. length events ≡ k) }
     ensures bound { IfOk result (λ k. k ≤ load_of world.old) }
 
-    // Nothing is left, so the group is at rest for all messages, and undisturbed ones are delivered wherever they should be.
+    // Nothing is left, so the group is at rest for all messages, and undisturbed ones are delivered wherever they
+    // should be.
     ensures settled { OnOk result (IsSettled {N = Frame} plum_state world.new.group) }
     ensures rest { OnOk result ((id : MsgId) → IsAtRest plum_state frame_content world.new.group id) }
     ensures delivered { OnOk result (AreDelivered plum_state world.old world.new) }

@@ -11,8 +11,8 @@ use world::{Core, Delivery, Entry, EventOf, Packet, World};
 
 /// The deliveries of a message, in their order, each with whom it came from.
 ///
-/// The parent of every branch but the origin's own has a branch before it, so that each leads to the origin. Incarnations
-/// that have ended keep their branches.
+/// The parent of every branch but the origin's own has a branch before it, so that each leads to the origin.
+/// Incarnations that have ended keep their branches.
 pub fn tree<C: Core<A>, A: Allocator + Copy>(
     alloc: A,
     world: &World<C, A>,

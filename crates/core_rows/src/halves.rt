@@ -1,5 +1,6 @@
-//! Steps of a node in two halves: what is prepared is what a step gives, preparing changes nothing, and advancing leaves what the
-//! step leaves. Each allocation of the second half is refused in turn: the node is then as before, and the step can be made again.
+//! Steps of a node in two halves: what is prepared is what a step gives, preparing changes nothing, and advancing
+//! leaves what the step leaves. Each allocation of the second half is refused in turn: the node is then as before, and
+//! the step can be made again.
 use crate::act::Act;
 use crate::named::{Id, id, name};
 use crate::play::happen;
@@ -296,8 +297,8 @@ fn is_stepped<A: Allocator + Copy>(
     Ok(is_left(text, core, out, message, case.given, case.left)?)
 }
 
-/// Prepares a step, and advances while the allocation with this number is refused. Whether there is such an allocation, and
-/// whether the core refuses to advance.
+/// Prepares a step, and advances while the allocation with this number is refused. Whether there is such an allocation,
+/// and whether the core refuses to advance.
 fn try_advance<A: Allocator + Copy>(
     heap: &RefusingAllocator,
     core: &mut PlumCore<A>,
@@ -312,7 +313,8 @@ fn try_advance<A: Allocator + Copy>(
     Ok((is_spent, answer.is_err()))
 }
 
-/// Does so, and takes the step again if it is refused. Whether there is such an allocation, or none if something is wrong.
+/// Does so, and takes the step again if it is refused. Whether there is such an allocation, or none if something is
+/// wrong.
 fn refuse_allocation<A: Allocator + Copy>(
     heap: &RefusingAllocator,
     text: &mut String,
@@ -333,8 +335,8 @@ fn refuse_allocation<A: Allocator + Copy>(
     Ok((is_right && is_refused == is_spent).then_some(is_spent))
 }
 
-/// At 0 takes the step at once, and else refuses an allocation of its second half. Whether there is more to try, or none if
-/// something is wrong.
+/// At 0 takes the step at once, and else refuses an allocation of its second half. Whether there is more to try, or
+/// none if something is wrong.
 fn try_step<A: Allocator + Copy>(
     heap: &RefusingAllocator,
     text: &mut String,
@@ -370,8 +372,8 @@ fn try_copy<A: Allocator + Copy>(
     })
 }
 
-/// Takes the step at once, then refuses each allocation of the second half in turn, and at last none. How many there are, or none
-/// if something is wrong.
+/// Takes the step at once, then refuses each allocation of the second half in turn, and at last none. How many there
+/// are, or none if something is wrong.
 fn sweep<A: Allocator + Copy>(
     heap: &RefusingAllocator,
     text: &mut String,

@@ -256,8 +256,8 @@ fn start_mute<A: Allocator + Copy>(
     )
 }
 
-/// Whether a broadcast is refused for want of a number, by both halves at once and by the first alone, though the very next
-/// allocation is refused.
+/// Whether a broadcast is refused for want of a number, by both halves at once and by the first alone, though the very
+/// next allocation is refused.
 fn is_mute<A: Allocator + Copy>(
     heap: &RefusingAllocator,
     core: &mut PlumCore<A>,

@@ -1,5 +1,5 @@
-//! Rows in which each allocation is refused in turn: the refusal is as out of memory, all readers answer as before the refused
-//! event, and the event made again answers as if nothing had been refused.
+//! Rows in which each allocation is refused in turn: the refusal is as out of memory, all readers answer as before the
+//! refused event, and the event made again answers as if nothing had been refused.
 use crate::act::{Act, event};
 use crate::play::{apply, asked, compare, compare_whole, happen, limits, play};
 use crate::rows::{Row, Turn, rows};
@@ -35,7 +35,8 @@ fn try_event<A: Allocator + Copy>(
     Ok((is_spent, answer.is_err()))
 }
 
-/// Plays an event whose allocation with this number is refused, and makes it again if it is refused. Whether it had so many.
+/// Plays an event whose allocation with this number is refused, and makes it again if it is refused. Whether it had so
+/// many.
 fn refuse_event<A: Allocator + Copy>(
     rt: &impl Abort,
     heap: &RefusingAllocator,

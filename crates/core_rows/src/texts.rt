@@ -148,8 +148,8 @@ fn push_restless<A: Allocator + Copy>(
     Ok(())
 }
 
-/// Appends what stands between events: the numbers of the packets in flight, what waits at the nodes, and those of these
-/// messages that the group is not at rest for.
+/// Appends what stands between events: the numbers of the packets in flight, what waits at the nodes, and those of
+/// these messages that the group is not at rest for.
 pub(crate) fn push_standing<A: Allocator + Copy>(
     text: &mut String,
     world: &Group<A>,
@@ -286,7 +286,8 @@ fn push_peers<A: Allocator>(text: &mut String, core: &PlumCore<A>) -> Result<(),
     Ok(())
 }
 
-/// Appends what a core's readers answer: its views, what waits at it, its gossip's peers, and what it holds of a message.
+/// Appends what a core's readers answer: its views, what waits at it, its gossip's peers, and what it holds of a
+/// message.
 pub(crate) fn push_core<A: Allocator + Copy>(
     text: &mut String,
     core: &PlumCore<A>,

@@ -1,5 +1,5 @@
-//! Runs of nodes that swap branches or forget payloads. They stand apart from the other runs since a function that names a table costs
-//! by all of its rows.
+//! Runs of nodes that swap branches or forget payloads. They stand apart from the other runs since a function that
+//! names a table costs by all of its rows.
 use crate::act::Act;
 use crate::named::Id;
 use crate::rows::{ASKING, Row};
@@ -13,8 +13,8 @@ const A3: Id = ("a", 3);
 /// Both views of the nodes of a square.
 const SQUARE: &str = "a: b d /; b: a c /; c: b d /; d: c a /; ";
 
-/// In a square the link from a to d is slow for once, so that messages go round. Then d hears of the second one from a, two links
-/// sooner than it comes, and asks a in place of c for the next ones.
+/// In a square the link from a to d is slow for once, so that messages go round. Then d hears of the second one from a,
+/// two links sooner than it comes, and asks a in place of c for the next ones.
 const SHORTER_WAY: Row = Row {
     threshold: 2,
     keep: 0,
@@ -147,8 +147,8 @@ const SHORTER_WAY: Row = Row {
 /// Both views of the nodes of a line.
 const LINE: &str = "a: b /; b: a c /; c: b /; ";
 
-/// A node that holds one message broadcasts its own before it is asked for the one that it announced. It sends nothing, and who asked
-/// lacks the message for good.
+/// A node that holds one message broadcasts its own before it is asked for the one that it announced. It sends nothing,
+/// and who asked lacks the message for good.
 const FORGOTTEN: Row = Row {
     threshold: 0,
     keep: 1,

@@ -1,5 +1,6 @@
-//! Writes streams of frames, and cuts them in pieces of several sizes. Without an argument it does each once and prints how many
-//! bytes and frames went through, and with a count of MiB it does each as often as that takes and prints how many a second.
+//! Writes streams of frames, and cuts them in pieces of several sizes. Without an argument it does each once and prints
+//! how many bytes and frames went through, and with a count of MiB it does each as often as that takes and prints how
+//! many a second.
 #![tactic(auto)]
 
 mod stream;

@@ -1,4 +1,5 @@
-//! Frames whose bytes are cut short, or changed one at a time. What comes of each is worked out by hand from docs/frames.md.
+//! Frames whose bytes are cut short, or changed one at a time. What comes of each is worked out by hand from
+//! docs/frames.md.
 ghost use Rattle.std.specs.Prelude.{◌<◌};
 
 use crate::compare::{is_written, read_as};
@@ -73,8 +74,8 @@ const FAULTS: &[Change] = &[
     (23, 0, 0, FrameFault::BadField),
 ];
 
-/// How many changes make a frame: two kinds, the 37 bytes of names but `a`, and all changes of the eight bytes of the incarnation
-/// and of the number but the one that makes it 0.
+/// How many changes make a frame: two kinds, the 37 bytes of names but `a`, and all changes of the eight bytes of the
+/// incarnation and of the number but the one that makes it 0.
 const MADE: u32 = 2 + 36 + 8 * 255 + 8 * 255 - 1;
 
 /// What PRUNE is read as with this byte at this place.

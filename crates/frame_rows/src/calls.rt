@@ -9,8 +9,8 @@ use std::alloc::{AllocError, Allocator};
 use std::io::Read;
 use test_support::stop_refusing;
 
-/// What a pump is called with: a tape, the pieces in which it is read, the call that fails, how many frames the sink takes, and
-/// the turns.
+/// What a pump is called with: a tape, the pieces in which it is read, the call that fails, how many frames the sink
+/// takes, and the turns.
 #[derive(Clone, Copy)]
 pub(crate) struct PumpCall<'a> {
     pub(crate) bytes: &'a [u8],
@@ -118,7 +118,8 @@ pub(crate) fn call_pump<A: Allocator + Copy>(
     pump_from_reader(heap, alloc, &mut reader, call, n)
 }
 
-/// What a drain of two PRUNEs is called with: how many bytes the writer takes a call, the call that fails, and the frames.
+/// What a drain of two PRUNEs is called with: how many bytes the writer takes a call, the call that fails, and the
+/// frames.
 #[derive(Clone, Copy)]
 pub(crate) struct DrainCall {
     pub(crate) most: usize,
@@ -192,7 +193,8 @@ fn drain_from_source<A: Allocator + Copy, B: Allocator>(
     drain_between(heap, source, &mut writer, call.frames, n)
 }
 
-/// Makes a call of a drain, of which the allocation with this number is refused. The source and the writer have heaps of their own.
+/// Makes a call of a drain, of which the allocation with this number is refused. The source and the writer have heaps
+/// of their own.
 pub(crate) fn call_drain<A: Allocator + Copy, B: Allocator>(
     heap: &RefusingAllocator,
     sources: A,

@@ -47,7 +47,8 @@ fn is_told<A: Allocator + Copy>(
     is_sender && is_number && is_kind && is_other
 }
 
-/// Makes a frame, reads it, and takes it apart. Whether all of that went as it should while the next allocation was refused.
+/// Makes a frame, reads it, and takes it apart. Whether all of that went as it should while the next allocation was
+/// refused.
 fn is_calm<A: Allocator + Copy>(
     rt: &impl Abort,
     heap: &RefusingAllocator,

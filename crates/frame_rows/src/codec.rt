@@ -1,5 +1,5 @@
-//! Reading and writing a frame, each allocation of a call refused in turn: the refusal is as out of memory, and the call made
-//! again answers as if nothing had been refused.
+//! Reading and writing a frame, each allocation of a call refused in turn: the refusal is as out of memory, and the
+//! call made again answers as if nothing had been refused.
 use crate::compare::{is_written, read_as, write_gossip};
 use crate::rows::{Row, rows};
 use frames::{Frame, FrameFault, decode, encode};
@@ -12,8 +12,8 @@ use world::Wire;
 /// More allocations than any call has.
 const MANY: u64 = 40;
 
-/// Reads bytes while the allocation with this number is refused, and again. Whether there is such an allocation, or none if an answer
-/// is wrong.
+/// Reads bytes while the allocation with this number is refused, and again. Whether there is such an allocation, or
+/// none if an answer is wrong.
 ///
 /// Where the bytes have a fault, it is told, whatever was refused.
 fn refuse_decode<A: Allocator + Copy>(
@@ -36,8 +36,8 @@ fn refuse_decode<A: Allocator + Copy>(
     (is_right && is_again).then_some(is_spent)
 }
 
-/// Writes a frame while the allocation with this number is refused, and again. Whether there is such an allocation, or none if an
-/// answer is wrong.
+/// Writes a frame while the allocation with this number is refused, and again. Whether there is such an allocation, or
+/// none if an answer is wrong.
 fn refuse_encode<A: Allocator + Copy>(
     heap: &RefusingAllocator,
     alloc: A,
@@ -61,8 +61,8 @@ fn is_copied<A: Allocator + Copy>(frame: &Frame<A>) -> Option<bool> {
     }
 }
 
-/// Copies a frame while the allocation with this number is refused, and again. Whether there is such an allocation, or none if an
-/// answer is wrong.
+/// Copies a frame while the allocation with this number is refused, and again. Whether there is such an allocation, or
+/// none if an answer is wrong.
 fn refuse_copy<A: Allocator + Copy>(
     heap: &RefusingAllocator,
     frame: &Frame<A>,
@@ -91,7 +91,8 @@ fn sweep_decode<A: Allocator + Copy>(
     None
 }
 
-/// Refuses each allocation of writing and copying in turn. How many the one has that has more, or none if an answer is wrong.
+/// Refuses each allocation of writing and copying in turn. How many the one has that has more, or none if an answer is
+/// wrong.
 fn sweep_frame<A: Allocator + Copy>(
     heap: &RefusingAllocator,
     alloc: A,
@@ -120,7 +121,8 @@ fn sweep_first<A: Allocator + Copy>(
     }
 }
 
-/// All three calls of a stream's first frame. How many allocations the one has that has most, or none if an answer is wrong.
+/// All three calls of a stream's first frame. How many allocations the one has that has most, or none if an answer is
+/// wrong.
 fn sweep<A: Allocator + Copy>(
     heap: &RefusingAllocator,
     alloc: A,
@@ -135,8 +137,8 @@ fn sweep<A: Allocator + Copy>(
     Some(of_reading.max(of_frame))
 }
 
-/// All three calls of each frame of a row, and the reading of what follows. How many allocations there are, or none if an answer
-/// is wrong.
+/// All three calls of each frame of a row, and the reading of what follows. How many allocations there are, or none if
+/// an answer is wrong.
 fn sweep_row<A: Allocator + Copy>(heap: &RefusingAllocator, alloc: A, row: &Row) -> Option<u64> {
     let mut at = 0usize;
     let mut allocations = 0u64;

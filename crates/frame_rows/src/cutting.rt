@@ -1,5 +1,5 @@
-//! Cutting a stream into frames, each allocation of each call refused in turn: the refusal is as out of memory, the cutter is as
-//! it was, and the call made again answers as if nothing had been refused.
+//! Cutting a stream into frames, each allocation of each call refused in turn: the refusal is as out of memory, the
+//! cutter is as it was, and the call made again answers as if nothing had been refused.
 use crate::compare::end_of_frame;
 use crate::rows::{Row, rows};
 use frames::{Cutter, Frame, FrameFault};
@@ -24,8 +24,8 @@ struct SoFar {
     is_refused: bool,
 }
 
-/// Feeds a piece while the allocation with this number is refused, and again if it is. Whether there is such an allocation, or none if
-/// an answer is wrong.
+/// Feeds a piece while the allocation with this number is refused, and again if it is. Whether there is such an
+/// allocation, or none if an answer is wrong.
 fn feed_refused<A: Allocator + Copy>(
     heap: &RefusingAllocator,
     cutter: &mut Cutter<A>,
@@ -78,8 +78,8 @@ fn is_given<A: Allocator + Copy>(
     }
 }
 
-/// Asks for a frame while the allocation with this number is refused. Whether one is given, or none if that is a wrong one, and
-/// whether there is such an allocation.
+/// Asks for a frame while the allocation with this number is refused. Whether one is given, or none if that is a wrong
+/// one, and whether there is such an allocation.
 fn next_refused<A: Allocator + Copy>(
     heap: &RefusingAllocator,
     alloc: A,
@@ -94,8 +94,8 @@ fn next_refused<A: Allocator + Copy>(
     (is_given(alloc, row, &answer, so_far), is_spent)
 }
 
-/// Does so, and again if it is refused. Whether a frame is given, or none if an answer is wrong. A fault may be told although a
-/// allocation was refused.
+/// Does so, and again if it is refused. Whether a frame is given, or none if an answer is wrong. A fault may be told
+/// although a allocation was refused.
 fn take_frame<A: Allocator + Copy>(
     heap: &RefusingAllocator,
     alloc: A,
@@ -145,8 +145,8 @@ fn is_end(row: &Row, so_far: &SoFar, left: usize) -> bool {
     is_fault && so_far.frames == row.frames.len() && left == rest
 }
 
-/// Feeds a row in pieces of this size, and refuses the allocation with this number of each call. Whether a call has so many, or
-/// none if an answer is wrong.
+/// Feeds a row in pieces of this size, and refuses the allocation with this number of each call. Whether a call has so
+/// many, or none if an answer is wrong.
 fn play_pieces<A: Allocator + Copy>(
     heap: &RefusingAllocator,
     alloc: A,

@@ -12,8 +12,8 @@ const THREE: [u8; 72] = *b"\0\0\0\x14\x01\x0b\x01a\0\0\0\0\0\0\0\x01\0\0\0\0\0\0
     \0\0\0\x14\x01\x0b\x01a\0\0\0\0\0\0\0\x01\0\0\0\0\0\0\0\x02\
     \0\0\0\x14\x01\x0b\x01a\0\0\0\0\0\0\0\x01\0\0\0\0\0\0\0\x02";
 
-/// Pumps three PRUNEs byte by byte until a read fails, after so many bytes. Whether the sink has the whole frames of these, and
-/// the reader all other bytes.
+/// Pumps three PRUNEs byte by byte until a read fails, after so many bytes. Whether the sink has the whole frames of
+/// these, and the reader all other bytes.
 fn ends_after<A: Allocator + Copy>(
     heap: &RefusingAllocator,
     alloc: A,
@@ -44,8 +44,8 @@ fn failing_reads(rt: HostRuntime) -> Result<(), Fail> {
     Ok(())
 }
 
-/// How many bytes go out before a write fails, and how many items the source has given then, of two PRUNEs to a writer that takes
-/// ten bytes a call. The first write fails in the first row, the second in the second, and so on.
+/// How many bytes go out before a write fails, and how many items the source has given then, of two PRUNEs to a writer
+/// that takes ten bytes a call. The first write fails in the first row, the second in the second, and so on.
 const WRITES: &[(usize, usize)] = &[(0, 1), (10, 1), (20, 1), (24, 2), (34, 2), (44, 2)];
 
 /// Whether a drain ended at a write, after so many bytes, which the writer has, of so many items.

@@ -28,8 +28,8 @@ fn id(rt: &impl Abort) -> MsgId {
     message(name(rt, b"a"), 1)
 }
 
-/// Writes a frame of a/1, number 1, of a kind and with fields, in place of what was there; the length of the body is that of a
-/// small frame.
+/// Writes a frame of a/1, number 1, of a kind and with fields, in place of what was there; the length of the body is
+/// that of a small frame.
 fn write_small(bytes: &mut Vec<u8>, kind: u8, fields: &[u8]) -> Result<(), AllocError> {
     let len = (fields.len() % 200) as u8 + 20;
     bytes.clear();
@@ -48,7 +48,8 @@ fn are_fronts_short(alloc: Global, bytes: &[u8]) -> bool {
     true
 }
 
-/// Whether a frame was made that is written as these bytes, is read with more behind them, and is not read of a front of them.
+/// Whether a frame was made that is written as these bytes, is read with more behind them, and is not read of a front
+/// of them.
 fn is_both_ways(
     alloc: Global,
     bytes: &mut Vec<u8>,

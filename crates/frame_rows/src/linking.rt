@@ -1,5 +1,6 @@
-//! Reading frames from a stream and writing them to one, each allocation refused in turn: the end is as out of memory, and what
-//! the sink took or the writer has is a front of the whole. The call in which no allocation is left to refuse ends as its row says.
+//! Reading frames from a stream and writing them to one, each allocation refused in turn: the end is as out of memory,
+//! and what the sink took or the writer has is a front of the whole. The call in which no allocation is left to refuse
+//! ends as its row says.
 use crate::calls::{DrainCall, Drained, PumpCall, Pumped, call_drain, call_pump};
 use crate::rows::{Row, rows};
 use links::LinkEnd;
@@ -20,8 +21,8 @@ pub(crate) struct PumpRow {
     pub(crate) rest: usize,
 }
 
-/// Whether a pump ended as its row says, or as out of memory if an allocation was refused. The fault of a frame may be told even
-/// then.
+/// Whether a pump ended as its row says, or as out of memory if an allocation was refused. The fault of a frame may be
+/// told even then.
 fn is_pumped(row: &PumpRow, pumped: &Pumped) -> bool {
     let are_counts = pumped.frames == row.frames && pumped.rest == row.rest;
     let is_whole = pumped.end == row.end && are_counts;
@@ -111,7 +112,8 @@ pub(crate) enum Refused {
     Writer,
 }
 
-/// Whether a drain ended at a refused allocation: after all that the source gave, or within it where the writer's call failed.
+/// Whether a drain ended at a refused allocation: after all that the source gave, or within it where the writer's call
+/// failed.
 fn is_cut_off(drained: &Drained, refused: Refused) -> bool {
     let given = drained.gave.saturating_mul(24);
     let bytes = drained.len as u64;

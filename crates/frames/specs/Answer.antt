@@ -9,11 +9,11 @@ abbrev pub Reads : {X : Type 0} → Result X FrameFault → Reader X → List �
 Reads (Ok x) r old new = r old ≡ Ok (x, new)
 Reads (Err fault) r old new = r old ≡ Err fault
 
--- The fault is the one that reading gives; or it is want of memory, and reading gives none.
+-- The fault is the one that reading has; or it is OutOfMemory, and reading has none.
 abbrev pub IsFaultOf : {Y : Type 0} → FrameFault → Result Y FrameFault → Type 0
 IsFaultOf fault read = (read ≡ Err fault) ⊎ ((fault ≡ OutOfMemory) × IsOk read)
 
--- The answer, seen by view, is what reading gives, or want of memory where reading gives no fault.
+-- The answer, seen by view, is what reading answers, or OutOfMemory where reading has no fault.
 abbrev pub Makes : {X Y : Type 0} → (X → Y) → Result X FrameFault → Result Y FrameFault → Type 0
 Makes view (Ok x) read = read ≡ Ok (view x)
 Makes view (Err fault) read = IsFaultOf fault read

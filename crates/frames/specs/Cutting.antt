@@ -13,8 +13,8 @@ pub record Cuts (frame : Frame) (old new : List ℕ) : Type 0 where
   pub spelled : IsSpelling frame spelling
   pub parts : old ≡ spelling ++ new
 
--- What the next frame of some bytes is: one that they begin with; none, where they end before it does; or a fault, which is
--- the first of the order of faults, or want of memory. The bytes stay, but for those of the frame.
+-- What the next frame of some bytes is: one that they begin with; none, where they end before it does; or a fault,
+-- which is the first of the order of faults, or a refused allocation. The bytes stay, but for those of the frame.
 abbrev pub IsNext : Result (Option Frame) FrameFault → List ℕ → List ℕ → Type 0
 IsNext (Ok (Some frame)) old new = Cuts frame old new
 IsNext (Ok None) old new = (read old ≡ Err Short) × (new ≡ old)

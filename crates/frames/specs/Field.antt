@@ -37,8 +37,8 @@ id_octets i = origin_octets i.origin ++ to_be_bytes w64 i.seq
 abbrev pub announcement_octets : MsgId × ℕ → List ℕ
 announcement_octets a = id_octets a.0 ++ to_be_bytes w32 a.1
 
--- The bytes of a field. Numbers are big-endian. A list or a payload begins with its length: a list of names in one byte,
--- one of announcements in two, a payload in four.
+-- The bytes of a field. Numbers are big-endian. A list or a payload begins with its length: a list of names in one
+-- byte, one of announcements in two, a payload in four.
 abbrev pub octets : Field → List ℕ
 octets (byte n) = n ∷ []
 octets (flag b) = (if b then 1 else 0) ∷ []

@@ -72,7 +72,7 @@ pub(crate) fn has_good_counts<A: Allocator>(body: &Body<A>) -> bool
     }
 }
 
-/// The same body once more.
+/// A copy of the body.
 pub(crate) fn copy_body<A: Allocator + Copy>(body: &Body<A>) -> Result<Body<A>, AllocError>
     ensures { IfOk result (λ copy. copy ≡ body.now) }
 {

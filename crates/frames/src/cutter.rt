@@ -11,16 +11,17 @@ use std::marker::Model;
 
 /// The frames of a stream whose bytes come in pieces of any size.
 ///
-/// A contract sees a cutter as the bytes that it has been fed and that are no part of a frame that it gave. It never holds
-/// more than twice as many, and once `next` gives none these are less than one frame: so its memory does not grow with the
-/// stream. Each byte is copied in once and, on average, moved at most once more, and a frame is read once it is whole.
+/// A contract sees a cutter as the bytes that it was fed and that are no part of a frame that it returned. It never
+/// holds more than twice as many, and once `next` returns none these are less than one frame: so its memory does not
+/// grow with the stream. Each byte is copied in and, on average, moved at most once after that; a frame is read when it
+/// is whole.
 #[derive(Drop)]
 pub struct Cutter<A: Allocator = Global> {
-    /// What was fed, but for some of the frames given at its front.
+    /// What was fed, without some of the frames at its front that were returned.
     buffer: Vec<u8, A>,
-    /// How many bytes of the buffer belong to frames that were given.
+    /// How many bytes of the buffer belong to frames that were returned.
     given: usize,
-    /// The fault that the bytes left have, once it was met.
+    /// The fault of the remaining bytes, once it was met.
     fault: Option<FrameFault>,
 }
 
@@ -32,7 +33,7 @@ impl<A: Allocator> Model for Cutter<A> {
 
     ghost view = { λ c. drop c.given c.buffer.items };
 
-    // The bytes that were given and are still held are no more than those left.
+    // The bytes of returned frames that are still held are no more than the remaining ones.
     ghost invariant = { λ c. (c.given + c.given ≤ length c.buffer.items) × IsMet c.fault (drop c.given c.buffer.items) };
 }
 
@@ -48,14 +49,14 @@ impl<A: Allocator + Copy> Cutter<A> {
         }
     }
 
-    /// The bytes that it was fed and that are no part of a frame that it gave.
+    /// The bytes that it was fed and that are no part of a frame that it returned.
     fn rest(&self) -> &[u8]
         ensures { result.now ≡ self.now }
     {
         &self.buffer[self.given..]
     }
 
-    /// How many of the bytes that it was fed are no part of a frame that it gave.
+    /// How many of the bytes that it was fed are no part of a frame that it returned.
     pub fn left(&self) -> usize
         ensures { result ≡ length self.now }
     {
@@ -72,10 +73,10 @@ impl<A: Allocator + Copy> Cutter<A> {
 
     /// The next frame, or none as long as it is not whole.
     ///
-    /// After a fault other than want of memory the answer is that fault from then on. `Short` is never one.
+    /// After a fault other than `OutOfMemory` it returns that fault from then on. It never returns `Short`.
     pub fn next(&mut self) -> Result<Option<Frame<A>>, FrameFault>
         ensures next { IsNext result self.old self.new }
-        // Less than a frame is kept, once none is whole.
+        // Once no frame is whole, less than one is kept.
         ensures few { result ≡ Ok None → length self.new < MAX_FRAME }
     {
         if let Some(fault) = self.fault {
@@ -96,7 +97,8 @@ impl<A: Allocator + Copy> Cutter<A> {
     }
 }
 
-/// Drops the bytes at the front that were given, once they are as many as those left, and answers how many are still held.
+/// Drops the bytes of returned frames at the front once they are as many as the others, and returns how many are still
+/// held.
 fn forget<A: Allocator>(buffer: &mut Vec<u8, A>, given: usize) -> usize
     requires { given ≤ length buffer.old.items }
     ensures left { drop result buffer.new.items ≡ drop given buffer.old.items }

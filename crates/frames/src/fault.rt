@@ -22,7 +22,7 @@ pub enum FrameFault {
     BadCount,
     /// Bytes of the body are left after its last field.
     Trailing,
-    /// A growth was refused.
+    /// An allocation was refused.
     OutOfMemory,
 }
 

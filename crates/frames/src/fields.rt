@@ -9,8 +9,8 @@ use crate::kind::Kind;
 use node_names::{Incarnation, MsgId, NodeName, Origin};
 use std::marker::Model;
 
-/// The bytes of a body that are still to be read. Each method reads one field from their front, and after a fault nothing
-/// more is to be read.
+/// The bytes of a body that are still to be read. Each method reads one field from their front, and after a fault
+/// nothing more is to be read.
 #[derive(Drop)]
 pub(crate) struct Fields<'a> {
     rest: &'a [u8],

@@ -37,8 +37,8 @@ impl<A: Allocator> Model for Frame<A> {
 impl<A: Allocator> Frame<A> {
     /// The frame of this number that the sender says this in.
     ///
-    /// `BadField`: the number, or that of a message, is 0, or the payload is longer than 32,768 bytes. `BadCount`: there are
-    /// more than 8 names, no announcement or more than 64.
+    /// `BadField`: the number, or that of a message, is 0, or the payload is longer than 32,768 bytes. `BadCount`:
+    /// there are more than 8 names, no announcement or more than 64.
     pub fn new(sender: Origin, number: u64, body: Body<A>) -> Result<Frame<A>, FrameFault>
         ensures { MatchResult result
             (λ frame. (refusal number body ≡ None) × (frame ≡ record { sender = sender; number = number; body = body }))

@@ -37,7 +37,7 @@ impl Item for (MsgId, u32) {
     }
 }
 
-/// Puts an item last, as long as memory lasts.
+/// Puts an item last, unless an allocation is or was refused.
 fn keep<T: Item, A: Allocator>(items: &mut Result<Vec<T, A>, AllocError>, item: T)
     ensures { (xs : List T) → IfOk items.old (λ v. v.items ≡ xs) → IfOk items.new (λ v. v.items ≡ xs ++ item ∷ []) }
 {
@@ -48,7 +48,7 @@ fn keep<T: Item, A: Allocator>(items: &mut Result<Vec<T, A>, AllocError>, item: 
     }
 }
 
-/// A list of so many items, and nothing after it. Want of memory is told last.
+/// A list of so many items, and nothing after it. A refused allocation is told last.
 pub(crate) fn list<T: Item, A: Allocator>(
     alloc: A,
     count: usize,

@@ -25,8 +25,8 @@ fn push_decoded(alloc: Global, text: &mut String, stream: &[u8]) -> Result<(), A
     }
 }
 
-/// Appends the frames that a cutter has, of which the first stands at this place of the stream, and answers the fault after them.
-/// The place is then that after the last one.
+/// Appends the frames that a cutter has, of which the first stands at this place of the stream, and answers the fault
+/// after them. The place is then that after the last one.
 fn push_given(
     alloc: Global,
     text: &mut String,
@@ -68,7 +68,8 @@ fn push_pieces(
     Ok(None)
 }
 
-/// Appends what a cutter gives, and how it ends: with a fault, which it answers from then on, or with bytes of no whole frame.
+/// Appends what a cutter gives, and how it ends: with a fault, which it answers from then on, or with bytes of no whole
+/// frame.
 fn push_cut(alloc: Global, text: &mut String, case: &Case) -> Result<(), AllocError> {
     let mut cutter = Cutter::new(alloc);
     match push_pieces(alloc, text, &mut cutter, case)? {

@@ -2,8 +2,8 @@
 use anyhow::{Context, Result};
 use std::alloc::Global;
 
-/// A stream and how it comes. Its line has four words: the sizes of the pieces, with commas between them, the frames that the sink
-/// takes, the read that fails, and the bytes in hexadecimal digits; a `-` stands for none.
+/// A stream and how it comes. Its line has four words: the sizes of the pieces, with commas between them, the frames
+/// that the sink takes, the read that fails, and the bytes in hexadecimal digits; a `-` stands for none.
 #[derive(Drop)]
 pub(crate) struct Case {
     /// The sizes of the pieces; what is left comes as one.

@@ -1,5 +1,5 @@
-//! Answers cases of `bench/fuzz`: each line of standard input is a stream of bytes and how it comes, and the line that is printed for
-//! it says what `decode`, a cutter and `pump` make of it.
+//! Answers cases of `bench/fuzz`: each line of standard input is a stream of bytes and how it comes, and the line that
+//! is printed for it says what `decode`, a cutter and `pump` make of it.
 #![tactic(auto)]
 
 mod answers;

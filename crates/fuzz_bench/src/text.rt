@@ -47,7 +47,8 @@ fn push_body(text: &mut String, body: &Body) -> Result<(), AllocError> {
     }
 }
 
-/// Appends a frame, with `misspelt` where it is not spelled as the stream has it at this place, and answers where it ends.
+/// Appends a frame, with `misspelt` where it is not spelled as the stream has it at this place, and answers where it
+/// ends.
 pub(crate) fn push_frame(
     alloc: Global,
     text: &mut String,

@@ -9,10 +9,10 @@ use Rattle.node_names.specs.declared.ids.MsgId.{MsgId}
 use Rattle.missing.specs.Missing.{Missing}
 use Rattle.peer_sets.specs.PeerSets.{PeerSets}
 
--- Who the node is, by how many links a message's way must be longer than that of its first announcement for its sender to be
--- swapped for the announcer (0 for never), how many of the messages that it delivered last it holds (0 for all), how many messages the
--- node has broadcast, its eager and lazy peers with what waits for them, what it knows of messages that it lacks, the ids that it
--- knows, and the messages that it holds, in order of delivery.
+-- Who the node is, by how many links a message's way must be longer than that of its first announcement for its sender
+-- to be swapped for the announcer (0 for never), how many of the messages that it delivered last it holds (0 for all),
+-- how many messages the node has broadcast, its eager and lazy peers with what waits for them, what it knows of
+-- messages that it lacks, the ids that it knows, and the messages that it holds, in order of delivery.
 pub record GossipState : Type 0 where
   pub me : Origin
   pub threshold : ℕ

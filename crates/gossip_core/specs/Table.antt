@@ -57,8 +57,8 @@ with_peer name kind g = record g { peers = record g.peers { members = with_kind 
 abbrev pub gossip_to : MsgId → ℕ → List ℕ → Name → Name × Body
 gossip_to id round payload peer = (peer, Gossip id round payload)
 
--- The message is delivered and known, sent to the eager members and queued for the lazy ones, but for one. Of the messages that
--- were delivered the last ones are held.
+-- The message is delivered and known, sent to the eager members and queued for the lazy ones, but for one. Of the
+-- messages that were delivered the last ones are held.
 abbrev pub spread : Option Name → MsgId → ℕ → List ℕ → GossipState → Outcome
 spread left_out id round payload g =
     record {
@@ -103,14 +103,16 @@ passed_by threshold sender round None = None
 passed_by threshold sender round (Some first) =
     if not (same_name first.0 sender) && nat_le (first.1 + threshold) round then Some first.0 else None
 
--- By whom a member that sends a message for the first time was passed, if a threshold is set: who announced the message first.
+-- By whom a member that sends a message for the first time was passed, if a threshold is set: who announced the message
+-- first.
 abbrev pub shortcut : GossipState → Name → MsgId → ℕ → Option Name
 shortcut g sender id round =
     if g.threshold == 0 then None
     else if is_member g.peers.members sender then passed_by g.threshold sender round (first_want id g.missing.wants)
     else None
 
--- Who passed the sender takes its place in the tree: the one is asked for messages from now on, the other for announcements.
+-- Who passed the sender takes its place in the tree: the one is asked for messages from now on, the other for
+-- announcements.
 abbrev pub swapped : Name → Option Name → Outcome → Outcome
 swapped sender None done = done
 swapped sender (Some peer) done =

@@ -31,9 +31,9 @@ use world::MAX_PAYLOAD;
 ///
 /// A call has two halves: `answer` says what it will send and deliver, and `take` changes the state. A caller who makes
 /// room for the answer in between has nothing left that can be refused after `take`. The other calls are both halves in
-/// one. Looking a message up costs the same however many are held. A copy costs their number. Which messages are known takes
-/// memory by their origins and the gaps in their numbers, and not by the messages; what is held takes memory by `keep`, or by
-/// all messages where that is 0.
+/// one. Looking a message up costs the same however many are held. A copy costs their number. Which messages are known
+/// takes memory by their origins and the gaps in their numbers, and not by the messages; what is held takes memory by
+/// `keep`, or by all messages where that is 0.
 #[derive(Drop)]
 pub struct Gossip<A: Allocator = Global> {
     me: Origin,
@@ -66,8 +66,8 @@ impl<A: Allocator> Model for Gossip<A> {
 }
 
 impl<A: Allocator + Copy> Gossip<A> {
-    /// A node that has these peers, all eager, and has broadcast `seq_spent` messages; it knows none, swaps no branches, and holds
-    /// all that it delivers. The peers are distinct.
+    /// A node that has these peers, all eager, and has broadcast `seq_spent` messages; it knows none, swaps no
+    /// branches, and holds all that it delivers. The peers are distinct.
     pub fn new(alloc: A, me: Origin, peers: &[NodeName], seq_spent: u64) -> Result<Self, AllocError>
         requires { IsDistinct same_name peers.now }
         ensures { IfOk result (λ gossip. gossip ≡ record {
@@ -84,10 +84,10 @@ impl<A: Allocator + Copy> Gossip<A> {
         Gossip::new_tuned(alloc, me, peers, seq_spent, 0, 0)
     }
 
-    /// The same node with a threshold and a bound on its store. Where a member sends a message for the first time that another
-    /// announced before, on a way shorter by so many links or more, that other takes the sender's place as an eager peer. With 0
-    /// none does. Of the messages that it delivered the node holds the last `keep`, or all for 0; it knows the others too, and
-    /// has no payload for who asks.
+    /// The same node with a threshold and a bound on its store. Where a member sends a message for the first time that
+    /// another announced before, on a way shorter by so many links or more, that other takes the sender's place as an
+    /// eager peer. With 0 none does. Of the messages that it delivered the node holds the last `keep`, or all for 0; it
+    /// knows the others too, and has no payload for who asks.
     pub fn new_tuned(
         alloc: A,
         me: Origin,
@@ -528,8 +528,8 @@ impl<A: Allocator> Gossip<A> {
         self.known.contains(id)
     }
 
-    /// The highest number for which 1 to it are all known of the origin, and how many known numbers stand past it. Both are
-    /// 0 for an origin of which nothing is known.
+    /// The highest number for which 1 to it are all known of the origin, and how many known numbers stand past it. Both
+    /// are 0 for an origin of which nothing is known.
     pub fn span(&self, origin: &Origin) -> (u64, usize)
         ensures span { IsSpan self.now.known origin.now result.0 result.1 }
         ensures last { result.0 ≡ u64.MAX → result.1 ≡ 0 }

@@ -239,7 +239,8 @@ fn plays_calls(rt: HostRuntime) -> Result<(), Fail> {
     Ok(lend(text, |text| play(&rt, rt.alloc(), text))?)
 }
 
-/// Makes a call while the allocation with this number is refused. Whether there is such an allocation, and what the call gives.
+/// Makes a call while the allocation with this number is refused. Whether there is such an allocation, and what the
+/// call gives.
 fn try_call<A: Allocator + Copy>(
     rt: &impl Abort,
     heap: &RefusingAllocator,
@@ -253,8 +254,8 @@ fn try_call<A: Allocator + Copy>(
     (is_spent, answer)
 }
 
-/// Makes a call again that was refused. Whether it takes memory, its refusal left what stood, and it gives and leaves what it
-/// should now.
+/// Makes a call again that was refused. Whether it takes memory, its refusal left what stood, and it gives and leaves
+/// what it should now.
 fn is_turn_again<A: Allocator + Copy>(
     rt: &impl Abort,
     text: &mut String,
@@ -269,7 +270,8 @@ fn is_turn_again<A: Allocator + Copy>(
     is_turn(rt, text, missing, turn)
 }
 
-/// Makes a call while the allocation with this number is refused, and again if it is refused. Whether there is such an allocation.
+/// Makes a call while the allocation with this number is refused, and again if it is refused. Whether there is such an
+/// allocation.
 fn refuse_call<A: Allocator + Copy>(
     rt: &impl Abort,
     heap: &RefusingAllocator,

@@ -72,7 +72,8 @@ fn call_of<'a, A: Allocator>(
     }
 }
 
-/// Whether a call is answered as it should be, or refused as out of memory if an allocation was refused, and what stood is left.
+/// Whether a call is answered as it should be, or refused as out of memory if an allocation was refused, and what stood
+/// is left.
 fn is_answered<A: Allocator + Copy>(
     text: &mut String,
     ids: &[MsgId],

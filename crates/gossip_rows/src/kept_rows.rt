@@ -1,5 +1,5 @@
-//! Rows of nodes that forget payloads. They stand apart from the other rows since a function that names a table costs by all of its
-//! rows.
+//! Rows of nodes that forget payloads. They stand apart from the other rows since a function that names a table costs
+//! by all of its rows.
 use crate::act::Act;
 use crate::rows::{A1, A2, A3, A5, C1, Row, Tuning, Turn};
 

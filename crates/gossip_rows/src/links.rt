@@ -75,8 +75,8 @@ fn try_relink<A: Allocator + Copy>(
     (stop_refusing(heap), is_refused)
 }
 
-/// Makes the call while the allocation with this number is refused, and again if it is refused. Whether there is such an
-/// allocation.
+/// Makes the call while the allocation with this number is refused, and again if it is refused. Whether there is such
+/// an allocation.
 fn refuse<A: Allocator + Copy>(
     rt: &impl Abort,
     heap: &RefusingAllocator,

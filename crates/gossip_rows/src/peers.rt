@@ -317,7 +317,8 @@ fn plays_calls(rt: HostRuntime) -> Result<(), Fail> {
     Ok(lend(text, |text| play(&rt, rt.alloc(), text))?)
 }
 
-/// Makes a call while the allocation with this number is refused. Whether there is such an allocation, and whether it is refused.
+/// Makes a call while the allocation with this number is refused. Whether there is such an allocation, and whether it
+/// is refused.
 fn try_call<A: Allocator + Copy>(
     rt: &impl Abort,
     heap: &RefusingAllocator,
@@ -332,8 +333,8 @@ fn try_call<A: Allocator + Copy>(
     (is_spent, is_refused)
 }
 
-/// Makes a call again that was refused. Whether it takes memory, its refusal left what stood, and it gives and leaves what it
-/// should now.
+/// Makes a call again that was refused. Whether it takes memory, its refusal left what stood, and it gives and leaves
+/// what it should now.
 fn is_turn_again<A: Allocator + Copy>(
     rt: &impl Abort,
     text: &mut String,
@@ -348,7 +349,8 @@ fn is_turn_again<A: Allocator + Copy>(
     is_turn(rt, text, peers, turn)
 }
 
-/// Makes a call while the allocation with this number is refused, and again if it is refused. Whether there is such an allocation.
+/// Makes a call while the allocation with this number is refused, and again if it is refused. Whether there is such an
+/// allocation.
 fn refuse_call<A: Allocator + Copy>(
     rt: &impl Abort,
     heap: &RefusingAllocator,

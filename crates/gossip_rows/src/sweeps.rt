@@ -31,7 +31,8 @@ fn is_refused(rt: &impl Abort, answer: &Result<(), GossipFault>) -> bool {
     }
 }
 
-/// Makes a call while the allocation with this number is refused. Whether there is such an allocation, and whether it is refused.
+/// Makes a call while the allocation with this number is refused. Whether there is such an allocation, and whether it
+/// is refused.
 fn try_call<A: Allocator + Copy>(
     rt: &impl Abort,
     heap: &RefusingAllocator,
@@ -47,8 +48,8 @@ fn try_call<A: Allocator + Copy>(
     (is_spent, is_refused(rt, &answer))
 }
 
-/// Makes a call again that was refused. Whether it takes memory, its refusal gave nothing and left what stood, and it gives and
-/// leaves what it should now.
+/// Makes a call again that was refused. Whether it takes memory, its refusal gave nothing and left what stood, and it
+/// gives and leaves what it should now.
 fn is_call_again<A: Allocator + Copy>(
     rt: &impl Abort,
     text: &mut String,
@@ -66,7 +67,8 @@ fn is_call_again<A: Allocator + Copy>(
     is_call(rt, text, ids, gossip, turn, payload, out)
 }
 
-/// Makes a call while the allocation with this number is refused, and again if it is refused. Whether there is such an allocation.
+/// Makes a call while the allocation with this number is refused, and again if it is refused. Whether there is such an
+/// allocation.
 fn refuse_call<A: Allocator + Copy>(
     rt: &impl Abort,
     heap: &RefusingAllocator,
@@ -142,7 +144,8 @@ fn is_copy<A: Allocator>(
     }
 }
 
-/// Copies while the allocation with this number is refused. Whether there is such an allocation, and whether the copy is right.
+/// Copies while the allocation with this number is refused. Whether there is such an allocation, and whether the copy
+/// is right.
 fn try_copy<A: Allocator + Copy>(
     heap: &RefusingAllocator,
     text: &mut String,
@@ -173,7 +176,8 @@ fn refuse_copy<A: Allocator + Copy>(
     Ok(is_spent)
 }
 
-/// Plays the calls of a row up to one, and refuses its allocation with this number. Whether there is such an allocation.
+/// Plays the calls of a row up to one, and refuses its allocation with this number. Whether there is such an
+/// allocation.
 fn sweep_parts<A: Allocator + Copy>(
     rt: &impl Abort,
     heap: &RefusingAllocator,

@@ -168,8 +168,8 @@ pub(crate) fn write_held<A: Allocator>(
     push_ids(text, gossip.held())
 }
 
-/// Writes what the readers answer in place of what the text said: members, queue, wants, timers, and those of these messages
-/// that are known.
+/// Writes what the readers answer in place of what the text said: members, queue, wants, timers, and those of these
+/// messages that are known.
 pub(crate) fn write_shown<A: Allocator>(
     text: &mut String,
     gossip: &Gossip<A>,

@@ -199,8 +199,8 @@ pub(crate) fn used_ports<R: Wait + Abort, A: Allocator + Copy>(
     Ok(ports)
 }
 
-/// A host that is closed without its port is handed back, and one that is closed with another host's port finds its receipts
-/// unlike.
+/// A host that is closed without its port is handed back, and one that is closed with another host's port finds its
+/// receipts unlike.
 #[test]
 fn swapped_ports(rt: HostRuntime) -> Result<(), Fail> {
     let host = host_of(start_alone(&rt, rt.alloc(), "a", 1)?);

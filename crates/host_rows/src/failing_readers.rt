@@ -1,4 +1,5 @@
-//! Streams that end or fail within a frame: each frame before that is a step, and then the link of their sender is down.
+//! Streams that end or fail within a frame: each frame before that is a step, and then the link of their sender is
+//! down.
 use crate::node::{Started, keep, name, start_with_one};
 use crate::tally::{Counting, Tally};
 use crate::texts::push_closed;
@@ -175,8 +176,8 @@ where
     reads(rt, alloc, text, node, ending)
 }
 
-/// Two frames of a peer, of which so many bytes come before the stream ends, and before a read fails. Each whole frame is a step,
-/// and if there is one, the last step is a Down of the peer, also where nothing of a further frame came.
+/// Two frames of a peer, of which so many bytes come before the stream ends, and before a read fails. Each whole frame
+/// is a step, and if there is one, the last step is a Down of the peer, also where nothing of a further frame came.
 #[test]
 fn failing_readers(rt: HostRuntime) -> Result<(), Fail> {
     let mut text = String::new(rt.alloc());

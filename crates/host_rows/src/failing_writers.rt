@@ -139,8 +139,8 @@ where
     Ok(workers)
 }
 
-/// Broadcasts once, waits for the step of the writer that meets the fault, and closes the node. Whether the step came. The text
-/// is what the node leaves.
+/// Broadcasts once, waits for the step of the writer that meets the fault, and closes the node. Whether the step came.
+/// The text is what the node leaves.
 fn meet<R, C>(
     rt: R,
     alloc: Global,
@@ -181,8 +181,8 @@ where
     Ok(is_met && is_text(text.as_str(), case.left))
 }
 
-/// A node broadcasts, and the connection of its link fails. Its trace is the broadcast and a Down of the peer, at most one frame
-/// came out of the first link, and none out of the next one.
+/// A node broadcasts, and the connection of its link fails. Its trace is the broadcast and a Down of the peer, at most
+/// one frame came out of the first link, and none out of the next one.
 #[test]
 fn failing_writers(rt: HostRuntime) -> Result<(), Fail> {
     let mut text = String::new(rt.alloc());

@@ -184,8 +184,8 @@ where
     Ok(closes_whole(&rt, node, workers) && is_read)
 }
 
-/// Two readers with one frame each, of which the second goes first, after the first was refused. Both frames arrive, and the
-/// first reader asks less often than it may.
+/// Two readers with one frame each, of which the second goes first, after the first was refused. Both frames arrive,
+/// and the first reader asks less often than it may.
 #[test]
 fn gated_readers(rt: HostRuntime) -> Result<(), Fail> {
     let alloc = rt.alloc();

@@ -455,8 +455,8 @@ where
     Ok(close_all(&rt, alloc, nodes)? && is_handed_out)
 }
 
-/// Three nodes broadcast twenty messages each, by two ports at once. Each delivers all sixty and hands them out as its trace has
-/// them, and each closes.
+/// Three nodes broadcast twenty messages each, by two ports at once. Each delivers all sixty and hands them out as its
+/// trace has them, and each closes.
 #[test]
 fn three_hosts(rt: HostRuntime) -> Result<(), Fail> {
     let nodes = run_three(rt, rt.alloc())?;

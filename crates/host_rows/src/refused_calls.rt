@@ -1,5 +1,5 @@
-//! The start and the broadcasts of a node, each allocation of them refused in turn: the call fails as out of memory, and made again
-//! it answers as if nothing had been refused.
+//! The start and the broadcasts of a node, each allocation of them refused in turn: the call fails as out of memory,
+//! and made again it answers as if nothing had been refused.
 use crate::ends::broadcast;
 use crate::node::{Started, name, start_alone};
 use crate::texts::push_answer;
@@ -27,8 +27,8 @@ fn is_out_of_memory(error: HostError) -> bool {
     )
 }
 
-/// Starts the node while the allocation with this number is refused, and again if it is refused. Whether there is such an
-/// allocation, or none if something is wrong.
+/// Starts the node while the allocation with this number is refused, and again if it is refused. Whether there is such
+/// an allocation, or none if something is wrong.
 fn refuse_start<A: Allocator + Copy>(
     rt: &impl Abort,
     heap: &RefusingAllocator,
@@ -60,8 +60,8 @@ fn each_allocation_of_a_start(rt: HostRuntime) -> Result<(), Fail> {
     Ok(())
 }
 
-/// Broadcasts by a port while the allocation with this number is refused, and again if it is refused. Whether there is such an
-/// allocation, or none if the port does not answer so.
+/// Broadcasts by a port while the allocation with this number is refused, and again if it is refused. Whether there is
+/// such an allocation, or none if the port does not answer so.
 fn refuse_broadcast<R: Wait, C: NodeCore<A> + Drop, A: Allocator + Copy>(
     rt: &R,
     heap: &RefusingAllocator,
@@ -134,7 +134,8 @@ fn refuse_of_node<R: Threads + Wait + Abort, C: NodeCore<A> + Drop, A: Allocator
     Ok(refused)
 }
 
-/// Does so with a fresh node. Whether there is such an allocation, or none if something is wrong, or the node leaves anything else.
+/// Does so with a fresh node. Whether there is such an allocation, or none if something is wrong, or the node leaves
+/// anything else.
 fn refuse_of_fresh<R: Threads + Wait + Abort, A: Allocator + Copy>(
     rt: &R,
     heap: &RefusingAllocator,

@@ -1,4 +1,5 @@
-//! The close of a node, each allocation of it refused in turn: it fails as out of memory, and hands the whole trace back.
+//! The close of a node, each allocation of it refused in turn: it fails as out of memory, and hands the whole trace
+//! back.
 use crate::ends::{broadcast_by_each, close_without_ports, host_of, used_ports};
 use crate::node::{Started, start_alone};
 use crate::texts::push_answer;
@@ -18,7 +19,8 @@ struct Answers {
     refused: &'static str,
 }
 
-/// Closes a node while the allocation with this number is refused. Whether there is such an allocation. The text is the answer.
+/// Closes a node while the allocation with this number is refused. Whether there is such an allocation. The text is the
+/// answer.
 fn close_refused<R: Threads + Wait, C: NodeCore<A> + Drop, A: Allocator + Copy>(
     rt: &R,
     heap: &RefusingAllocator,
@@ -90,8 +92,9 @@ fn each_allocation_of_a_close(rt: HostRuntime) -> Result<(), Fail> {
     Ok(())
 }
 
-/// Closes a node without its port, with no allocation to spare, and then with the port of another node while the allocation with
-/// this number is refused. Whether there is such an allocation, or none if the first close does not hand the node back.
+/// Closes a node without its port, with no allocation to spare, and then with the port of another node while the
+/// allocation with this number is refused. Whether there is such an allocation, or none if the first close does not
+/// hand the node back.
 fn refuse_other_port<R: Threads + Wait, C: NodeCore<A> + Drop, A: Allocator + Copy>(
     rt: &R,
     heap: &RefusingAllocator,
@@ -129,7 +132,8 @@ fn refuse_of_two<R: Threads + Wait + Abort, A: Allocator + Copy>(
     Ok(refused.and_then(|is_spent| judge(text.as_str(), &answers, is_spent)))
 }
 
-/// A close without a port needs no memory. One with the port of another node finds the receipts unlike, unless it is refused.
+/// A close without a port needs no memory. One with the port of another node finds the receipts unlike, unless it is
+/// refused.
 #[test]
 fn each_allocation_of_swapped_ports(rt: HostRuntime) -> Result<(), Fail> {
     let heap = RefusingAllocator::new(rt.alloc());

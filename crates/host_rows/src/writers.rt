@@ -230,7 +230,8 @@ fn close_without_workers<R: Threads + Wait, C: NodeCore<Global> + Drop>(
     }
 }
 
-/// Closes a node without its workers, and then with them. What it leaves, if the one finds some missing and the other none.
+/// Closes a node without its workers, and then with them. What it leaves, if the one finds some missing and the other
+/// none.
 fn close_twice<R: Threads + Wait, C: NodeCore<Global> + Drop>(
     rt: &R,
     alloc: Global,
@@ -312,8 +313,8 @@ where
     Ok(closes_right(&rt, alloc, node, workers, meeting)? && is_written)
 }
 
-/// Two links are written at once. Closing the node without its writers finds them missing, and with them the node made three
-/// steps, three frames came out of each link, and all bytes of these frames were written.
+/// Two links are written at once. Closing the node without its writers finds them missing, and with them the node made
+/// three steps, three frames came out of each link, and all bytes of these frames were written.
 #[test]
 fn writers_at_once(rt: HostRuntime) -> Result<(), Fail> {
     let alloc = rt.alloc();
@@ -349,7 +350,8 @@ fn is_torn<C: NodeCore<Global> + Drop>(answer: &Result<Closed, CloseError<C>>) -
     }
 }
 
-/// Writes the outlet of another node by a worker of this one, and stops this one. The worker, or none if it did not write.
+/// Writes the outlet of another node by a worker of this one, and stops this one. The worker, or none if it did not
+/// write.
 fn write_of_another<R, C>(
     rt: R,
     alloc: Global,

@@ -25,7 +25,8 @@ HasRoom known id = IsSomeAnd (lookup (same_origin id.origin) known) (λ span. Ha
 abbrev pub ids_past : Origin → ℕ → set.FinSet id_cmp → set.FinSet id_cmp
 ids_past origin n known = set.retain known (λ id. same_origin id.origin origin && nat_lt n id.seq)
 
--- `unbroken` is the highest number for which 1 to it are all known of the origin, and so many known numbers stand past it.
+-- `unbroken` is the highest number for which 1 to it are all known of the origin, and so many known numbers stand past
+-- it.
 pub record IsSpan (known : set.FinSet id_cmp) (origin : Origin) (unbroken past : ℕ) : Type 0 where
   pub known_to : (n : ℕ) → 1 ≤ n → n ≤ unbroken → set.contains known (record { origin = origin; seq = n }) ≡ true
   pub lacks_next : set.contains known (record { origin = origin; seq = unbroken + 1 }) ≡ false

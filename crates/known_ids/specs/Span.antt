@@ -2,8 +2,8 @@
 use Rattle.std.specs.Prelude.{ℕ, ◌+◌, ◌^◌, ◌<◌, Bool, List, [], ◌∷◌, ◌++◌, if◌then◌else◌, nat_eq}
 use Rattle.std.specs.List.{list_any, range_with_len}
 
--- Whether 0 is known, how many numbers from 1 on are known without a gap, the known numbers past the gap in order, and for how
--- many more of these there is room.
+-- Whether 0 is known, how many numbers from 1 on are known without a gap, the known numbers past the gap in order, and
+-- for how many more of these there is room.
 pub record Span : Type 0 where
   pub zero : Bool
   pub unbroken : ℕ

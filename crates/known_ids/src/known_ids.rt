@@ -14,9 +14,9 @@ use std::marker::Model;
 
 /// The ids of messages that are known.
 ///
-/// Of each origin it keeps the highest number for which 1 to it are all known, and in order the known numbers past the gap
-/// behind it. So it takes memory by origins and gaps, and not by messages. To find an id costs a hash of its origin and the
-/// logarithm of the known numbers past the gap; to add the next number costs the same however many are known.
+/// Of each origin it keeps the highest number for which 1 to it are all known, and in order the known numbers past the
+/// gap behind it. So it takes memory by origins and gaps, and not by messages. To find an id costs a hash of its origin
+/// and the logarithm of the known numbers past the gap; to add the next number costs the same however many are known.
 ///
 /// An id is added in two steps: `make_room` takes the memory and can be refused, `insert` takes none.
 #[derive(Drop)]
@@ -101,8 +101,8 @@ impl<A: Allocator> KnownIds<A> {
         span.insert(id.seq);
     }
 
-    /// The highest number for which 1 to it are all known of the origin, and how many known numbers stand past it. Both are
-    /// 0 for an origin of which nothing is known.
+    /// The highest number for which 1 to it are all known of the origin, and how many known numbers stand past it. Both
+    /// are 0 for an origin of which nothing is known.
     pub fn span(&self, origin: &Origin) -> (u64, usize)
         ensures span { IsSpan (ids self.now) origin.now result.0 result.1 }
         ensures last { result.0 ≡ u64.MAX → result.1 ≡ 0 }

@@ -9,8 +9,8 @@ use std::marker::Model;
 
 /// The numbers of one origin that are known.
 ///
-/// Of the numbers from 1 on that are known without a gap only the last is kept, and those past the gap are kept in order.
-/// Messages count from 1; 0 is kept apart, since a caller may name it.
+/// Of the numbers from 1 on that are known without a gap only the last is kept, and those past the gap are kept in
+/// order. Messages count from 1; 0 is kept apart, since a caller may name it.
 #[derive(Drop)]
 pub(crate) struct Span<A: Allocator> {
     zero: bool,

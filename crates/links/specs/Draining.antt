@@ -9,8 +9,8 @@ use Rattle.links.specs.declared.ends.LinkEnd.TheVariants.{ReadFault, WriteFault,
 abbrev pub joined : List (List ℕ) → List ℕ
 joined items = flat_map (λ item. item) items
 
--- How many bytes of the items went out: all of them, unless the writer failed or took none; and a source that was asked for
--- less than frames items has no more.
+-- How many bytes of the items went out: all of them, unless the writer failed or took none; and a source that was asked
+-- for less than frames items has no more.
 abbrev pub WritesSo : Result ℕ LinkEnd → Type 0 → ℕ → List (List ℕ) → ℕ → Type 0
 WritesSo (Ok n) is_spent frames items bytes = (bytes ≡ length (joined items)) × (n ≡ bytes) × ((length items ≡ frames) ⊎ is_spent)
 WritesSo (Err (WriteFault n)) is_spent frames items bytes = (bytes < length (joined items)) × (n ≡ bytes)

@@ -13,9 +13,9 @@ abbrev pub IsPartial : List ℕ → Type 0
 IsPartial bytes = read bytes ≡ Err fault.Short
 
 -- How it ended, where rest is the stream after the frames that the sink took, and left what the cutter has then. At the
--- end of the stream, at a failed read and where the turns are used up the sink took all whole frames; at a fault too, and
--- the fault is that of the next. A sink that takes no more was offered one frame more. Where memory was refused, bytes that
--- were read may be lost.
+-- end of the stream, at a failed read and where the turns are used up the sink took all whole frames; at a fault too,
+-- and the fault is that of the next. A sink that takes no more was offered one frame more. Where memory was refused,
+-- bytes that were read may be lost.
 abbrev pub EndsSo : LinkEnd → List ℕ → List ℕ → Type 0
 EndsSo ReadFault rest left = IsPartial rest × (left ≡ rest)
 EndsSo (WriteFault bytes) rest left = ⊥
@@ -25,8 +25,8 @@ EndsSo TurnLimit rest left = IsPartial rest × (left ≡ rest)
 EndsSo SinkClosed rest left = (frame : Sent) × Cuts frame rest left
 EndsSo OutOfMemory rest left = (lost : List ℕ) × (rest ≡ left ++ lost)
 
--- What the sink took is, in order, the frames of a stream: of the bytes that the cutter had and those that were read, which
--- are at most 4,096 for each turn.
+-- What the sink took is, in order, the frames of a stream: of the bytes that the cutter had and those that were read,
+-- which are at most 4,096 for each turn.
 pub record Pumps (end : LinkEnd) (turns : ℕ) (cutter cutter' : List ℕ) (taken taken' : List Sent) (known known' : Option (List ℕ)) : Type 0 where
   pub frames : List Sent
   pub bytes : List ℕ

@@ -1,8 +1,8 @@
 -- Readers and writers over memory.
 use Rattle.std.specs.Prelude.{ℕ, min, max, Bool, Option, List, length, get_or}
 
--- A reader's tape: the bytes that it still gives, how many its calls give at most, which call is to fail, how many calls it
--- had and how many of them failed, and whether the last gave no byte, of a buffer that had room.
+-- A reader's tape: the bytes that it still gives, how many its calls give at most, which call is to fail, how many
+-- calls it had and how many of them failed, and whether the last gave no byte, of a buffer that had room.
 pub record ReadTape : Type 0 where
   pub bytes : List ℕ
   pub pieces : List ℕ
@@ -11,8 +11,8 @@ pub record ReadTape : Type 0 where
   pub failures : ℕ
   pub gave_none : Bool
 
--- A writer's tape: the bytes that were written on it, how many a call takes at most, which call is to fail, how many calls it
--- had and how many of them failed, and whether the last took no byte, of a buffer that had some.
+-- A writer's tape: the bytes that were written on it, how many a call takes at most, which call is to fail, how many
+-- calls it had and how many of them failed, and whether the last took no byte, of a buffer that had some.
 pub record WriteTape : Type 0 where
   pub bytes : List ℕ
   pub most : ℕ

@@ -9,7 +9,8 @@ use crate::metered::MeteredWrite;
 use crate::sink::Source;
 use std::alloc::Allocator;
 
-/// Writes the bytes in as many calls as it takes, and answers how many went out: all, unless a call failed or took none.
+/// Writes the bytes in as many calls as it takes, and answers how many went out: all, unless a call failed or took
+/// none.
 fn put<W: MeteredWrite>(writer: &mut W, bytes: &[u8]) -> usize
     ensures some { result ≤ length bytes.now }
     ensures written { Appends (W.contents writer.old) (W.contents writer.new) (take result bytes.now) }
@@ -29,8 +30,8 @@ fn put<W: MeteredWrite>(writer: &mut W, bytes: &[u8]) -> usize
 /// Writes the source's items, one after the other, until it has none or `frames` of them went out, and answers how many
 /// bytes that were. No call of the writer spans two items.
 ///
-/// `WriteFault`: a call of the writer failed or took no byte; what went out before is counted. `OutOfMemory`: the source
-/// answered it; all that it gave before went out.
+/// `WriteFault`: a call of the writer failed or took no byte; what went out before is counted. `OutOfMemory`: the
+/// source answered it; all that it gave before went out.
 pub fn drain<S: Source<A>, W: MeteredWrite, A: Allocator>(
     source: &mut S,
     writer: &mut W,

@@ -17,7 +17,7 @@ pub enum LinkEnd {
     TurnLimit,
     /// The sink takes no more.
     SinkClosed,
-    /// A growth was refused.
+    /// An allocation was refused.
     OutOfMemory,
 }
 

@@ -36,12 +36,12 @@ fn give<S: Sink<Frame<A>>, A: Allocator + Copy>(
     }
 }
 
-/// Reads at most `turns` times, at most 4,096 bytes at once, and gives the sink the whole frames of what the cutter has and
-/// of what was read, in order.
+/// Reads at most `turns` times, at most 4,096 bytes at once, and gives the sink the whole frames of what the cutter has
+/// and of what was read, in order.
 ///
-/// The frames that the cutter has are given before the first read. A read that answers an error and that the reader does not
-/// count as failed was interrupted: it is a turn, and no more. After `TurnLimit` the call may be made again; after every
-/// other end the link is closed.
+/// The frames that the cutter has are given before the first read. A read that answers an error and that the reader
+/// does not count as failed was interrupted: it is a turn, and no more. After `TurnLimit` the call may be made again;
+/// after every other end the link is closed.
 pub fn pump<R: MeteredRead, S: Sink<Frame<A>>, A: Allocator + Copy>(
     reader: &mut R,
     cutter: &mut Cutter<A>,

@@ -10,7 +10,8 @@ use std::alloc::{AllocError, Allocator};
 ///
 /// It counts the frames that it refused; a count at the greatest u64 stays there.
 ///
-/// The parameter is not the frames' allocator: an impl of a trait that takes a value over an allocator by value is not covered.
+/// The parameter is not the frames' allocator: an impl of a trait that takes a value over an allocator by value is not
+/// covered.
 pub trait Sink<F> {
     /// The frames that it took.
     ghost taken: { Self → List F };

@@ -32,8 +32,8 @@ impl<A: Allocator> Model for TapeReader<A> {
 }
 
 impl<A: Allocator> TapeReader<A> {
-    /// A reader of these bytes. Call number k, from 0, gives at most as many as `pieces` has at k, but at least one, and as
-    /// many as there are and fit where `pieces` has no k. The call of number `fails` fails and gives nothing.
+    /// A reader of these bytes. Call number k, from 0, gives at most as many as `pieces` has at k, but at least one,
+    /// and as many as there are and fit where `pieces` has no k. The call of number `fails` fails and gives nothing.
     pub fn new(bytes: Bytes<A>, pieces: Vec<usize, A>, fails: Option<usize>) -> TapeReader<A>
         ensures { result ≡ record { bytes = bytes; pieces = pieces.items; fails = fails; calls = 0; failures = 0; gave_none = false } }
     {

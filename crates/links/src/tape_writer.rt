@@ -30,8 +30,8 @@ impl<A: Allocator> Model for TapeWriter<A> {
 }
 
 impl<A: Allocator> TapeWriter<A> {
-    /// A writer that takes at most so many bytes a call. The call of number `fails`, from 0, fails and takes nothing, and so
-    /// does one for which a growth was refused.
+    /// A writer that takes at most so many bytes a call. The call of number `fails`, from 0, fails and takes nothing,
+    /// and so does one for which an allocation was refused.
     pub fn new(alloc: A, most: usize, fails: Option<usize>) -> TapeWriter<A>
         ensures { result ≡ record { bytes = []; most = most; fails = fails; calls = 0; failures = 0; took_none = false } }
     {

@@ -15,8 +15,8 @@ const PATIENCE: u64 = 100;
 
 /// Reads what a peer writes to a connection.
 ///
-/// A read that finds no bytes for a tenth of a second answers `Interrupted`, so that whoever reads can look at something else
-/// in between; it does not count as failed.
+/// A read that finds no bytes for a tenth of a second answers `Interrupted`, so that whoever reads can look at
+/// something else in between; it does not count as failed.
 #[derive(Drop)]
 pub struct TcpReader {
     stream: TcpStream,

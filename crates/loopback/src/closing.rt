@@ -98,8 +98,8 @@ fn close_each<R: Threads + Wait, C: NodeCore<Global> + Drop>(
     first
 }
 
-/// Stops all nodes, and closes them in order. What they leave is answered, or the first fault of a broadcast, or else of a close,
-/// or else the one that ended the run.
+/// Stops all nodes, and closes them in order. What they leave is answered, or the first fault of a broadcast, or else
+/// of a close, or else the one that ended the run.
 pub(crate) fn close_all<R, C>(
     rt: &R,
     alloc: Global,

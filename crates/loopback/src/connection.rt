@@ -116,7 +116,8 @@ impl Connection {
         *writer = None;
     }
 
-    /// Closes it if nothing was written to it in so many turns. Whoever writes to it keeps it locked, so it is looked at before.
+    /// Closes it if nothing was written to it in so many turns. Whoever writes to it keeps it locked, so it is looked
+    /// at before.
     pub(crate) fn close_idle<R: Wait>(&self, rt: &R, turns: u64) {
         if !self.is_idle(turns) {
             return;

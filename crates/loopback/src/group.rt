@@ -24,8 +24,8 @@ const TURNS_OF_TICK: u64 = 4;
 /// After how many ticks at most the nodes begin to broadcast.
 const MOST_QUIET: u32 = 10;
 
-/// From how many open connections on those are closed that nobody uses: each takes two descriptors, of the 1,024 that a process
-/// usually has, and the 64 nodes of a large group may each open one more in a turn.
+/// From how many open connections on those are closed that nobody uses: each takes two descriptors, of the 1,024 that a
+/// process usually has, and the 64 nodes of a large group may each open one more in a turn.
 const MANY_CONNECTIONS: usize = 400;
 
 /// How a group is to run.
@@ -187,13 +187,14 @@ where
 
 /// Runs a group of nodes over connections within this machine, each of which has a link to each other.
 ///
-/// It listens on all ports, in the order of the members, and starts the nodes. Once a tenth of the ticks is over, and ten ticks at
-/// most, each node broadcasts its texts, in order: by then nodes that have a contact have joined. When the ticks are over and all
-/// is broadcast, all nodes are stopped and closed.
+/// It listens on all ports, in the order of the members, and starts the nodes. Once a tenth of the ticks is over, and
+/// ten ticks at most, each node broadcasts its texts, in order: by then nodes that have a contact have joined. When the
+/// ticks are over and all is broadcast, all nodes are stopped and closed.
 ///
-/// `CannotListen` comes before any node starts, and so does `BadPeers`. Else the nodes run to the end, and the first node that
-/// refused a broadcast is answered, or else the first whose close is no success. The names of the members are to be distinct:
-/// else frames go to the first of a name. Where the clock can't be read the times of what is answered are 0.
+/// `CannotListen` comes before any node starts, and so does `BadPeers`. Else the nodes run to the end, and the first
+/// node that refused a broadcast is answered, or else the first whose close is no success. The names of the members are
+/// to be distinct: else frames go to the first of a name. Where the clock can't be read the times of what is answered
+/// are 0.
 pub fn run<R, V>(
     rt: R,
     alloc: Global,

@@ -47,8 +47,8 @@ fn is_contact(contact: &Option<NodeName>, name: &NodeName) -> bool
     }
 }
 
-/// Whether a node of this name may start with these peers and this contact: the peers fit its active view, and are distinct and
-/// others than itself, and so is the contact.
+/// Whether a node of this name may start with these peers and this contact: the peers fit its active view, and are
+/// distinct and others than itself, and so is the contact.
 pub fn may_start(
     limits: &Limits,
     me: &NodeName,

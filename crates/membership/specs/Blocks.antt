@@ -18,8 +18,8 @@ send_all body names t = record t { sends = t.sends ++ map (λ name. (name, body)
 abbrev pub send : Name → Body → Turn → Turn
 send to body t = record t { sends = t.sends ++ (to, body) ∷ [] }
 
--- Add active: the name becomes active, which is told; whoever is dropped for it is told DISCONNECT, and is a down. Nothing
--- happens for one that is the owner's or active.
+-- Add active: the name becomes active, which is told; whoever is dropped for it is told DISCONNECT, and is a down.
+-- Nothing happens for one that is the owner's or active.
 abbrev pub admit : Dice → Name → Turn → Turn
 admit dice name t =
     if view.is_settled t.views name then t
@@ -81,7 +81,8 @@ shuffled_active dice target v = sample (words dice 4 v.limits.ka) (others (targe
 abbrev pub shuffled_passive : Dice → view.Views → List Name
 shuffled_passive dice v = sample (words dice (4 + v.limits.ka) v.limits.kp) v.passive
 
--- Shuffle: the owner's own name, these active and these passive names go to the target, and the passive ones are remembered.
+-- Shuffle: the owner's own name, these active and these passive names go to the target, and the passive ones are
+-- remembered.
 abbrev pub shuffle_with : Dice → Name → Turn → Turn
 shuffle_with dice target t =
     let names = t.views.owner ∷ (shuffled_active dice target t.views ++ shuffled_passive dice t.views) in

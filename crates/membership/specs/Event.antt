@@ -5,7 +5,8 @@ use Rattle.node_names.specs.NodeName.{Name}
 use Rattle.membership.specs.declared.event.EventOf.{EventOf}
 use Rattle.membership.specs.declared.event.EventOf.TheVariants.{Joins, Join, ForwardJoin, Neighbor, Reply, Disconnect, Shuffle, ShuffleReply, Down, Tick}
 
--- The node is to join by a contact; a message of HyParView came from a sender; the link to a peer failed; its tick has come.
+-- The node is to join by a contact; a message of HyParView came from a sender; the link to a peer failed; its tick has
+-- come.
 abbrev pub Event : Type 0
 Event = EventOf (List Name)
 

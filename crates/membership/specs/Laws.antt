@@ -27,8 +27,9 @@ IsFromAnother owner (ShuffleReply sender names) = sender ≢ owner
 IsFromAnother owner (Down peer) = Unit {0}
 IsFromAnother owner Tick = Unit {0}
 
--- The views stay sound, and their owner and limits stay. Nothing is sent to the owner. The downs are exactly the names that the
--- active view lost, and the ups exactly those that it gained, which stand last in it; there is at most one of either.
+-- The views stay sound, and their owner and limits stay. Nothing is sent to the owner. The downs are exactly the names
+-- that the active view lost, and the ups exactly those that it gained, which stand last in it; there is at most one of
+-- either.
 pub record Lawful (before : Membership) (turn : Turn) : Type 0 where
   pub sound : AreSound turn.views
   pub owner_stays : turn.views.owner ≡ before.views.owner
@@ -84,7 +85,8 @@ FitFrames turn = Each (λ send. (has_good_fields send.1 ≡ true) × (has_good_c
 abbrev pub AreAboutMembership : Turn → Type 0
 AreAboutMembership turn = Each (λ send. body_content send.1 ≡ membership) turn.sends
 
--- The event closes a request to the name: it is the name's answer, its link failed, or it is the tick, which forgets it.
+-- The event closes a request to the name: it is the name's answer, its link failed, or it is the tick, which forgets
+-- it.
 abbrev pub Closes : Name → Event → Type 0
 Closes name (Joins contact) = ⊥
 Closes name (Join sender) = ⊥

@@ -18,8 +18,8 @@ on_join dice sender t =
     let welcomed = welcome dice sender t in
     send_all (body.ForwardJoin sender t.views.limits.arwl) (others (sender ∷ []) welcomed.views.active) welcomed
 
--- The walk of a new name goes on, with so many steps left, to the active name that word 1 chooses, neither the sender nor the
--- new one; where there is none, the new name is welcomed.
+-- The walk of a new name goes on, with so many steps left, to the active name that word 1 chooses, neither the sender
+-- nor the new one; where there is none, the new name is welcomed.
 abbrev pub walk_on : Dice → Name → Name → ℕ → Turn → Turn
 walk_on dice sender new ttl t =
     option_map_or
@@ -44,8 +44,8 @@ on_neighbor dice sender high t =
     then send sender (body.NeighborReply true) (admit dice sender t)
     else send sender (body.NeighborReply false) t
 
--- NEIGHBORREPLY closes a request to its sender. Accepted: an active sender stays so, another becomes active if it has room,
--- and else gets DISCONNECT. Refused: an active sender is demoted.
+-- NEIGHBORREPLY closes a request to its sender. Accepted: an active sender stays so, another becomes active if it has
+-- room, and else gets DISCONNECT. Refused: an active sender is demoted.
 abbrev pub on_reply : Dice → Name → Bool → Turn → Turn
 on_reply dice sender true t =
     let closed = close_request sender t in
@@ -59,8 +59,8 @@ abbrev pub on_disconnect : Dice → Name → Turn → Turn
 on_disconnect dice sender t =
     if has_name t.views.active sender then promote dice (sender ∷ []) (step_down dice sender t) else t
 
--- A failed link to an active peer: it is kept in neither view, a request to it is closed, and a promotion follows. To one
--- that is asked: it leaves the passive view, the request is closed, and a promotion follows. To another: nothing.
+-- A failed link to an active peer: it is kept in neither view, a request to it is closed, and a promotion follows. To
+-- one that is asked: it leaves the passive view, the request is closed, and a promotion follows. To another: nothing.
 abbrev pub on_down : Dice → Name → Turn → Turn
 on_down dice peer t =
     if has_name t.views.active peer then promote dice [] (close_request peer (lose peer t))
@@ -78,8 +78,8 @@ on_tick dice t =
     let shuffled = start_shuffle dice t in
     if view.has_room shuffled.views then promote dice [] (record shuffled { asked = None }) else shuffled
 
--- SHUFFLE of one's own: nothing. Otherwise one step is taken off; where steps are left, and there is more than one active
--- name, it goes on to the one that word 1 chooses, neither the sender nor the origin; else it is accepted.
+-- SHUFFLE of one's own: nothing. Otherwise one step is taken off; where steps are left, and there is more than one
+-- active name, it goes on to the one that word 1 chooses, neither the sender nor the origin; else it is accepted.
 abbrev pub on_shuffle : Dice → Name → Name → ℕ → List Name → Turn → Turn
 on_shuffle dice sender origin ttl names t =
     if same_name origin t.views.owner then t

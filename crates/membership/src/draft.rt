@@ -1,4 +1,4 @@
-//! A turn of a node in the making. What of it a refused growth cuts short is dropped.
+//! A turn of a node in the making. One that a refused allocation cuts short is dropped.
 ghost use Rattle.std.specs.Prelude.{◌≡◌, ◌+◌, ◌≤◌, [], ◌∷◌, OnOk, length, map, take};
 ghost use Rattle.node_names.specs.Same.{has_name};
 ghost use Rattle.views.specs.Names.{others};

@@ -9,15 +9,15 @@ ghost use Rattle.membership.specs.Laws.{AreAboutMembership, FitFrames, FitsFrame
 ghost use Rattle.membership.specs.Membership.{Membership, still};
 ghost use Rattle.membership.specs.Table.{table};
 
-/// Each row keeps the views sound and their owner and limits, sends nothing to the owner, and tells exactly whom the active
-/// view lost and gained.
+/// Each row keeps the views sound and their owner and limits, sends nothing to the owner, and tells exactly whom the
+/// active view lost and gained.
 pub fn every_row_is_lawful()
     ensures { (m : Membership) (event : Event) (dice : Dice) → AreSound m.views → IsFromAnother m.views.owner event
         → Lawful m (table event dice (still m)) }
 {}
 
-/// A JOIN starts fewer walks than the active view has places. A walk goes on at most once, with one step less, so it is passed
-/// on at most as often as it has steps.
+/// A JOIN starts fewer walks than the active view has places. A walk goes on at most once, with one step less, so it is
+/// passed on at most as often as it has steps.
 pub fn walks_are_bounded()
     ensures starts { (m : Membership) (dice : Dice) (sender : Name) → AreSound m.views → sender ≢ m.views.owner
         → length (walks (table (Event.Join sender) dice (still m)).sends) < m.views.limits.active }
@@ -25,8 +25,8 @@ pub fn walks_are_bounded()
         → GoesOnOnce new ttl (table (Event.ForwardJoin sender new ttl) dice (still m)).sends }
 {}
 
-/// A request stands until it is answered, its link fails or the tick forgets it; only then is another made, of a passive name,
-/// by the event's last message.
+/// A request stands until it is answered, its link fails or the tick forgets it; only then is another made, of a
+/// passive name, by the event's last message.
 pub fn one_request_stands()
     ensures { (m : Membership) (event : Event) (dice : Dice) → OneRequest m event (table event dice (still m)) }
 {}

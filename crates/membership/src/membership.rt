@@ -96,8 +96,8 @@ impl<A: Allocator + Copy> Membership<A> {
         })
     }
 
-    /// The membership after the event, and what the event makes the node send and tell. This membership stays as it is: a
-    /// caller that goes through with the event puts the new one in its place, which takes no memory.
+    /// The membership after the event, and what the event makes the node send and tell. This membership stays as it is:
+    /// a caller that goes through with the event puts the new one in its place, which takes no memory.
     pub fn prepare(
         &self,
         event: &Event<'_>,

@@ -6,8 +6,8 @@ use node_names::{Listed, NodeName};
 use std::alloc::{AllocError, Allocator, Global};
 use std::marker::Model;
 
-/// The messages to send, each with the name that it goes to, and the names that the active view has lost and gained, all in
-/// order. An event appends to them.
+/// The messages to send, each with the name that it goes to, and the names that the active view has lost and gained,
+/// all in order. An event appends to them.
 #[derive(Drop)]
 pub struct Moves<A: Allocator = Global> {
     /// The messages, each with its receiver.

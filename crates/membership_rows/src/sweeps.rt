@@ -1,5 +1,5 @@
-//! The rows with each allocation refused in turn: the event answers out of memory, all readers answer as before it, and the
-//! event made again answers as if nothing had been refused.
+//! The rows with each allocation refused in turn: the event answers out of memory, all readers answer as before it, and
+//! the event made again answers as if nothing had been refused.
 use crate::act::hear;
 use crate::named::{dice, name};
 use crate::play::{are_turns, is_given, is_shown, is_turn, start};
@@ -51,7 +51,8 @@ fn is_unchanged<A: Allocator>(
     is_shown(&mut texts.after, membership, texts.before.as_str())
 }
 
-/// Plays an event whose allocation with this number is refused, and plays it again if it is refused. Whether it has so many.
+/// Plays an event whose allocation with this number is refused, and plays it again if it is refused. Whether it has so
+/// many.
 fn refuse_event<A: Allocator + Copy>(
     rt: &impl Abort,
     heap: &RefusingAllocator,
@@ -130,8 +131,8 @@ fn parts(row: &Row, at: usize) -> (&'static [Turn], &'static [Turn]) {
     turns.split_at(at.min(turns.len()))
 }
 
-/// Plays the events before a place, and refuses the allocation with this number of the event there. Behind the last event, a
-/// copy stands in its place. Whether it has so many.
+/// Plays the events before a place, and refuses the allocation with this number of the event there. Behind the last
+/// event, a copy stands in its place. Whether it has so many.
 fn sweep_at<A: Allocator + Copy>(
     rt: &impl Abort,
     heap: &RefusingAllocator,

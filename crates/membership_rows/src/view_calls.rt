@@ -242,7 +242,8 @@ fn look<A: Allocator>(
     written
 }
 
-/// Makes a call while the allocation with this number is refused, and makes it again if it is refused. Whether it has so many.
+/// Makes a call while the allocation with this number is refused, and makes it again if it is refused. Whether it has
+/// so many.
 fn refuse_call<A: Allocator + Copy>(
     rt: &impl Abort,
     heap: &RefusingAllocator,
@@ -298,8 +299,8 @@ fn sweep_copy<A: Allocator + Copy>(
     Ok(is_spent)
 }
 
-/// Makes the calls before a place, and refuses the allocation with this number of the call there. Behind the last call, a copy
-/// stands in its place. Whether it has so many.
+/// Makes the calls before a place, and refuses the allocation with this number of the call there. Behind the last call,
+/// a copy stands in its place. Whether it has so many.
 fn sweep_at<A: Allocator + Copy>(
     rt: &impl Abort,
     heap: &RefusingAllocator,

@@ -52,8 +52,8 @@ impl<A: Allocator + Copy> Pipe<A> {
         Ok(())
     }
 
-    /// Waits for bytes or for the writer's end, and moves bytes to the front of the buffer. It answers how many: none only at
-    /// the end, or where the buffer has no room.
+    /// Waits for bytes or for the writer's end, and moves bytes to the front of the buffer. It answers how many: none
+    /// only at the end, or where the buffer has no room.
     pub(crate) fn read<R: Wait>(&self, rt: &R, buf: &mut [u8]) -> usize
         ensures { (result ≤ length buf.new) × (length buf.new ≡ length buf.old) }
     {

@@ -1,6 +1,6 @@
-//! Merges of the traces of a group of Plumtree nodes. Without an argument it prints how many events a small one has, and with
-//! arguments how long one takes: so many nodes, so many steps of each, whether packets arrive oldest, newest or at random, and how
-//! many wait in flight meanwhile.
+//! Merges of the traces of a group of Plumtree nodes. Without an argument it prints how many events a small one has,
+//! and with arguments how long one takes: so many nodes, so many steps of each, whether packets arrive oldest, newest
+//! or at random, and how many wait in flight meanwhile.
 #![tactic(auto)]
 
 mod overlay;

@@ -106,8 +106,8 @@ fn divide<A: Allocator + Copy>(
     Ok(())
 }
 
-/// Adds the traces of the triangle to an empty list, the first `traces` of them divided into so many segments. Whether their merge
-/// is that of the whole ones.
+/// Adds the traces of the triangle to an empty list, the first `traces` of them divided into so many segments. Whether
+/// their merge is that of the whole ones.
 fn holds_of<A: Allocator + Copy>(
     rt: &impl Abort,
     texts: &mut Texts,

@@ -10,7 +10,8 @@ pub(crate) struct Case {
     pub(crate) merges: &'static [(&'static str, &'static str)],
 }
 
-/// Three nodes know each other. `c` has the message from `b`, and then once more from `a`; `a` has its own back from `c`.
+/// Three nodes know each other. `c` has the message from `b`, and then once more from `a`; `a` has its own back from
+/// `c`.
 pub(crate) const TRIANGLE: &[Act] = &[
     Act::Start("a1", "b c"),
     Act::Start("b1", "a c"),

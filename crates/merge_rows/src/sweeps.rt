@@ -1,4 +1,5 @@
-//! Calls of which each allocation is refused in turn: the call is refused as out of memory, and made again answers as before.
+//! Calls of which each allocation is refused in turn: the call is refused as out of memory, and made again answers as
+//! before.
 use crate::act::play_acts;
 use crate::merged::{project_all, push_project};
 use crate::named::run;
@@ -70,8 +71,8 @@ fn refuse<A: Allocator + Copy>(
     Ok(stop_refusing(heap))
 }
 
-/// Does so, and makes the call again. Whether it has so many allocations, or none if something is wrong. What only asks for more
-/// room than is needed may be refused without harm.
+/// Does so, and makes the call again. Whether it has so many allocations, or none if something is wrong. What only asks
+/// for more room than is needed may be refused without harm.
 fn try_call<A: Allocator + Copy>(
     rt: &impl Abort,
     heap: &RefusingAllocator,

@@ -19,8 +19,8 @@ type Delivered<A> = IndexMap<MsgId, Bytes<A>, BuildHasherDefault<FoldHasher>, A>
 
 /// The payloads of the messages that are held, by their ids and in order of delivery.
 ///
-/// What is forgotten leaves at the front, which keeps it until it is longer than the rest: so a message is moved once at most on
-/// average, and the memory is that of at most twice as many messages as are held.
+/// What is forgotten leaves at the front, which keeps it until it is longer than the rest: so a message is moved once
+/// at most on average, and the memory is that of at most twice as many messages as are held.
 #[derive(Drop)]
 pub struct MessageStore<A: Allocator = Global> {
     /// The messages, behind those that were forgotten.
@@ -52,8 +52,8 @@ fn drop_front<A: Allocator>(messages: &mut Delivered<A>, gone: usize)
     messages.drain(..gone);
 }
 
-/// Drops the front if the id is in it, since a message that is put again takes the place that its id has. How many of the front
-/// are gone then.
+/// Drops the front if the id is in it, since a message that is put again takes the place that its id has. How many of
+/// the front are gone then.
 fn free_place<A: Allocator>(messages: &mut Delivered<A>, gone: usize, id: &MsgId) -> usize
     requires front { 2 * gone ≤ index_map_len messages.old }
     requires absent { lookup (same_id id.now) (drop gone messages.old.entries) ≡ None }
@@ -118,8 +118,8 @@ impl<A: Allocator> MessageStore<A> {
 
     /// Holds a message, in the room that there is, and then the last `keep` messages alone, or all for 0.
     ///
-    /// It takes the same time on average however many are held, unless the message was held before: to hold one again that was
-    /// forgotten may move all.
+    /// It takes the same time on average however many are held, unless the message was held before: to hold one again
+    /// that was forgotten may move all.
     pub fn push(&mut self, id: &MsgId, payload: Bytes<A>, keep: u32)
         requires room { 0 < self.old.room }
         requires absent { lookup (same_id id.now) self.old.messages ≡ None }

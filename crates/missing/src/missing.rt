@@ -18,8 +18,8 @@ use std::marker::Model;
 /// Announcements keep the order in which they came, and timers the order in which they were armed. Each announced id is
 /// armed; a timer may outlive the announcements of its id. Whether an id is armed, and whether a peer has announced it,
 /// costs the same however many are. Only the first announcement of an armed id is looked for from the front. Both lists
-/// can be read as slices, so what is taken out lets all behind it move up: a call that takes something out goes over what
-/// is there.
+/// can be read as slices, so what is taken out lets all behind it move up: a call that takes something out goes over
+/// what is there.
 #[derive(Drop)]
 pub struct Missing<A: Allocator = Global> {
     wants: Wants<A>,
@@ -38,8 +38,8 @@ impl<A: Allocator> Model for Missing<A> {
     ghost invariant = { λ m. IsSound (record { wants = m.wants.list.items; timers = m.timers.keys }) × (m.wants.places.keys ≡ map place_of m.wants.list.items) };
 }
 
-/// Puts an announcement of the peer last, in the room that there is, unless it is there, and arms its id. Whether the id
-/// was not armed before.
+/// Puts an announcement of the peer last, in the room that there is, unless it is there, and arms its id. Whether the
+/// id was not armed before.
 fn put<A: Allocator + Copy>(wants: &mut Wants<A>, timers: &mut Timers<A>, entry: &Want) -> bool
     requires room { vec_len wants.old.list < vec_capacity wants.old.list }
     requires places { 0 < spare wants.old.places }
@@ -188,7 +188,8 @@ impl<A: Allocator + Copy> Missing<A> {
 }
 
 impl<A: Allocator> Missing<A> {
-    /// Takes the first announcement of the id: by whom, and at which round. None: there is none, and the timer is dropped.
+    /// Takes the first announcement of the id: by whom, and at which round. None: there is none, and the timer is
+    /// dropped.
     pub fn take_first(&mut self, id: &MsgId) -> Option<(NodeName, u32)>
         ensures taken { result ≡ first_want id.now self.old.wants }
         ensures left { self.new ≡ taken_first id.now self.old }

@@ -27,7 +27,8 @@ const ROWS: &[Row] = &[
     (1, [false, true, true, true], [true, true, true, true]),
 ];
 
-/// Grows as often as there are answers. Whether each allocation is granted, and the request spent after it, as they say.
+/// Grows as often as there are answers. Whether each allocation is granted, and the request spent after it, as they
+/// say.
 fn are_granted(heap: Heap<'_>, granted: &[bool], spent: &[bool]) -> bool {
     for (granted, spent) in granted.iter().zip(spent.iter()) {
         if is_granted(heap) != *granted || heap.is_spent() != *spent {

@@ -1,5 +1,5 @@
-//! A node that runs, with four links each way. Without an argument it prints how many frames go in and out; given how many messages
-//! come in and how many others are held, it prints how long that takes.
+//! A node that runs, with four links each way. Without an argument it prints how many frames go in and out; given how
+//! many messages come in and how many others are held, it prints how long that takes.
 #![tactic(auto)]
 
 mod draining;

@@ -221,8 +221,8 @@ fn streams<R: Wait + Copy + Drop>(
     Ok(readers)
 }
 
-/// Lets a node read streams, and waits until it has delivered so many messages and written so many bytes. Returns how many
-/// microseconds that took.
+/// Lets a node read streams, and waits until it has delivered so many messages and written so many bytes. Returns how
+/// many microseconds that took.
 fn pass<R: Clock + Threads + Wait + Copy + Send + Drop + 'static>(
     rt: R,
     node: &mut Running,
@@ -239,7 +239,8 @@ fn pass<R: Clock + Threads + Wait + Copy + Send + Drop + 'static>(
     Ok(u64::try_from(start.elapsed(&rt)?.as_micros()).unwrap_or(u64::MAX))
 }
 
-/// Lets a node read so many messages of its peers, which it delivers and passes on, once it has broadcast so many others.
+/// Lets a node read so many messages of its peers, which it delivers and passes on, once it has broadcast so many
+/// others.
 ///
 /// A stream that ends takes the peer down that wrote to it last, so all stay open until the node is stopped.
 pub(crate) fn run<R: Clock + Threads + Wait + Copy + Send + Drop + 'static>(

@@ -9,7 +9,8 @@ use Rattle.frames.specs.Body.{Body}
 use Rattle.frames.specs.Frame.{Frame, has_good_fields, has_good_counts}
 use Rattle.gossip_core.specs.State.{GossipState}
 
--- The numbers of the messages that are held, wait or are wanted count from 1, and what is held is no longer than payloads may be.
+-- The numbers of the messages that are held, wait or are wanted count from 1, and what is held is no longer than
+-- payloads may be.
 pub record FitsFrames (g : GossipState) : Type 0 where
   pub held : Each (λ message. (0 < message.0.seq) × (length message.1 ≤ MAX_PAYLOAD)) g.held
   pub queued : Each (λ entry. 0 < entry.1.seq) g.peers.queued

@@ -76,7 +76,8 @@ unboxed (Some boxed) = Some boxed.value
 abbrev pub moved_by : MemberTurn → Moved
 moved_by done = record { membership = ended done; downs = done.downs; ups = done.ups }
 
--- What is kept between the halves of a step: what the membership's event moved, if it is one, and the last frame number.
+-- What is kept between the halves of a step: what the membership's event moved, if it is one, and the last frame
+-- number.
 pub record Turn : Type 0 where
   pub moved : Option Moved
   pub framed : ℕ

@@ -54,9 +54,9 @@ abbrev pub HeldOnce : List (MsgId × List ℕ) → Type 0
 HeldOnce [] = Unit {0}
 HeldOnce (message ∷ held) = (lookup (same_id message.0) held ≡ None) × HeldOnce held
 
--- What always holds of a gossip: its sets, its announcements and its store are sound; it holds what it knows, where it is to keep
--- all, and each message once; what waits to be announced is known, and what was announced to it is lacked, of another run, and was
--- announced by members.
+-- What always holds of a gossip: its sets, its announcements and its store are sound; it holds what it knows, where it
+-- is to keep all, and each message once; what waits to be announced is known, and what was announced to it is lacked,
+-- of another run, and was announced by members.
 pub record IsWhole (g : GossipState) : Type 0 where
   pub peers : ArePeerSetsSound g.peers
   pub missing : IsMissingSound g.missing
@@ -68,8 +68,9 @@ pub record IsWhole (g : GossipState) : Type 0 where
   pub wants_lacked : Each (λ entry. IsLacked g.known g.me entry.0) g.missing.wants
   pub timers_lacked : Each (λ id. IsLacked g.known g.me id) g.missing.timers
 
--- What always holds of a core: its views are sound, and within these limits, and its gossip keeps as many messages as these say; it
--- is the owner of its views; its gossip is whole and its own, and the members of the gossip are the active names, in their order.
+-- What always holds of a core: its views are sound, and within these limits, and its gossip keeps as many messages as
+-- these say; it is the owner of its views; its gossip is whole and its own, and the members of the gossip are the
+-- active names, in their order.
 pub record IsSoundPlum (limits : Limits) (core : Plum) : Type 0 where
   pub views : AreSound core.membership.views
   pub its_limits : core.membership.views.limits ≡ limits

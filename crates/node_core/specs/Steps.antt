@@ -131,8 +131,8 @@ pub record PlumStartsCounted (spent framed : ℕ) (me : Origin) (limits : Limits
 abbrev pub PlumStarts : Origin → Limits → List Name → Option Name → List (Name × Frame) → Plum → Type 0
 PlumStarts = PlumStartsCounted 0 0
 
--- The numbers are used up: those of the messages at a broadcast, or those of the frames, of which the step needs more than
--- are left.
+-- The numbers are used up: those of the messages at a broadcast, or those of the frames, of which the step needs more
+-- than are left.
 abbrev pub PlumIsSpent : Plum → Stimulus Frame → Type 0
 PlumIsSpent core stimulus = IsOutOfNumbers (plum_state core) stimulus ⊎ (2 ^ 64 - 1 < core.framed + length (turned core.me core.membership core.gossip stimulus).sends)
 

@@ -8,8 +8,8 @@ ghost use Rattle.node_core.specs.Fits.{FitsFrames, AreFit, ComesFit};
 ghost use Rattle.node_core.specs.Plum.{Plum, IsSoundPlum, plum_state};
 ghost use Rattle.node_core.specs.Steps.{PlumStarts, PlumSteps, turned};
 
-/// The starts and steps of the core keep the nine laws of a core: of identity, payloads, deliveries, views, spreading, the
-/// queue, wants, asking and holding.
+/// The starts and steps of the core keep the nine laws of a core: of identity, payloads, deliveries, views, spreading,
+/// the queue, wants, asking and holding.
 pub fn core_is_lawful()
     ensures { Laws plum_state frame_content IsSoundPlum PlumStarts PlumSteps }
 {}

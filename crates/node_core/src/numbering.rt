@@ -26,8 +26,9 @@ fn push_frame<A: Allocator + Copy>(
     frames.push((to, frame))
 }
 
-/// Puts the bodies last as frames of this origin, numbered in their order from the number after `framed` on. There are numbers
-/// for all of them, and each fits a frame. Where an allocation is refused, the frames before stay, and some may follow.
+/// Puts the bodies last as frames of this origin, numbered in their order from the number after `framed` on. There are
+/// numbers for all of them, and each fits a frame. Where an allocation is refused, the frames before stay, and some may
+/// follow.
 pub(crate) fn number_all<A: Allocator + Copy>(
     me: &Origin,
     framed: u64,

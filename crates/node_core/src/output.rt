@@ -55,8 +55,8 @@ fn append<A: Allocator + Copy>(
     Ok(())
 }
 
-/// Appends the packets, numbered from the number after `framed` on, and the delivery, and returns the last number. Each packet
-/// fits a frame. `SeqSpent`: the packets are more than the numbers that are left.
+/// Appends the packets, numbered from the number after `framed` on, and the delivery, and returns the last number. Each
+/// packet fits a frame. `SeqSpent`: the packets are more than the numbers that are left.
 pub(crate) fn append_numbered<A: Allocator + Copy>(
     me: &Origin,
     framed: u64,

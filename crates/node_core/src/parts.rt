@@ -112,8 +112,8 @@ pub(crate) fn work_out<A: Allocator + Copy>(
     }
 }
 
-/// Does what was worked out: all of it, or nothing where an allocation is refused. The gossip hears which links went down and
-/// then which came up.
+/// Does what was worked out: all of it, or nothing where an allocation is refused. The gossip hears which links went
+/// down and then which came up.
 pub(crate) fn go_on<A: Allocator + Copy>(
     membership: &mut Membership<A>,
     gossip: &mut Gossip<A>,

@@ -28,8 +28,8 @@ use world::{Core, CoreError, NameSet, Out, Prepared, StimulusOf, StimulusRef};
 
 /// One run of one node.
 ///
-/// A step costs what it sends and changes: an event of the membership copies its views, of at most 80 names, and a call of the
-/// gossip finds ids by hashes. Only `copy` costs as much as the node holds.
+/// A step costs what it sends and changes: an event of the membership copies its views, of at most 80 names, and a call
+/// of the gossip finds ids by hashes. Only `copy` costs as much as the node holds.
 #[derive(Drop)]
 pub struct PlumCore<A: Allocator = Global> {
     me: Origin,
@@ -78,8 +78,8 @@ fn greet<A: Allocator + Copy>(
 }
 
 impl<A: Allocator + Copy> PlumCore<A> {
-    /// A node that has spent so many numbers of messages and of frames. `SeqSpent`: it has a contact, and no frame number is
-    /// left for the JOIN.
+    /// A node that has spent so many numbers of messages and of frames. `SeqSpent`: it has a contact, and no frame
+    /// number is left for the JOIN.
     pub fn start_counted(
         alloc: A,
         me: Origin,

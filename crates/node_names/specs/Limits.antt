@@ -1,8 +1,8 @@
 -- The numbers that bound what a node keeps, how far its messages walk and how long a way they may take.
 use Rattle.std.specs.Prelude.{ℕ, ◌≤◌, ◌+◌}
 
--- The limits of a node, by the names that the papers on HyParView and Plumtree give them; and how many of the messages that
--- it delivered last it keeps at least, where 0 stands for all.
+-- The limits of a node, by the names that the papers on HyParView and Plumtree give them; and how many of the messages
+-- that it delivered last it keeps at least, where 0 stands for all.
 pub record Limits : Type 0 where
   pub active : ℕ
   pub passive : ℕ

@@ -6,8 +6,8 @@ use std::error::Error;
 use std::fmt;
 use std::marker::Model;
 
-/// The sizes of a node's views, walks and shuffles, under the names that the HyParView paper gives them, the threshold of
-/// Plumtree's optimisation by hop count, and how many payloads a node keeps.
+/// The sizes of a node's views, walks and shuffles, under the names that the HyParView paper gives them, the threshold
+/// of Plumtree's optimisation by hop count, and how many payloads a node keeps.
 ///
 /// A contract sees them as the record of these numbers, and each reader says that they are allowed.
 #[derive(Clone, Copy, Debug, PartialEq, Eq, Hash)]
@@ -155,8 +155,8 @@ impl Limits {
         self.kp
     }
 
-    /// How many links longer than an announcement's a message's way must be for its sender to be swapped for the announcer as
-    /// a branch of the tree; 0 where none is swapped.
+    /// How many links longer than an announcement's a message's way must be for its sender to be swapped for the
+    /// announcer as a branch of the tree; 0 where none is swapped.
     pub fn threshold(&self) -> u32
         ensures value { result ≡ self.now.threshold }
         ensures allowed { IsAllowed self.now }

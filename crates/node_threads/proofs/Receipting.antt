@@ -92,8 +92,8 @@ module _ (steps : List (Step Frame)) (marks : List Bool) (each : length marks �
 pub fits_none : (steps : List (Step Frame)) (marks : List Bool) (low : ℕ) → Fits steps marks low []
 fits_none steps marks low = record { in_order = tt; right = All-nil (IsRight steps); once = λ place. (let few = marks_at_most_one place marks in omega arith) }
 
--- Once some receipts of a port were marked: the port fits if the rest of it does beside these marks, and the rest marks what is
--- left of what the port marks.
+-- Once some receipts of a port were marked: the port fits if the rest of it does beside these marks, and the rest marks
+-- what is left of what the port marks.
 pub record MarksOn (steps : List (Step Frame)) (first : List Bool) (whole : List Call) (marks : List Bool) (low : ℕ) (rest : List Call) : Type 0 where
   pub fits : Fits steps marks low rest ↔ Fits steps first 0 whole
   pub left : (place : ℕ) → marks_at place marks + calls_at place rest ≡ marks_at place first + calls_at place whole

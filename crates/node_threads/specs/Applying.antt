@@ -35,7 +35,8 @@ id_given (Shuffle dice) given = None
 abbrev pub mail_for : List (Name × Frame) → Name → List (List ℕ)
 mail_for sends peer = map spelling (sent_to peer sends)
 
--- Each link takes all that goes to it, in order; or its ring has no room for some of it, and it is closed and its name listed.
+-- Each link takes all that goes to it, in order; or its ring has no room for some of it, and it is closed and its name
+-- listed.
 abbrev pub Puts : List (List (List ℕ)) → List Link → List Link → List Name → Type 0
 Puts [] [] live full = (live ≡ []) × (full ≡ [])
 Puts [] (link ∷ links) live full = ⊥
@@ -44,7 +45,8 @@ Puts (mail ∷ mails) (link ∷ links) live full =
     ((rest : List Link) × (live ≡ record link { pushed = link.pushed ++ mail } ∷ rest) × Puts mails links rest full)
     ⊎ ((rest : List Name) × (full ≡ link.peer ∷ rest) × (0 < length mail) × Puts mails links live rest)
 
--- One link takes its mail, and is the last of those that stay open; or it is closed, and its name the last of those listed.
+-- One link takes its mail, and is the last of those that stay open; or it is closed, and its name the last of those
+-- listed.
 abbrev pub PutsOne : List (List ℕ) → Link → List Link → List Name → List Link → List Name → Type 0
 PutsOne mail link live full live' full' =
     ((live' ≡ live ++ record link { pushed = link.pushed ++ mail } ∷ []) × (full' ≡ full))

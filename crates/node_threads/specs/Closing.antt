@@ -38,8 +38,8 @@ NamesNoPort (mismatch.Port n) = ⊥
 NamesNoPort (mismatch.Link peer) = Unit {0}
 NamesNoPort mismatch.OutOfMemory = Unit {0}
 
--- What a call answers that does not close a node: a port or worker is missing, and all is handed back as it was; or all ports came
--- back, the trace is handed out, and where a port is named its receipts are not those of the trace.
+-- What a call answers that does not close a node: a port or worker is missing, and all is handed back as it was; or all
+-- ports came back, the trace is handed out, and where a port is named its receipts are not those of the trace.
 abbrev pub Fails : {C K A : Type 0}
     → (Origin → Limits → List Name → Option Name → List (Name × Frame) → C → Type 0)
     → (C → Stimulus Frame → List (Name × Frame) → List Delivery → C → Type 0)

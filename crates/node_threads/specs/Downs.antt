@@ -34,7 +34,8 @@ module _
     TakesDowns old [] new = new ≡ old
     TakesDowns old (peer ∷ peers) new = (mid : Cell C) × TakesDown old peer mid × TakesDowns mid peers new
 
-    -- The node makes a step, and then takes the Downs of the peers whose links were full, and then of those without a link.
+    -- The node makes a step, and then takes the Downs of the peers whose links were full, and then of those without a
+    -- link.
     pub record AppliesWithDowns (old : Cell C) (stimulus : Stimulus Frame) (new : Cell C) (id : Option MsgId) (place : ℕ) (full lacking : List Name) : Type 0 where
       pub stepped : Cell C
       pub told_full : Cell C

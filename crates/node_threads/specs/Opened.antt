@@ -13,7 +13,8 @@ without name links = filter (λ link. not (same_name name link.peer)) links
 abbrev pub first_mail : {C : Type 0} → Cell C → Name → List (List ℕ)
 first_mail cell name = if length cell.trace.steps == 0 then mail_for cell.trace.opening.sends name else []
 
--- the links after one to this name was opened, with a ring for so many frames: it is open if what it begins with fits the ring
+-- the links after one to this name was opened, with a ring for so many frames: it is open if what it begins with fits
+-- the ring
 abbrev pub linked_to : {C : Type 0} → Cell C → Name → ℕ → List Link
 linked_to cell name ring =
     let mail = first_mail cell name in

@@ -2,8 +2,8 @@
 use Rattle.std.specs.Prelude.{ℕ, List, []}
 use Rattle.node_names.specs.NodeName.{Name}
 
--- The name that its link goes to, how many steps the trace had when that was opened, and what came out of it, each frame as
--- its bytes.
+-- The name that its link goes to, how many steps the trace had when that was opened, and what came out of it, each
+-- frame as its bytes.
 pub record Outlet : Type 0 where
   pub peer : Name
   pub opened : ℕ

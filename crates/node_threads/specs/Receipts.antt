@@ -38,7 +38,8 @@ calls_at place calls = count_by (λ call. call.receipt.place == place) calls
 abbrev pub all_calls : List (List Call) → List Call
 all_calls ports = flat_map (λ calls. calls) ports
 
--- The receipts of the ports fit the trace: those of each port are in order, each is right, and no two are for the same step.
+-- The receipts of the ports fit the trace: those of each port are in order, each is right, and no two are for the same
+-- step.
 pub record PortsFit (steps : List (Step Frame)) (ports : List (List Call)) : Type 0 where
   pub in_order : All (Rises 0) ports
   pub right : All (IsRight steps) (all_calls ports)
@@ -58,8 +59,8 @@ abbrev pub broadcasts_in : Option (Step Frame) → ℕ
 broadcasts_in None = 0
 broadcasts_in (Some step) = broadcasts_of step.stimulus
 
--- how many broadcasts the trace has at this place: one where its step is a broadcast, and none where it is not or where there is
--- no step
+-- how many broadcasts the trace has at this place: one where its step is a broadcast, and none where it is not or where
+-- there is no step
 abbrev pub broadcasts_at : ℕ → List (Step Frame) → ℕ
 broadcasts_at place steps = broadcasts_in (slice_get steps place)
 
@@ -74,8 +75,8 @@ pub record LacksOne (steps : List (Step Frame)) (ports : List (List Call)) : Typ
   pub is_broadcast : broadcasts_at place steps ≡ 1
   pub in_no_port : calls_at place (all_calls ports) ≡ 0
 
--- The ports before this one fit the trace, and with it they do not; or all ports fit, and a broadcast of the trace is in none
--- of them.
+-- The ports before this one fit the trace, and with it they do not; or all ports fit, and a broadcast of the trace is
+-- in none of them.
 pub record IsFirstUnlike (steps : List (Step Frame)) (ports : List (List Call)) (n : ℕ) : Type 0 where
   pub within : n ≤ length ports
   pub before : PortsFit steps (take n ports)

@@ -9,7 +9,8 @@ pub struct Applied<A: Allocator = Global> {
     pub id: Option<MsgId>,
     /// The place of the step in the trace, from 0.
     pub place: usize,
-    /// The links whose rings had no room. They are closed, and their frames of this step are in the trace and not in a ring.
+    /// The links whose rings had no room. They are closed, and their frames of this step are in the trace and not in a
+    /// ring.
     pub full: Listed<NodeName, A>,
     /// The names that the step sent to and that had no open link, each once.
     pub unlinked: Listed<NodeName, A>,

@@ -7,7 +7,8 @@ use std::alloc::Allocator;
 
 /// The frames that a read completed, until the node takes them one by one.
 ///
-/// A sink says at once whether it took a frame, and a step may be refused or wait for its turn: so a reader gathers first.
+/// A sink says at once whether it took a frame, and a step may be refused or wait for its turn: so a reader gathers
+/// first.
 #[derive(Drop)]
 pub(crate) struct Basket<A: Allocator> {
     frames: Vec<Frame<A>, A>,

@@ -134,8 +134,9 @@ impl<C: NodeCore<A> + Drop, A: Allocator + Copy> NodeCell<C, A> {
 
     /// Lets the core take one stimulus, records the step, and puts its frames into the rings of the open links.
     ///
-    /// `Closed`: the node was shut. `TraceFull`: the trace has as many steps as it may have. `Refused`: the core refused the
-    /// step. `OutOfMemory` comes last. A link whose ring has no room is closed and listed, and the step stands.
+    /// `Closed`: the node was shut. `TraceFull`: the trace has as many steps as it may have. `Refused`: the core
+    /// refused the step. `OutOfMemory` comes last. A link whose ring has no room is closed and listed, and the step
+    /// stands.
     pub fn apply(&mut self, stimulus: Stimulus<Frame<A>, A>) -> Result<Applied<A>, HostError>
         ensures applied { IfOk result (λ applied. Applies C.state C.steps self.old stimulus self.new applied.id applied.place applied.full applied.unlinked) }
         ensures accepted { OnOk result (HasRoom self.old × (IsTooLong stimulus → ⊥)) }

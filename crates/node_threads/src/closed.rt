@@ -31,8 +31,8 @@ pub enum CloseError<C: NodeCore<A> + Drop, A: Allocator = Global> {
         ports: Vec<Port<C, A>, A>,
         workers: Vec<Worker<A>, A>,
     },
-    /// The receipts of the port at this place are not those of its broadcasts in the trace. At the number of the ports: the
-    /// trace has a broadcast of no port.
+    /// The receipts of the port at this place are not those of its broadcasts in the trace. At the number of the ports:
+    /// the trace has a broadcast of no port.
     #[error("the receipts of port {port} are not as in the trace")]
     Unlike {
         port: usize,

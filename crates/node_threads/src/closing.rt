@@ -20,8 +20,8 @@ use std::sync::Wait;
 use std::thread::Threads;
 use world::Trace;
 
-/// Waits for the ends of all workers, and answers the outlets that they had. If an allocation is refused, all are waited for
-/// all the same.
+/// Waits for the ends of all workers, and answers the outlets that they had. If an allocation is refused, all are
+/// waited for all the same.
 fn join_all<R: Threads, A: Allocator + Copy>(
     rt: &R,
     alloc: A,
@@ -105,10 +105,10 @@ fn hand_back<C: NodeCore<A> + Drop, A: Allocator + Copy>(
 impl<C: NodeCore<A> + Drop, A: Allocator + Copy> Host<C, A> {
     /// Stops the node, waits for its workers to end, and compares what its ports and its workers had with its trace.
     ///
-    /// `PortMissing`: not as many ports or workers came back as were made, and nothing was stopped. Then `Unlike`, `Torn` and
-    /// `OutOfMemory`, in this order but that an allocation may be refused at any point: the node is closed, and its trace is
-    /// handed out. It is to be called in the thread that started the workers, and it returns when they have ended: readers whose
-    /// links do not end keep it waiting.
+    /// `PortMissing`: not as many ports or workers came back as were made, and nothing was stopped. Then `Unlike`,
+    /// `Torn` and `OutOfMemory`, in this order but that an allocation may be refused at any point: the node is closed,
+    /// and its trace is handed out. It is to be called in the thread that started the workers, and it returns when they
+    /// have ended: readers whose links do not end keep it waiting.
     pub fn close<R: Threads + Wait>(
         self,
         rt: &R,

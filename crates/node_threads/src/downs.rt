@@ -12,8 +12,8 @@ use node_names::{Dice, NodeName};
 use std::alloc::Allocator;
 use world::{Stimulus, StimulusOf};
 
-/// Tells the core that the link to the peer is down. If the node refuses it, nothing changes: a link that is closed and of
-/// which the core was not told is only one whose frames reach nobody.
+/// Tells the core that the link to the peer is down. If the node refuses it, nothing changes: a link that is closed and
+/// of which the core was not told is only one whose frames reach nobody.
 fn take_down<C: NodeCore<A> + Drop, A: Allocator + Copy>(cell: &mut NodeCell<C, A>, peer: NodeName)
     ensures { TakesDown C.state C.steps C.is_spent cell.old peer cell.new }
 {
@@ -39,11 +39,11 @@ fn take_downs<C: NodeCore<A> + Drop, A: Allocator + Copy>(
 }
 
 impl<C: NodeCore<A> + Drop, A: Allocator + Copy> NodeCell<C, A> {
-    /// Applies the stimulus, and then tells the core that the links are down which this step found full, and then those which
-    /// it found missing. So a core that sends to a peer without a link drops it from its active view.
+    /// Applies the stimulus, and then tells the core that the links are down which this step found full, and then those
+    /// which it found missing. So a core that sends to a peer without a link drops it from its active view.
     ///
-    /// It is refused as `apply` is. What the Downs find full or missing in turn is not followed up, and a Down that is refused
-    /// is dropped.
+    /// It is refused as `apply` is. What the Downs find full or missing in turn is not followed up, and a Down that is
+    /// refused is dropped.
     pub fn apply_with_downs(
         &mut self,
         stimulus: Stimulus<Frame<A>, A>,

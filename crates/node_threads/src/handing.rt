@@ -12,7 +12,8 @@ use world::Delivery;
 
 /// Where a node's deliveries go, in batches of type `B`.
 ///
-/// The parameter is not the batch's allocator: an impl of a trait that takes a value over an allocator by value is not covered.
+/// The parameter is not the batch's allocator: an impl of a trait that takes a value over an allocator by value is not
+/// covered.
 pub trait Handed<B> {
     /// Takes a batch, which is not empty.
     fn take(&mut self, batch: B);
@@ -37,8 +38,8 @@ where
 
 /// Starts the worker that hands deliveries to the application, each once and in order, in batches of all that wait.
 ///
-/// It makes no step, so it never asks the gate. It ends when the node was stopped and nothing waits any more. `Closed`: the node
-/// was stopped. `OutOfMemory`: an allocation is refused, or no thread can be made.
+/// It makes no step, so it never asks the gate. It ends when the node was stopped and nothing waits any more. `Closed`:
+/// the node was stopped. `OutOfMemory`: an allocation is refused, or no thread can be made.
 pub fn hand_out<R, C, A, G, S>(
     rt: R,
     host: &Host<C, A>,

@@ -91,13 +91,13 @@ fn share<C: NodeCore<A> + Drop, A: Allocator + Copy>(
 }
 
 impl<C: NodeCore<A> + Drop, A: Allocator + Copy> Host<C, A> {
-    /// Runs a node that has just started, `opening` being what its start gave, and opens a link to each of the names before
-    /// any step. It answers the host, its ports, and the outlets of the links in the order of the names.
+    /// Runs a node that has just started, `opening` being what its start gave, and opens a link to each of the names
+    /// before any step. It answers the host, its ports, and the outlets of the links in the order of the names.
     ///
-    /// `ring` is how many frames the ring of each link has room for, and `trace_limit` how many steps the trace may have. The
-    /// names are to be distinct and other than the node's own: of two links to one name only the last is open, and a node
-    /// sends nothing to itself. A link whose ring has no room for what the start sent is closed. Its only refusal is
-    /// `OutOfMemory`.
+    /// `ring` is how many frames the ring of each link has room for, and `trace_limit` how many steps the trace may
+    /// have. The names are to be distinct and other than the node's own: of two links to one name only the last is
+    /// open, and a node sends nothing to itself. A link whose ring has no room for what the start sent is closed. Its
+    /// only refusal is `OutOfMemory`.
     pub fn start(
         alloc: A,
         core: C,
@@ -125,7 +125,8 @@ impl<C: NodeCore<A> + Drop, A: Allocator + Copy> Host<C, A> {
         self.shared.stop(rt);
     }
 
-    /// Hands out the steps since the last call, as `NodeCell::seal` does, also after the stop. The node takes no step meanwhile.
+    /// Hands out the steps since the last call, as `NodeCell::seal` does, also after the stop. The node takes no step
+    /// meanwhile.
     pub fn seal<R: Wait>(&self, rt: &R) -> Result<Sealed<C, A>, HostError> {
         self.shared.seal(rt)
     }

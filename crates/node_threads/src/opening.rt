@@ -40,8 +40,8 @@ fn close<A: Allocator>(links: &mut Vec<Link<A>, A>, name: &NodeName)
     );
 }
 
-/// Puts a link to the name in place of the one that there is, if what it begins with fits its ring, which has room for so many
-/// frames.
+/// Puts a link to the name in place of the one that there is, if what it begins with fits its ring, which has room for
+/// so many frames.
 fn link<A: Allocator>(
     links: &mut Vec<Link<A>, A>,
     peer: NodeName,

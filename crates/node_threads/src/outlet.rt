@@ -12,8 +12,8 @@ use std::marker::Model;
 
 /// Where the frames of a link come out, each as its bytes, in the order in which the node sent them.
 ///
-/// It keeps what it gave, so that this can be compared with what the node sent. The bytes are shared and not copied, and stay
-/// in memory as long as the outlet.
+/// It keeps what it gave, so that this can be compared with what the node sent. The bytes are shared and not copied,
+/// and stay in memory as long as the outlet.
 #[derive(Drop)]
 pub struct Outlet<A: Allocator = Global> {
     peer: NodeName,

@@ -68,8 +68,8 @@ impl<C: NodeCore<A> + Drop, A: Allocator + Copy> Port<C, A> {
 
     /// Broadcasts a payload of at most 32,768 bytes, and answers under which id and at which place of the trace.
     ///
-    /// `OutOfMemory` may come before the other refusals, for the room that the port takes to keep the call; else they come as
-    /// those of `NodeCell::apply`.
+    /// `OutOfMemory` may come before the other refusals, for the room that the port takes to keep the call; else they
+    /// come as those of `NodeCell::apply`.
     pub fn broadcast<R: Wait>(&mut self, rt: &R, payload: Bytes<A>) -> Result<Receipt, HostError>
         ensures ok { IfOk result (λ receipt. self.new ≡ self.old ++ record { payload = payload; receipt = receipt } ∷ []) }
         ensures err { OnErr result (self.new ≡ self.old) }

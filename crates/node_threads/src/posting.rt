@@ -148,8 +148,8 @@ fn post_one<A: Allocator>(
     }
 }
 
-/// Puts into each link what goes to it. A link that has room for all stays open; the name of one that has not is put to the
-/// full ones, and the link is closed.
+/// Puts into each link what goes to it. A link that has room for all stays open; the name of one that has not is put to
+/// the full ones, and the link is closed.
 pub(crate) fn post_all<A: Allocator>(
     links: Vec<Link<A>, A>,
     mut mails: VecDeque<Mail<A>, A>,

@@ -83,12 +83,12 @@ where
     unreachable!()
 }
 
-/// Starts the worker that brings the frames of a link to the node. Bytes come from the reader, each frame is one step, and its
-/// dice are those of the generator that this seed starts.
+/// Starts the worker that brings the frames of a link to the node. Bytes come from the reader, each frame is one step,
+/// and its dice are those of the generator that this seed starts.
 ///
-/// It ends with the link, of which the core is told as a Down of whoever sent the last frame; with the node; and at the first
-/// refusal. Bytes that are no frame end the link. `Closed`: the node was stopped. `OutOfMemory`: an allocation is refused, or
-/// no thread can be made.
+/// It ends with the link, of which the core is told as a Down of whoever sent the last frame; with the node; and at the
+/// first refusal. Bytes that are no frame end the link. `Closed`: the node was stopped. `OutOfMemory`: an allocation is
+/// refused, or no thread can be made.
 pub fn read_link<R, C, A, G, D>(
     rt: R,
     host: &Host<C, A>,

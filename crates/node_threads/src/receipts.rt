@@ -53,8 +53,8 @@ fn mark_one<A: Allocator>(
     true
 }
 
-/// Whether the receipts of a port are in order, right, and for steps of their own that have no mark. Their places are marked
-/// then; where they are not so, some of the places may be.
+/// Whether the receipts of a port are in order, right, and for steps of their own that have no mark. Their places are
+/// marked then; where they are not so, some of the places may be.
 fn mark_all<A: Allocator>(trace: &Trace<Frame<A>, A>, marks: &mut [bool], calls: &[Call<A>]) -> bool
     requires { length marks.old ≡ length trace.now.steps }
     ensures fits { OnTrue result (Fits trace.now.steps marks.old 0 calls.now) }
@@ -88,9 +88,9 @@ fn lacks_mark<A: Allocator>(trace: &Trace<Frame<A>, A>, marks: &[bool]) -> bool
     false
 }
 
-/// The first port whose receipts are not, in order, those of broadcasts of its payloads in the trace that no earlier port
-/// has. Where all ports are as they should be and a broadcast of the trace is in none of them, it is the number of ports.
-/// None where the ports have all broadcasts of the trace and nothing else.
+/// The first port whose receipts are not, in order, those of broadcasts of its payloads in the trace that no earlier
+/// port has. Where all ports are as they should be and a broadcast of the trace is in none of them, it is the number of
+/// ports. None where the ports have all broadcasts of the trace and nothing else.
 pub(crate) fn first_unlike<A: Allocator + Copy>(
     alloc: A,
     trace: &Trace<Frame<A>, A>,

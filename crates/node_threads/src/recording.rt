@@ -34,8 +34,8 @@ fn make<C: NodeCore<A>, A: Allocator>(
     }
 }
 
-/// Records the step and makes it, and puts copies of its deliveries to those that wait: all of this, or nothing where an
-/// allocation is refused.
+/// Records the step and makes it, and puts copies of its deliveries to those that wait: all of this, or nothing where
+/// an allocation is refused.
 pub(crate) fn record<C: NodeCore<A>, A: Allocator>(
     core: &mut C,
     trace: &mut Trace<Frame<A>, A>,

@@ -24,7 +24,8 @@ fn spells<A: Allocator + Copy>(
     Ok(bytes.as_slice() == spelled.bytes().as_slice())
 }
 
-/// What is left of these frames after a packet, which counts if it goes to the peer. None: it is another frame than the first.
+/// What is left of these frames after a packet, which counts if it goes to the peer. None: it is another frame than the
+/// first.
 fn strip_packet<'a, A: Allocator + Copy>(
     alloc: A,
     peer: &NodeName,
@@ -45,7 +46,8 @@ fn strip_packet<'a, A: Allocator + Copy>(
     Ok(Some(rest))
 }
 
-/// What is left of these frames after the packets of a step. Where nothing is left, the packets that remain are passed over.
+/// What is left of these frames after the packets of a step. Where nothing is left, the packets that remain are passed
+/// over.
 fn strip<'a, A: Allocator + Copy>(
     alloc: A,
     peer: &NodeName,
@@ -66,7 +68,8 @@ fn strip<'a, A: Allocator + Copy>(
     Ok(Some(given))
 }
 
-/// What is left of these frames after the steps from a place on. Where nothing is left, the steps that remain are passed over.
+/// What is left of these frames after the steps from a place on. Where nothing is left, the steps that remain are
+/// passed over.
 fn strip_steps<'a, A: Allocator + Copy>(
     alloc: A,
     trace: &Trace<Frame<A>, A>,

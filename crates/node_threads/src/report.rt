@@ -22,12 +22,12 @@ pub struct LinkReport {
 }
 
 impl<C: NodeCore<A> + Drop, A: Allocator + Copy> NodeCell<C, A> {
-    /// How far the frames of a link came, if they came out as the node sent them to its peer since the link was opened: each as
-    /// its bytes, in order, with none left out. None says that they did not, or that the link was opened after more steps than
-    /// the trace has, so that the outlet is another node's.
+    /// How far the frames of a link came, if they came out as the node sent them to its peer since the link was opened:
+    /// each as its bytes, in order, with none left out. None says that they did not, or that the link was opened after
+    /// more steps than the trace has, so that the outlet is another node's.
     ///
-    /// It goes over the steps since the link was opened until the frames that came out are used up, and spells one frame at a
-    /// time. Its only refusal is `OutOfMemory`.
+    /// It goes over the steps since the link was opened until the frames that came out are used up, and spells one
+    /// frame at a time. Its only refusal is `OutOfMemory`.
     pub fn report(&self, outlet: &Outlet<A>) -> Result<Option<LinkReport>, HostError>
         ensures begins { IfOk result (λ r. IfSome r (λ report. BeginsText self.now.trace outlet.now)) }
         ensures report { IfOk result (λ r. IfSome r (λ report. report ≡ record { peer = outlet.now.peer; opened = outlet.now.opened; taken = length outlet.now.given })) }

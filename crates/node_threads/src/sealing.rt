@@ -22,10 +22,11 @@ pub struct Sealed<C: Drop, A: Allocator = Global> {
 }
 
 impl<C: NodeCore<A> + Drop, A: Allocator + Copy> NodeCell<C, A> {
-    /// Hands out the steps since the last call as a segment, with a copy of the core after them. The trace keeps its steps, and
-    /// shares these from now on.
+    /// Hands out the steps since the last call as a segment, with a copy of the core after them. The trace keeps its
+    /// steps, and shares these from now on.
     ///
-    /// It costs the copy of the core and none of the steps, and works after `shut` too. Its only refusal is `OutOfMemory`.
+    /// It costs the copy of the core and none of the steps, and works after `shut` too. Its only refusal is
+    /// `OutOfMemory`.
     pub fn seal(&mut self) -> Result<Sealed<C, A>, HostError>
         ensures same { self.new ≡ self.old }
         ensures ends { IfOk result (λ sealed. Ends self.old.trace.steps (arc_value sealed.segment)) }

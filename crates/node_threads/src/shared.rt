@@ -68,7 +68,8 @@ type Held<T> = CachePadded<Mutex<Option<T>>>;
 
 /// Calls with what the lock holds, if it was not taken out.
 ///
-/// The prover takes long over a function that names what a guard holds. Here it is any type, and callers lend it to a closure.
+/// The prover takes long over a function that names what a guard holds. Here it is any type, and callers lend it to a
+/// closure.
 fn with<T: Drop, Q, R: Wait, F: FnOnce(&mut T) -> Q>(rt: &R, lock: &Held<T>, call: F) -> Option<Q>
     requires { F.IsAlwaysCallable call }
 {
@@ -146,7 +147,8 @@ impl<C: NodeCore<A> + Drop, A: Allocator + Copy> Shared<C, A> {
         })
     }
 
-    /// Applies the stimulus with its Downs under one hold of the lock, and tells those that wait for what was sent or delivered.
+    /// Applies the stimulus with its Downs under one hold of the lock, and tells those that wait for what was sent or
+    /// delivered.
     pub(crate) fn apply<R: Wait>(
         &self,
         rt: &R,

@@ -22,8 +22,8 @@ pub trait Ticker {
 /// The node shuffles its passive view at every tick of this number's multiples.
 const SHUFFLE_EVERY: u64 = 10;
 
-/// One tick: queued announcements are flushed, and each timer that is armed fires; and at every tenth tick the passive view is
-/// shuffled.
+/// One tick: queued announcements are flushed, and each timer that is armed fires; and at every tenth tick the passive
+/// view is shuffled.
 fn make_tick<R: Wait, C: NodeCore<A> + Drop, A: Allocator + Copy, G: Gate + Drop>(
     rt: &R,
     steps: &Stepper<C, A, G>,
@@ -61,11 +61,11 @@ fn make_ticks<
     }
 }
 
-/// Starts the worker that keeps the node's time. At each tick it applies Flush, then Fire for each id whose timer is armed, and
-/// at every tenth tick Shuffle, with dice of the generator that this seed starts.
+/// Starts the worker that keeps the node's time. At each tick it applies Flush, then Fire for each id whose timer is
+/// armed, and at every tenth tick Shuffle, with dice of the generator that this seed starts.
 ///
-/// It ends when the ticker does, and at the first refusal. `Closed`: the node was stopped. `OutOfMemory`: an allocation is
-/// refused, or no thread can be made.
+/// It ends when the ticker does, and at the first refusal. `Closed`: the node was stopped. `OutOfMemory`: an allocation
+/// is refused, or no thread can be made.
 pub fn tick<R, C, A, G, T>(
     rt: R,
     host: &Host<C, A>,

@@ -16,8 +16,8 @@ pub(crate) struct Moved {
     has_delivered: bool,
 }
 
-/// The bit of the place where the writer of a link to this name waits: the upper six bits of the name's FNV-1a hash, begun at 0.
-/// Two names may have one place.
+/// The bit of the place where the writer of a link to this name waits: the upper six bits of the name's FNV-1a hash,
+/// begun at 0. Two names may have one place.
 fn bit_of(peer: &NodeName) -> u64 {
     let mut sum: u32 = 0;
     for byte in peer.as_bytes() {
@@ -48,8 +48,8 @@ impl Moved {
 
 /// Who waits for a node's steps.
 ///
-/// A step wakes the writers of the links that it sent frames over, and who hands deliveries out if it delivered. A node with many
-/// links would else wake all their writers at each step.
+/// A step wakes the writers of the links that it sent frames over, and who hands deliveries out if it delivered. A node
+/// with many links would else wake all their writers at each step.
 #[derive(Drop)]
 pub(crate) struct Wakeups<A: Allocator> {
     /// For who hands deliveries out, and who closes the node.

@@ -133,13 +133,13 @@ where
     link.into_outlets()
 }
 
-/// Starts the worker that writes a link's frames. It makes a connection by the dialler when the outlet has its first frame, and
-/// writes frames to it, whole and in order, as long as they go out.
+/// Starts the worker that writes a link's frames. It makes a connection by the dialler when the outlet has its first
+/// frame, and writes frames to it, whole and in order, as long as they go out.
 ///
-/// When a connection can't be made, a write fails or the node closes the link, it tells the core by a Down of the link's peer,
-/// opens a new link to it and goes on with that: frames of the old one that were not written are not written any more. It ends
-/// when the node was stopped and all frames of its link are written, and at the first refusal. `Closed`: the node was stopped.
-/// `OutOfMemory`: an allocation is refused, or no thread can be made.
+/// When a connection can't be made, a write fails or the node closes the link, it tells the core by a Down of the
+/// link's peer, opens a new link to it and goes on with that: frames of the old one that were not written are not
+/// written any more. It ends when the node was stopped and all frames of its link are written, and at the first
+/// refusal. `Closed`: the node was stopped. `OutOfMemory`: an allocation is refused, or no thread can be made.
 pub fn write_link<R, C, A, G, D>(
     rt: R,
     host: &Host<C, A>,

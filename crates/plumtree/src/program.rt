@@ -153,8 +153,8 @@ where
     }
 }
 
-/// Writes why a group did not run and was not written to its end, if it was not. The number is the status that the program ends
-/// with.
+/// Writes why a group did not run and was not written to its end, if it was not. The number is the status that the
+/// program ends with.
 fn conclude_run<F: Write>(form: Form, ended: Result<(), RunFailure>, faults: &mut F) -> u8
     ensures { result ≤ 2 }
 {

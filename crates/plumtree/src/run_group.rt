@@ -61,8 +61,8 @@ impl From<AllocError> for RunFailure {
     }
 }
 
-/// Reads a text as the scenario of a group, runs the group over connections within this machine, and writes what its nodes
-/// delivered, whether their histories are those of one run, and what that run is.
+/// Reads a text as the scenario of a group, runs the group over connections within this machine, and writes what its
+/// nodes delivered, whether their histories are those of one run, and what that run is.
 pub fn run_group<R, W, V>(
     rt: R,
     alloc: Global,

@@ -1,9 +1,9 @@
 use crate::countdown::Countdown;
 use std::alloc::{AllocError, Allocator, Global};
 
-/// An allocator that refuses one growth of those to come, the one that a test names.
+/// An allocator that refuses one of the allocations to come, the one that a test names.
 ///
-/// A growth is an allocation or an enlargement. Freeing and shrinking are not counted, and are
+/// Making a block and making one larger are both allocations. Freeing and shrinking are not counted, and are
 /// never refused here. Every other call is passed on to the inner allocator, and fails only where
 /// that one fails.
 ///
@@ -39,9 +39,9 @@ impl<A: Allocator> RefusingAllocator<A> {
         }
     }
 
-    /// Has the `n`-th growth from now on refused: the next one at 1, and none at 0.
+    /// Has the `n`-th allocation from now on refused: the next one at 1, and none at 0.
     ///
-    /// Exactly that growth is refused, and those after it succeed again. A new call takes the
+    /// Exactly that allocation is refused, and those after it succeed again. A new call takes the
     /// place of the last one, whether its refusal has been given or not.
     pub fn refuse(&self, n: u64) {
         self.countdown.restart(n);
@@ -50,7 +50,7 @@ impl<A: Allocator> RefusingAllocator<A> {
     /// Whether the refusal that was asked for last has been given.
     ///
     /// It is false where none was asked for, as after `refuse(0)`. So a sweep asks it after each
-    /// try: true says that the try was refused a growth, and false that the sweep is over.
+    /// try: true says that the try was refused an allocation, and false that the sweep is over.
     pub fn is_spent(&self) -> bool {
         self.countdown.is_spent()
     }

@@ -5,15 +5,15 @@ use std::sync::atomic::{AtomicU64, Ordering};
 // The count once the refusal has been given.
 const SPENT: u64 = 0;
 
-// The count at the growth that is refused.
+// The count at the allocation that is refused.
 const LAST: u64 = 1;
 
-// The count while no growth is to be refused.
+// The count while no allocation is to be refused.
 const NEVER: u64 = u64::MAX;
 
-/// Counts growths down to the one that is to be refused.
+/// Counts allocations down to the one that is to be refused.
 ///
-/// The count is one word, and a growth is one step on it. So where threads grow at the same time,
+/// The count is one word, and an allocation is one step on it. So where threads allocate at the same time,
 /// exactly one of them is refused.
 #[derive(Drop)]
 pub(crate) struct Countdown {
@@ -28,12 +28,12 @@ impl Countdown {
         }
     }
 
-    /// Starts over: the `n`-th growth from now on is to be refused, and none at 0.
+    /// Starts over: the `n`-th allocation from now on is to be refused, and none at 0.
     pub(crate) fn restart(&self, n: u64) {
         self.left.store(initial_count(n), Ordering::SeqCst);
     }
 
-    /// Counts one growth, and returns whether it is the one to refuse.
+    /// Counts one allocation, and returns whether it is the one to refuse.
     pub(crate) fn count_growth(&self) -> bool {
         let count = self
             .left
@@ -41,7 +41,7 @@ impl Countdown {
         count == Ok(LAST)
     }
 
-    /// Whether the growth that was to be refused has come.
+    /// Whether the allocation that was to be refused has come.
     pub(crate) fn is_spent(&self) -> bool {
         self.left.load(Ordering::SeqCst) == SPENT
     }
@@ -54,7 +54,7 @@ fn initial_count(n: u64) -> u64
     if n == 0 { NEVER } else { n }
 }
 
-/// The count after one more growth, or `None` where it stands still.
+/// The count after one more allocation, or `None` where it stands still.
 fn next_count(left: u64) -> Option<u64>
     ensures spent { left ≡ SPENT → result ≡ None }
     ensures never { left ≡ NEVER → result ≡ None }

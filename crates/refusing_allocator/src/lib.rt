@@ -1,8 +1,8 @@
-//! An allocator for tests, which refuses the growth that a test names.
+//! An allocator for tests, which refuses the allocation that a test names.
 //!
 //! What does a call leave behind when it runs out of memory? A [`RefusingAllocator`] lets a test
-//! ask that at each growth of the call in turn: it refuses the first one, then, at the next try,
-//! the second, and so on until a try has too few growths to be refused.
+//! ask that at each allocation of the call in turn: it refuses the first one, then, at the next try,
+//! the second, and so on until a try has too few allocations to be refused.
 //!
 //! ```text
 //! let heap = RefusingAllocator::new(rt.alloc());
@@ -15,16 +15,16 @@
 //!         heap.refuse(0);
 //!         return outcome;
 //!     }
-//!     assert!(rt; outcome.is_err(), "growth {n}");
-//!     assert_eq!(rt; names, before, "growth {n}");
+//!     assert!(rt; outcome.is_err(), "allocation {n}");
+//!     assert_eq!(rt; names, before, "allocation {n}");
 //! }
 //! ```
 //!
-//! The copy to compare with is made before `refuse`, since its growths would be counted, and
-//! `refuse(0)` calls off what no growth was left for.
+//! The copy to compare with is made before `refuse`, since its allocations would be counted, and
+//! `refuse(0)` calls off what no allocation was left for.
 //!
 //! A contract cannot say what an atomic word holds. So it is proved that this is a sound allocator
-//! and how a growth changes the count; which growths are refused, and what `is_spent` answers, is
+//! and how an allocation changes the count; which allocations are refused, and what `is_spent` answers, is
 //! only tested.
 #![tactic(auto)]
 

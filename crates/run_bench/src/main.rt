@@ -1,6 +1,6 @@
-//! A group of nodes that runs over TCP connections within this machine. Without an argument it prints how many messages a small one
-//! delivers; given how many nodes, how many messages and how many bytes, how fast they are delivered. A fourth argument says after
-//! how many ticks the nodes are stopped, which is to be long after the last delivery.
+//! A group of nodes that runs over TCP connections within this machine. Without an argument it prints how many messages
+//! a small one delivers; given how many nodes, how many messages and how many bytes, how fast they are delivered. A
+//! fourth argument says after how many ticks the nodes are stopped, which is to be long after the last delivery.
 #![tactic(auto)]
 
 mod figures;

@@ -22,8 +22,8 @@ fn name_of(place: usize) -> Result<NodeName, NameFault> {
     NodeName::parse(&[b'n', digit(place / 100), digit(place / 10), digit(place)])
 }
 
-/// How far on in the ring a node's peers are: its neighbours, two that are further, and the one that is farthest, where two nodes
-/// are that to each other.
+/// How far on in the ring a node's peers are: its neighbours, two that are further, and the one that is farthest, where
+/// two nodes are that to each other.
 fn steps_of(nodes: usize) -> [usize; 5] {
     let chord = (nodes / 8).max(2);
     let farthest = if nodes % 2 == 0 { nodes / 2 } else { 1 };

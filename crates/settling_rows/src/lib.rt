@@ -1,4 +1,5 @@
-//! Small groups of Plumtree nodes that are brought to rest, as tests, and a sweep in which each allocation is refused in turn.
+//! Small groups of Plumtree nodes that are brought to rest, as tests, and a sweep in which each allocation is refused
+//! in turn.
 #![tactic(auto)]
 
 #[cfg(test)]

@@ -1,5 +1,5 @@
-//! Groups that are brought to rest while an allocation is refused, each in turn: the refusal is as out of memory, and a second call
-//! plays what is left.
+//! Groups that are brought to rest while an allocation is refused, each in turn: the refusal is as out of memory, and a
+//! second call plays what is left.
 use crate::act::Group;
 use crate::play::{compare, limits, prepare};
 use crate::rows::{REPAIR, Row};
@@ -11,8 +11,8 @@ use std::test::Fail;
 use test_support::{lend, stop_refusing, sweep};
 use world::WorldError;
 
-/// Brings a group to rest while the allocation with this number is refused. Whether there was such an allocation, or `None` where
-/// the answer is another.
+/// Brings a group to rest while the allocation with this number is refused. Whether there was such an allocation, or
+/// `None` where the answer is another.
 fn settle_refused<A: Allocator + Copy>(
     heap: &RefusingAllocator,
     alloc: A,

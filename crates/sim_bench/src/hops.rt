@@ -46,8 +46,8 @@ fn flush_all(group: &mut World<PlumCore>) -> Result<()> {
     Ok(())
 }
 
-/// Broadcasts at the node at this place. Each packet takes a unit of time, and each node announces what waits once a unit. After
-/// how many units the last node has the message.
+/// Broadcasts at the node at this place. Each packet takes a unit of time, and each node announces what waits once a
+/// unit. After how many units the last node has the message.
 fn broadcast(group: &mut World<PlumCore>, place: usize, payload: &Bytes) -> Result<usize> {
     group.apply(EventOf::Broadcast {
         name: name_of(place)?,

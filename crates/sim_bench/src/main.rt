@@ -1,6 +1,7 @@
-//! Broadcasts in a group of 64 Plumtree nodes. Without an argument it prints how many packets each of the first few takes, with a
-//! count how long so many take, with `hops` and a threshold how far messages go where branches are swapped, and with `settle` and
-//! a count how long it takes to bring the group to rest with so many queued announcements.
+//! Broadcasts in a group of 64 Plumtree nodes. Without an argument it prints how many packets each of the first few
+//! takes, with a count how long so many take, with `hops` and a threshold how far messages go where branches are
+//! swapped, and with `settle` and a count how long it takes to bring the group to rest with so many queued
+//! announcements.
 #![tactic(auto)]
 
 mod hops;

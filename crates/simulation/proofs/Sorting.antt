@@ -1,4 +1,5 @@
--- What is sorted by the rank of its message, and then by the rank of its node without moving what ties, has the order of lines.
+-- What is sorted by the rank of its message, and then by the rank of its node without moving what ties, has the order
+-- of lines.
 use Rattle.std.proofs.Common.{◌≡◌, ◌∙◌, ◌+◌, ◌<◌, ℕ, Bool, true, false, not, ◌&&◌, List, get_or, length, ap, sym, refl, arith, All, Bor, Contains}
 use Rattle.std.specs.List.Sorted.{IsSortedBy, IsSortedByKey, IsStableByKey}
 use Rattle.std.specs.Ordering.{is_lt, nat_cmp, ordering_then}

@@ -39,7 +39,8 @@ use Rattle.simulation.specs.declared.play.PlayFault.TheVariants as fault
 abbrev pub oldest : Dice → Event
 oldest dice = event.Arrive 0 dice
 
--- the event that an action is played as, with these dice if it draws any; `arrive_all` and `settle` are as many events as it takes
+-- the event that an action is played as, with these dice if it draws any; `arrive_all` and `settle` are as many events
+-- as it takes
 abbrev pub event_of : Dice → Action → Option Event
 event_of dice (Start node incarnation peers contact) = Some (event.Start node incarnation peers contact)
 event_of dice (Broadcast node text) = Some (event.Broadcast node text)
@@ -69,7 +70,7 @@ rolls_after (Stop node) rolls = rolls
 rolls_after ArriveAll rolls = rolls
 rolls_after Settle rolls = rolls
 
--- the fault of a halt at this event; want of memory is no matter of the event
+-- the fault of a halt at this event; a refused allocation is no matter of the event
 abbrev pub fault_of : ℕ → Halt → PlayFault
 fault_of number (halt.Refused world.OutOfMemory) = fault.OutOfMemory
 fault_of number (halt.Refused why) = fault.Refused number (record { 0 = why })
@@ -138,14 +139,15 @@ module _
       abbrev pub Refuses : Event → WorldError → Logged C N → Type 0
       Refuses e why group = IsRefusal is_spent group.limits group.group e why
 
-      -- Settling ends early: the group is not calm, or a node is out of numbers, or memory is refused, after some events.
+      -- Settling ends early: the group is not calm, or a node is out of numbers, or memory is refused, after some
+      -- events.
       abbrev pub StopsSettling : SettleError → Logged C N → Logged C N → Type 0
       StopsSettling settle.NotCalm old new = (new ≡ old) × (IsCalm state content old.group → ⊥)
       StopsSettling settle.SeqSpent old new = (events : List Event) × Settles state starts steps events old new × IsNextSpent state starts steps is_spent new.group
       StopsSettling settle.OutOfMemory old new = (events : List Event) × Settles state starts steps events old new
 
-      -- The playing of an action halts: its event, or an arrival after some others, is refused, or something is still in
-      -- flight after the most arrivals, or settling ends early.
+      -- The playing of an action halts: its event, or an arrival after some others, is refused, or something is still
+      -- in flight after the most arrivals, or settling ends early.
       abbrev pub HaltsIn : ℕ → Action → Halt → Standing C N → Logged C N → Type 0
       HaltsIn most action (halt.Refused why) old new = MatchOption (event_of (rolled old.rolls) action)
           ((n : ℕ) × (n < most) × (between : Standing C N) × Drains n old between × (new ≡ between.group) × Refuses (oldest (rolled between.rolls)) why new)
@@ -165,8 +167,8 @@ module _
       abbrev pub IsHalted : ℕ → List Action → PlayFault → Standing C N → Logged C N → Type 0
       IsHalted most actions stopped old new = (number : ℕ) × (stop : Halt) × (stopped ≡ fault_of number stop) × HaltsAt most actions number stop old new
 
--- What the output gains is what is printed of a group and its deliveries: the lines of these, sorted, and then those of each
--- message that was broadcast, in the order of their ids.
+-- What the output gains is what is printed of a group and its deliveries: the lines of these, sorted, and then those of
+-- each message that was broadcast, in the order of their ids.
 pub record PrintsGroup {C N : Type 0} (state : C → CoreState) (content : N → Content) (group : Logged C N) (deliveries : List Delivery) (before after : Option (List ℕ)) : Type 0 where
   pub lines : List Delivery
   pub messages : List MsgId
@@ -209,8 +211,8 @@ abbrev pub IsPlayed :
     Type 0
 IsPlayed {C} {N} state starts steps most seed limits actions = (new : Standing C N) × PlaysActions state starts steps most actions (record { rolls = rolls_of seed; group = empty_group limits }) new
 
--- What the output gains is what is printed of a group that played these actions up to the one at which it halted by this
--- fault.
+-- What the output gains is what is printed of a group that played these actions up to the one at which it halted by
+-- this fault.
 pub record PrintsHalted
     {C N : Type 0}
     (state : C → CoreState)

@@ -9,8 +9,8 @@ use std::alloc::{AllocError, Allocator};
 use std::io::Write;
 use world::World;
 
-/// Writes the document: eager links as plain arrows and lazy ones dashed, the edges of each message's tree bold, and nodes
-/// that run and have not delivered it dotted. It is written whole, in one write.
+/// Writes the document: eager links as plain arrows and lazy ones dashed, the edges of each message's tree bold, and
+/// nodes that run and have not delivered it dotted. It is written whole, in one write.
 pub fn write_graph<A: Allocator + Copy, W: Write>(
     alloc: A,
     group: &World<PlumCore<A>, A>,

@@ -1,5 +1,5 @@
-//! A scenario that is played and printed while one allocation is refused, each in turn: the fault is that memory is short, or
-//! nothing is missing.
+//! A scenario that is played and printed while one allocation is refused, each in turn: the fault is that memory is
+//! short, or nothing is missing.
 use crate::hello::{hello, is_told};
 use links::TapeWriter;
 use refusing_allocator::RefusingAllocator;
@@ -33,7 +33,8 @@ fn end_of(status: u8, printed: &[u8], told: &[u8]) -> End {
     }
 }
 
-/// Plays a scenario while the allocation with this number is refused. How it ended, and whether there was such an allocation.
+/// Plays a scenario while the allocation with this number is refused. How it ended, and whether there was such an
+/// allocation.
 fn play_refused<A: Allocator + Copy>(
     heap: &RefusingAllocator,
     alloc: A,
@@ -62,8 +63,8 @@ fn play<A: Allocator + Copy>(
     play_refused(heap, alloc, scenario, &mut out, &mut faults, n)
 }
 
-/// Does so, and counts the scenario if memory was short. Whether there was such an allocation, or none if the answer is wrong.
-/// What only asks for more room than is needed may be refused without harm.
+/// Does so, and counts the scenario if memory was short. Whether there was such an allocation, or none if the answer is
+/// wrong. What only asks for more room than is needed may be refused without harm.
 fn count_short<A: Allocator + Copy>(
     heap: &RefusingAllocator,
     alloc: A,

@@ -1,4 +1,5 @@
-//! Reads of a scenario of which one fails, each in turn: nothing is played, and the fault is that the scenario cannot be read.
+//! Reads of a scenario of which one fails, each in turn: nothing is played, and the fault is that the scenario cannot
+//! be read.
 use crate::hello::{hello, is_told};
 use bytes::Bytes;
 use links::{MeteredRead, TapeReader, TapeWriter};

@@ -96,8 +96,8 @@ fn time_rounds<R: Clock>(rt: &R, alloc: Global, core: &mut PlumCore, rounds: u64
     })
 }
 
-/// Lets a core without peers take so many messages of one byte, of 64 origins in turn, of which it holds the last `keep`, or all
-/// for 0.
+/// Lets a core without peers take so many messages of one byte, of 64 origins in turn, of which it holds the last
+/// `keep`, or all for 0.
 pub(crate) fn see_all<R: Clock>(rt: &R, alloc: Global, count: u64, keep: u32) -> Result<Taken> {
     lend(start(alloc, keep)?, |core| {
         time_rounds(rt, alloc, core, count / ORIGINS)

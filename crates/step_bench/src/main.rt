@@ -1,5 +1,5 @@
-//! What the parts of a node cost alone. Without an argument it prints what comes of a few messages; given what to measure and with how
-//! many messages, it prints how long that takes. `bench/node` measures the memory from outside.
+//! What the parts of a node cost alone. Without an argument it prints what comes of a few messages; given what to
+//! measure and with how many messages, it prints how long that takes. `bench/node` measures the memory from outside.
 #![tactic(auto)]
 
 mod cell_steps;

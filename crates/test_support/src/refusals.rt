@@ -11,11 +11,11 @@ pub fn stop_refusing(heap: &RefusingAllocator) -> bool {
     is_spent
 }
 
-/// Makes a call once for each of its allocations, which is refused, and at last with none refused. How many there are, or none if
-/// an answer is wrong.
+/// Makes a call once for each of its allocations, which is refused, and at last with none refused. How many there are,
+/// or none if an answer is wrong.
 ///
-/// The call is given the number of the allocation that it has refused. It answers whether there is such an allocation, or none if
-/// something is wrong.
+/// The call is given the number of the allocation that it has refused. It answers whether there is such an allocation,
+/// or none if something is wrong.
 pub fn sweep<E: Drop, F: FnMut(u64) -> Result<Option<bool>, E>>(
     mut call: F,
 ) -> Result<Option<u64>, E>

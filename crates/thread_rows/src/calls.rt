@@ -34,7 +34,8 @@ pub(crate) fn refusal<A: Allocator + Copy>(
     Ok(step(cell, stimulus))
 }
 
-/// Whether the node reports that so many frames came out of this outlet, whose link to the peer was opened before any step.
+/// Whether the node reports that so many frames came out of this outlet, whose link to the peer was opened before any
+/// step.
 pub(crate) fn is_reported<A: Allocator + Copy>(
     cell: &NodeCell<PlumCore<A>, A>,
     outlet: &Outlet<A>,

@@ -1,5 +1,5 @@
-//! Rows in which each allocation of each call is refused in turn: the call fails as out of memory, the node shows what it did
-//! before, and the call made again and all that follow answer as if nothing had been refused.
+//! Rows in which each allocation of each call is refused in turn: the call fails as out of memory, the node shows what
+//! it did before, and the call made again and all that follow answer as if nothing had been refused.
 use crate::node::{parse_names, start_with_p};
 use crate::rows::{Row, Turn, rows};
 use crate::turns::{Act, Answer, Refusal, ask};
@@ -48,8 +48,8 @@ fn answers_again<A: Allocator + Copy>(
         && ask(rt, Refusal { heap, n: 0 }, alloc, cell, outlet, act) == wanted
 }
 
-/// Asks while the allocation with this number is refused, and again if the call is refused. Whether there is such an allocation,
-/// or none if the node does not answer so. What is refused in any case takes no memory.
+/// Asks while the allocation with this number is refused, and again if the call is refused. Whether there is such an
+/// allocation, or none if the node does not answer so. What is refused in any case takes no memory.
 fn refuse_one<A: Allocator + Copy>(
     rt: &impl Abort,
     heap: &RefusingAllocator,
@@ -134,8 +134,8 @@ fn refuse_of_fresh<A: Allocator + Copy>(
     lend(cell, |cell| refuse_row(rt, heap, alloc, cell, row, n))
 }
 
-/// The first allocation of each call of a row is refused, then, with a fresh node, the second of each, and so on until no call has
-/// so many.
+/// The first allocation of each call of a row is refused, then, with a fresh node, the second of each, and so on until
+/// no call has so many.
 #[test]
 fn each_allocation_of_each_row(rt: HostRuntime) -> Result<(), Fail> {
     let heap = RefusingAllocator::new(rt.alloc());

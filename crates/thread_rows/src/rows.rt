@@ -25,8 +25,8 @@ pub(crate) struct Row {
 const STEP: Answer = Answer::Step { is_full: false };
 
 const ROWS: &[Row] = &[
-    // The flush announces 65 messages in two frames, and the second one finds the ring full. A frame has 26 bytes beside its
-    // announcements, which have 22 each.
+    // The flush announces 65 messages in two frames, and the second one finds the ring full. A frame has 26 bytes
+    // beside its announcements, which have 22 each.
     Row {
         name: "a ring with room for one frame",
         limit: 100,

@@ -1,5 +1,5 @@
-//! The history of a node, handed out in parts; and each allocation of that refused in turn: the call fails as out of memory, the
-//! node shows what it did before, and asked again it hands out the same part.
+//! The history of a node, handed out in parts; and each allocation of that refused in turn: the call fails as out of
+//! memory, the node shows what it did before, and asked again it hands out the same part.
 use crate::calls::broadcast;
 use crate::node::start_with_p;
 use node_core::PlumCore;
@@ -78,7 +78,8 @@ fn hands_out<A: Allocator + Copy>(
     Ok(lend(sealed, |sealed| is_so(sealed, part)))
 }
 
-/// Whether the node broadcasts twice, hands out a part, broadcasts once more, and hands out two parts, the last one after the end.
+/// Whether the node broadcasts twice, hands out a part, broadcasts once more, and hands out two parts, the last one
+/// after the end.
 fn is_handed_out<A: Allocator + Copy>(
     alloc: A,
     cell: &mut NodeCell<PlumCore<A>, A>,
@@ -116,8 +117,8 @@ fn parts_of_a_history(rt: HostRuntime) -> Result<(), Fail> {
     Ok(())
 }
 
-/// Hands out a part while the allocation with this number is refused. Whether there is such an allocation, and whether all is
-/// right; none if something is wrong.
+/// Hands out a part while the allocation with this number is refused. Whether there is such an allocation, and whether
+/// all is right; none if something is wrong.
 fn refuse_part<A: Allocator + Copy>(
     heap: &RefusingAllocator,
     cell: &mut NodeCell<PlumCore<A>, A>,

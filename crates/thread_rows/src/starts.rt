@@ -1,5 +1,5 @@
-//! The start of a node and of a link, each allocation refused in turn: the start fails as out of memory, and made again it does
-//! not.
+//! The start of a node and of a link, each allocation refused in turn: the start fails as out of memory, and made again
+//! it does not.
 use crate::node::{parse_names, start_with_p};
 use node_core::PlumCore;
 use node_names::NodeName;
@@ -24,8 +24,8 @@ fn is_out_of_memory(error: HostError) -> bool {
     )
 }
 
-/// Starts the node while the allocation with this number is refused, and again if it is refused. Whether there is such an
-/// allocation, or none if something is wrong.
+/// Starts the node while the allocation with this number is refused, and again if it is refused. Whether there is such
+/// an allocation, or none if something is wrong.
 fn refuse_start<A: Allocator + Copy>(
     rt: &impl Abort,
     heap: &RefusingAllocator,

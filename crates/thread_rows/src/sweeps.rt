@@ -1,5 +1,5 @@
-//! A broadcast while two links are open, each allocation refused in turn: the broadcast fails as out of memory, the node shows what it
-//! did before, and the broadcast made again answers as if nothing had been refused.
+//! A broadcast while two links are open, each allocation refused in turn: the broadcast fails as out of memory, the
+//! node shows what it did before, and the broadcast made again answers as if nothing had been refused.
 use crate::calls::{broadcast, is_reported, refusal};
 use crate::node::{Names, parse_names, start_with_both};
 use frames::Frame;
@@ -16,7 +16,8 @@ use world::Stimulus;
 /// More frames than come out.
 const FRAMES: u64 = 9;
 
-/// Takes a broadcast. Whether it is the second message of this node and its second step, and both links have room for it.
+/// Takes a broadcast. Whether it is the second message of this node and its second step, and both links have room for
+/// it.
 fn is_second<A: Allocator + Copy>(
     cell: &mut NodeCell<PlumCore<A>, A>,
     stimulus: Stimulus<Frame<A>, A>,
@@ -34,8 +35,8 @@ fn is_second<A: Allocator + Copy>(
     )
 }
 
-/// Takes a broadcast while the allocation with this number is refused, or none at 0. Whether there is such an allocation, and what the
-/// node answers.
+/// Takes a broadcast while the allocation with this number is refused, or none at 0. Whether there is such an
+/// allocation, and what the node answers.
 fn try_second<A: Allocator + Copy>(
     heap: &RefusingAllocator,
     alloc: A,
@@ -103,8 +104,8 @@ fn takes_again<A: Allocator + Copy>(
     Ok(answer? && shows(cell, to_p, to_q, 2, 1)?)
 }
 
-/// Takes the second broadcast of a node while the allocation with this number is refused, and again if the node refuses. Whether
-/// there is such an allocation, or none if something is wrong.
+/// Takes the second broadcast of a node while the allocation with this number is refused, and again if the node
+/// refuses. Whether there is such an allocation, or none if something is wrong.
 fn refuse_allocation<A: Allocator + Copy>(
     heap: &RefusingAllocator,
     alloc: A,

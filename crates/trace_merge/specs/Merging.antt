@@ -76,8 +76,8 @@ pub record HasTrace (traces : List (Trace Frame)) (o : Origin) : Type 0 where
 abbrev pub AreDistinct : List (Trace Frame) → Type 0
 AreDistinct traces = (i j : ℕ) (s t : Trace Frame) → slice_get traces i ≡ Some s → slice_get traces j ≡ Some t → s.origin ≡ t.origin → i ≡ j
 
--- The events are a run of a group under these limits that starts exactly the runs of the traces, loses and stops nothing, and in
--- which each of them did what its trace says. So all that holds of groups of such nodes holds of it.
+-- The events are a run of a group under these limits that starts exactly the runs of the traces, loses and stops
+-- nothing, and in which each of them did what its trace says. So all that holds of groups of such nodes holds of it.
 pub record IsMerged (limits : Limits) (traces : List (Trace Frame)) (events : List Event) : Type 0 where
   pub world : Logged Plum Frame
   pub same_limits : world.limits ≡ limits
@@ -94,7 +94,8 @@ pub record IsMerged (limits : Limits) (traces : List (Trace Frame)) (events : Li
 abbrev pub place_at : List (Option ℕ) → ℕ → Option ℕ
 place_at places i = get_or places i None
 
--- The group that the traces are played into, the events that it took, how far each trace is played, and where sent frames are found.
+-- The group that the traces are played into, the events that it took, how far each trace is played, and where sent
+-- frames are found.
 pub record Merge : Type 0 where
   pub world : Logged Plum Frame
   pub events : List Event
@@ -135,8 +136,8 @@ pub record IsSentBy (traces : List (Trace Frame)) (places : List (Option ℕ)) (
   pub stands : place_at places at ≡ Some place
   pub sends : IsOneOf (packet.to, packet.note) (sent_within place trace)
 
--- So far the events are a run of the group that did what the traces say; a run that is not started is later than those of its
--- name that are; and the packets are those that the traces sent.
+-- So far the events are a run of the group that did what the traces say; a run that is not started is later than those
+-- of its name that are; and the packets are those that the traces sent.
 pub record IsMerging (limits : Limits) (traces : List (Trace Frame)) (m : Merge) : Type 0 where
   pub same_limits : m.world.limits ≡ limits
   pub ran : Run plum_state PlumStarts PlumSteps limits (reverse m.world.log) m.world.group

@@ -78,7 +78,8 @@ started_on o (Down name peer dice) out trace = trace
 started_on o (Shuffle name dice) out trace = trace
 started_on o (Stop name) out trace = trace
 
--- the trace after the entry, the next event's packets having the number `end`, where the name had last started this incarnation
+-- the trace after the entry, the next event's packets having the number `end`, where the name had last started this
+-- incarnation
 abbrev pub traced_on : {N : Type 0} → Origin → Option Incarnation → List (Packet N) → Entry → ℕ → Option (Trace N) → Option (Trace N)
 traced_on o last sent entry end trace =
     let out = output_of entry end sent in

@@ -25,14 +25,15 @@ impl From<AllocError> for ProjectFault {
     }
 }
 
-/// Why traces are not those of one run of a group. A place is a step's number in its trace, from 0, and 0 for the start.
+/// Why traces are not those of one run of a group. A place is a step's number in its trace, from 0, and 0 for the
+/// start.
 #[derive(Clone, Copy, Debug, PartialEq, Eq, Error)]
 pub enum MergeFault {
     /// Two traces are of this run of a node.
     #[error("M4 {origin}")]
     Doubled { origin: Origin },
-    /// No trace can be played on, and this is the first that is not played out: it waits for a frame that no trace sends, or for
-    /// an earlier run of its name.
+    /// No trace can be played on, and this is the first that is not played out: it waits for a frame that no trace
+    /// sends, or for an earlier run of its name.
     #[error("M1 {origin} {place}")]
     Stuck { origin: Origin, place: usize },
     /// The step is the arrival of a frame that its sender sent otherwise, or to another name.

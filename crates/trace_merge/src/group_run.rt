@@ -56,12 +56,13 @@ impl<A: Allocator + Copy> Merging<A> {
     }
 }
 
-/// The events of one run of a group that has these traces: in which each of their nodes starts and does what its trace says, and
-/// nothing else happens but that packets arrive more than once.
+/// The events of one run of a group that has these traces: in which each of their nodes starts and does what its trace
+/// says, and nothing else happens but that packets arrive more than once.
 ///
-/// The traces are gone over in the order of the list, again and again, and each is played as far as it goes. A trace starts once
-/// all traces of its name with lower incarnations are played out, and a frame arrives once it is sent. `Doubled` comes first;
-/// `Unlike` and `NotARun` come where the trace that is gone over has them; `Stuck` where none can be played on.
+/// The traces are gone over in the order of the list, again and again, and each is played as far as it goes. A trace
+/// starts once all traces of its name with lower incarnations are played out, and a frame arrives once it is sent.
+/// `Doubled` comes first; `Unlike` and `NotARun` come where the trace that is gone over has them; `Stuck` where none
+/// can be played on.
 pub fn merge<A: Allocator + Copy>(
     alloc: A,
     limits: Limits,

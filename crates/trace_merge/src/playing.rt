@@ -71,7 +71,8 @@ impl<A: Allocator + Copy> Merging<A> {
 }
 
 impl<A: Allocator + Copy> Merging<A> {
-    /// Plays what comes next of the trace at a place, its start or a step, unless that must wait. Returns whether it was played.
+    /// Plays what comes next of the trace at a place, its start or a step, unless that must wait. Returns whether it
+    /// was played.
     fn play_one(
         &mut self,
         alloc: A,

@@ -8,8 +8,8 @@ use frames::Frame;
 use std::alloc::Allocator;
 use world::{EventOf, Trace, WorldError};
 
-/// Where the packet of this number is in flight, if it is. The numbers in flight rise, as long as each packet that is put there
-/// once more arrives next.
+/// Where the packet of this number is in flight, if it is. The numbers in flight rise, as long as each packet that is
+/// put there once more arrives next.
 fn place_of(flight: &[usize], number: usize) -> Option<usize>
     ensures { IfSome result (λ place. slice_get flight.now place ≡ Some number) }
 {

@@ -44,7 +44,8 @@ knows v name = same_name name v.owner || (has_name v.active name || has_name v.p
 abbrev pub has_room : Views → Bool
 has_room v = nat_lt (length v.active) v.limits.active
 
--- Add passive: a name that the views do not know comes into the passive view, from which word 3 evicts one if it is full.
+-- Add passive: a name that the views do not know comes into the passive view, from which word 3 evicts one if it is
+-- full.
 abbrev pub add_passive : Dice → Name → Views → Views
 add_passive dice name v = if knows v name then v else record v { passive = with_room v.limits.passive (word dice 3) v.passive ++ name ∷ [] }
 
@@ -76,8 +77,8 @@ forget_passive name v = record v { passive = without name v.passive }
 abbrev pub put_active : Name → Views → Views
 put_active name v = record v { active = v.active ++ name ∷ [] }
 
--- Add active: a name that is neither the owner's nor active leaves the passive view and comes into the active view, from
--- which word 0 demotes one if it is full.
+-- Add active: a name that is neither the owner's nor active leaves the passive view and comes into the active view,
+-- from which word 0 demotes one if it is full.
 abbrev pub add_active : Dice → Name → Views → Views
 add_active dice name v = if is_settled v name then v else put_active name (make_room dice (forget_passive name v))
 
@@ -104,7 +105,8 @@ pub record Integration : Type 0 where
 abbrev pub put_passive : Name → Views → Views
 put_passive name v = record v { passive = v.passive ++ name ∷ [] }
 
--- a full passive view loses the first of the sent names that it has, or else the one that the next of words 12 to 15 chooses
+-- a full passive view loses the first of the sent names that it has, or else the one that the next of words 12 to 15
+-- chooses
 abbrev pub clear_place : List Name → Dice → Integration → Integration
 clear_place sent dice i =
     option_map_or

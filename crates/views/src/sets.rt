@@ -21,7 +21,7 @@ pub(crate) struct Sets<A: Allocator = Global> {
 }
 
 impl<A: Allocator + Copy> Sets<A> {
-    /// The same sets once more.
+    /// A copy of the sets.
     pub(crate) fn copy(&self) -> Result<Sets<A>, AllocError>
         ensures { IfOk result (λ copy. views_of copy ≡ views_of self.now) }
     {
@@ -151,8 +151,8 @@ impl<A: Allocator> Sets<A> {
             .find(|name| self.passive.contains(name))
     }
 
-    /// Takes the first of the sent names that is there out of the passive view, or else the one that the next of the words
-    /// 12 to 15 chooses.
+    /// Takes the first of the sent names that is there out of the passive view, or else the one that the next of the
+    /// words 12 to 15 chooses.
     fn clear_place(&mut self, sent: &[NodeName], dice: &Dice, evictions: &mut usize)
         requires { evictions.old + 1 < 2 ^ 64 }
         ensures cleared { record { views = views_of self.new; evictions = evictions.new }

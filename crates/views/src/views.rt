@@ -82,7 +82,7 @@ impl<A: Allocator + Copy> Views<A> {
         sample(alloc, candidates, &words[..count])
     }
 
-    /// The same views once more.
+    /// A copy of the views.
     pub fn copy(&self) -> Result<Views<A>, AllocError>
         ensures { IfOk result (λ copy. copy ≡ self.now) }
     {
@@ -125,7 +125,7 @@ impl<A: Allocator> Views<A> {
         &self.sets.passive
     }
 
-    /// Adds a name to the passive view, and gives the one that is evicted for it.
+    /// Adds a name to the passive view, and returns the one that is evicted for it.
     pub fn add_passive(
         &mut self,
         name: NodeName,
@@ -149,7 +149,7 @@ impl<A: Allocator> Views<A> {
         Ok(self.sets.demote(name, dice))
     }
 
-    /// Demotes the active name that word 0 chooses, and gives it.
+    /// Demotes the active name that word 0 chooses, and returns it.
     pub fn drop_active(&mut self, dice: &Dice) -> Result<Option<NodeName>, AllocError>
         ensures ok { OnOk result (self.new ≡ drop_active dice.now self.old) }
         ensures dropped { IfOk result (λ dropped. dropped ≡ chosen (word dice.now 0) self.old.active) }
@@ -159,7 +159,7 @@ impl<A: Allocator> Views<A> {
         Ok(self.sets.drop_active(dice))
     }
 
-    /// Adds a name to the active view, and gives the one that is demoted for it.
+    /// Adds a name to the active view, and returns the one that is demoted for it.
     pub fn add_active(
         &mut self,
         name: NodeName,
@@ -181,8 +181,9 @@ impl<A: Allocator> Views<A> {
         self.sets.forget(&name)
     }
 
-    /// Adds each of the names that is neither the owner's nor in a view to the passive view, in order. Where that is full,
-    /// the first of the sent names that it has leaves it, or else one that the next of the words 12 to 15 chooses.
+    /// Adds each of the names that is neither the owner's nor in a view to the passive view, in order. Where that is
+    /// full, the first of the sent names that it has leaves it, or else one that the next of the words 12 to 15
+    /// chooses.
     pub fn integrate(
         &mut self,
         names: &[NodeName],

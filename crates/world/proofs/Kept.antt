@@ -28,7 +28,8 @@ pub record IsStarted (history : List Entry) (origin : Origin) : Type 0 where
   pub started : incarnation_of origin.name history ≡ Some last
   pub not_later : origin.incarnation.0 ≤ last.0
 
--- The core is sound and is its node's, counts the broadcasts of the name, holds only what was said, and has what it delivered.
+-- The core is sound and is its node's, counts the broadcasts of the name, holds only what was said, and has what it
+-- delivered.
 pub record KeepsCore {C : Type 0} (state : C → CoreState) (is_sound : Limits → C → Type 0) (limits : Limits) (history : List Entry) (node : NodeState C) (core : C) : Type 0 where
   pub sound : is_sound limits core
   pub is_me : (state core).me ≡ origin_of node

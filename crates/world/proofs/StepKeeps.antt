@@ -28,8 +28,8 @@ use Rattle.world.proofs.FindLemmas.{each-put_node, found_name, put_cases}
 use Rattle.world.proofs.GivenLemmas.{given_either, given_fresh, given_here, given_id, once-append, once_few}
 use Rattle.world.proofs.Kept.{IsStarted, Keeps, KeepsCore, KeepsPacket, each-append, each-both, each-weaken, highest_of, highest_of-found, highest_of-put}
 
--- The entry is of an event that is this stimulus to the core of the name: it starts nothing, counts as the core does, and
--- what it brings is said by then.
+-- The entry is of an event that is this stimulus to the core of the name: it starts nothing, counts as the core does,
+-- and what it brings is said by then.
 pub record IsStepOf {N : Type 0} (content : N → Content) (before : CoreState) (name : Name) (stimulus : Stimulus N) (entry : Entry) (past : List Entry) : Type 0 where
   pub starts_none : (other : Name) (last : Option Incarnation) → started_by other entry.event last ≡ last
   pub counts : (n : ℕ) → counted_by name entry.event n ≡ count_after n stimulus

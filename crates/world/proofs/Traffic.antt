@@ -49,8 +49,8 @@ pub record IsUnheard {C N : Type 0} (state : C → CoreState) (content : N → C
   pub queues_none : queued_at state id two (core_of one group.nodes) ≡ 0
   pub wants_none : wanted_at state id one (core_of two group.nodes) ≡ 0
 
--- The first sends, announces and is asked for the message once at most: an announcement was queued before it was sent, is in
--- flight or was taken up by an entry, of which a request was made, which is in flight or was answered by a copy.
+-- The first sends, announces and is asked for the message once at most: an announcement was queued before it was sent,
+-- is in flight or was taken up by an entry, of which a request was made, which is in flight or was answered by a copy.
 pub record GoesOnce {C N : Type 0} (state : C → CoreState) (content : N → Content) (group : Group C N) (id : MsgId) (one two : Name) : Type 0 where
   pub lacks_none : (core : C) → core_of one group.nodes ≡ Some core → (state core).has id ≡ false → (sum_by (copy_weight content id one two) group.sent ≡ 0) × (sum_by (announcement_weight content id one two) group.sent ≡ 0)
   pub announced : queued_at state id two (core_of one group.nodes) + sum_by (announcement_weight content id one two) group.sent ≤ 1

@@ -1,4 +1,5 @@
--- Before a message is said nothing of it crosses a link, and in an undisturbed run without repeats it crosses each once.
+-- Before a message is said nothing of it crosses a link, and in an undisturbed run without repeats it crosses each
+-- once.
 use Rattle.std.proofs.Common.{◌≡◌, ◌∙◌, ◌+◌, ◌<◌, ◌≤◌, ℕ, List, [], ◌∷◌, ◌++◌, length, true, false, sym, ap, refl, subst, inl, inr, arith}
 use Rattle.std.specs.List.{sum_by}
 use Rattle.std.specs.Prelude.{remove, Bool, Option, Some, None}

@@ -141,7 +141,8 @@ FloodIsSpent core (Shuffle dice) = ⊥
 abbrev pub HoldsCounted : Origin → List (MsgId × List ℕ) → ℕ → Type 0
 HoldsCounted me held count = (id : MsgId) → is_some (lookup (same_id id) held) ≡ true → id.origin ≡ me → (0 < id.seq) × (id.seq ≤ count)
 
--- What always holds: the peers fit the limits, are distinct others, and the core's own messages are those that it counted.
+-- What always holds: the peers fit the limits, are distinct others, and the core's own messages are those that it
+-- counted.
 pub record IsSoundFlooding (limits : Limits) (core : Flooding) : Type 0 where
   pub within : length core.peers ≤ limits.active
   pub distinct : IsDistinct same_name core.peers

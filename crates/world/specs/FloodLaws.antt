@@ -93,7 +93,8 @@ stays_lawful limits core sound =
 -- ---- a message is taken
 
 module _ (limits : Limits) (old : Flooding) (sound : IsSoundFlooding limits old) (id : MsgId) (payload : List ℕ) (left_out : Option Name) (count : ℕ) (stimulus : Stimulus Message) where
-  -- taking a message that the stimulus brings meets each law, where the stimulus neither announces nor asks for anything
+  -- taking a message that the stimulus brings meets each law, where the stimulus neither announces nor asks for
+  -- anything
   takes_lawfully :
       Brings note_content (flood_state old) stimulus id payload
       → Delivers note_content (flood_state old) stimulus (id ∷ [])
@@ -121,7 +122,8 @@ module _ (limits : Limits) (old : Flooding) (sound : IsSoundFlooding limits old)
 -- ---- nothing is taken
 
 module _ (old : Flooding) (peers : List Name) (stimulus : Stimulus Message) where
-  -- where the stimulus neither demands nor announces nor asks for anything, a core that only has other peers meets each law
+  -- where the stimulus neither demands nor announces nor asks for anything, a core that only has other peers meets each
+  -- law
   rests_lawfully :
       Delivers note_content (flood_state old) stimulus []
       → old.count ≡ count_after old.count stimulus

@@ -47,8 +47,8 @@ abbrev pub broadcasts_of : Name → List Entry → ℕ
 broadcasts_of name [] = 0
 broadcasts_of name (entry ∷ past) = counted_by name entry.event (broadcasts_of name past)
 
--- After this past the event says the message with this payload: it is the broadcast that the id numbers, by the name and
--- under the incarnation of its last start.
+-- After this past the event says the message with this payload: it is the broadcast that the id numbers, by the name
+-- and under the incarnation of its last start.
 abbrev pub Says : Event → List Entry → MsgId → List ℕ → Type 0
 Says (Broadcast name payload) past id p = (id.origin.name ≡ name) × (incarnation_of name past ≡ Some id.origin.incarnation) × (id.seq ≡ suc (broadcasts_of name past)) × (p ≡ payload)
 Says (Start name incarnation peers contact) past id p = ⊥

@@ -18,8 +18,8 @@ IsTooLong Flush = ⊥
 IsTooLong (Down peer dice) = ⊥
 IsTooLong (Shuffle dice) = ⊥
 
--- The stimulus is a broadcast of an allowed payload, and the core has spent all its sequence numbers: this is refused as such
--- before anything is allocated.
+-- The stimulus is a broadcast of an allowed payload, and the core has spent all its sequence numbers: this is refused
+-- as such before anything is allocated.
 abbrev pub IsOutOfNumbers : {N : Type 0} → CoreState → Stimulus N → Type 0
 IsOutOfNumbers core (Broadcast payload) = (length payload ≤ MAX_PAYLOAD) × (core.count ≡ 2 ^ 64 - 1)
 IsOutOfNumbers core (Arrive sender note dice) = ⊥

@@ -27,7 +27,8 @@ pub record IsSilent (content : Content) : Type 0 where
   pub announces_nothing : content.announced ≡ []
   pub asks_nothing : content.asked ≡ None
 
--- A core starts with its peers as its active view and with nothing else, and its first packets go to others and are silent.
+-- A core starts with its peers as its active view and with nothing else, and its first packets go to others and are
+-- silent.
 pub record StartLaws {N : Type 0} (content : N → Content) (me : Origin) (peers : List Name) (sends : List (Name × N)) (core : CoreState) : Type 0 where
   pub is_me : core.me ≡ me
   pub has_nothing : (id : MsgId) → core.has id ≡ false
@@ -63,8 +64,8 @@ pub record StepLaws {N : Type 0} (content : N → Content) (before : CoreState) 
   pub asks : AskLaw content before stimulus sends given after
   pub holds : HoldLaw content before stimulus sends given
 
--- The starts and steps of a core meet the laws wherever packets come from others, and lead from sound cores to sound ones; and
--- each step leaves at least as many of the messages that were delivered last as the limits say.
+-- The starts and steps of a core meet the laws wherever packets come from others, and lead from sound cores to sound
+-- ones; and each step leaves at least as many of the messages that were delivered last as the limits say.
 pub record Laws
     {C N : Type 0}
     (state : C → CoreState)

@@ -50,7 +50,8 @@ abbrev pub arrival : {N : Type 0} → Option (Packet N) → Dice → Option (Sti
 arrival None dice = None
 arrival (Some packet) dice = Some (stimulus.Arrive packet.sender packet.note dice)
 
--- the stimulus that an event is to the core that it steps, where it steps one; that of an arrival is the packet of the number
+-- the stimulus that an event is to the core that it steps, where it steps one; that of an arrival is the packet of the
+-- number
 abbrev pub stimulus_by : {N : Type 0} → List (Packet N) → Event → Option ℕ → Option (Stimulus N)
 stimulus_by sent (Broadcast name payload) number = Some (stimulus.Broadcast payload)
 stimulus_by sent (Arrive place dice) number = arrival (sent_under sent number) dice
@@ -86,7 +87,8 @@ pub record RunsAt {C : Type 0} (name : Name) (nodes : List (NodeState C)) (at : 
   pub first : position (λ other. same_name node.name other.name) nodes ≡ Some at
   pub running : node.core ≡ Some core
 
--- The node at this place runs and is the first of its name, and its core can make the step that was worked out for the entry.
+-- The node at this place runs and is the first of its name, and its core can make the step that was worked out for the
+-- entry.
 pub record CanStep {C N T : Type 0} (is_turn : C → Stimulus N → T → Type 0) (nodes : List (NodeState C)) (sent : List (Packet N)) (entry : Entry) (at : ℕ) (turn : T) : Type 0 where
   pub node : NodeState C
   pub core : C

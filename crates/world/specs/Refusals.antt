@@ -96,7 +96,7 @@ module _ {C N : Type 0} (is_spent : C → Stimulus N → Type 0) (group : Group 
   IsSpentBy (Shuffle name dice) = IsSpentAt name (stimulus.Shuffle dice)
   IsSpentBy (Stop name) = ⊥
 
--- The event is refused so: by the first refusal that applies, or, where none does, because a core's numbers are spent or
--- for want of memory.
+-- The event is refused so: by the first refusal that applies, or, where none does, because a core's numbers are spent
+-- or an allocation is refused.
 abbrev pub IsRefusal : {C N : Type 0} → (C → Stimulus N → Type 0) → Limits → Group C N → Event → WorldError → Type 0
 IsRefusal is_spent limits group event e = (refusal limits group event ≡ Some e) ⊎ ((refusal limits group event ≡ None) × ((e ≡ OutOfMemory) ⊎ ((e ≡ SeqSpent) × IsSpentBy is_spent group event)))

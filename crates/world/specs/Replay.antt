@@ -13,8 +13,8 @@ abbrev pub Leads : {C N : Type 0} → (C → Stimulus N → List (Name × N) →
 Leads steps first [] last = last ≡ first
 Leads {C} steps first (s ∷ rest) last = (next : C) × steps first s.stimulus s.out.sends s.out.deliveries next × Leads steps next rest last
 
--- The trace replays under these limits, and this core is the state at its end: its opening is what a start with its origin,
--- peers and contact sends, and delivers nothing; and its steps lead from that start to the core.
+-- The trace replays under these limits, and this core is the state at its end: its opening is what a start with its
+-- origin, peers and contact sends, and delivers nothing; and its steps lead from that start to the core.
 pub record Replays
     {C N : Type 0}
     (starts : Origin → Limits → List Name → Option Name → List (Name × N) → C → Type 0)

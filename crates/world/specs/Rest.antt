@@ -44,8 +44,8 @@ SaidAndCalm (entry ∷ past) id = IsSaying entry.event past id ⊎ (IsCalm entry
 abbrev pub AreFewSince : ℕ → List Delivery → MsgId → Type 0
 AreFewSince keep given id = (node : Origin) (earlier later : List MsgId) → delivered_by node given ≡ earlier ++ id ∷ later → length (id ∷ later) ≤ keep
 
--- The run is undisturbed for the message: it was said, all was calm from then on, and the links go both ways; and where not all
--- messages are to be kept, no node delivered more than are kept since it delivered this one.
+-- The run is undisturbed for the message: it was said, all was calm from then on, and the links go both ways; and where
+-- not all messages are to be kept, no node delivered more than are kept since it delivered this one.
 pub record IsUndisturbed {C N : Type 0} (state : C → CoreState) (keep : ℕ) (history : List Entry) (group : Group C N) (id : MsgId) : Type 0 where
   pub calm : SaidAndCalm history id
   pub symmetric : IsSymmetric state group
@@ -67,7 +67,8 @@ pub record IsAtRest {C N : Type 0} (state : C → CoreState) (content : N → Co
   pub nothing_flies : Each (λ number. IfSome (slice_get group.sent number) (λ packet. IsSilentOn (content packet.note) id)) group.flight
   pub nodes_are_quiet : (name : Name) (core : C) → Runs group name core → IsQuiet (state core) id
 
--- The event of the entry gave the deliveries on the arrival of a packet of this sender, or, where there is none, by a broadcast.
+-- The event of the entry gave the deliveries on the arrival of a packet of this sender, or, where there is none, by a
+-- broadcast.
 abbrev pub GaveFrom : {N : Type 0} → List (Packet N) → Event → Entry → Option Origin → Type 0
 GaveFrom {N} sent (Arrive place dice) entry (Some sender) = (number : ℕ) × (packet : Packet N) × (entry.packet ≡ Some number) × (slice_get sent number ≡ Some packet) × (packet.sender ≡ sender)
 GaveFrom {N} sent (Broadcast name payload) entry None = Unit {0}

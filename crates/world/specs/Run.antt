@@ -168,7 +168,8 @@ pub record Tells
   pub first_sent : entry.first_sent ≡ length before.sent
   pub effect : Effect state starts steps limits before entry after event
 
--- A call takes the group on by one event: the log grows by an entry that says what happened, and the deliveries are its own.
+-- A call takes the group on by one event: the log grows by an entry that says what happened, and the deliveries are its
+-- own.
 pub record Applied
     {C N : Type 0}
     (state : C → CoreState)

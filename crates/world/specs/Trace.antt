@@ -12,7 +12,8 @@ pub record Step (N : Type 0) : Type 0 where
   pub stimulus : Stimulus N
   pub out : Output N
 
--- Which run it is; the peers and the contact that it started with; what its start gave; and its steps, the first one first.
+-- Which run it is; the peers and the contact that it started with; what its start gave; and its steps, the first one
+-- first.
 pub record Trace (N : Type 0) : Type 0 where
   pub origin : Origin
   pub peers : List Name

@@ -37,8 +37,8 @@ announcements_of content id from to sent = sum_by (λ packet. if goes from to pa
 abbrev pub requests : {N : Type 0} → (N → Content) → MsgId → Name → Name → List (Packet N) → ℕ
 requests content id from to sent = count_by (λ packet. goes from to packet && is_asked id (content packet.note).asked) sent
 
--- The message crossed the link from the name to its peer once at most, it was announced over it once at most, and the peer
--- asked for it once at most.
+-- The message crossed the link from the name to its peer once at most, it was announced over it once at most, and the
+-- peer asked for it once at most.
 pub record CrossesOnce {N : Type 0} (content : N → Content) (sent : List (Packet N)) (id : MsgId) (name peer : Name) : Type 0 where
   pub one_copy : copies content id name peer sent ≤ 1
   pub one_announcement : announcements_of content id name peer sent ≤ 1

@@ -1,4 +1,5 @@
--- What carries a message on: as long as a node has it and a linked one lacks it, something is under way between the two.
+-- What carries a message on: as long as a node has it and a linked one lacks it, something is under way between the
+-- two.
 use Rattle.std.specs.Prelude.{◌≡◌, ℕ, List, Some, slice_get, true, false}
 use Rattle.node_names.specs.NodeName.{Name}
 use Rattle.node_names.specs.Same.{has_name}
@@ -37,9 +38,9 @@ AsksForIt id content = content.asked ≡ Some id
 abbrev pub IsQueued : CoreState → MsgId → Name → Type 0
 IsQueued core id name = (round : ℕ) × IsOneOf (name, id, round) core.queued
 
--- One of five is under way from a node that has the message to one that lacks it: a packet that carries it, an announcement
--- in the first's queue, a packet that announces it, an entry by which the second wants it from the first, or a packet by which
--- the second asks the first for it.
+-- One of five is under way from a node that has the message to one that lacks it: a packet that carries it, an
+-- announcement in the first's queue, a packet that announces it, an entry by which the second wants it from the first,
+-- or a packet by which the second asks the first for it.
 pub data IsUnderWay {N : Type 0} (content : N → Content) (sent : List (Packet N)) (flight : List ℕ) (id : MsgId) (name peer : Name) (one other : CoreState) : Type 0 where
   Carried : IsInFlight content sent flight (CarriesIt id) name peer → IsUnderWay content sent flight id name peer one other
   Queued : IsQueued one id peer → IsUnderWay content sent flight id name peer one other
@@ -47,8 +48,8 @@ pub data IsUnderWay {N : Type 0} (content : N → Content) (sent : List (Packet 
   Wanted : IsWanted other id name → IsUnderWay content sent flight id name peer one other
   Asked : IsInFlight content sent flight (AsksForIt id) peer name → IsUnderWay content sent flight id name peer one other
 
--- For each two running nodes, active members of one another, of which the first has the message and the second lacks it,
--- something is under way.
+-- For each two running nodes, active members of one another, of which the first has the message and the second lacks
+-- it, something is under way.
 abbrev pub IsCarriedOn : {C N : Type 0} → (C → CoreState) → (N → Content) → Group C N → MsgId → Type 0
 IsCarriedOn {C} state content group id =
     (name peer : Name)

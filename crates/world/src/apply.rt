@@ -20,7 +20,8 @@ use node_names::Listed;
 use std::alloc::{AllocError, Allocator};
 
 impl<C: Core<A>, A: Allocator + Copy> World<C, A> {
-    /// Does what a plan says, all or nothing. All room is made first; the step of a core is the last that can be refused.
+    /// Does what a plan says, all or nothing. All room is made first; the step of a core is the last that can be
+    /// refused.
     fn commit(&mut self, plan: Plan<C, A>) -> Result<(), AllocError>
         requires happens { Happens C.state C.starts C.steps self.old.limits self.old.group plan.entry (planned C.after self.old.group plan.entry plan.change plan.packets.items plan.leaving plan.again) }
         requires leaving { ForSome plan.leaving (λ place. place < length self.old.group.flight) }
@@ -51,15 +52,16 @@ impl<C: Core<A>, A: Allocator + Copy> World<C, A> {
         Ok(())
     }
 
-    /// Plays one event, and gives what it delivered.
+    /// Plays one event, and returns what it delivered.
     ///
-    /// The refusals are tested in the order of `WorldError`'s variants as far as they can meet one event; one for want of
-    /// memory comes last. A refused event changes nothing.
+    /// The refusals are tested in the order of `WorldError`'s variants as far as they can meet one event; a refused
+    /// allocation comes last. A refused event changes nothing.
     pub fn apply(&mut self, event: Event<A>) -> Result<Vec<Delivery<A>, A>, WorldError>
         ensures applied { IfOk result (λ given. Applied C.state C.starts C.steps event given.items self.old self.new) }
         ensures err { OnErr result (self.new ≡ self.old) }
 
-        // Each refusal comes exactly where its condition holds and no earlier one does; those for numbers and memory only then.
+        // Each refusal comes exactly where its condition holds and no earlier one does; those for numbers and memory
+        // only then.
         ensures refused { IfErr result (IsRefusal C.is_spent self.old.limits self.old.group event) }
         ensures accepted { OnOk result (refusal self.old.limits self.old.group event ≡ None) }
     {
@@ -69,9 +71,10 @@ impl<C: Core<A>, A: Allocator + Copy> World<C, A> {
         Ok(given)
     }
 
-    /// Plays the events in order until one is refused, and gives what they delivered, each with the place of its event.
+    /// Plays the events in order until one is refused, and returns what they delivered, each with the place of its
+    /// event.
     ///
-    /// At a fault the group stands after the events before that one; the list may be gone on with from there.
+    /// At a fault the group stands after the events before that one; a caller may go on from there.
     pub fn run(&mut self, events: &[Event<A>]) -> Result<Vec<Given<A>, A>, RunFault<A>>
         ensures played { IfOk result (λ given. Plays C.state C.starts C.steps 0 events.now given.items self.old self.new) }
         ensures stopped { IfErr result (λ fault. Plays C.state C.starts C.steps 0 (take fault.at events.now) fault.given self.old self.new) }
@@ -90,7 +93,8 @@ impl<C: Core<A>, A: Allocator + Copy> World<C, A> {
         Ok(given)
     }
 
-    /// Plays one event. What it delivered stands in the log's last entry. It is `apply` without a copy of the deliveries.
+    /// Plays one event. What it delivered stands in the log's last entry. It is `apply` without a copy of the
+    /// deliveries.
     pub fn play(&mut self, event: &Event<A>) -> Result<(), WorldError>
         ensures applied { OnOk result ((given : List Delivered) × Applied C.state C.starts C.steps event.now given self.old self.new) }
         ensures err { OnErr result (self.new ≡ self.old) }
@@ -138,7 +142,7 @@ fn note<A: Allocator + Copy>(
     given.append(&mut more)
 }
 
-/// The deliveries, each with the place of the event that gave it.
+/// The deliveries, each with the place of the event that made it.
 fn given_of<A: Allocator + Copy>(
     alloc: A,
     at: usize,

@@ -22,7 +22,7 @@ pub enum WorldError {
     PayloadTooLong,
     /// A number that the step needs is used up: of the messages or of the packets of this incarnation.
     SeqSpent,
-    /// A growth was refused.
+    /// An allocation was refused.
     OutOfMemory,
 }
 

@@ -7,7 +7,8 @@ use std::alloc::{AllocError, Allocator};
 
 /// The numbers of the packets in flight.
 ///
-/// The oldest packet leaves without moving those behind it: the front keeps what has left until it is as long as the rest.
+/// The oldest packet leaves without moving those behind it: the front keeps what has left until it is as long as the
+/// rest.
 #[derive(Drop)]
 pub(crate) struct Flight<A: Allocator> {
     /// The numbers, behind those that have left.

@@ -25,8 +25,8 @@ type Held<A> = IndexMap<MsgId, Bytes<A>, BuildHasherDefault<FoldHasher>, A>;
 
 /// A core that delivers and holds each new message, and sends it to every peer but the one that it came from.
 ///
-/// A message of its own incarnation that it does not know does nothing when it arrives. Its peers change by failed links
-/// alone; its contact, firings, flushes and ticks do nothing.
+/// A message of its own incarnation that it does not know does nothing when it arrives. Its peers change by failed
+/// links alone; its contact, firings, flushes and ticks do nothing.
 #[derive(Drop)]
 pub struct FloodCore<A: Allocator = Global> {
     me: Origin,

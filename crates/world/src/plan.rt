@@ -26,7 +26,8 @@ use std::boxed::Box;
 pub(crate) enum Change<C, T, A: Allocator> {
     /// Nothing.
     Nothing,
-    /// This node is put in the place of the one of its name, or last. It is boxed, since a plan is moved about and few put one.
+    /// This node is put in the place of the one of its name, or last. It is boxed, since a plan is moved about and few
+    /// put one.
     Put(Box<NodeState<C>, A>),
     /// The core of the node at this place makes the step that was worked out.
     Step { at: usize, turn: T },

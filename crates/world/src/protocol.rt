@@ -114,8 +114,8 @@ pub trait Core<A: Allocator>: Sized + Drop {
         ensures refused { IfErr result (λ e. e ≡ CoreError.OutOfMemory) }
         ensures err { OnErr result (out.new ≡ out.old) };
 
-    /// Works a step out: appends what it sends and delivers, and changes nothing of the core. All refusals but those of memory
-    /// come here.
+    /// Works a step out: appends what it sends and delivers, and changes nothing of the core. All refusals but those of
+    /// memory come here.
     fn prepare(
         &self,
         stimulus: &StimulusRef<'_, Self::Note, A>,

@@ -12,7 +12,8 @@ use std::marker::Model;
 use std::mem;
 use std::sync::Arc;
 
-/// The steps of a trace: parts that no longer change, each of which begins where the one before it ends, and then a tail.
+/// The steps of a trace: parts that no longer change, each of which begins where the one before it ends, and then a
+/// tail.
 #[derive(Drop)]
 pub(crate) struct StepList<N: Drop, A: Allocator> {
     parts: Vec<Part<N, A>, A>,

@@ -75,8 +75,8 @@ impl<N: Drop, A: Allocator + Copy> Trace<N, A> {
         }
     }
 
-    /// Hands out the steps since the last segment as a segment of its own, which the trace shares from now on. No step is
-    /// copied. Without such steps the segment is empty. Where an allocation is refused, nothing changes.
+    /// Hands out the steps since the last segment as a segment of its own, which the trace shares from now on. No step
+    /// is copied. Without such steps the segment is empty. Where an allocation is refused, nothing changes.
     pub fn seal(&mut self) -> Result<Arc<Segment<N, A>, A>, AllocError>
         ensures same { self.new ≡ self.old }
         ensures ends { IfOk result (λ segment. Ends self.old.steps (arc_value segment)) }

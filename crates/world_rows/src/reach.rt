@@ -193,7 +193,8 @@ fn is_answer<A: Allocator>(
     }
 }
 
-/// Asks while the allocation with this number is refused. Whether there is such an allocation, or none if the answer is wrong.
+/// Asks while the allocation with this number is refused. Whether there is such an allocation, or none if the answer is
+/// wrong.
 fn refuse_allocation<A: Allocator + Copy>(
     heap: &RefusingAllocator,
     alloc: A,
@@ -208,7 +209,8 @@ fn refuse_allocation<A: Allocator + Copy>(
     lend(answer, |answer| is_answer(answer, is_spent, whole)).then_some(is_spent)
 }
 
-/// Asks while each allocation is refused in turn, and at last while none is. How many there are, or none if an answer is wrong.
+/// Asks while each allocation is refused in turn, and at last while none is. How many there are, or none if an answer
+/// is wrong.
 fn sweep<A: Allocator + Copy>(
     heap: &RefusingAllocator,
     alloc: A,

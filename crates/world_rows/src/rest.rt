@@ -1,4 +1,5 @@
-//! What can be told of a group: whether it is at rest for a message, whether its links go both ways, and the message's tree.
+//! What can be told of a group: whether it is at rest for a message, whether its links go both ways, and the message's
+//! tree.
 use crate::act::{Act, event, id};
 use crate::alike::Group;
 use at_rest::{Branch, is_at_rest, is_symmetric, tree};
@@ -186,7 +187,8 @@ fn is_answer<A: Allocator>(
     }
 }
 
-/// Asks while the allocation with this number is refused. Whether there is such an allocation, or none if the answer is wrong.
+/// Asks while the allocation with this number is refused. Whether there is such an allocation, or none if the answer is
+/// wrong.
 fn refuse_allocation<A: Allocator + Copy>(
     heap: &RefusingAllocator,
     alloc: A,
@@ -217,8 +219,8 @@ fn sweep<A: Allocator + Copy>(
     None
 }
 
-/// Compares a tree with its text, and then asks for it while each allocation is refused in turn. How many allocations there are, or
-/// none if an answer is wrong.
+/// Compares a tree with its text, and then asks for it while each allocation is refused in turn. How many allocations
+/// there are, or none if an answer is wrong.
 fn sweep_tree<A: Allocator + Copy>(
     heap: &RefusingAllocator,
     alloc: A,

@@ -1,5 +1,5 @@
-//! Rows in which each allocation is refused in turn: the refusal is as out of memory, the group is as it was before the refused
-//! event, and the event made again answers as if nothing had been refused.
+//! Rows in which each allocation is refused in turn: the refusal is as out of memory, the group is as it was before the
+//! refused event, and the event made again answers as if nothing had been refused.
 use crate::act::event;
 use crate::alike::{Group, are_alike, holds_given};
 use crate::play::{Answer, Wanted, are_turns, is_answer};
@@ -43,7 +43,8 @@ fn is_refused<A: Allocator + Copy>(
     Ok(false)
 }
 
-/// Plays an event while the allocation with this number is refused. Whether there is such an allocation, and whether it is refused.
+/// Plays an event while the allocation with this number is refused. Whether there is such an allocation, and whether it
+/// is refused.
 fn try_event<A: Allocator + Copy>(
     rt: &impl Abort,
     heap: &RefusingAllocator,
@@ -60,7 +61,8 @@ fn try_event<A: Allocator + Copy>(
     Ok((is_spent, is_refused))
 }
 
-/// Plays a turn while the allocation with this number is refused, and again if it is refused. Whether there is such an allocation.
+/// Plays a turn while the allocation with this number is refused, and again if it is refused. Whether there is such an
+/// allocation.
 fn refuse_turn<A: Allocator + Copy>(
     rt: &impl Abort,
     heap: &RefusingAllocator,
@@ -81,7 +83,8 @@ fn refuse_turn<A: Allocator + Copy>(
     Ok(is_spent)
 }
 
-/// Goes on in two groups, the allocation with this number of the first event refused in the one. Whether there is such an allocation.
+/// Goes on in two groups, the allocation with this number of the first event refused in the one. Whether there is such
+/// an allocation.
 fn go_on<A: Allocator + Copy>(
     rt: &impl Abort,
     heap: &RefusingAllocator,
@@ -101,8 +104,8 @@ fn go_on<A: Allocator + Copy>(
     Ok(is_spent)
 }
 
-/// Plays a row in two groups, the allocation with this number of the event at this place refused in the one. Whether there is such a
-/// allocation.
+/// Plays a row in two groups, the allocation with this number of the event at this place refused in the one. Whether
+/// there is such a allocation.
 fn sweep_groups<A: Allocator + Copy>(
     rt: &impl Abort,
     heap: &RefusingAllocator,
@@ -235,7 +238,8 @@ fn stop_of<A: Allocator + Copy>(
     }
 }
 
-/// Plays events while the allocation with this number is refused. Whether there is such an allocation, and where the run stopped.
+/// Plays events while the allocation with this number is refused. Whether there is such an allocation, and where the
+/// run stopped.
 fn try_run<A: Allocator + Copy>(
     rt: &impl Abort,
     heap: &RefusingAllocator,

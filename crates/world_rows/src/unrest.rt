@@ -68,8 +68,8 @@ fn is_answer<A: Allocator + Copy>(
     }
 }
 
-/// Finds them while the allocation with this number is refused. Whether there is such an allocation, or none if the answer is
-/// wrong.
+/// Finds them while the allocation with this number is refused. Whether there is such an allocation, or none if the
+/// answer is wrong.
 fn refuse_allocation<A: Allocator + Copy>(
     rt: &impl Abort,
     heap: &RefusingAllocator,

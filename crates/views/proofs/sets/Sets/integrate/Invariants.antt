@@ -5,7 +5,8 @@ use Rattle.views.specs.Sets.{views_of}
 use Rattle.views.specs.Views.{Integration, integrate_one}
 use Rattle.views.proofs.sets.Sets.integrate.Given as goal
 
--- the names so far are integrated, no more evictions than names were made, and there is room for the names that are left
+-- the names so far are integrated, no more evictions than names were made, and there is room for the names that are
+-- left
 abbrev pub invariant-loop-name : goal.invariant-loop-name
 invariant-loop-name g l =
     let start : Integration = record { views = views_of l.fn.self; evictions = 0 } in
