@@ -4,11 +4,11 @@ use Rattle.std.specs.Prelude.{◌&&◌, ◌||◌, Bool, Option, Some, None, cond
 use Rattle.std.proofs.lemmas.Bool.{false≢true}
 use Rattle.std.proofs.lemmas.List.{length-append, length-map}
 use Rattle.node_names.specs.NodeName.{Name}
-use Rattle.node_names.specs.Same.{has_id, same_id, same_name}
+use Rattle.node_names.specs.Same.{has_id, same_id, same_name, is_left_out}
 use Rattle.node_names.specs.declared.ids.MsgId.{MsgId}
 use Rattle.missing.specs.Timers.{with_timer, with_timers, without_timer}
 use Rattle.missing.specs.Wants.{first_want, is_wanted, with_want, with_wants, without_first}
-use Rattle.peer_sets.specs.Members.{eager_but, is_eager_kind, is_left_out, lazy_but, with_kind}
+use Rattle.peer_sets.specs.Members.{eager_but, is_eager_kind, lazy_but, with_kind}
 use Rattle.peer_sets.specs.Queue.{is_queued, with_entries}
 use Rattle.peer_sets.specs.declared.kind.PeerKind.{PeerKind}
 

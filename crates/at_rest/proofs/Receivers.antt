@@ -5,7 +5,7 @@ use Rattle.std.specs.FinSet as set
 use Rattle.std.specs.List.{AllByRecursion as Each, flat_map}
 use Rattle.std.specs.Map.{lookup}
 use Rattle.node_names.specs.NodeName.{Name}
-use Rattle.node_names.specs.Same.{has_id, has_name, same_id, same_name}
+use Rattle.node_names.specs.Same.{has_id, has_name, same_id, same_name, is_left_out}
 use Rattle.node_names.specs.declared.ids.MsgId.{MsgId}
 use Rattle.frames.specs.Body.{Body}
 use Rattle.frames.specs.Content.{body_content}
@@ -13,9 +13,9 @@ use Rattle.frames.specs.declared.body.BodyOf.TheVariants.{GraftPeer, IHave, Prun
 use Rattle.frames.specs.declared.TheConstants.{MAX_ANNOUNCEMENTS}
 use Rattle.missing.specs.Missing.{announced_all, taken_first}
 use Rattle.missing.specs.Wants.{first_want}
-use Rattle.peer_sets.proofs.Distinct.{each-append, each-filter, each-map, each-weaker}
+use Rattle.node_names.proofs.Distinct.{each-append, each-filter, each-map, each-weaker}
 use Rattle.peer_sets.proofs.MemberLemmas.{each_is_member, is_member-names}
-use Rattle.peer_sets.specs.Members.{eager_but, is_eager_kind, is_left_out, is_member, names}
+use Rattle.peer_sets.specs.Members.{eager_but, is_eager_kind, is_member, names}
 use Rattle.peer_sets.specs.Queue.{receivers, waiting_for}
 use Rattle.peer_sets.specs.declared.kind.PeerKind.{PeerKind}
 use Rattle.peer_sets.specs.declared.kind.PeerKind.TheVariants.{Lazy}

@@ -9,7 +9,7 @@ ghost use Rattle.at_rest.specs.Linking.{has_link, is_next, runs};
 ghost use Rattle.at_rest.specs.Reach.{AreInReach};
 
 use crate::links::has_link;
-use node_names::NodeName;
+use node_names::{NodeName, has_name};
 use std::alloc::{AllocError, Allocator};
 use world::{Core, NodeState, World};
 
@@ -130,13 +130,6 @@ fn is_running<C: Core<A>, A: Allocator + Copy>(world: &World<C, A>, name: &NodeN
     ensures { result ≡ runs C.state world.now.group.nodes name.now }
 {
     world.core(name).is_some()
-}
-
-/// Whether the name is one of these.
-fn has_name(names: &[NodeName], name: &NodeName) -> bool
-    ensures { result ≡ has_name names.now name.now }
-{
-    names.contains(name)
 }
 
 /// Whether one of the level runs and has the name as an active member.

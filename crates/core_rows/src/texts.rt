@@ -3,11 +3,11 @@ use crate::packets::{push_packets, push_sends};
 use at_rest::{Branch, is_at_rest, tree};
 use frames::Frame;
 use node_core::PlumCore;
-use node_names::{MsgId, NodeName};
+use node_names::{MsgId, NameSet, NodeName};
 use std::alloc::{AllocError, Allocator};
 use std::fmt::Write;
 use test_support::push_letters;
-use world::{Core, Delivery, NameSet, NodeState, Out, World};
+use world::{Core, Delivery, NodeState, Out, World};
 
 /// A group of Plumtree nodes.
 pub(crate) type Group<A> = World<PlumCore<A>, A>;

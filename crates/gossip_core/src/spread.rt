@@ -1,12 +1,12 @@
 //! How a message goes on: at once to the eager members, and announced to the lazy ones.
 ghost use Rattle.std.specs.Prelude.{◌≡◌, map, Some, IfOk};
-ghost use Rattle.peer_sets.specs.Members.{is_left_out, eager_but};
+ghost use Rattle.peer_sets.specs.Members.{eager_but};
 ghost use Rattle.gossip_core.specs.Table.{gossip_to};
 
 use crate::effects::Effects;
 use bytes::Bytes;
 use frames::{Body, BodyOf};
-use node_names::{Listed, MsgId, NodeName};
+use node_names::{Listed, MsgId, NodeName, is_left_out};
 use peer_sets::Member;
 use std::alloc::{AllocError, Allocator};
 
@@ -23,16 +23,6 @@ pub(crate) fn gossip<A: Allocator>(
         round,
         payload: payload.clone()?,
     })
-}
-
-/// Whether the name is the one that is left out.
-fn is_left_out(left_out: &Option<NodeName>, name: &NodeName) -> bool
-    ensures { result ≡ is_left_out left_out.now name.now }
-{
-    match left_out {
-        Some(left_out) => left_out == name,
-        None => false,
-    }
 }
 
 /// The packets that carry the message to the eager members but one.

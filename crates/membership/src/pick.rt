@@ -1,16 +1,8 @@
 //! One name out of a view, by a word of the dice.
 ghost use Rattle.std.specs.Prelude.{◌≡◌, ◌%◌, ◌<◌, ◌≤◌, length, slice_get};
-ghost use Rattle.node_names.specs.Same.{has_name};
 ghost use Rattle.views.specs.Names.{chosen, others};
 
-use node_names::NodeName;
-
-/// Whether the list has the name.
-fn has_name(names: &[NodeName], name: &NodeName) -> bool
-    ensures { result ≡ has_name names.now name.now }
-{
-    names.iter().any(|other| name == other)
-}
+use node_names::{NodeName, has_name};
 
 /// The number of the names that are not excepted.
 fn count_others(excepted: &[NodeName], names: &[NodeName]) -> usize

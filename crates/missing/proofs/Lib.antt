@@ -1,4 +1,3 @@
-pub mod Distinct
 pub mod WantLemmas
 pub mod PlaceLemmas
 pub mod SoundLemmas

@@ -13,7 +13,7 @@ use Rattle.std.proofs.lemmas.Map.Views.{any-filter_same}
 use Rattle.node_names.specs.NodeName.{Name}
 use Rattle.node_names.specs.Same.{same_name, same_name-Decides, same_id, same_id-Decides, same_id-laws, has_id}
 use Rattle.node_names.specs.declared.ids.MsgId.{MsgId}
-use Rattle.missing.proofs.Distinct.{each-weaker, each-map, each-append, each-filter, distinct-filter}
+use Rattle.node_names.proofs.Distinct.{each-weaker, each-map, each-append, each-filter, distinct-filter}
 use Rattle.missing.proofs.PlaceLemmas.{is_wanted-places}
 use Rattle.missing.specs.Missing.{Missing, IsSound, announced, announced_all, taken_first, got, without, without_all}
 use Rattle.missing.specs.Timers.{with_timer, without_timer}

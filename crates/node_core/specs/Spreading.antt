@@ -9,7 +9,7 @@ use Rattle.std.proofs.lemmas.Bool.{false≢true, true≢false}
 use Rattle.std.proofs.lemmas.List.Sums.{sum_by-cons}
 use Rattle.node_names.specs.NodeName.{Name}
 use Rattle.node_names.specs.Order.{id_cmp}
-use Rattle.node_names.specs.Same.{same_id, same_id-Decides, same_name, same_name-Decides, has_name}
+use Rattle.node_names.specs.Same.{same_id, same_id-Decides, same_name, same_name-Decides, has_name, is_left_out}
 use Rattle.node_names.specs.declared.ids.MsgId.{MsgId}
 use Rattle.node_names.specs.declared.ids.Origin.{Origin}
 use Rattle.world.specs.AskLaw.{Fires, AsksNothing}
@@ -31,7 +31,7 @@ use Rattle.frames.specs.Body.{Body}
 use Rattle.frames.specs.Content.{body_content, frame_content}
 use Rattle.frames.specs.Frame.{Frame}
 use Rattle.message_store.specs.Held.{kept_last}
-use Rattle.peer_sets.specs.Members.{names, is_eager_kind, is_left_out, eager_but, lazy_but}
+use Rattle.peer_sets.specs.Members.{names, is_eager_kind, eager_but, lazy_but}
 use Rattle.peer_sets.specs.Queue.{with_entries, is_queued}
 use Rattle.peer_sets.specs.declared.kind.PeerKind.{PeerKind}
 use Rattle.peer_sets.specs.declared.kind.PeerKind.TheVariants.{Eager, Lazy}

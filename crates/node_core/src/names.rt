@@ -2,8 +2,8 @@
 ghost use Rattle.std.specs.Prelude.{◌↔◌, IsTrue};
 ghost use Rattle.world.specs.Run.{SameNames};
 
+use node_names::NameSet;
 use std::alloc::Allocator;
-use world::NameSet;
 
 /// Whether two sets have the same names.
 pub(crate) fn are_same<A: Allocator>(names: &NameSet<A>, others: &NameSet<A>) -> bool

@@ -20,11 +20,11 @@ use bytes::Bytes;
 use frames::Frame;
 use gossip_core::{Effects, Gossip};
 use membership::{Membership, Moves};
-use node_names::{Limits, MsgId, NodeName, Origin};
+use node_names::{Limits, MsgId, NameSet, NodeName, Origin};
 use peer_sets::PeerSets;
 use std::alloc::{AllocError, Allocator, Global};
 use std::marker::Model;
-use world::{Core, CoreError, NameSet, Out, Prepared, StimulusOf, StimulusRef};
+use world::{Core, CoreError, Out, Prepared, StimulusOf, StimulusRef};
 
 /// One run of one node.
 ///

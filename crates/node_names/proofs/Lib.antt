@@ -1,3 +1,5 @@
 mod Alphabet
 mod Padding
 pub mod Drawing
+pub mod Distinct
+mod NameSets

@@ -1,5 +1,5 @@
 -- What `==` computes of names and ids, and that it tells apart just those that differ.
-use Rattle.std.specs.Prelude.{◌≡◌, ◌&&◌, Bool, List, Contains, nat_eq}
+use Rattle.std.specs.Prelude.{◌≡◌, ◌&&◌, Bool, false, List, Contains, Option, None, Some, nat_eq}
 use Rattle.std.specs.Bool.{Decides}
 use Rattle.std.specs.List.{list_any}
 use Rattle.std.specs.Cmp.{IsEquivalence, decided, unsigned_Decides}
@@ -26,6 +26,11 @@ same_id a b = same_origin a.origin b.origin && nat_eq a.seq b.seq
 -- whether a list has a name
 abbrev pub has_name : List Name → Name → Bool
 has_name names name = list_any (same_name name) names
+
+-- whether the name is the one that is left out, if one is
+abbrev pub is_left_out : Option Name → Name → Bool
+is_left_out None name = false
+is_left_out (Some left_out) name = same_name left_out name
 
 -- whether a list has an id
 abbrev pub has_id : List MsgId → MsgId → Bool

@@ -15,9 +15,9 @@ ghost use Rattle.node_threads.specs.Opening.{TellsItsStart};
 
 use frames::Frame;
 use node_core::{PlumCore, Turn};
-use node_names::{MsgId, Origin};
+use node_names::{MsgId, NameSet, Origin};
 use std::alloc::{AllocError, Allocator};
-use world::{Core, CoreError, NameSet, Out, Prepared, StimulusRef};
+use world::{Core, CoreError, Out, Prepared, StimulusRef};
 
 /// A core whose packets are frames. What a node calls is as in `world::Core`, where each function is explained.
 pub trait NodeCore<A: Allocator>: Sized {

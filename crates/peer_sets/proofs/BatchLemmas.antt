@@ -12,7 +12,7 @@ use Rattle.indexmap.specs.IndexSet.{insert_key}
 use Rattle.node_names.specs.NodeName.{Name}
 use Rattle.node_names.specs.Same.{same_name, same_name-Decides, same_name-laws}
 use Rattle.node_names.specs.declared.ids.MsgId.{MsgId}
-use Rattle.peer_sets.proofs.Distinct.{distinct-filter}
+use Rattle.node_names.proofs.Distinct.{distinct-filter}
 use Rattle.peer_sets.proofs.QueueLemmas.{receivers-push}
 use Rattle.peer_sets.specs.Queue.{waiting_for, receivers, batches, with_more, with_empty, with_batch}
 

@@ -1,4 +1,3 @@
-pub mod Distinct
 pub mod MemberLemmas
 pub mod QueueLemmas
 pub mod SoundLemmas

@@ -8,9 +8,9 @@ use Rattle.std.proofs.lemmas.Map.Keys.{IsDistinct-head, IsDistinct-tail, IsDisti
 use Rattle.std.proofs.lemmas.Map.Made.{IsDistinct-keys_filter}
 use Rattle.std.proofs.lemmas.Map.Views.{any-filter_same}
 use Rattle.node_names.specs.NodeName.{Name}
-use Rattle.node_names.specs.Same.{same_name, same_name-Decides, same_name-laws, has_name}
-use Rattle.peer_sets.proofs.Distinct.{each-weaker, each-map, each-filter}
-use Rattle.peer_sets.specs.Members.{names, is_member, is_eager, is_lazy, is_eager_kind, IsSplit, is_left_out, lazy_but, all_eager, with_member, without_member, with_kind}
+use Rattle.node_names.specs.Same.{same_name, same_name-Decides, same_name-laws, has_name, is_left_out}
+use Rattle.node_names.proofs.Distinct.{each-weaker, each-map, each-filter}
+use Rattle.peer_sets.specs.Members.{names, is_member, is_eager, is_lazy, is_eager_kind, IsSplit, lazy_but, all_eager, with_member, without_member, with_kind}
 use Rattle.peer_sets.specs.declared.kind.PeerKind.{PeerKind}
 use Rattle.peer_sets.specs.declared.kind.PeerKind.TheVariants.{Eager}
 

@@ -14,7 +14,7 @@ use Rattle.std.proofs.lemmas.Map.Keys.{IsDistinct-push}
 use Rattle.node_names.specs.NodeName.{Name}
 use Rattle.node_names.specs.Same.{same_name, same_name-Decides, same_id, same_id-Decides}
 use Rattle.node_names.specs.declared.ids.MsgId.{MsgId}
-use Rattle.peer_sets.proofs.Distinct.{each-weaker, each-map, each-append, each-filter, distinct-filter, distinct-map, distinct-append}
+use Rattle.node_names.proofs.Distinct.{each-weaker, each-map, each-append, each-filter, distinct-filter, distinct-map, distinct-append}
 use Rattle.peer_sets.proofs.MemberLemmas.{is_member-same, names-all_eager, names-with_kind, distinct-with_member, stays-with_member, distinct-without_member, stays-without_member, distinct-lazy_but, lazy_but_are_members}
 use Rattle.peer_sets.proofs.QueueLemmas.{places-without}
 use Rattle.peer_sets.specs.Members.{is_member, lazy_but, all_eager, with_member, with_members, without_member, without_members, with_kind}

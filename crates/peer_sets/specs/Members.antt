@@ -2,7 +2,7 @@
 use Rattle.std.specs.Prelude.{◌≡◌, ◌&&◌, ◌||◌, Bool, true, false, not, List, [], ◌∷◌, ◌++◌, Option, None, Some, map, filter, if◌then◌else◌}
 use Rattle.std.specs.List.{list_any}
 use Rattle.node_names.specs.NodeName.{Name}
-use Rattle.node_names.specs.Same.{same_name}
+use Rattle.node_names.specs.Same.{same_name, is_left_out}
 use Rattle.peer_sets.specs.declared.kind.PeerKind.{PeerKind}
 use Rattle.peer_sets.specs.declared.kind.PeerKind.TheVariants.{Eager, Lazy}
 
@@ -31,11 +31,6 @@ pub record IsSplit (members : List (Name × PeerKind)) : Type 0 where
 -- the names of the members, in their order
 abbrev pub names : List (Name × PeerKind) → List Name
 names members = map (λ m. m.0) members
-
--- whether the name is the one that is left out
-abbrev pub is_left_out : Option Name → Name → Bool
-is_left_out None name = false
-is_left_out (Some left_out) name = same_name left_out name
 
 -- the names of the eager members but one
 abbrev pub eager_but : Option Name → List (Name × PeerKind) → List Name

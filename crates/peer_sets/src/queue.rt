@@ -2,24 +2,20 @@
 ghost use Rattle.std.specs.Prelude.{◌≡◌, ◌+◌, ◌++◌, ◌<◌, ◌≤◌, false, map, length, vec_len, vec_capacity, OnOk, OnErr, IfOk};
 ghost use Rattle.std.specs.List.{list_any, position_or_len};
 ghost use Rattle.indexmap.specs.IndexSet.{insert_key};
-ghost use Rattle.node_names.specs.Same.{same_name};
-ghost use Rattle.peer_sets.specs.Members.{lazy_but, is_left_out};
+ghost use Rattle.node_names.specs.Same.{same_name, is_left_out};
+ghost use Rattle.peer_sets.specs.Members.{lazy_but};
 ghost use Rattle.peer_sets.specs.Queue.{place_of, same_place, has_entry_of, with_entry, with_entries, without_entries, without_all_entries, with_more, with_empty, with_batch, batches};
 
 use crate::members::Member;
 use indexmap::IndexSet;
-use node_names::{Listed, MsgId, NodeName};
+use node_names::{Listed, MsgId, NameSet, NodeName, is_left_out};
 use std::alloc::{AllocError, Allocator, Global};
-use std::hash::{BuildHasherDefault, FoldHasher};
 
 /// An announcement that waits: to whom, of which id, at which round.
 pub type Announcement = (NodeName, MsgId, u32);
 
 /// What waits for one peer: ids and rounds, oldest first.
 pub type Batch<A = Global> = (NodeName, Listed<(MsgId, u32), A>);
-
-/// Names in the order in which they were added.
-type NameSet<A> = IndexSet<NodeName, BuildHasherDefault<FoldHasher>, A>;
 
 /// Whether an entry of the id waits for the peer.
 fn is_queued(queued: &[Announcement], peer: &NodeName, id: &MsgId) -> bool
@@ -43,16 +39,6 @@ pub(crate) fn queue<A: Allocator>(
     }
     queued.push(*entry)?;
     Ok(())
-}
-
-/// Whether the name is the one that is left out.
-fn is_left_out(left_out: &Option<NodeName>, name: &NodeName) -> bool
-    ensures { result ≡ is_left_out left_out.now name.now }
-{
-    match left_out {
-        Some(left_out) => left_out == name,
-        None => false,
-    }
 }
 
 /// Puts an entry of the id last for each lazy member but one, in the room that there is.

@@ -1,5 +1,4 @@
 pub mod CallerLemmas
 mod Integration
 mod Lists
-mod NameSets
 mod Sound

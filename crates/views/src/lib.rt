@@ -7,5 +7,4 @@ mod sample;
 mod sets;
 mod views;
 
-pub use name_set::NameSet;
 pub use views::Views;

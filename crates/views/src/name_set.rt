@@ -1,32 +1,11 @@
-//! Sets of names in the order in which they came.
-ghost use Rattle.std.specs.Prelude.{◌≡◌, ◌+◌, ◌%◌, ◌<◌, ◌≤◌, [], ◌∷◌, ◌++◌, false, IfOk, IsTrue, OnOk, length};
-ghost use Rattle.std.specs.List.{IsDistinct};
+//! Names drawn out of sets, and room made in them.
+ghost use Rattle.std.specs.Prelude.{◌≡◌, ◌+◌, ◌%◌, ◌<◌, ◌≤◌, [], ◌∷◌, ◌++◌, false, IsTrue, length};
 ghost use Rattle.indexmap.specs.IndexSet.{spare};
-ghost use Rattle.node_names.specs.Same.{has_name, same_name};
+ghost use Rattle.node_names.specs.Same.{has_name};
 ghost use Rattle.views.specs.Names.{chosen, evicted, with_room, without_chosen};
 
-use indexmap::IndexSet;
-use node_names::NodeName;
-use std::alloc::{AllocError, Allocator, Global};
-use std::hash::{BuildHasherDefault, FoldHasher};
-
-/// Names in the order in which they were added.
-pub type NameSet<A = Global> = IndexSet<NodeName, BuildHasherDefault<FoldHasher>, A>;
-
-/// The set of these names, in their order.
-pub(crate) fn set_of<A: Allocator + Copy>(
-    alloc: A,
-    names: &[NodeName],
-) -> Result<NameSet<A>, AllocError>
-    requires { IsDistinct same_name names.now }
-    ensures { IfOk result (λ set. set.keys ≡ names.now) }
-{
-    let mut set = IndexSet::new(alloc);
-    for name in names {
-        set.insert(*name)?;
-    }
-    Ok(set)
-}
+use node_names::{NameSet, NodeName};
+use std::alloc::Allocator;
 
 /// The place that a word chooses among so many candidates.
 pub(crate) fn place(word: u64, candidates: usize) -> usize

@@ -1,18 +1,10 @@
 //! Names drawn at random from a view.
 ghost use Rattle.std.specs.Prelude.{◌≡◌, ◌≤◌, [], ◌∷◌, IfOk, OnOk, length, take};
-ghost use Rattle.node_names.specs.Same.{has_name};
 ghost use Rattle.views.specs.Names.{chosen, others, sample, without_chosen};
 
 use crate::name_set::place;
-use node_names::NodeName;
+use node_names::{NodeName, has_name};
 use std::alloc::{AllocError, Allocator};
-
-/// Whether the list has the name.
-fn has_name(names: &[NodeName], name: &NodeName) -> bool
-    ensures { result ≡ has_name names.now name.now }
-{
-    names.iter().any(|other| name == other)
-}
 
 /// The names but for those excepted, in their order.
 pub(crate) fn others<A: Allocator + Copy>(

@@ -6,9 +6,9 @@ ghost use Rattle.views.specs.Names.{chosen, evicted, word};
 ghost use Rattle.views.specs.Sets.{views_of};
 ghost use Rattle.views.specs.Views.{ArePeers, add_active, add_passive, clear_place, demote, drop_active, dropped_for, evicted_for, forget, fresh, has_either, integrate, integrate_one, is_settled, knows, make_room};
 
-use crate::name_set::{NameSet, chosen, make_room, put_last, set_of, take_chosen};
+use crate::name_set::{chosen, make_room, put_last, take_chosen};
 use indexmap::IndexSet;
-use node_names::{Dice, Limits, NodeName};
+use node_names::{Dice, Limits, NameSet, NodeName, set_of};
 use std::alloc::{AllocError, Allocator, Global};
 
 /// The two views of the owner.

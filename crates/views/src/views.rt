@@ -4,11 +4,10 @@ ghost use Rattle.views.specs.Views.{AreSound, ArePeers, add_active, add_passive,
 ghost use Rattle.node_names.specs.Same.{has_name};
 ghost use Rattle.views.specs.Names.{chosen, others, sample, word};
 
-use crate::name_set::{NameSet, set_of};
 use crate::sample::{others, sample};
 use crate::sets::Sets;
 use indexmap::IndexSet;
-use node_names::{Dice, Limits, NodeName};
+use node_names::{Dice, Limits, NameSet, NodeName, set_of};
 use std::alloc::{AllocError, Allocator, Global};
 use std::marker::Model;
 

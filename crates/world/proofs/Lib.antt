@@ -8,7 +8,6 @@ mod Flying
 pub mod GivenLemmas
 pub mod Holding
 pub mod Kept
-pub mod NameSets
 pub mod NodeLemmas
 pub mod Parenting
 pub mod Places

@@ -6,7 +6,7 @@ use Rattle.std.specs.Map.{keys_of, lookup}
 use Rattle.std.specs.Set.{remove_key}
 use Rattle.node_names.specs.NodeName.{Name}
 use Rattle.node_names.specs.Limits.{Limits}
-use Rattle.node_names.specs.Same.{same_name, same_origin, same_id, has_name}
+use Rattle.node_names.specs.Same.{same_name, same_origin, same_id, has_name, is_left_out}
 use Rattle.node_names.specs.declared.ids.MsgId.{MsgId}
 use Rattle.node_names.specs.declared.ids.Origin.{Origin}
 use Rattle.world.specs.Content.{Content}
@@ -86,11 +86,6 @@ pub record DropsPeer (old : Flooding) (peer : Name) (sends : List (Name × Messa
   pub delivers_nothing : given ≡ []
   pub sends_nothing : sends ≡ []
   pub without : new ≡ record old { peers = remove_key (same_name peer) old.peers }
-
--- whether the name is the one that is left out
-abbrev pub is_left_out : Option Name → Name → Bool
-is_left_out None name = false
-is_left_out (Some left_out) name = same_name left_out name
 
 -- the names but for the one that is left out
 abbrev pub others : Option Name → List Name → List Name

@@ -10,14 +10,14 @@ use Rattle.std.proofs.Math.Numerals.{lt-add-one}
 use Rattle.std.proofs.lemmas.Bool.{true≢false, false≢true}
 use Rattle.node_names.specs.NodeName.{Name}
 use Rattle.node_names.specs.Limits.{Limits}
-use Rattle.node_names.specs.Same.{same_name, same_id, same_origin, has_name, same_name-laws, same_origin-Decides}
+use Rattle.node_names.specs.Same.{same_name, same_id, same_origin, has_name, same_name-laws, same_origin-Decides, is_left_out}
 use Rattle.node_names.specs.declared.dice.Dice.{Dice}
 use Rattle.node_names.specs.declared.ids.MsgId.{MsgId}
 use Rattle.node_names.specs.declared.ids.Origin.{Origin}
 use Rattle.world.specs.AskLaw.{Fires}
 use Rattle.world.specs.Delivery.{Delivery}
 use Rattle.world.specs.DeliveryLaw.{Delivers, IsNews, count_after, ids}
-use Rattle.world.specs.FloodCore.{Flooding, Message, FloodStarts, FloodSteps, Takes, IsIdle, DropsPeer, IsSoundFlooding, HoldsCounted, flood_state, note_content, others, is_left_out, is_news, payload_of}
+use Rattle.world.specs.FloodCore.{Flooding, Message, FloodStarts, FloodSteps, Takes, IsIdle, DropsPeer, IsSoundFlooding, HoldsCounted, flood_state, note_content, others, is_news, payload_of}
 use Rattle.world.specs.FloodLists.{and_left, and_right, not_true, within_bound, distinct_names, distinct_none, distinct-remove_key, shorter-remove_key, lacks-remove_key}
 use Rattle.world.specs.FloodSpread.{gets_share}
 use Rattle.world.specs.FloodTakes.{taken_sends, taken_given, taken_core, by_takes, each_carries, takes_views, announces_nothing, asks_nothing, takes_payloads, takes_deliveries}

@@ -8,9 +8,9 @@ use Rattle.std.proofs.lemmas.List.Sums.{sum_by-cons}
 use Rattle.std.proofs.lemmas.Map.Keys.{IsDistinct-head, IsDistinct-tail}
 use Rattle.std.proofs.lemmas.Map.Views.{any-filter_same}
 use Rattle.node_names.specs.NodeName.{Name}
-use Rattle.node_names.specs.Same.{same_name, has_name, same_name-Decides}
+use Rattle.node_names.specs.Same.{same_name, has_name, same_name-Decides, is_left_out}
 use Rattle.node_names.specs.declared.ids.MsgId.{MsgId}
-use Rattle.world.specs.FloodCore.{Flooding, Message, flood_state, note_content, note_to, others, is_left_out}
+use Rattle.world.specs.FloodCore.{Flooding, Message, flood_state, note_content, note_to, others}
 use Rattle.world.specs.FloodLists.{and_true, lacks_from_each, distinct-filter}
 use Rattle.world.specs.Held.{same_id-refl}
 use Rattle.world.specs.SpreadLaw.{GetsShare, packets_carrying, entries_queued, is_carried, is_from}

@@ -4,12 +4,12 @@ use Rattle.std.specs.List.{AllByRecursion as Each}
 use Rattle.std.specs.Map.{lookup}
 use Rattle.std.proofs.Common.{inl, inr, sym, subst}
 use Rattle.node_names.specs.NodeName.{Name}
-use Rattle.node_names.specs.Same.{same_id, has_name}
+use Rattle.node_names.specs.Same.{same_id, has_name, is_left_out}
 use Rattle.node_names.specs.declared.ids.MsgId.{MsgId}
 use Rattle.world.specs.AskLaw.{AsksNothing}
 use Rattle.world.specs.Delivery.{Delivery}
 use Rattle.world.specs.DeliveryLaw.{DeliveryLaw, Delivers, count_after}
-use Rattle.world.specs.FloodCore.{Flooding, Message, Takes, flood_state, note_content, note_to, others, is_left_out, payload_of}
+use Rattle.world.specs.FloodCore.{Flooding, Message, Takes, flood_state, note_content, note_to, others, payload_of}
 use Rattle.world.specs.FloodLists.{each-map, each-all, each-filter, each_is_other}
 use Rattle.world.specs.Held.{same_inside, found_after_push, held_after_push, stays_after_push, pushed_is_held}
 use Rattle.world.specs.Lists.{IsOneOf}

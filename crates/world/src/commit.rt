@@ -10,12 +10,11 @@ ghost use Rattle.world.specs.Plan.{CanStep, IsReady, changed, launched, names_of
 use crate::entry::Entry;
 use crate::flight::Flight;
 use crate::lookup::place_of;
-use crate::names::NameSet;
 use crate::node_state::NodeState;
 use crate::packet::Packet;
 use crate::plan::{Change, stimulus_by};
 use crate::protocol::Core;
-use node_names::NodeName;
+use node_names::{NameSet, NodeName};
 use std::alloc::{AllocError, Allocator};
 use std::boxed::Box;
 

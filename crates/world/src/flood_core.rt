@@ -4,18 +4,17 @@ ghost use Rattle.std.specs.Map.{lookup};
 ghost use Rattle.indexmap.specs.IndexMap.{spare};
 ghost use Rattle.node_names.specs.Same.{same_id};
 ghost use Rattle.world.specs.Output.{Stepped};
-ghost use Rattle.world.specs.FloodCore.{FloodSteps, flood_after, is_left_out, is_news, note_to, others, with_news};
+ghost use Rattle.world.specs.FloodCore.{FloodSteps, flood_after, is_news, note_to, others, with_news};
 
 use crate::MAX_PAYLOAD;
 use crate::delivery::Delivery;
 use crate::flood_note::FloodNote;
-use crate::names::{NameSet, has_name, set_of};
 use crate::out::Out;
 use crate::protocol::{Core, CoreError, Prepared};
 use crate::stimulus::{StimulusOf, StimulusRef};
 use bytes::Bytes;
 use indexmap::{IndexMap, IndexSet};
-use node_names::{Limits, MsgId, NodeName, Origin};
+use node_names::{Limits, MsgId, NameSet, NodeName, Origin, has_name, is_left_out, set_of};
 use std::alloc::{AllocError, Allocator, Global};
 use std::hash::{BuildHasherDefault, FoldHasher};
 use std::marker::Model;
@@ -90,16 +89,6 @@ fn put_new<A: Allocator + Copy>(held: &mut Held<A>, id: &MsgId, payload: Bytes<A
     ensures { held.new.entries ≡ held.old.entries ++ (id.now, payload) ∷ [] }
 {
     let _ = held.insert(*id, payload).unwrap();
-}
-
-/// Whether the name is the one that is left out.
-fn is_left_out(except: &Option<NodeName>, name: &NodeName) -> bool
-    ensures { result ≡ is_left_out except.now name.now }
-{
-    match except {
-        Some(left_out) => left_out == name,
-        None => false,
-    }
 }
 
 /// Appends the delivery of a message, and its packets to all peers but one.

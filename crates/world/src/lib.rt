@@ -35,7 +35,7 @@ pub use flood_core::FloodCore;
 pub use flood_note::FloodNote;
 pub use given::{Given, RunFault};
 pub use kept_dice::KeptDice;
-pub use names::NameSet;
+pub use names::are_peers;
 pub use node_state::NodeState;
 pub use out::Out;
 pub use packet::Packet;

@@ -6,10 +6,9 @@ ghost use Rattle.world.specs.Plan.{RunsAt, names_of};
 ghost use Rattle.world.specs.Refusals.{absent, sent_under};
 
 use crate::error::WorldError;
-use crate::names::NameSet;
 use crate::node_state::NodeState;
 use crate::packet::Packet;
-use node_names::NodeName;
+use node_names::{NameSet, NodeName};
 use std::alloc::Allocator;
 
 /// A running node.

@@ -1,38 +1,8 @@
-//! Lists and sets of names.
-ghost use Rattle.std.specs.Prelude.{◌≡◌, IfOk, length};
-ghost use Rattle.std.specs.List.{IsDistinct};
-ghost use Rattle.node_names.specs.Same.{has_name, same_name};
+//! Whether a node may start with these peers.
+ghost use Rattle.std.specs.Prelude.{◌≡◌, length};
 ghost use Rattle.world.specs.Peers.{are_distinct, are_peers, is_contact};
 
-use indexmap::IndexSet;
-use node_names::{Limits, NodeName};
-use std::alloc::{AllocError, Allocator, Global};
-use std::hash::{BuildHasherDefault, FoldHasher};
-
-/// Names in the order in which they were added.
-pub type NameSet<A = Global> = IndexSet<NodeName, BuildHasherDefault<FoldHasher>, A>;
-
-/// The set of these names, in their order.
-pub(crate) fn set_of<A: Allocator + Copy>(
-    alloc: A,
-    names: &[NodeName],
-) -> Result<NameSet<A>, AllocError>
-    requires { IsDistinct same_name names.now }
-    ensures { IfOk result (λ set. set.keys ≡ names.now) }
-{
-    let mut set = IndexSet::new(alloc);
-    for name in names {
-        set.insert(*name)?;
-    }
-    Ok(set)
-}
-
-/// Whether the list has the name.
-pub(crate) fn has_name(names: &[NodeName], name: &NodeName) -> bool
-    ensures { result ≡ has_name names.now name.now }
-{
-    names.iter().any(|other| name == other)
-}
+use node_names::{Limits, NodeName, has_name};
 
 /// Whether no name is in the list twice. It compares each with all behind it, so it is for short lists.
 fn are_distinct(names: &[NodeName]) -> bool
@@ -54,8 +24,9 @@ fn is_contact(contact: &Option<NodeName>, name: &NodeName) -> bool
     }
 }
 
-/// Whether a node of this name may start with these peers and this contact.
-pub(crate) fn are_peers(
+/// Whether a node of this name may start with these peers and this contact: the peers fit its active view, and are
+/// distinct and others than itself, and so is the contact.
+pub fn are_peers(
     limits: &Limits,
     owner: &NodeName,
     peers: &[NodeName],

@@ -13,12 +13,11 @@ ghost use Rattle.world.specs.Peers.{are_peers};
 ghost use Rattle.world.specs.Run.{SameNames};
 ghost use Rattle.world.specs.Stimulus.{Stimulus, lent};
 
-use crate::names::NameSet;
 use crate::out::Out;
 use crate::stimulus::{Stimulus, StimulusRef};
 use crate::wire::Wire;
 use bytes::Bytes;
-use node_names::{Limits, MsgId, NodeName, Origin};
+use node_names::{Limits, MsgId, NameSet, NodeName, Origin};
 use std::alloc::{AllocError, Allocator};
 use std::error::Error;
 use std::fmt;

@@ -8,12 +8,11 @@ ghost use Rattle.world.specs.Run.{Run};
 use crate::entry::Entry;
 use crate::flight::Flight;
 use crate::lookup::core_of;
-use crate::names::NameSet;
 use crate::node_state::NodeState;
 use crate::packet::Packet;
 use crate::protocol::Core;
 use indexmap::IndexSet;
-use node_names::{Limits, NodeName};
+use node_names::{Limits, NameSet, NodeName};
 use std::alloc::{Allocator, Global};
 use std::marker::Model;
 

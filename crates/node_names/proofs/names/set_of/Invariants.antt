@@ -1,5 +1,5 @@
 use Rattle.std.proofs.Common.{◌≡◌, take}
-use Rattle.views.proofs.name_set.set_of.Given as goal
+use Rattle.node_names.proofs.names.set_of.Given as goal
 
 -- the names so far are in the set
 abbrev pub invariant-loop-name : goal.invariant-loop-name

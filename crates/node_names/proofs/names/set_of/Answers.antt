@@ -1,7 +1,7 @@
 -- The next name is not among those before it, so it goes last.
 use Rattle.std.proofs.Common.{◌∙◌}
-use Rattle.world.proofs.NameSets.{inserts_last}
-use Rattle.world.proofs.names.set_of.Goals as goal
+use Rattle.node_names.proofs.NameSets.{inserts_last}
+use Rattle.node_names.proofs.names.set_of.Goals as goal
 
 pub loop-name-preserved : goal.loop-name-preserved
 loop-name-preserved g c =
