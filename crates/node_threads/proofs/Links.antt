@@ -11,7 +11,7 @@ use Rattle.node_names.specs.Same.{same_name, same_name-laws}
 use Rattle.node_names.specs.declared.ids.Origin.{Origin}
 use Rattle.world.specs.CoreState.{CoreState}
 use Rattle.world.specs.Delivery.{Delivery}
-use Rattle.world.specs.FloodLists.{either_way}
+use Rattle.world.specs.lawful.NameLists.{either_way}
 use Rattle.world.specs.OneDelivery.{OneDelivery}
 use Rattle.world.specs.Output.{Output}
 use Rattle.world.specs.Peers.{are_peers}

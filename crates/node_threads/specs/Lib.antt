@@ -8,7 +8,7 @@ pub mod Marks
 pub mod Opened
 pub mod Opening
 pub mod Outlet
-pub mod PlumOpening
 pub mod Receipts
 pub mod Refusal
 pub mod Report
+pub mod lawful

@@ -15,7 +15,7 @@ use Rattle.world.specs.CoreState.{CoreState}
 use Rattle.world.specs.Delivery.{Delivery}
 use Rattle.world.specs.DeliveryLaw.{Delivers, DeliversNews, ids}
 use Rattle.world.specs.Entry.{Entry}
-use Rattle.world.specs.FloodLists.{and_left, and_right}
+use Rattle.world.specs.lawful.NameLists.{and_left, and_right}
 use Rattle.world.specs.HoldLaw.{IsAskedBy}
 use Rattle.world.specs.Group.{Group, node_of, origin_of, packets}
 use Rattle.world.specs.Laws.{Laws}

@@ -14,7 +14,7 @@ use Rattle.world.specs.Content.{Content}
 use Rattle.world.specs.CoreState.{CoreState}
 use Rattle.world.specs.Delivery.{Delivery}
 use Rattle.world.specs.DeliveryLaw.{Delivers, ids}
-use Rattle.world.specs.FloodLists.{and_left, and_right}
+use Rattle.world.specs.lawful.NameLists.{and_left, and_right}
 use Rattle.world.specs.Group.{packets}
 use Rattle.world.specs.HoldLaw.{IsAskedBy}
 use Rattle.world.specs.Laws.{IsSilent, StateLaws, StepLaws}

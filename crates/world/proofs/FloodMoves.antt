@@ -13,8 +13,8 @@ use Rattle.node_names.specs.declared.dice.Dice.{Dice}
 use Rattle.node_names.specs.declared.ids.MsgId.{MsgId}
 use Rattle.node_names.specs.declared.ids.Origin.{Origin}
 use Rattle.world.specs.FloodCore.{Flooding, Message, FloodSteps, HoldsCounted, IsIdle, Takes, flood_after, is_news, note_to, others, payload_of, with_news}
-use Rattle.world.specs.FloodLists.{and_right, lacks_from_each, not_true}
-use Rattle.world.specs.Held.{counts_next, counts_others}
+use Rattle.world.specs.lawful.NameLists.{and_right, lacks_from_each, not_true}
+use Rattle.world.specs.lawful.Held.{counts_next, counts_others}
 use Rattle.world.specs.Output.{Output, Stepped}
 use Rattle.world.specs.Run.{SameNames}
 use Rattle.world.specs.Stimulus.{Stimulus, lent}

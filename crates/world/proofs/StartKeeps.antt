@@ -12,7 +12,7 @@ use Rattle.world.specs.Content.{Content}
 use Rattle.world.specs.CoreState.{CoreState}
 use Rattle.world.specs.Delivery.{Delivery}
 use Rattle.world.specs.Entry.{Entry}
-use Rattle.world.specs.FloodLists.{each-map}
+use Rattle.world.specs.lawful.NameLists.{each-map}
 use Rattle.world.specs.Group.{node_of, put_node, packets}
 use Rattle.world.specs.History.{Said, Delivered, HasDelivery, broadcasts_of, counted_by, deliveries, incarnation_of, started_by}
 use Rattle.world.specs.Honest.{AreOnce, Once}

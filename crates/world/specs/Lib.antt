@@ -8,14 +8,8 @@ pub mod ErrorText
 pub mod Event
 pub mod Flight
 pub mod FloodCore
-pub mod FloodDelivers
-pub mod FloodLaws
-pub mod FloodLists
-pub mod FloodSpread
-pub mod FloodTakes
 pub mod Group
 pub mod Headline
-pub mod Held
 pub mod History
 pub mod HoldLaw
 pub mod Honest
@@ -45,3 +39,4 @@ pub mod Traffic
 pub mod UnderWay
 pub mod ViewLaw
 pub mod WantLaw
+pub mod lawful

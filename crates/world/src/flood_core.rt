@@ -227,8 +227,8 @@ impl<A: Allocator + Copy> FloodCore<A> {
 
 impl<A: Allocator + Copy> Core<A> for FloodCore<A> {
     ghost use Rattle.world.specs.FloodCore.{flood_after, flood_state, FloodStarts, FloodSteps, FloodIsSpent, IsFloodTurn, IsSoundFlooding};
-    ghost use Rattle.world.specs.FloodDelivers.{flood_delivers_one};
-    ghost use Rattle.world.specs.FloodLaws.{flood_lawful};
+    ghost use Rattle.world.specs.lawful.FloodDelivers.{flood_delivers_one};
+    ghost use Rattle.world.specs.lawful.FloodLaws.{flood_lawful};
 
     type Note = FloodNote<A>;
 

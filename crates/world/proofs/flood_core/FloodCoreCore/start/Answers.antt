@@ -1,5 +1,5 @@
 -- The peers that a node may start with are distinct.
-use Rattle.world.specs.FloodLaws.{distinct_peers}
+use Rattle.world.specs.lawful.FloodLaws.{distinct_peers}
 use Rattle.world.proofs.flood_core.FloodCoreCore.start.Goals as goal
 
 pub set_of-requires : goal.set_of-requires

@@ -16,8 +16,8 @@ use Rattle.world.specs.AskLaw.{Fires, AsksNothing}
 use Rattle.world.specs.CoreState.{CoreState}
 use Rattle.world.specs.Delivery.{Delivery}
 use Rattle.world.specs.DeliveryLaw.{Delivers, count_after}
-use Rattle.world.specs.FloodLists.{each-map, each-all}
-use Rattle.world.specs.Held.{found_after_push, same_inside, same_id-refl}
+use Rattle.world.specs.lawful.NameLists.{each-map, each-all}
+use Rattle.world.specs.lawful.Held.{found_after_push, same_inside, same_id-refl}
 use Rattle.world.specs.HoldLaw.{IsAskedBy}
 use Rattle.world.specs.Laws.{StepLaws}
 use Rattle.world.specs.Lists.{IsOneOf}
@@ -38,12 +38,12 @@ use Rattle.peer_sets.specs.declared.kind.PeerKind.TheVariants.{Eager, Lazy}
 use Rattle.gossip_core.proofs.IdOrder.{id_ties, id_total}
 use Rattle.gossip_core.specs.State.{GossipState}
 use Rattle.gossip_core.specs.Table.{gossip_to}
-use Rattle.node_core.specs.Keeping.{found_kept, once_pushed}
-use Rattle.node_core.specs.Members.{of_each, each_one, one_of_left, one_of_append, one_of_map, counts_once, counts_none, count-append}
-use Rattle.node_core.specs.Numbered.{each-numbered, carrying-numbered}
+use Rattle.node_core.specs.lawful.Keeping.{found_kept, once_pushed}
+use Rattle.node_core.specs.lawful.Members.{of_each, each_one, one_of_left, one_of_append, one_of_map, counts_once, counts_none, count-append}
+use Rattle.node_core.specs.lawful.Numbered.{each-numbered, carrying-numbered}
 use Rattle.node_core.specs.Plum.{IsWhole, state_with}
 use Rattle.node_core.specs.Steps.{numbered}
-use Rattle.node_core.specs.Whole.{not_held}
+use Rattle.node_core.specs.lawful.Whole.{not_held}
 
 -- ---- who gets a packet, and who an entry
 

@@ -22,9 +22,9 @@ use Rattle.world.specs.CoreState.{CoreState}
 use Rattle.world.specs.Delivery.{Delivery}
 use Rattle.world.specs.DeliveryLaw.{IsNews, Delivers, count_after, ids}
 use Rattle.world.specs.Content.{Content}
-use Rattle.world.specs.FloodLists.{and_left, and_right}
+use Rattle.world.specs.lawful.NameLists.{and_left, and_right}
 use Rattle.world.specs.HoldLaw.{IsAskedBy, KeepsLast, packets_with}
-use Rattle.world.specs.Held.{found_by_key}
+use Rattle.world.specs.lawful.Held.{found_by_key}
 use Rattle.world.specs.Laws.{IsSilent, Laws, StateLaws, StepLaws}
 use Rattle.world.specs.Lists.{IsOneOf}
 use Rattle.world.specs.QueueLaw.{FlushesQueue, AnnouncesNothing, KeepsQueue}
@@ -58,20 +58,20 @@ use Rattle.gossip_core.specs.State.{GossipState}
 use Rattle.gossip_core.specs.Table.{Outcome, outcome, repeated, first_copy, shortcut, swapped, asked, answer, is_news, next_id, next_round, quiet, with_peer, after_downs, after_ups}
 use Rattle.gossip_core.specs.declared.call.CallOf.TheVariants as call
 use Rattle.gossip_core.specs.Table.{Call}
-use Rattle.node_core.specs.Members.{each_one, of_each, one_of_filter, one_of_passing, one_of_names, one_of_ids, counts_none, differs}
-use Rattle.node_core.specs.Numbered.{each-numbered, carrying-numbered, with-numbered}
+use Rattle.node_core.specs.lawful.Members.{each_one, of_each, one_of_filter, one_of_passing, one_of_names, one_of_ids, counts_none, differs}
+use Rattle.node_core.specs.lawful.Numbered.{each-numbered, carrying-numbered, with-numbered}
 use Rattle.node_core.specs.Plum.{Plum, IsSoundPlum, IsWhole, IsLacked, plum_state, state_with}
 use Rattle.node_core.specs.Steps.{Turned, PlumSteps, PlumStarts, turned, heard, idle, by_gossip, by_membership, gone_on, numbered, delivered_at}
-use Rattle.node_core.specs.Starting as starting
-use Rattle.node_core.specs.Firing.{fires_lawfully}
-use Rattle.node_core.specs.Flushing.{flushes_lawfully}
-use Rattle.node_core.specs.Keeping.{keeps_all_listed, keeps_delivered}
-use Rattle.node_core.specs.Moving.{Linked, after_all_downs, after_all_ups, members_after_downs, members_after_ups}
-use Rattle.node_core.specs.Resting.{leaves_all, delivers_nothing, carry_none, each_part, keeps_all, CarryNothing}
-use Rattle.node_core.specs.Spreading.{spreads_lawfully}
-use Rattle.node_core.specs.Swapping.{behind, first_stands, shortcut_is_first, silent_besides}
-use Rattle.node_core.specs.Wanting.{hears_lawfully, news_is, is_news_to, stood, was_armed}
-use Rattle.node_core.specs.Whole.{whole-with_kind, whole-flushed, whole-with_missing, whole-with_member, whole-without_member, whole-spread}
+use Rattle.node_core.specs.lawful.Starting as starting
+use Rattle.node_core.specs.lawful.Firing.{fires_lawfully}
+use Rattle.node_core.specs.lawful.Flushing.{flushes_lawfully}
+use Rattle.node_core.specs.lawful.Keeping.{keeps_all_listed, keeps_delivered}
+use Rattle.node_core.specs.lawful.Moving.{Linked, after_all_downs, after_all_ups, members_after_downs, members_after_ups}
+use Rattle.node_core.specs.lawful.Resting.{leaves_all, delivers_nothing, carry_none, each_part, keeps_all, CarryNothing}
+use Rattle.node_core.specs.lawful.Spreading.{spreads_lawfully}
+use Rattle.node_core.specs.lawful.Swapping.{behind, first_stands, shortcut_is_first, silent_besides}
+use Rattle.node_core.specs.lawful.Wanting.{hears_lawfully, news_is, is_news_to, stood, was_armed}
+use Rattle.node_core.specs.lawful.Whole.{whole-with_kind, whole-flushed, whole-with_missing, whole-with_member, whole-without_member, whole-spread}
 
 -- what holds of both branches holds of the one that is taken
 either : {X : Type 0} (P : X → Type 0) (b : Bool) (x y : X) → (b ≡ true → P x) → (b ≡ false → P y) → P (if b then x else y)

@@ -18,10 +18,10 @@ use Rattle.world.specs.AskLaw.{Fires}
 use Rattle.world.specs.Delivery.{Delivery}
 use Rattle.world.specs.DeliveryLaw.{Delivers, IsNews, count_after, ids}
 use Rattle.world.specs.FloodCore.{Flooding, Message, FloodStarts, FloodSteps, Takes, IsIdle, DropsPeer, IsSoundFlooding, HoldsCounted, flood_state, note_content, others, is_news, payload_of}
-use Rattle.world.specs.FloodLists.{and_left, and_right, not_true, within_bound, distinct_names, distinct_none, distinct-remove_key, shorter-remove_key, lacks-remove_key}
-use Rattle.world.specs.FloodSpread.{gets_share}
-use Rattle.world.specs.FloodTakes.{taken_sends, taken_given, taken_core, by_takes, each_carries, takes_views, announces_nothing, asks_nothing, takes_payloads, takes_deliveries}
-use Rattle.world.specs.Held.{counts_others, counts_next, found_by_key, keys_after_push}
+use Rattle.world.specs.lawful.NameLists.{and_left, and_right, not_true, within_bound, distinct_names, distinct_none, distinct-remove_key, shorter-remove_key, lacks-remove_key}
+use Rattle.world.specs.lawful.FloodSpread.{gets_share}
+use Rattle.world.specs.lawful.FloodTakes.{taken_sends, taken_given, taken_core, by_takes, each_carries, takes_views, announces_nothing, asks_nothing, takes_payloads, takes_deliveries}
+use Rattle.world.specs.lawful.Held.{counts_others, counts_next, found_by_key, keys_after_push}
 use Rattle.world.specs.HoldLaw.{IsAskedBy, KeepsLast}
 use Rattle.world.specs.Laws.{IsSilent, Laws, StartLaws, StateLaws, StepLaws}
 use Rattle.world.specs.Lists.{IsOneOf}

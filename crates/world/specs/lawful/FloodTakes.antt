@@ -10,8 +10,8 @@ use Rattle.world.specs.AskLaw.{AsksNothing}
 use Rattle.world.specs.Delivery.{Delivery}
 use Rattle.world.specs.DeliveryLaw.{DeliveryLaw, Delivers, count_after}
 use Rattle.world.specs.FloodCore.{Flooding, Message, Takes, flood_state, note_content, note_to, others, payload_of}
-use Rattle.world.specs.FloodLists.{each-map, each-all, each-filter, each_is_other}
-use Rattle.world.specs.Held.{same_inside, found_after_push, held_after_push, stays_after_push, pushed_is_held}
+use Rattle.world.specs.lawful.NameLists.{each-map, each-all, each-filter, each_is_other}
+use Rattle.world.specs.lawful.Held.{same_inside, found_after_push, held_after_push, stays_after_push, pushed_is_held}
 use Rattle.world.specs.Lists.{IsOneOf}
 use Rattle.world.specs.PayloadLaw.{PayloadLaw, Brings, IsKnownPayload}
 use Rattle.world.specs.QueueLaw.{AnnouncesNothing}

@@ -11,8 +11,8 @@ use Rattle.node_names.specs.NodeName.{Name}
 use Rattle.node_names.specs.Same.{same_name, has_name, same_name-Decides, is_left_out}
 use Rattle.node_names.specs.declared.ids.MsgId.{MsgId}
 use Rattle.world.specs.FloodCore.{Flooding, Message, flood_state, note_content, note_to, others}
-use Rattle.world.specs.FloodLists.{and_true, lacks_from_each, distinct-filter}
-use Rattle.world.specs.Held.{same_id-refl}
+use Rattle.world.specs.lawful.NameLists.{and_true, lacks_from_each, distinct-filter}
+use Rattle.world.specs.lawful.Held.{same_id-refl}
 use Rattle.world.specs.SpreadLaw.{GetsShare, packets_carrying, entries_queued, is_carried, is_from}
 use Rattle.world.specs.Stimulus.{Stimulus}
 

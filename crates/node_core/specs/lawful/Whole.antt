@@ -10,7 +10,7 @@ use Rattle.node_names.specs.NodeName.{Name}
 use Rattle.node_names.specs.Order.{id_cmp}
 use Rattle.node_names.specs.Same.{same_id, same_id-Decides, same_name, has_name}
 use Rattle.node_names.specs.declared.ids.MsgId.{MsgId}
-use Rattle.world.specs.Held.{stays_after_push, pushed_is_held, held_after_push}
+use Rattle.world.specs.lawful.Held.{stays_after_push, pushed_is_held, held_after_push}
 use Rattle.world.specs.Lists.{IsOneOf}
 use Rattle.message_store.specs.Held.{kept_last}
 use Rattle.missing.proofs.SoundLemmas as missings
@@ -25,8 +25,8 @@ use Rattle.gossip_core.proofs.IdOrder.{id_ties, id_total}
 use Rattle.gossip_core.specs.State.{GossipState}
 use Rattle.gossip_core.specs.Table.{outcome, with_peer}
 use Rattle.gossip_core.specs.declared.call.CallOf.TheVariants.{Down}
-use Rattle.node_core.specs.Keeping.{all_kept, once_kept, once_pushed, was_held}
-use Rattle.node_core.specs.Members.{each_one, of_each, one_of_append, one_of_filter, one_of_map}
+use Rattle.node_core.specs.lawful.Keeping.{all_kept, once_kept, once_pushed, was_held}
+use Rattle.node_core.specs.lawful.Members.{each_one, of_each, one_of_append, one_of_filter, one_of_map}
 use Rattle.node_core.specs.Plum.{HeldOnce, IsWhole, IsLacked}
 
 -- what holds of both branches holds of the one that is taken

@@ -1,0 +1,14 @@
+pub mod Members
+pub mod Numbered
+pub mod Resting
+pub mod Firing
+pub mod Wanting
+pub mod Flushing
+pub mod Spreading
+pub mod Swapping
+pub mod Moving
+pub mod Keeping
+pub mod Whole
+pub mod Starting
+pub mod PlumDelivers
+pub mod PlumLaws

@@ -1,0 +1,6 @@
+pub mod FloodDelivers
+pub mod FloodLaws
+pub mod NameLists
+pub mod FloodSpread
+pub mod FloodTakes
+pub mod Held
