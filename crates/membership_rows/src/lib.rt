@@ -2,16 +2,4 @@
 #![tactic(auto)]
 
 #[cfg(test)]
-mod act;
-#[cfg(test)]
-mod named;
-#[cfg(test)]
-mod play;
-#[cfg(test)]
-mod rows;
-#[cfg(test)]
-mod sweeps;
-#[cfg(test)]
-mod texts;
-#[cfg(test)]
-mod view_calls;
+mod tests;

@@ -2,22 +2,4 @@
 #![tactic(auto)]
 
 #[cfg(test)]
-mod act;
-#[cfg(test)]
-mod altered;
-#[cfg(test)]
-mod divided;
-#[cfg(test)]
-mod merged;
-#[cfg(test)]
-mod named;
-#[cfg(test)]
-mod random;
-#[cfg(test)]
-mod rows;
-#[cfg(test)]
-mod scan;
-#[cfg(test)]
-mod sweeps;
-#[cfg(test)]
-mod texts;
+mod tests;

@@ -2,6 +2,4 @@
 #![tactic(auto)]
 
 #[cfg(test)]
-mod allocations;
-#[cfg(test)]
-mod names;
+mod tests;

@@ -3,12 +3,4 @@
 #![tactic(auto)]
 
 #[cfg(test)]
-mod act;
-#[cfg(test)]
-mod play;
-#[cfg(test)]
-mod rows;
-#[cfg(test)]
-mod sweeps;
-#[cfg(test)]
-mod texts;
+mod tests;

@@ -2,10 +2,4 @@
 #![tactic(auto)]
 
 #[cfg(test)]
-mod hello;
-#[cfg(test)]
-mod memory;
-#[cfg(test)]
-mod reads;
-#[cfg(test)]
-mod writes;
+mod tests;

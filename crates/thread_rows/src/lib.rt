@@ -2,18 +2,4 @@
 #![tactic(auto)]
 
 #[cfg(test)]
-mod calls;
-#[cfg(test)]
-mod node;
-#[cfg(test)]
-mod row_sweeps;
-#[cfg(test)]
-mod rows;
-#[cfg(test)]
-mod segments;
-#[cfg(test)]
-mod starts;
-#[cfg(test)]
-mod sweeps;
-#[cfg(test)]
-mod turns;
+mod tests;

@@ -2,22 +2,4 @@
 #![tactic(auto)]
 
 #[cfg(test)]
-mod act;
-#[cfg(test)]
-mod alike;
-#[cfg(test)]
-mod flight;
-#[cfg(test)]
-mod forest;
-#[cfg(test)]
-mod play;
-#[cfg(test)]
-mod reach;
-#[cfg(test)]
-mod rest;
-#[cfg(test)]
-mod rows;
-#[cfg(test)]
-mod sweeps;
-#[cfg(test)]
-mod unrest;
+mod tests;

@@ -1,0 +1,14 @@
+//! The tests by what they are of, and what they share.
+mod bytes_changed;
+mod calls;
+mod calm;
+mod codec;
+mod compare;
+mod cutting;
+mod doubles;
+mod ends;
+mod failing_devices;
+mod kinds;
+mod linking;
+mod rows;
+mod stalling;

@@ -1,0 +1,218 @@
+//! Cutting a stream into frames, each allocation of each call refused in turn: the refusal is as out of memory, the
+//! cutter is as it was, and the call made again answers as if nothing had been refused.
+use crate::tests::compare::end_of_frame;
+use crate::tests::rows::{Row, rows};
+use frames::{Cutter, Frame, FrameFault};
+use refusing_allocator::RefusingAllocator;
+use std::alloc::Allocator;
+use std::test::Fail;
+use test_support::stop_refusing;
+
+/// More allocations than any call has, and more pieces and frames than any row.
+const MANY: u64 = 120;
+
+/// How far a row was played.
+#[derive(Clone, Copy)]
+struct SoFar {
+    /// How many frames were given.
+    frames: usize,
+    /// How many bytes they are.
+    bytes: usize,
+    /// The fault that was met.
+    fault: Option<FrameFault>,
+    /// Whether a call had so many allocations that one was refused.
+    is_refused: bool,
+}
+
+/// Feeds a piece while the allocation with this number is refused, and again if it is. Whether there is such an
+/// allocation, or none if an answer is wrong.
+fn feed_refused<A: Allocator + Copy>(
+    heap: &RefusingAllocator,
+    cutter: &mut Cutter<A>,
+    piece: &[u8],
+    n: u64,
+) -> Option<bool> {
+    let left = cutter.left();
+    heap.refuse(n);
+    let is_refused = cutter.feed(piece).is_err();
+    let is_spent = stop_refusing(heap);
+    let mut is_right = is_refused == is_spent;
+    if is_spent {
+        let is_same = cutter.left() == left;
+        let is_fed = cutter.feed(piece).is_ok();
+        is_right = is_right && is_same && is_fed;
+    }
+    let is_longer = cutter.left() == left.saturating_add(piece.len());
+    (is_right && is_longer).then_some(is_spent)
+}
+
+/// Compares a frame with the next one of the row.
+fn is_next<A: Allocator + Copy>(
+    alloc: A,
+    row: &Row,
+    frame: &Frame<A>,
+    so_far: &mut SoFar,
+) -> Option<bool> {
+    let end = end_of_frame(alloc, row.bytes, so_far.bytes, frame)?;
+    let len = *row.frames.get(so_far.frames)?;
+    let is_length = end == so_far.bytes.saturating_add(len);
+    so_far.frames = so_far.frames.saturating_add(1);
+    so_far.bytes = end;
+    is_length.then_some(true)
+}
+
+/// Compares what the cutter answered with the row. Whether it gave a frame, or none if that is a wrong one.
+fn is_given<A: Allocator + Copy>(
+    alloc: A,
+    row: &Row,
+    answer: &Result<Option<Frame<A>>, FrameFault>,
+    so_far: &mut SoFar,
+) -> Option<bool> {
+    match answer {
+        Ok(Some(frame)) => is_next(alloc, row, frame, so_far),
+        Ok(None) => Some(false),
+        Err(fault) => {
+            so_far.fault = Some(*fault);
+            Some(false)
+        }
+    }
+}
+
+/// Asks for a frame while the allocation with this number is refused. Whether one is given, or none if that is a wrong
+/// one, and whether there is such an allocation.
+fn next_refused<A: Allocator + Copy>(
+    heap: &RefusingAllocator,
+    alloc: A,
+    cutter: &mut Cutter<A>,
+    row: &Row,
+    so_far: &mut SoFar,
+    n: u64,
+) -> (Option<bool>, bool) {
+    heap.refuse(n);
+    let answer = cutter.next();
+    let is_spent = stop_refusing(heap);
+    (is_given(alloc, row, &answer, so_far), is_spent)
+}
+
+/// Does so, and again if it is refused. Whether a frame is given, or none if an answer is wrong. A fault may be told
+/// although a allocation was refused.
+fn take_frame<A: Allocator + Copy>(
+    heap: &RefusingAllocator,
+    alloc: A,
+    cutter: &mut Cutter<A>,
+    row: &Row,
+    so_far: &mut SoFar,
+    n: u64,
+) -> Option<bool> {
+    let left = cutter.left();
+    let (given, is_spent) = next_refused(heap, alloc, cutter, row, so_far, n);
+    so_far.is_refused |= is_spent;
+    if is_spent && so_far.fault.is_none() {
+        return None;
+    }
+    if so_far.fault != Some(FrameFault::OutOfMemory) {
+        return given;
+    }
+    so_far.fault = None;
+    let is_same = cutter.left() == left;
+    if !is_spent || !is_same {
+        return None;
+    }
+    next_refused(heap, alloc, cutter, row, so_far, 0).0
+}
+
+/// Takes the frames that are whole. Whether they come to an end, or none if an answer is wrong.
+fn take_frames<A: Allocator + Copy>(
+    heap: &RefusingAllocator,
+    alloc: A,
+    cutter: &mut Cutter<A>,
+    row: &Row,
+    so_far: &mut SoFar,
+    n: u64,
+) -> Option<bool> {
+    for _ in 0..MANY {
+        if !take_frame(heap, alloc, cutter, row, so_far, n)? {
+            return Some(true);
+        }
+    }
+    None
+}
+
+/// Whether a row was played to its end.
+fn is_end(row: &Row, so_far: &SoFar, left: usize) -> bool {
+    let is_fault = so_far.fault == row.fault;
+    let rest = row.bytes.len().saturating_sub(so_far.bytes);
+    is_fault && so_far.frames == row.frames.len() && left == rest
+}
+
+/// Feeds a row in pieces of this size, and refuses the allocation with this number of each call. Whether a call has so
+/// many, or none if an answer is wrong.
+fn play_pieces<A: Allocator + Copy>(
+    heap: &RefusingAllocator,
+    alloc: A,
+    cutter: &mut Cutter<A>,
+    row: &Row,
+    size: usize,
+    n: u64,
+) -> Option<bool> {
+    let mut so_far = SoFar {
+        frames: 0,
+        bytes: 0,
+        fault: None,
+        is_refused: false,
+    };
+    for piece in row.bytes.chunks(size.max(1)) {
+        let is_spent = feed_refused(heap, cutter, piece, n)?;
+        so_far.is_refused |= is_spent;
+        take_frames(heap, alloc, cutter, row, &mut so_far, n)?;
+    }
+    is_end(row, &so_far, cutter.left()).then_some(so_far.is_refused)
+}
+
+/// Does so with a fresh cutter.
+fn sweep_pieces<A: Allocator + Copy>(
+    heap: &RefusingAllocator,
+    alloc: A,
+    row: &Row,
+    size: usize,
+    n: u64,
+) -> Option<bool> {
+    let mut cutter = Cutter::new(alloc);
+    play_pieces(heap, alloc, &mut cutter, row, size, n)
+}
+
+/// Refuses each allocation in turn. How many the call has that has most, or none if an answer is wrong.
+fn sweep_size<A: Allocator + Copy>(
+    heap: &RefusingAllocator,
+    alloc: A,
+    row: &Row,
+    size: usize,
+) -> Option<u64> {
+    for n in 1..MANY {
+        if !sweep_pieces(heap, alloc, row, size, n)? {
+            return Some(n - 1);
+        }
+    }
+    None
+}
+
+/// Does so with pieces of three sizes.
+fn sweep_row<A: Allocator + Copy>(heap: &RefusingAllocator, alloc: A, row: &Row) -> Option<u64> {
+    let of_bytes = sweep_size(heap, alloc, row, 1)?;
+    let of_fives = sweep_size(heap, alloc, row, 5)?;
+    let of_whole = sweep_size(heap, alloc, row, 1_000)?;
+    Some(of_bytes.saturating_add(of_fives).saturating_add(of_whole))
+}
+
+#[test]
+fn each_allocation_of_a_cutter(rt: HostRuntime) -> Result<(), Fail> {
+    let heap = RefusingAllocator::new(rt.alloc());
+    let mut refused = 0u64;
+    for row in rows() {
+        let allocations = sweep_row(&heap, &heap, row);
+        assert!(rt; allocations.is_some(), "at {}", row.name);
+        refused = refused.saturating_add(allocations.unwrap_or(0));
+    }
+    assert!(rt; refused > 40, "few allocations were refused: {refused}");
+    Ok(())
+}

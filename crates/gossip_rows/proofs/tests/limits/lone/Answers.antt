@@ -1,0 +1,7 @@
+-- Nobody is there twice.
+use Rattle.std.specs.List.{IsDistinct}
+use Rattle.gossip_rows.proofs.tests.limits.lone.Goals as goal
+
+pub new-requires : goal.new-requires
+unfolding IsDistinct
+new-requires g c = tt

@@ -1,0 +1,15 @@
+//! The tests by what they are of, and what they share.
+mod act;
+mod announcements;
+mod halves;
+mod kept_rows;
+mod limits;
+mod links;
+mod named;
+mod peers;
+mod play;
+mod rows;
+mod spans;
+mod sweeps;
+mod texts;
+mod tuned_rows;

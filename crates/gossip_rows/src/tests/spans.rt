@@ -1,0 +1,285 @@
+//! What is known of an origin, as a span of its numbers, and each allocation of adding an id refused in turn.
+use crate::tests::named::{id, name, origin};
+use crate::tests::play::start;
+use bytes::Bytes;
+use gossip_core::{Effects, Gossip};
+use known_ids::KnownIds;
+use node_names::{MsgId, NodeName};
+use refusing_allocator::RefusingAllocator;
+use std::alloc::{AllocError, Allocator};
+use std::process::Abort;
+use std::test::Fail;
+use test_support::{lend, stop_refusing};
+
+/// A message of `a` by its number, whether it was not known before, and the span of `a` after it.
+type Step = (u64, bool, (u64, usize));
+
+/// Steps before one, and those from it on.
+type Parts<'a> = (&'a [Step], &'a [Step]);
+
+const STEPS: &[Step] = &[
+    (1, true, (1, 0)),
+    (3, true, (1, 1)),
+    (2, true, (3, 0)),
+    (5, true, (3, 1)),
+    (3, false, (3, 1)),
+    // 0 stands before all.
+    (0, true, (3, 1)),
+    (0, false, (3, 1)),
+    // Numbers past the gap keep their order, and some follow when it is closed.
+    (9, true, (3, 2)),
+    (7, true, (3, 3)),
+    (7, false, (3, 3)),
+    (4, true, (5, 2)),
+    (6, true, (7, 1)),
+    // Behind the greatest number there is none.
+    (u64::MAX, true, (7, 2)),
+    (8, true, (9, 1)),
+];
+
+/// All steps. The table is named here alone, since a function that names it is proved over the whole of it.
+fn steps() -> &'static [Step] {
+    STEPS
+}
+
+/// More allocations than adding an id has.
+const MANY: u64 = 20;
+
+/// Whether the span of `a` is this, and nothing is known of `b`.
+fn is_span<A: Allocator>(rt: &impl Abort, gossip: &Gossip<A>, wanted: &(u64, usize)) -> bool {
+    gossip.span(&origin(rt, b'a')) == *wanted && gossip.span(&origin(rt, b'b')) == (0, 0)
+}
+
+/// Whether a copy says the same.
+fn is_span_of_copy<A: Allocator + Copy>(
+    rt: &impl Abort,
+    gossip: &Gossip<A>,
+    wanted: &(u64, usize),
+) -> Result<bool, AllocError> {
+    let copy = gossip.copy()?;
+    Ok(lend(copy, |copy| is_span(rt, copy, wanted)))
+}
+
+/// Brings a message. Whether it is delivered.
+fn deliver<A: Allocator + Copy>(
+    gossip: &mut Gossip<A>,
+    sender: &NodeName,
+    message: &MsgId,
+    payload: &Bytes<A>,
+    out: &mut Effects<A>,
+) -> Result<bool, AllocError> {
+    gossip.on_gossip(sender, message, 0, payload, out)?;
+    Ok(out.delivered.is_some())
+}
+
+/// Whether a message is known, and the span of `a` is this.
+fn is_in_span<A: Allocator>(
+    rt: &impl Abort,
+    gossip: &Gossip<A>,
+    message: &MsgId,
+    wanted: &(u64, usize),
+) -> bool {
+    gossip.knows(message) && is_span(rt, gossip, wanted)
+}
+
+/// Brings a message. Whether it is delivered if it is new, and known then, with the span that it should leave.
+fn is_delivered<A: Allocator + Copy>(
+    rt: &impl Abort,
+    gossip: &mut Gossip<A>,
+    sender: &NodeName,
+    payload: &Bytes<A>,
+    out: &mut Effects<A>,
+    step: &Step,
+) -> Result<bool, AllocError> {
+    let message = id(rt, (b'a', step.0));
+    let is_new = deliver(gossip, sender, &message, payload, out)?;
+    let is_right = is_new == step.1 && is_in_span(rt, gossip, &message, &step.2);
+    Ok(is_right && is_span_of_copy(rt, gossip, &step.2)?)
+}
+
+/// Brings a message with a payload and effects of its own. Whether it does so.
+fn is_step<A: Allocator + Copy>(
+    rt: &impl Abort,
+    alloc: A,
+    gossip: &mut Gossip<A>,
+    step: &Step,
+) -> Result<bool, AllocError> {
+    let payload = Bytes::copy_from_slice(alloc, b"m")?;
+    let sender = name(rt, b'b');
+    lend(Effects::new(alloc), |out| {
+        is_delivered(rt, gossip, &sender, &payload, out, step)
+    })
+}
+
+/// Brings messages to a node that knows none. Whether each of them does so.
+fn are_steps<A: Allocator + Copy>(
+    rt: &impl Abort,
+    alloc: A,
+    gossip: &mut Gossip<A>,
+    steps: &[Step],
+) -> Result<bool, AllocError> {
+    let mut are_right = is_span(rt, gossip, &(0, 0));
+    for step in steps {
+        are_right = is_step(rt, alloc, gossip, step)? && are_right;
+    }
+    Ok(are_right)
+}
+
+/// Does so at a fresh node.
+fn are_steps_from_start<A: Allocator + Copy>(
+    rt: &impl Abort,
+    alloc: A,
+    steps: &[Step],
+) -> Result<bool, AllocError> {
+    let gossip = start(rt, alloc)?;
+    lend(gossip, |gossip| are_steps(rt, alloc, gossip, steps))
+}
+
+#[test]
+fn tells_spans(rt: HostRuntime) -> Result<(), Fail> {
+    assert!(rt; are_steps_from_start(&rt, rt.alloc(), steps())?);
+    Ok(())
+}
+
+/// Adds an id.
+fn add<A: Allocator + Copy>(known: &mut KnownIds<A>, id: &MsgId) -> Result<(), AllocError> {
+    known.make_room(id)?;
+    known.insert(id);
+    Ok(())
+}
+
+/// Adds ids.
+fn add_all<A: Allocator + Copy>(
+    rt: &impl Abort,
+    known: &mut KnownIds<A>,
+    steps: &[Step],
+) -> Result<(), AllocError> {
+    for step in steps {
+        add(known, &id(rt, (b'a', step.0)))?;
+    }
+    Ok(())
+}
+
+/// The span that these steps leave.
+fn left(steps: &[Step]) -> (u64, usize) {
+    match steps.last() {
+        Some(step) => step.2,
+        None => (0, 0),
+    }
+}
+
+/// Whether an id is known, with this span of its origin.
+fn is_known<A: Allocator>(
+    known: &KnownIds<A>,
+    id: &MsgId,
+    wanted: bool,
+    span: &(u64, usize),
+) -> bool {
+    known.contains(id) == wanted && known.span(&id.origin) == *span
+}
+
+/// Makes room for an id while the allocation with this number is refused. Whether there is such an allocation, and
+/// whether that is refused.
+fn try_room<A: Allocator + Copy>(
+    heap: &RefusingAllocator,
+    known: &mut KnownIds<A>,
+    message: &MsgId,
+    n: u64,
+) -> (bool, bool) {
+    heap.refuse(n);
+    let is_refused = known.make_room(message).is_err();
+    (stop_refusing(heap), is_refused)
+}
+
+/// Adds an id. Whether it is known then, with this span of its origin.
+fn is_added<A: Allocator + Copy>(
+    known: &mut KnownIds<A>,
+    message: &MsgId,
+    wanted: &(u64, usize),
+) -> Result<bool, AllocError> {
+    add(known, message)?;
+    Ok(is_known(known, message, true, wanted))
+}
+
+/// Adds an id while the allocation with this number is refused, and then without. Whether there is such an allocation.
+fn refuse_add<A: Allocator + Copy>(
+    rt: &impl Abort,
+    heap: &RefusingAllocator,
+    known: &mut KnownIds<A>,
+    stood: &(u64, usize),
+    step: &Step,
+    n: u64,
+) -> Result<bool, AllocError> {
+    let message = id(rt, (b'a', step.0));
+    let (is_spent, is_refused) = try_room(heap, known, &message, n);
+    let stands = is_known(known, &message, !step.1, stood);
+    let is_right = stands && is_added(known, &message, &step.2)?;
+    assert!(rt; is_right && is_refused == is_spent);
+    Ok(is_spent)
+}
+
+/// Adds the ids up to one, and does so with that. Whether there is such an allocation.
+fn refuse_step<A: Allocator + Copy>(
+    rt: &impl Abort,
+    heap: &RefusingAllocator,
+    known: &mut KnownIds<A>,
+    parts: Parts<'_>,
+    n: u64,
+) -> Result<bool, AllocError> {
+    add_all(rt, known, parts.0)?;
+    match parts.1.first() {
+        Some(step) => refuse_add(rt, heap, known, &left(parts.0), step, n),
+        None => Ok(false),
+    }
+}
+
+/// Does so from nothing.
+fn refuse_step_from_nothing<A: Allocator + Copy>(
+    rt: &impl Abort,
+    heap: &RefusingAllocator,
+    alloc: A,
+    parts: Parts<'_>,
+    n: u64,
+) -> Result<bool, AllocError> {
+    let known = KnownIds::new(alloc);
+    lend(known, |known| refuse_step(rt, heap, known, parts, n))
+}
+
+/// Refuses each allocation of adding an id in turn. How many it has.
+fn sweep<A: Allocator + Copy>(
+    rt: &impl Abort,
+    heap: &RefusingAllocator,
+    alloc: A,
+    parts: Parts<'_>,
+) -> Result<u64, AllocError> {
+    for n in 1..MANY {
+        if !refuse_step_from_nothing(rt, heap, alloc, parts, n)? {
+            return Ok(n - 1);
+        }
+    }
+    assert!(rt; false, "the sweep did not end");
+    Ok(MANY)
+}
+
+/// Does so for each id. How many allocations they have.
+fn sweep_all<A: Allocator + Copy>(
+    rt: &impl Abort,
+    heap: &RefusingAllocator,
+    alloc: A,
+    steps: &[Step],
+) -> Result<u64, AllocError> {
+    let mut refused = 0u64;
+    for at in 0..steps.len() {
+        let allocations = sweep(rt, heap, alloc, steps.split_at(at))?;
+        refused = refused.saturating_add(allocations);
+    }
+    Ok(refused)
+}
+
+#[test]
+fn each_allocation_of_each_id(rt: HostRuntime) -> Result<(), Fail> {
+    let heap = RefusingAllocator::new(rt.alloc());
+    let refused = sweep_all(&rt, &heap, &heap, steps())?;
+    assert!(rt; refused > 1, "few allocations were refused: {refused}");
+    Ok(())
+}

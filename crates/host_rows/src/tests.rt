@@ -1,0 +1,13 @@
+//! The tests by what they are of, and what they share.
+mod ends;
+mod failing_readers;
+mod failing_writers;
+mod gates;
+mod group;
+mod inbox;
+mod node;
+mod refused_calls;
+mod refused_closes;
+mod tally;
+mod texts;
+mod writers;

@@ -1,0 +1,196 @@
+//! Readers that a gate orders.
+use crate::tests::ends::close;
+use crate::tests::node::{LOOKS, Started, keep, name, start_with_two};
+use bytes::Bytes;
+use frames::{Body, Frame, encode};
+use links::TapeReader;
+use node_threads::{Closed, Gate, Host, HostError, NodeCore, Worker, read_link};
+use std::alloc::{AllocError, Global};
+use std::process::Abort;
+use std::sync::{Arc, Mutex, Wait};
+use std::test::Fail;
+use std::thread;
+use std::thread::Threads;
+use std::time::{Clock, Duration};
+use test_support::first_run;
+use world::{StimulusOf, Trace};
+
+/// How often each of two workers was reported to have made a step, and how often the first was refused.
+#[derive(Clone, Copy)]
+struct Reports {
+    made: [u64; 2],
+    refused: u64,
+}
+
+/// What a gate and its test share.
+#[derive(Drop)]
+struct Watch {
+    reports: Mutex<Reports>,
+}
+
+impl Watch {
+    /// A watch to which nothing was reported.
+    fn new() -> Watch {
+        let reports = Reports {
+            made: [0, 0],
+            refused: 0,
+        };
+        Watch {
+            reports: Mutex::new(reports),
+        }
+    }
+
+    /// What was reported.
+    fn reports<R: Wait>(&self, rt: &R) -> Reports {
+        *self.reports.lock(rt)
+    }
+
+    /// Waits until both workers made a step. Whether they did, and the first was refused less often than it may ask.
+    fn wait_for_both<R: Wait + Clock>(&self, rt: &R) -> bool {
+        for _ in 0..LOOKS {
+            let reports = self.reports(rt);
+            if reports.made[0] > 0 && reports.made[1] > 0 {
+                return reports.refused < 1_000;
+            }
+            thread::sleep(rt, Duration::from_millis(5));
+        }
+        false
+    }
+}
+
+/// Lets worker 1 through only after worker 0 was refused, and worker 0 only after worker 1 made a step.
+#[derive(Drop)]
+struct SecondFirst<R: Wait + Clock + Drop> {
+    rt: R,
+    watch: Arc<Watch, Global>,
+}
+
+impl<R: Wait + Clock + Drop> Gate for SecondFirst<R> {
+    fn pass(&self, worker: usize) -> bool {
+        let mut reports = self.watch.reports.lock(&self.rt);
+        if worker == 1 {
+            return reports.refused > 0;
+        }
+        let passes = reports.made[1] > 0;
+        if !passes {
+            reports.refused = reports.refused.saturating_add(1);
+        }
+        passes
+    }
+
+    fn applied(&self, worker: usize) {
+        let mut reports = self.watch.reports.lock(&self.rt);
+        if worker < 2 {
+            reports.made[worker] = reports.made[worker].saturating_add(1);
+        }
+    }
+
+    fn pause(&self) {
+        thread::sleep(&self.rt, Duration::from_millis(5));
+    }
+}
+
+/// The bytes of a PRUNE from the node of this name.
+fn prune_from(rt: &impl Abort, alloc: Global, text: &str) -> Result<Bytes, AllocError> {
+    let sender = first_run(name(rt, text));
+    let frame = Frame::new(sender, 1, Body::Prune).expect(rt, "a frame");
+    encode(alloc, &frame)
+}
+
+/// How many steps of the trace took a frame.
+fn arrivals(trace: &Trace<Frame>) -> usize {
+    (0..trace.len())
+        .filter(|place| match trace.step(*place) {
+            Some(step) => matches!(step.stimulus, StimulusOf::Arrive { .. }),
+            None => false,
+        })
+        .count()
+}
+
+/// Starts the reader of this number, to which one frame comes.
+fn start_reader<R, C>(
+    rt: R,
+    alloc: Global,
+    host: &Host<C>,
+    watch: &Arc<Watch, Global>,
+    number: usize,
+    sender: &str,
+) -> Result<Worker, HostError>
+where
+    R: Threads + Wait + Clock + Abort + Copy + Send + Drop + 'static,
+    C: NodeCore<Global> + Drop + Send + 'static,
+{
+    let gate = SecondFirst {
+        rt,
+        watch: Arc::try_clone(watch)?,
+    };
+    let reader = TapeReader::new(prune_from(&rt, alloc, sender)?, Vec::new(alloc), None);
+    read_link(rt, host, gate, number, reader, 1)
+}
+
+/// Starts two readers.
+fn start_readers<R, C>(
+    rt: R,
+    alloc: Global,
+    host: &Host<C>,
+    watch: &Arc<Watch, Global>,
+) -> Result<Vec<Worker>, HostError>
+where
+    R: Threads + Wait + Clock + Abort + Copy + Send + Drop + 'static,
+    C: NodeCore<Global> + Drop + Send + 'static,
+{
+    let mut workers = Vec::with_capacity(alloc, 2)?;
+    for (number, sender) in ["p", "q"].iter().enumerate() {
+        keep(
+            &mut workers,
+            start_reader(rt, alloc, host, watch, number, sender)?,
+        )?;
+    }
+    Ok(workers)
+}
+
+/// Whether two frames arrived.
+fn is_whole(closed: &Closed) -> bool {
+    arrivals(&closed.trace) == 2
+}
+
+/// Closes a node. Whether two frames arrived.
+fn closes_whole<R: Threads + Wait, C: NodeCore<Global> + Drop>(
+    rt: &R,
+    node: Started<C>,
+    workers: Vec<Worker>,
+) -> bool {
+    let Started {
+        host,
+        ports,
+        outlets: _,
+    } = node;
+    close(rt, host, ports, workers).is_some_and(|closed| is_whole(&closed))
+}
+
+/// Whether both readers of a node make their steps, and leave it whole.
+fn reads_in_order<R, C>(
+    rt: R,
+    alloc: Global,
+    node: Started<C>,
+    watch: &Arc<Watch, Global>,
+) -> Result<bool, HostError>
+where
+    R: Threads + Wait + Clock + Abort + Copy + Send + Drop + 'static,
+    C: NodeCore<Global> + Drop + Send + 'static,
+{
+    let workers = start_readers(rt, alloc, &node.host, watch)?;
+    let is_read = watch.wait_for_both(&rt);
+    Ok(closes_whole(&rt, node, workers) && is_read)
+}
+
+/// Two readers with one frame each, of which the second goes first, after the first was refused. Both frames arrive,
+/// and the first reader asks less often than it may.
+#[test]
+fn gated_readers(rt: HostRuntime) -> Result<(), Fail> {
+    let alloc = rt.alloc();
+    let watch = Arc::new(alloc, Watch::new())?;
+    let node = start_with_two(&rt, alloc, "a", ["p", "q"], 0)?;
+    assert!(rt; reads_in_order(rt, alloc, node, &watch)?);
+    Ok(())
+}

@@ -1,0 +1,167 @@
+//! The start and the broadcasts of a node, each allocation of them refused in turn: the call fails as out of memory,
+//! and made again it answers as if nothing had been refused.
+use crate::tests::ends::broadcast;
+use crate::tests::node::{Started, name, start_alone};
+use crate::tests::texts::push_answer;
+use bytes::Bytes;
+use node_threads::{HostError, NodeCore, Port, Receipt};
+use refusing_allocator::RefusingAllocator;
+use std::alloc::{AllocError, Allocator};
+use std::process::Abort;
+use std::sync::Wait;
+use std::test::Fail;
+use std::thread::Threads;
+use test_support::{message, stop_refusing, sweep};
+use world::CoreError;
+
+/// Why a call was refused, if it was.
+fn refusal_of<T: Drop>(answer: Result<T, HostError>) -> Option<HostError> {
+    answer.err()
+}
+
+/// Whether a start failed as out of memory, in the core or behind it.
+fn is_out_of_memory(error: HostError) -> bool {
+    matches!(
+        error,
+        HostError::OutOfMemory | HostError::Refused(CoreError::OutOfMemory)
+    )
+}
+
+/// Starts the node while the allocation with this number is refused, and again if it is refused. Whether there is such
+/// an allocation, or none if something is wrong.
+fn refuse_start<A: Allocator + Copy>(
+    rt: &impl Abort,
+    heap: &RefusingAllocator,
+    alloc: A,
+    n: u64,
+) -> Option<bool> {
+    heap.refuse(n);
+    let refusal = refusal_of(start_alone(rt, alloc, "a", 1));
+    let is_spent = stop_refusing(heap);
+    let is_right = match refusal {
+        None => !is_spent,
+        Some(error) => {
+            is_spent
+                && is_out_of_memory(error)
+                && refusal_of(start_alone(rt, alloc, "a", 1)).is_none()
+        }
+    };
+    is_right.then_some(is_spent)
+}
+
+#[test]
+fn each_allocation_of_a_start(rt: HostRuntime) -> Result<(), Fail> {
+    let heap = RefusingAllocator::new(rt.alloc());
+    let refused = sweep(|n| Ok::<_, HostError>(refuse_start(&rt, &heap, &heap, n)))?.unwrap_or(0);
+    assert!(rt;
+        refused >= 5,
+        "few allocations were refused, or a wrong answer: {refused}"
+    );
+    Ok(())
+}
+
+/// Broadcasts by a port while the allocation with this number is refused, and again if it is refused. Whether there is
+/// such an allocation, or none if the port does not answer so.
+fn refuse_broadcast<R: Wait, C: NodeCore<A> + Drop, A: Allocator + Copy>(
+    rt: &R,
+    heap: &RefusingAllocator,
+    alloc: A,
+    port: &mut Port<C, A>,
+    wanted: Result<Receipt, HostError>,
+    n: u64,
+) -> Result<Option<bool>, AllocError> {
+    let payload = Bytes::copy_from_slice(alloc, b"hello")?;
+    heap.refuse(n);
+    let answer = port.broadcast(rt, payload);
+    let is_spent = stop_refusing(heap);
+    let is_right = if is_spent {
+        answer == Err(HostError::OutOfMemory)
+            && port.calls().is_empty()
+            && broadcast(rt, alloc, port) == wanted
+    } else {
+        answer == wanted
+    };
+    Ok(is_right.then_some(is_spent))
+}
+
+/// What the first broadcast of the node answers.
+fn first_receipt(rt: &impl Abort) -> Receipt {
+    Receipt {
+        id: message(name(rt, "a"), 1),
+        place: 0,
+    }
+}
+
+/// Does so with the first port of a node.
+fn refuse_by_first<R: Wait, C: NodeCore<A> + Drop, A: Allocator + Copy>(
+    rt: &R,
+    heap: &RefusingAllocator,
+    alloc: A,
+    ports: &mut [Port<C, A>],
+    wanted: Result<Receipt, HostError>,
+    n: u64,
+) -> Result<Option<bool>, AllocError> {
+    match ports.first_mut() {
+        Some(port) => refuse_broadcast(rt, heap, alloc, port, wanted, n),
+        None => Ok(None),
+    }
+}
+
+/// Does so with a node that is stopped first, or is not, and closes it. The text is what it leaves.
+fn refuse_of_node<R: Threads + Wait + Abort, C: NodeCore<A> + Drop, A: Allocator + Copy>(
+    rt: &R,
+    heap: &RefusingAllocator,
+    alloc: A,
+    text: &mut String,
+    node: Started<C, A>,
+    is_stopped: bool,
+    n: u64,
+) -> Result<Option<bool>, AllocError> {
+    let Started {
+        host,
+        mut ports,
+        outlets: _,
+    } = node;
+    let wanted = if is_stopped {
+        host.stop(rt);
+        Err(HostError::Closed)
+    } else {
+        Ok(first_receipt(rt))
+    };
+    let refused = refuse_by_first(rt, heap, alloc, ports.as_mut_slice(), wanted, n)?;
+    text.clear();
+    push_answer(text, &host.close(rt, ports, Vec::new(alloc)))?;
+    Ok(refused)
+}
+
+/// Does so with a fresh node. Whether there is such an allocation, or none if something is wrong, or the node leaves
+/// anything else.
+fn refuse_of_fresh<R: Threads + Wait + Abort, A: Allocator + Copy>(
+    rt: &R,
+    heap: &RefusingAllocator,
+    alloc: A,
+    text: &mut String,
+    is_stopped: bool,
+    n: u64,
+) -> Result<Option<bool>, HostError> {
+    let node = start_alone(rt, alloc, "a", 1)?;
+    let refused = refuse_of_node(rt, heap, alloc, text, node, is_stopped, n)?;
+    let left = if is_stopped {
+        "a/1 among | handed out 0"
+    } else {
+        "a/1 among | broadcast hello; a/1 delivers a/1/1 hello | handed out 0"
+    };
+    Ok(refused.filter(|_| text.as_str() == left))
+}
+
+/// The broadcast of a node makes its first step, and that of a node that was stopped is refused because it was.
+#[test]
+fn each_allocation_of_a_broadcast(rt: HostRuntime) -> Result<(), Fail> {
+    let heap = RefusingAllocator::new(rt.alloc());
+    let mut text = String::new(rt.alloc());
+    for (is_stopped, few) in [(false, 5), (true, 1)] {
+        let refused = sweep(|n| refuse_of_fresh(&rt, &heap, &heap, &mut text, is_stopped, n))?;
+        assert!(rt; refused.unwrap_or(0) >= few, "{is_stopped}: {text}");
+    }
+    Ok(())
+}

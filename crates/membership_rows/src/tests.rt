@@ -1,0 +1,8 @@
+//! The tests by what they are of, and what they share.
+mod act;
+mod named;
+mod play;
+mod rows;
+mod sweeps;
+mod texts;
+mod view_calls;

@@ -1,0 +1,160 @@
+//! What a node `x` does at one event after the other, worked out by hand from the table.
+use crate::tests::act::Act;
+use crate::tests::named::Words;
+
+/// An event, the words of its dice that are not 0, what it gives, and what the readers answer after it.
+pub(crate) type Turn = (Act, Words, &'static str, &'static str);
+
+/// A run of `x`: how many active and passive names it may have, its active names at the start, and the events.
+pub(crate) type Row = (u8, u8, &'static str, &'static [Turn]);
+
+/// Words 0 to 3 are the greatest one.
+const GREATEST: Words = &[(0, u64::MAX), (1, u64::MAX), (2, u64::MAX), (3, u64::MAX)];
+
+/// Those of the words that a shuffle and its answer look at are their own places.
+const RISING: Words = &[
+    (4, 4),
+    (5, 5),
+    (6, 6),
+    (7, 7),
+    (12, 12),
+    (13, 13),
+    (14, 14),
+    (15, 15),
+];
+
+/// A node joins at a full active view.
+const FULL: &[Turn] = &[(
+    Act::Join("n"),
+    GREATEST,
+    "b: DISCONNECT; n: NEIGHBOR high: true; a: FORWARDJOIN n 3; down b; up n; ",
+    "a n | b |",
+)];
+
+/// A node joins by a contact, and an active one joins again.
+const CONTACT: &[Turn] = &[
+    (Act::Joins("c"), &[], "c: JOIN; ", "a | |"),
+    (Act::Join("a"), &[], "a: NEIGHBOR high: true; ", "a | |"),
+];
+
+/// A walk goes on between two active names; with PRWL steps left an unknown name is noted.
+const WALK: &[Turn] = &[
+    (Act::ForwardJoin("a", "x", 0), &[], "", "a b | |"),
+    (Act::ShuffleReply("a", "n"), &[], "", "a b | n |"),
+    (
+        Act::ForwardJoin("a", "n", 1),
+        GREATEST,
+        "b: FORWARDJOIN n 0; ",
+        "a b | n |",
+    ),
+    (
+        Act::ForwardJoin("a", "m", 1),
+        &[],
+        "b: FORWARDJOIN m 0; ",
+        "a b | n m |",
+    ),
+];
+
+/// A walk ends where there is nobody to pass it on to.
+const WALK_ENDS: &[Turn] = &[
+    (
+        Act::ForwardJoin("a", "n", 2),
+        GREATEST,
+        "n: NEIGHBOR high: true; up n; ",
+        "a n | |",
+    ),
+    (
+        Act::ForwardJoin("a", "n", 2),
+        GREATEST,
+        "n: NEIGHBOR high: true; ",
+        "a n | |",
+    ),
+];
+
+/// A shuffle's names come in for those that its answer names.
+const SHUFFLE: &[Turn] = &[
+    (Act::ShuffleReply("a", "p q"), &[], "", "a | p q |"),
+    (
+        Act::Shuffle("a", "o", 1, "o r s t"),
+        RISING,
+        "o: SHUFFLEREPLY: p q ; ",
+        "a | r t |",
+    ),
+    (Act::Shuffle("a", "x", 1, "u"), &[], "", "a | r t |"),
+];
+
+/// A shuffle with steps left goes on.
+const SHUFFLE_GOES_ON: &[Turn] = &[
+    (
+        Act::Shuffle("a", "o", 2, "o r"),
+        &[],
+        "b: SHUFFLE o 1: o r ; ",
+        "a b | |",
+    ),
+    (
+        Act::Shuffle("a", "b", 2, "b"),
+        &[],
+        "b: SHUFFLEREPLY: ; ",
+        "a b | |",
+    ),
+];
+
+/// Passive names are promoted in place of lost neighbours.
+const PROMOTION: &[Turn] = &[
+    (Act::ShuffleReply("a", "p q"), &[], "", "a | p q |"),
+    (
+        Act::Down("a"),
+        &[],
+        "p: NEIGHBOR high: true; down a; ",
+        "| p q | p",
+    ),
+    (Act::Reply("p", true), &[], "up p; ", "p | q |"),
+    (
+        Act::Tick,
+        &[],
+        "p: SHUFFLE x 3: x q ; q: NEIGHBOR high: false; ",
+        "p | q | q",
+    ),
+    (
+        Act::Neighbor("n", false),
+        &[],
+        "n: NEIGHBORREPLY accepted: true; up n; ",
+        "p n | q | q",
+    ),
+    (Act::Reply("q", true), &[], "q: DISCONNECT; ", "p n | q |"),
+    (
+        Act::Neighbor("m", false),
+        &[],
+        "m: NEIGHBORREPLY accepted: false; ",
+        "p n | q |",
+    ),
+    (
+        Act::Neighbor("m", true),
+        &[],
+        "p: DISCONNECT; m: NEIGHBORREPLY accepted: true; down p; up m; ",
+        "n m | q p |",
+    ),
+    (
+        Act::Disconnect("n"),
+        &[],
+        "q: NEIGHBOR high: false; down n; ",
+        "m | q p n | q",
+    ),
+    (Act::ShuffleReply("m", "r p"), &[], "", "m | q p n r | q"),
+    (Act::Reply("q", false), &[], "", "m | q p n r |"),
+];
+
+const ROWS: &[Row] = &[
+    (2, 4, "a b", FULL),
+    (2, 4, "a", CONTACT),
+    (2, 4, "a b", WALK),
+    (2, 4, "a", WALK_ENDS),
+    (2, 2, "a", SHUFFLE),
+    (3, 2, "a b", SHUFFLE_GOES_ON),
+    (2, 4, "a", PROMOTION),
+];
+
+/// All of them.
+pub(crate) fn rows() -> &'static [Row] {
+    ROWS
+}

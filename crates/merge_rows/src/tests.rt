@@ -1,0 +1,11 @@
+//! The tests by what they are of, and what they share.
+mod act;
+mod altered;
+mod divided;
+mod merged;
+mod named;
+mod random;
+mod rows;
+mod scan;
+mod sweeps;
+mod texts;

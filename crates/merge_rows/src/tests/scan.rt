@@ -1,0 +1,208 @@
+//! What a merge is, event by event, without a group.
+use crate::tests::texts::{PlumTrace, push_again, push_arrival, push_flight, push_start, push_stimulus};
+use frames::Frame;
+use node_names::{Dice, Origin};
+use std::alloc::{AllocError, Allocator, Global};
+use world::{Out, Step, Stimulus, StimulusOf};
+
+/// More steps than any trace has, and more than it takes to go over all traces until none goes on.
+const MANY: usize = 1_000;
+
+/// How far traces are played.
+#[derive(Drop)]
+struct Scan {
+    /// How many steps of each trace are played; none of one that is not started.
+    places: Vec<Option<usize>>,
+    /// The frames that were sent, by their senders and numbers.
+    sent: Vec<(Origin, u64)>,
+    /// The places there of those in flight.
+    flight: Vec<usize>,
+}
+
+/// A scan of so many traces.
+fn empty(alloc: Global, count: usize) -> Result<Scan, AllocError> {
+    Ok(Scan {
+        places: vec![in alloc; None; count]?,
+        sent: Vec::new(alloc),
+        flight: Vec::new(alloc),
+    })
+}
+
+/// Sends the frames of an output.
+fn send<A: Allocator>(scan: &mut Scan, out: &Out<Frame<A>, A>) -> Result<(), AllocError> {
+    for (_to, frame) in out.sends.as_slice() {
+        scan.flight.push(scan.sent.len())?;
+        scan.sent.push((frame.sender(), frame.number()))?;
+    }
+    Ok(())
+}
+
+/// Remembers that so many steps of a trace are played.
+fn stand(scan: &mut Scan, at: usize, played: usize) {
+    if let Some(place) = scan.places.get_mut(at) {
+        *place = Some(played);
+    }
+}
+
+/// Whether a trace is played out.
+fn is_out(scan: &Scan, at: usize, count: usize) -> bool {
+    scan.places.get(at) == Some(&Some(count))
+}
+
+/// Whether all traces of the name with lower incarnations are played out.
+fn is_ready<A: Allocator>(scan: &Scan, traces: &[PlumTrace<A>], origin: &Origin) -> bool {
+    for (at, other) in traces.iter().enumerate() {
+        let earlier = other.origin();
+        if earlier.name == origin.name
+            && earlier.incarnation < origin.incarnation
+            && !is_out(scan, at, other.len())
+        {
+            return false;
+        }
+    }
+    true
+}
+
+/// Starts a trace if it may start. Whether it does.
+fn start<A: Allocator>(
+    scan: &mut Scan,
+    text: &mut String,
+    traces: &[PlumTrace<A>],
+    at: usize,
+    trace: &PlumTrace<A>,
+) -> Result<bool, AllocError> {
+    let origin = trace.origin();
+    if !is_ready(scan, traces, &origin) {
+        return Ok(false);
+    }
+    push_start(text, &origin)?;
+    send(scan, trace.opening())?;
+    stand(scan, at, 0);
+    Ok(true)
+}
+
+/// Has the frame at this place of the sent ones arrive. One that is not in flight is put there once more.
+fn arrive(
+    scan: &mut Scan,
+    text: &mut String,
+    number: usize,
+    dice: &Dice,
+) -> Result<(), AllocError> {
+    if !scan.flight.contains(&number) {
+        push_again(text, number)?;
+        scan.flight.push(number)?;
+    }
+    let Some(place) = scan.flight.iter().position(|other| *other == number) else {
+        return Ok(());
+    };
+    let _ = scan.flight.remove(place);
+    push_arrival(text, place, dice)
+}
+
+/// Has a core take a stimulus if it is not the arrival of a frame that is still to be sent. Whether it does.
+fn take<A: Allocator>(
+    scan: &mut Scan,
+    text: &mut String,
+    origin: &Origin,
+    stimulus: &Stimulus<Frame<A>, A>,
+) -> Result<bool, AllocError> {
+    let StimulusOf::Arrive { sender, note, dice } = stimulus else {
+        push_stimulus(text, &origin.name, stimulus)?;
+        return Ok(true);
+    };
+    let id = (*sender, note.number());
+    let Some(number) = scan.sent.iter().position(|sent| *sent == id) else {
+        return Ok(false);
+    };
+    arrive(scan, text, number, dice)?;
+    Ok(true)
+}
+
+/// Plays a step of a trace if it can be played. Whether it is.
+fn take_step<A: Allocator>(
+    scan: &mut Scan,
+    text: &mut String,
+    at: usize,
+    origin: &Origin,
+    place: usize,
+    step: &Step<Frame<A>, A>,
+) -> Result<bool, AllocError> {
+    if !take(scan, text, origin, &step.stimulus)? {
+        return Ok(false);
+    }
+    send(scan, &step.out)?;
+    stand(scan, at, place.saturating_add(1));
+    Ok(true)
+}
+
+/// Plays what comes next of a trace, if it can be played. Whether it is.
+fn go_on<A: Allocator>(
+    scan: &mut Scan,
+    text: &mut String,
+    traces: &[PlumTrace<A>],
+    at: usize,
+    trace: &PlumTrace<A>,
+) -> Result<bool, AllocError> {
+    let Some(place) = scan.places.get(at).copied().flatten() else {
+        return start(scan, text, traces, at, trace);
+    };
+    match trace.step(place) {
+        Some(step) => take_step(scan, text, at, &trace.origin(), place, step),
+        None => Ok(false),
+    }
+}
+
+/// Plays a trace as far as it goes. Whether anything is played.
+fn play<A: Allocator>(
+    scan: &mut Scan,
+    text: &mut String,
+    traces: &[PlumTrace<A>],
+    at: usize,
+    trace: &PlumTrace<A>,
+) -> Result<bool, AllocError> {
+    let mut moved = false;
+    for _ in 0..MANY {
+        if !go_on(scan, text, traces, at, trace)? {
+            break;
+        }
+        moved = true;
+    }
+    Ok(moved)
+}
+
+/// Goes over all traces once. Whether anything is played.
+fn pass<A: Allocator>(
+    scan: &mut Scan,
+    text: &mut String,
+    traces: &[PlumTrace<A>],
+) -> Result<bool, AllocError> {
+    let mut moved = false;
+    for (at, trace) in traces.iter().enumerate() {
+        moved |= play(scan, text, traces, at, trace)?;
+    }
+    Ok(moved)
+}
+
+/// Goes over the traces again and again.
+fn play_all<A: Allocator>(
+    scan: &mut Scan,
+    text: &mut String,
+    traces: &[PlumTrace<A>],
+) -> Result<(), AllocError> {
+    for _ in 0..MANY {
+        if !pass(scan, text, traces)? {
+            break;
+        }
+    }
+    push_flight(text, scan.flight.as_slice())
+}
+
+/// Appends the events that traces are merged into, and what is then in flight.
+pub(crate) fn push_scan<A: Allocator>(
+    text: &mut String,
+    alloc: Global,
+    traces: &[PlumTrace<A>],
+) -> Result<(), AllocError> {
+    let mut scan = empty(alloc, traces.len())?;
+    play_all(&mut scan, text, traces)
+}

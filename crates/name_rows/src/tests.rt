@@ -1,0 +1,3 @@
+//! The tests by what they are of, and what they share.
+mod allocations;
+mod names;

@@ -1,0 +1,71 @@
+//! Groups that are brought to rest while an allocation is refused, each in turn: the refusal is as out of memory, and a
+//! second call plays what is left.
+use crate::tests::act::Group;
+use crate::tests::play::{compare, limits, prepare};
+use crate::tests::rows::{REPAIR, Row};
+use at_rest::{SettleError, settle};
+use refusing_allocator::RefusingAllocator;
+use std::alloc::Allocator;
+use std::process::Abort;
+use std::test::Fail;
+use test_support::{lend, stop_refusing, sweep};
+use world::WorldError;
+
+/// Brings a group to rest while the allocation with this number is refused. Whether there was such an allocation, or
+/// `None` where the answer is another.
+fn settle_refused<A: Allocator + Copy>(
+    heap: &RefusingAllocator,
+    alloc: A,
+    world: &mut Group<A>,
+    n: u64,
+) -> Option<bool> {
+    heap.refuse(n);
+    let answer = settle(alloc, world);
+    let is_spent = stop_refusing(heap);
+    match answer {
+        Ok(_) => Some(is_spent),
+        Err(SettleError::OutOfMemory) if is_spent => Some(true),
+        Err(_) => None,
+    }
+}
+
+/// Does so with the group of a row, and lets a second call play what is left.
+fn play_refused<A: Allocator + Copy>(
+    rt: &impl Abort,
+    heap: &RefusingAllocator,
+    alloc: A,
+    text: &mut String,
+    world: &mut Group<A>,
+    row: &Row,
+    n: u64,
+) -> Result<Option<bool>, WorldError> {
+    prepare(rt, alloc, world, row.before)?;
+    let answer = settle_refused(heap, alloc, world, n);
+    assert!(rt; settle(alloc, world).is_ok());
+    compare(rt, text, world, row.before.len(), row)?;
+    Ok(answer)
+}
+
+/// Does so in a fresh group.
+fn sweep_row<A: Allocator + Copy>(
+    rt: &impl Abort,
+    heap: &RefusingAllocator,
+    alloc: A,
+    text: &mut String,
+    row: &Row,
+    n: u64,
+) -> Result<Option<bool>, WorldError> {
+    let world = Group::<A>::new(alloc, limits(row));
+    lend(world, |world| {
+        play_refused(rt, heap, alloc, text, world, row, n)
+    })
+}
+
+#[test]
+fn refuses_each_allocation(rt: HostRuntime) -> Result<(), Fail> {
+    let heap = RefusingAllocator::new(rt.alloc());
+    let mut text = String::new(rt.alloc());
+    let count = sweep(|n| sweep_row(&rt, &heap, &heap, &mut text, &REPAIR, n))?;
+    assert!(rt; count.is_some_and(|count| 10 < count));
+    Ok(())
+}

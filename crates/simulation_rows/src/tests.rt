@@ -1,0 +1,5 @@
+//! The tests by what they are of, and what they share.
+mod hello;
+mod memory;
+mod reads;
+mod writes;

@@ -1,0 +1,111 @@
+//! A scenario that is played and printed while one allocation is refused, each in turn: the fault is that memory is
+//! short, or nothing is missing.
+use crate::tests::hello::{hello, is_told};
+use links::TapeWriter;
+use refusing_allocator::RefusingAllocator;
+use simulation::{Scenario, ScenarioFault, conclude, play_and_print, read_document};
+use std::alloc::{Allocator, Global};
+use std::test::Fail;
+use test_support::{lend, stop_refusing, sweep};
+
+/// What is told where memory is short.
+const SHORT: &[u8] = b"plumtree: out of memory\n";
+
+/// How a scenario ended.
+#[derive(Clone, Copy, PartialEq, Eq)]
+enum End {
+    /// All of it was played and printed.
+    Whole,
+    /// Memory was short.
+    Short,
+    /// Anything else.
+    Wrong,
+}
+
+/// How a scenario ended with this status, of which this was printed and told.
+fn end_of(status: u8, printed: &[u8], told: &[u8]) -> End {
+    if status == 0 && is_told(printed) && told.is_empty() {
+        End::Whole
+    } else if status == 1 && told == SHORT {
+        End::Short
+    } else {
+        End::Wrong
+    }
+}
+
+/// Plays a scenario while the allocation with this number is refused. How it ended, and whether there was such an
+/// allocation.
+fn play_refused<A: Allocator + Copy>(
+    heap: &RefusingAllocator,
+    alloc: A,
+    scenario: &Scenario,
+    out: &mut TapeWriter,
+    faults: &mut TapeWriter,
+    n: u64,
+) -> (End, bool) {
+    heap.refuse(n);
+    let ended = play_and_print::<A, TapeWriter>(alloc, scenario, out);
+    let is_spent = stop_refusing(heap);
+    let status = conclude(ended, faults);
+    (end_of(status, out.as_slice(), faults.as_slice()), is_spent)
+}
+
+/// Does so with fresh writers.
+fn play<A: Allocator + Copy>(
+    heap: &RefusingAllocator,
+    alloc: A,
+    writers: Global,
+    scenario: &Scenario,
+    n: u64,
+) -> (End, bool) {
+    let mut out = TapeWriter::new(writers, usize::MAX, None);
+    let mut faults = TapeWriter::new(writers, usize::MAX, None);
+    play_refused(heap, alloc, scenario, &mut out, &mut faults, n)
+}
+
+/// Does so, and counts the scenario if memory was short. Whether there was such an allocation, or none if the answer is
+/// wrong. What only asks for more room than is needed may be refused without harm.
+fn count_short<A: Allocator + Copy>(
+    heap: &RefusingAllocator,
+    alloc: A,
+    writers: Global,
+    scenario: &Scenario,
+    short: &mut u64,
+    n: u64,
+) -> Option<bool> {
+    let (end, is_spent) = play(heap, alloc, writers, scenario, n);
+    let is_short = end == End::Short;
+    *short = short.saturating_add(is_short as u64);
+    let is_right = end == End::Whole || (is_short && is_spent);
+    is_right.then_some(is_spent)
+}
+
+/// Refuses each allocation of a scenario in turn. How often memory was short, or 0 if an answer is wrong.
+fn sweep_scenario<A: Allocator + Copy>(
+    heap: &RefusingAllocator,
+    alloc: A,
+    writers: Global,
+    scenario: &Scenario,
+) -> Result<u64, ScenarioFault> {
+    let mut short = 0u64;
+    let count = sweep(|n| {
+        Ok::<_, ScenarioFault>(count_short(heap, alloc, writers, scenario, &mut short, n))
+    })?;
+    Ok(if count.is_some() { short } else { 0 })
+}
+
+/// Reads the scenario.
+fn read(alloc: Global) -> Result<Scenario, ScenarioFault> {
+    let document = read_document(alloc, hello())?;
+    Scenario::from_document(alloc, &document)
+}
+
+#[test]
+fn each_allocation(rt: HostRuntime) -> Result<(), Fail> {
+    let heap = RefusingAllocator::new(rt.alloc());
+    let short = lend(read(rt.alloc())?, |scenario| {
+        sweep_scenario(&heap, &heap, rt.alloc(), scenario)
+    })?;
+    assert!(rt; short > 30, "memory was short {short} times");
+    Ok(())
+}

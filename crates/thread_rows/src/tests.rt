@@ -1,0 +1,9 @@
+//! The tests by what they are of, and what they share.
+mod calls;
+mod node;
+mod row_sweeps;
+mod rows;
+mod segments;
+mod starts;
+mod sweeps;
+mod turns;

@@ -1,0 +1,94 @@
+//! What a fresh node with the peer `p` answers.
+use crate::tests::turns::{Act, Answer};
+use node_threads::HostError;
+use world::CoreError;
+
+/// How often something is asked, what, and what is answered each time.
+pub(crate) type Turn = (usize, Act, Answer);
+
+/// What a node answers.
+#[derive(Clone, Copy)]
+pub(crate) struct Row {
+    pub(crate) name: &'static str,
+    /// How many steps its trace may have.
+    pub(crate) limit: usize,
+    /// How many frames the ring of its link has room for.
+    pub(crate) ring: usize,
+    pub(crate) turns: &'static [Turn],
+    /// How many steps it has made then.
+    pub(crate) steps: usize,
+    /// Some call has as many allocations.
+    pub(crate) allocations: u64,
+}
+
+/// A step that is made, and the link has room for what it sends.
+const STEP: Answer = Answer::Step { is_full: false };
+
+const ROWS: &[Row] = &[
+    // The flush announces 65 messages in two frames, and the second one finds the ring full. A frame has 26 bytes
+    // beside its announcements, which have 22 each.
+    Row {
+        name: "a ring with room for one frame",
+        limit: 100,
+        ring: 1,
+        turns: &[
+            (1, Act::Prune, STEP),
+            (65, Act::Broadcast(0), STEP),
+            (1, Act::Flush, Answer::Step { is_full: true }),
+            (1, Act::Pop, Answer::Popped(Some(26 + 64 * 22))),
+            (1, Act::Pop, Answer::Popped(None)),
+            (1, Act::Down, STEP),
+            (1, Act::Report, Answer::Taken(1)),
+        ],
+        steps: 68,
+        allocations: 20,
+    },
+    Row {
+        name: "a trace that is full",
+        limit: 2,
+        ring: 4,
+        turns: &[
+            (1, Act::Broadcast(1), STEP),
+            (1, Act::Broadcast(1), STEP),
+            (1, Act::Broadcast(1), Answer::Refused(HostError::TraceFull)),
+        ],
+        steps: 2,
+        allocations: 5,
+    },
+    Row {
+        name: "a payload that is too long, and the longest",
+        limit: 2,
+        ring: 4,
+        turns: &[
+            (
+                1,
+                Act::Broadcast(32_769),
+                Answer::Refused(HostError::Refused(CoreError::PayloadTooLong)),
+            ),
+            (1, Act::Broadcast(32_768), STEP),
+        ],
+        steps: 1,
+        allocations: 5,
+    },
+    Row {
+        name: "a node that was shut",
+        limit: 2,
+        ring: 4,
+        turns: &[
+            (1, Act::Shut, Answer::Done),
+            (1, Act::Broadcast(1), Answer::Refused(HostError::Closed)),
+            (
+                1,
+                Act::Broadcast(32_769),
+                Answer::Refused(HostError::Closed),
+            ),
+        ],
+        steps: 0,
+        allocations: 0,
+    },
+];
+
+/// All rows. The table is named here alone, since a function that names it is proved over the whole of it.
+pub(crate) fn rows() -> &'static [Row] {
+    ROWS
+}

@@ -1,0 +1,92 @@
+//! The start of a node and of a link, each allocation refused in turn: the start fails as out of memory, and made again
+//! it does not.
+use crate::tests::node::{parse_names, start_with_p};
+use node_core::PlumCore;
+use node_names::NodeName;
+use node_threads::{HostError, NodeCell};
+use refusing_allocator::RefusingAllocator;
+use std::alloc::Allocator;
+use std::process::Abort;
+use std::test::Fail;
+use test_support::{lend, stop_refusing, sweep};
+use world::CoreError;
+
+/// Why a start was refused, if it was.
+fn refusal_of<T: Drop>(answer: Result<T, HostError>) -> Option<HostError> {
+    answer.err()
+}
+
+/// Whether a start failed as out of memory, in the core or behind it.
+fn is_out_of_memory(error: HostError) -> bool {
+    matches!(
+        error,
+        HostError::OutOfMemory | HostError::Refused(CoreError::OutOfMemory)
+    )
+}
+
+/// Starts the node while the allocation with this number is refused, and again if it is refused. Whether there is such
+/// an allocation, or none if something is wrong.
+fn refuse_start<A: Allocator + Copy>(
+    rt: &impl Abort,
+    heap: &RefusingAllocator,
+    alloc: A,
+    n: u64,
+) -> Option<bool> {
+    heap.refuse(n);
+    let refusal = refusal_of(start_with_p(rt, alloc, 2));
+    let is_spent = stop_refusing(heap);
+    let is_right = match refusal {
+        None => !is_spent,
+        Some(error) => {
+            is_spent && is_out_of_memory(error) && refusal_of(start_with_p(rt, alloc, 2)).is_none()
+        }
+    };
+    is_right.then_some(is_spent)
+}
+
+/// Opens a link while the allocation with this number is refused, and again if it is refused. Whether there is such an
+/// allocation, or none if something is wrong.
+fn refuse_opening<A: Allocator + Copy>(
+    heap: &RefusingAllocator,
+    cell: &mut NodeCell<PlumCore<A>, A>,
+    peer: NodeName,
+    n: u64,
+) -> Option<bool> {
+    heap.refuse(n);
+    let refusal = refusal_of(cell.open_link(peer, 1));
+    let is_spent = stop_refusing(heap);
+    let is_right = match refusal {
+        None => !is_spent,
+        Some(error) => {
+            is_spent
+                && error == HostError::OutOfMemory
+                && !cell.link_is_open(&peer)
+                && refusal_of(cell.open_link(peer, 1)).is_none()
+        }
+    };
+    (is_right && cell.link_is_open(&peer)).then_some(is_spent)
+}
+
+/// Does so with a fresh node.
+fn refuse_opening_of_fresh<A: Allocator + Copy>(
+    rt: &impl Abort,
+    heap: &RefusingAllocator,
+    alloc: A,
+    n: u64,
+) -> Result<Option<bool>, HostError> {
+    let peer = parse_names(rt).p;
+    let cell = start_with_p(rt, alloc, 2)?;
+    Ok(lend(cell, |cell| refuse_opening(heap, cell, peer, n)))
+}
+
+#[test]
+fn each_allocation_of_a_start(rt: HostRuntime) -> Result<(), Fail> {
+    let heap = RefusingAllocator::new(rt.alloc());
+    let started = sweep(|n| Ok::<_, HostError>(refuse_start(&rt, &heap, &heap, n)))?;
+    let opened = sweep(|n| refuse_opening_of_fresh(&rt, &heap, &heap, n))?;
+    assert!(rt;
+        started.is_some_and(|count| count >= 2) && opened.is_some_and(|count| count >= 2),
+        "{started:?} of a start, {opened:?} of a link"
+    );
+    Ok(())
+}

@@ -1,0 +1,11 @@
+//! The tests by what they are of, and what they share.
+mod act;
+mod alike;
+mod flight;
+mod forest;
+mod play;
+mod reach;
+mod rest;
+mod rows;
+mod sweeps;
+mod unrest;

@@ -1,0 +1,182 @@
+//! The trees of all messages at once, which are those of each message alone.
+use crate::tests::act::id;
+use crate::tests::alike::Group;
+use crate::tests::rest::{Case, cases, is_drawn, play_acts};
+use at_rest::{Forest, tree};
+use node_names::{Limits, MsgId};
+use refusing_allocator::RefusingAllocator;
+use std::alloc::{AllocError, Allocator};
+use std::process::Abort;
+use std::test::Fail;
+use test_support::{lend, stop_refusing};
+use world::{Delivery, WorldError};
+
+/// More allocations than a call has.
+const MANY: u64 = 40;
+
+/// Whether the forest has the tree of a message as it is found alone.
+fn is_tree<A: Allocator + Copy>(
+    alloc: A,
+    world: &Group<A>,
+    forest: &Forest<A>,
+    message: &MsgId,
+) -> Result<bool, AllocError> {
+    let branches = tree(alloc, world, message)?;
+    Ok(forest.tree(message) == branches.as_slice())
+}
+
+/// Whether it has so for the messages of these deliveries.
+fn are_trees<A: Allocator + Copy>(
+    alloc: A,
+    world: &Group<A>,
+    forest: &Forest<A>,
+    given: &[Delivery<A>],
+) -> Result<bool, AllocError> {
+    for delivery in given {
+        if !is_tree(alloc, world, forest, &delivery.id)? {
+            return Ok(false);
+        }
+    }
+    Ok(true)
+}
+
+/// Whether it has so for each message that was said, since who says a message delivers it.
+fn are_said<A: Allocator + Copy>(
+    alloc: A,
+    world: &Group<A>,
+    forest: &Forest<A>,
+) -> Result<bool, AllocError> {
+    for entry in world.log() {
+        if !are_trees(alloc, world, forest, entry.given.as_slice())? {
+            return Ok(false);
+        }
+    }
+    Ok(true)
+}
+
+/// Whether a message that nobody said has no branches.
+fn is_bare<A: Allocator + Copy>(
+    alloc: A,
+    world: &Group<A>,
+    forest: &Forest<A>,
+    message: &MsgId,
+) -> Result<bool, AllocError> {
+    Ok(forest.tree(message).is_empty() && is_tree(alloc, world, forest, message)?)
+}
+
+/// Whether the forest has the tree of the case, those of all messages that were said, and none of another.
+fn is_forest<A: Allocator + Copy>(
+    rt: &impl Abort,
+    alloc: A,
+    text: &mut String<A>,
+    world: &Group<A>,
+    forest: &Forest<A>,
+    case: &Case,
+) -> Result<bool, AllocError> {
+    let (node, incarnation, seq) = case.id;
+    let message = id(rt, node, incarnation, seq);
+    let unsaid = id(rt, "z", 1, 1);
+    Ok(
+        is_drawn(text, forest.tree(&message), case.tree)?
+            && is_bare(alloc, world, forest, &unsaid)?
+            && are_said(alloc, world, forest)?,
+    )
+}
+
+/// Whether this is the forest, or a refusal if an allocation was refused.
+fn is_answer<A: Allocator + Copy>(
+    rt: &impl Abort,
+    alloc: A,
+    text: &mut String<A>,
+    world: &Group<A>,
+    answer: &Result<Forest<A>, AllocError>,
+    is_refused: bool,
+    case: &Case,
+) -> Result<bool, AllocError> {
+    match answer {
+        Ok(forest) => Ok(!is_refused && is_forest(rt, alloc, text, world, forest, case)?),
+        Err(_) => Ok(is_refused),
+    }
+}
+
+/// Finds the forest while the allocation with this number is refused. Whether there is such an allocation, or none if
+/// the answer is wrong.
+fn refuse_allocation<A: Allocator + Copy>(
+    rt: &impl Abort,
+    heap: &RefusingAllocator,
+    alloc: A,
+    text: &mut String<A>,
+    world: &Group<A>,
+    case: &Case,
+    n: u64,
+) -> Result<Option<bool>, AllocError> {
+    heap.refuse(n);
+    let answer = Forest::new(alloc, world);
+    let is_spent = stop_refusing(heap);
+    let is_right = lend(answer, |answer| {
+        is_answer(rt, alloc, text, world, answer, is_spent, case)
+    })?;
+    Ok(is_right.then_some(is_spent))
+}
+
+/// Refuses each allocation in turn, and at last none. How many there are, or none if an answer is wrong.
+fn sweep<A: Allocator + Copy>(
+    rt: &impl Abort,
+    heap: &RefusingAllocator,
+    alloc: A,
+    text: &mut String<A>,
+    world: &Group<A>,
+    case: &Case,
+) -> Result<Option<u64>, AllocError> {
+    for n in 1..MANY {
+        match refuse_allocation(rt, heap, alloc, text, world, case, n)? {
+            Some(true) => {}
+            Some(false) => return Ok(Some(n - 1)),
+            None => return Ok(None),
+        }
+    }
+    Ok(None)
+}
+
+/// Does so at the end of a case.
+fn sweep_case<A: Allocator + Copy>(
+    rt: &impl Abort,
+    heap: &RefusingAllocator,
+    alloc: A,
+    text: &mut String<A>,
+    world: &mut Group<A>,
+    case: &Case,
+) -> Result<Option<u64>, WorldError> {
+    play_acts(rt, alloc, world, case.acts)?;
+    Ok(sweep(rt, heap, alloc, text, world, case)?)
+}
+
+/// Plays the case in a fresh group.
+fn sweep_case_from_start<A: Allocator + Copy>(
+    rt: &impl Abort,
+    heap: &RefusingAllocator,
+    alloc: A,
+    text: &mut String<A>,
+    case: &Case,
+) -> Result<Option<u64>, WorldError> {
+    let world = Group::new(alloc, Limits::STANDARD);
+    lend(
+        world,
+        |world| sweep_case(rt, heap, alloc, text, world, case),
+    )
+}
+
+/// All trees of each case, each allocation refused in turn.
+#[test]
+fn trees_at_once(rt: HostRuntime) -> Result<(), Fail> {
+    let heap = RefusingAllocator::new(rt.alloc());
+    let mut text = String::new(&heap);
+    let mut refused = 0u64;
+    for case in cases() {
+        let allocations = sweep_case_from_start(&rt, &heap, &heap, &mut text, case)?;
+        assert!(rt; allocations.is_some(), "at {}: {text}", case.name);
+        refused = refused.saturating_add(allocations.unwrap_or(0));
+    }
+    assert!(rt; refused > 15, "few allocations were refused: {refused}");
+    Ok(())
+}

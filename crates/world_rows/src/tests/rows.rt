@@ -1,0 +1,173 @@
+//! Runs of small groups, with what each event gives worked out by hand.
+use crate::tests::act::Act;
+use crate::tests::play::Wanted;
+use node_names::Incarnation;
+use world::WorldError;
+
+/// An event and what it gives.
+pub(crate) type Turn = (Act, Wanted);
+
+/// A run, and how many packets it sent and left in flight.
+#[derive(Clone, Copy)]
+pub(crate) struct Row {
+    pub(crate) name: &'static str,
+    pub(crate) turns: &'static [Turn],
+    pub(crate) sent: usize,
+    pub(crate) in_flight: usize,
+}
+
+/// That the first incarnation of a name has run.
+const STALE: WorldError = WorldError::StaleIncarnation {
+    highest: Incarnation(1),
+};
+
+const ROWS: &[Row] = &[
+    Row {
+        name: "a lone node delivers to itself and sends nothing",
+        turns: &[
+            (Act::Start("a", 1, ""), Ok(&[])),
+            (Act::Broadcast("a", "x"), Ok(&["a/1 a/1/1 x"])),
+        ],
+        sent: 0,
+        in_flight: 0,
+    },
+    Row {
+        name: "two nodes say hello",
+        turns: &[
+            (Act::Start("a", 1, "b"), Ok(&[])),
+            (Act::Start("b", 1, "a"), Ok(&[])),
+            (Act::Broadcast("a", "hello"), Ok(&["a/1 a/1/1 hello"])),
+            (Act::Arrive(0), Ok(&["b/1 a/1/1 hello"])),
+        ],
+        sent: 1,
+        in_flight: 0,
+    },
+    Row {
+        name: "a repeated packet is delivered once, and a stopped node broadcasts nothing",
+        turns: &[
+            (Act::Start("a", 1, "b"), Ok(&[])),
+            (Act::Start("b", 1, "a"), Ok(&[])),
+            (Act::Broadcast("a", "x"), Ok(&["a/1 a/1/1 x"])),
+            (Act::Again(0), Ok(&[])),
+            (Act::Arrive(0), Ok(&["b/1 a/1/1 x"])),
+            (Act::Arrive(0), Ok(&[])),
+            (Act::Lose(0), Err(WorldError::NoPacket)),
+            (Act::Again(1), Err(WorldError::NoPacket)),
+            (Act::Stop("a"), Ok(&[])),
+            (Act::Broadcast("a", "y"), Err(WorldError::NotRunning)),
+        ],
+        sent: 1,
+        in_flight: 0,
+    },
+    Row {
+        name: "a restarted node begins again with number 1, under another incarnation",
+        turns: &[
+            (Act::Start("a", 1, "b"), Ok(&[])),
+            (Act::Start("b", 1, "a"), Ok(&[])),
+            (Act::Broadcast("a", "x"), Ok(&["a/1 a/1/1 x"])),
+            (Act::Stop("a"), Ok(&[])),
+            (Act::Start("a", 1, "b"), Err(STALE)),
+            (Act::Start("a", 2, "b"), Ok(&[])),
+            (Act::Broadcast("a", "y"), Ok(&["a/2 a/2/1 y"])),
+            (Act::Arrive(0), Ok(&["b/1 a/1/1 x"])),
+            (Act::Arrive(0), Ok(&["b/1 a/2/1 y"])),
+        ],
+        sent: 2,
+        in_flight: 0,
+    },
+    // What a node's restart forgets, its next incarnation delivers once more.
+    Row {
+        name: "each incarnation delivers a message of its own",
+        turns: &[
+            (Act::Start("a", 1, "b"), Ok(&[])),
+            (Act::Start("b", 1, "a"), Ok(&[])),
+            (Act::Broadcast("a", "x"), Ok(&["a/1 a/1/1 x"])),
+            (Act::Arrive(0), Ok(&["b/1 a/1/1 x"])),
+            (Act::Start("b", 2, "a"), Ok(&[])),
+            (Act::Again(0), Ok(&[])),
+            (Act::Arrive(0), Ok(&["b/2 a/1/1 x"])),
+            (Act::Again(0), Ok(&[])),
+            (Act::Arrive(0), Ok(&[])),
+        ],
+        sent: 1,
+        in_flight: 0,
+    },
+    Row {
+        name: "refused starts and calls leave no trace",
+        turns: &[
+            (Act::Start("a", 1, "a"), Err(WorldError::BadPeers)),
+            (Act::Start("a", 1, "b b"), Err(WorldError::BadPeers)),
+            (Act::StartAt("a", 1, "a"), Err(WorldError::BadPeers)),
+            (Act::Start("a", 1, "b c d e f g"), Err(WorldError::BadPeers)),
+            (Act::Broadcast("z", "x"), Err(WorldError::UnknownNode)),
+            (Act::Stop("z"), Err(WorldError::UnknownNode)),
+            (Act::Arrive(0), Err(WorldError::NoPacket)),
+            (Act::Start("a", 1, "b"), Ok(&[])),
+            (Act::Start("a", 1, "b"), Err(STALE)),
+            // A stale incarnation is told before peers that do not fit.
+            (Act::Start("a", 1, "a"), Err(STALE)),
+            (
+                Act::BroadcastZeros("a", 32_769),
+                Err(WorldError::PayloadTooLong),
+            ),
+            (Act::Broadcast("a", "m"), Ok(&["a/1 a/1/1 m"])),
+            // `b` was never started, so the packet stays in flight.
+            (Act::Arrive(0), Err(WorldError::UnknownNode)),
+            (Act::Arrive(1), Err(WorldError::NoPacket)),
+            (Act::Stop("a"), Ok(&[])),
+            (Act::Broadcast("a", "x"), Err(WorldError::NotRunning)),
+            // A stopped node is told before a payload that is too long.
+            (
+                Act::BroadcastZeros("a", 32_769),
+                Err(WorldError::NotRunning),
+            ),
+            (Act::Stop("a"), Err(WorldError::NotRunning)),
+        ],
+        sent: 1,
+        in_flight: 1,
+    },
+    // The packets of a's first message: number 0 to b, 1 to c. What b sends on to c is number 2.
+    Row {
+        name: "a loss keeps a packet from one node, and a repeat brings it after all",
+        turns: &[
+            (Act::Start("a", 1, "b c"), Ok(&[])),
+            (Act::Start("b", 1, "a c"), Ok(&[])),
+            (Act::Start("c", 1, "a"), Ok(&[])),
+            (Act::Broadcast("a", "m"), Ok(&["a/1 a/1/1 m"])),
+            (Act::Lose(1), Ok(&[])),
+            (Act::Arrive(0), Ok(&["b/1 a/1/1 m"])),
+            (Act::Lose(0), Ok(&[])),
+            (Act::Arrive(0), Err(WorldError::NoPacket)),
+            (Act::Again(1), Ok(&[])),
+            (Act::Again(2), Ok(&[])),
+            (Act::Arrive(1), Ok(&["c/1 a/1/1 m"])),
+            // c has the message from b, and sends it to a.
+            (Act::Arrive(0), Ok(&[])),
+            (Act::Arrive(0), Ok(&[])),
+        ],
+        sent: 4,
+        in_flight: 0,
+    },
+    Row {
+        name: "of the other events a flooding node heeds a failed link alone",
+        turns: &[
+            (Act::Start("a", 1, "b c"), Ok(&[])),
+            (Act::Start("c", 1, ""), Ok(&[])),
+            (Act::Fire("a", "c"), Ok(&[])),
+            (Act::Flush("a"), Ok(&[])),
+            (Act::Shuffle("a"), Ok(&[])),
+            (Act::Down("a", "b"), Ok(&[])),
+            (Act::Down("a", "z"), Ok(&[])),
+            (Act::Broadcast("a", "m"), Ok(&["a/1 a/1/1 m"])),
+            (Act::Arrive(0), Ok(&["c/1 a/1/1 m"])),
+            (Act::Flush("z"), Err(WorldError::UnknownNode)),
+        ],
+        sent: 1,
+        in_flight: 0,
+    },
+];
+
+/// All rows. The table is named here alone, since a function that names it is proved over the whole of it.
+pub(crate) fn rows() -> &'static [Row] {
+    ROWS
+}

@@ -1,0 +1,142 @@
+//! The messages that a group is not at rest for, found at once: each is told of as it is alone.
+use crate::tests::act::id;
+use crate::tests::alike::Group;
+use crate::tests::rest::{Case, cases, play_acts};
+use at_rest::{Unrest, is_at_rest};
+use node_names::{Limits, MsgId};
+use refusing_allocator::RefusingAllocator;
+use std::alloc::{AllocError, Allocator};
+use std::process::Abort;
+use std::test::Fail;
+use test_support::{lend, stop_refusing};
+use world::{Delivery, WorldError};
+
+/// More allocations than a call has.
+const MANY: u64 = 40;
+
+/// Whether the group is told to be at rest for a message just as it is told of it alone.
+fn is_told<A: Allocator + Copy>(world: &Group<A>, unrest: &Unrest<A>, message: &MsgId) -> bool {
+    unrest.is_at_rest(message) == is_at_rest(world, message)
+}
+
+/// Whether it is for the messages of these deliveries.
+fn are_told<A: Allocator + Copy>(
+    world: &Group<A>,
+    unrest: &Unrest<A>,
+    given: &[Delivery<A>],
+) -> bool {
+    given
+        .iter()
+        .all(|delivery| is_told(world, unrest, &delivery.id))
+}
+
+/// Whether it is for each message that was said, since who says a message delivers it.
+fn are_said<A: Allocator + Copy>(world: &Group<A>, unrest: &Unrest<A>) -> bool {
+    world
+        .log()
+        .iter()
+        .all(|entry| are_told(world, unrest, entry.given.as_slice()))
+}
+
+/// Whether the message of the case, all that were said and another one are told of as they should be.
+fn is_unrest<A: Allocator + Copy>(
+    rt: &impl Abort,
+    world: &Group<A>,
+    unrest: &Unrest<A>,
+    case: &Case,
+) -> bool {
+    let (node, incarnation, seq) = case.id;
+    let message = id(rt, node, incarnation, seq);
+    let unsaid = id(rt, "z", 1, 1);
+    unrest.is_at_rest(&message) == case.is_at_rest
+        && unrest.is_at_rest(&unsaid)
+        && is_told(world, unrest, &unsaid)
+        && are_said(world, unrest)
+}
+
+/// Whether this is the answer, or a refusal if an allocation was refused.
+fn is_answer<A: Allocator + Copy>(
+    rt: &impl Abort,
+    world: &Group<A>,
+    answer: &Result<Unrest<A>, AllocError>,
+    is_refused: bool,
+    case: &Case,
+) -> bool {
+    match answer {
+        Ok(unrest) => !is_refused && is_unrest(rt, world, unrest, case),
+        Err(_) => is_refused,
+    }
+}
+
+/// Finds them while the allocation with this number is refused. Whether there is such an allocation, or none if the
+/// answer is wrong.
+fn refuse_allocation<A: Allocator + Copy>(
+    rt: &impl Abort,
+    heap: &RefusingAllocator,
+    alloc: A,
+    world: &Group<A>,
+    case: &Case,
+    n: u64,
+) -> Option<bool> {
+    heap.refuse(n);
+    let answer = Unrest::new(alloc, world);
+    let is_spent = stop_refusing(heap);
+    let is_right = lend(
+        answer,
+        |answer| is_answer(rt, world, answer, is_spent, case),
+    );
+    is_right.then_some(is_spent)
+}
+
+/// Refuses each allocation in turn, and at last none. How many there are, or none if an answer is wrong.
+fn sweep<A: Allocator + Copy>(
+    rt: &impl Abort,
+    heap: &RefusingAllocator,
+    alloc: A,
+    world: &Group<A>,
+    case: &Case,
+) -> Option<u64> {
+    for n in 1..MANY {
+        if !refuse_allocation(rt, heap, alloc, world, case, n)? {
+            return Some(n - 1);
+        }
+    }
+    None
+}
+
+/// Does so at the end of a case.
+fn sweep_case<A: Allocator + Copy>(
+    rt: &impl Abort,
+    heap: &RefusingAllocator,
+    alloc: A,
+    world: &mut Group<A>,
+    case: &Case,
+) -> Result<Option<u64>, WorldError> {
+    play_acts(rt, alloc, world, case.acts)?;
+    Ok(sweep(rt, heap, alloc, world, case))
+}
+
+/// Plays the case in a fresh group.
+fn sweep_case_from_start<A: Allocator + Copy>(
+    rt: &impl Abort,
+    heap: &RefusingAllocator,
+    alloc: A,
+    case: &Case,
+) -> Result<Option<u64>, WorldError> {
+    let world = Group::new(alloc, Limits::STANDARD);
+    lend(world, |world| sweep_case(rt, heap, alloc, world, case))
+}
+
+/// All rests of each case, each allocation refused in turn.
+#[test]
+fn rests_at_once(rt: HostRuntime) -> Result<(), Fail> {
+    let heap = RefusingAllocator::new(rt.alloc());
+    let mut refused = 0u64;
+    for case in cases() {
+        let allocations = sweep_case_from_start(&rt, &heap, &heap, case)?;
+        assert!(rt; allocations.is_some(), "at {}", case.name);
+        refused = refused.saturating_add(allocations.unwrap_or(0));
+    }
+    assert!(rt; refused > 3, "few allocations were refused: {refused}");
+    Ok(())
+}
