@@ -144,6 +144,20 @@ const PROMOTION: &[Turn] = &[
     (Act::Reply("q", false), &[], "", "m | q p n r |"),
 ];
 
+/// The link to an asked name fails, and then links to names that are neither active nor asked.
+const LINKS_FAIL: &[Turn] = &[
+    (Act::ShuffleReply("a", "p q"), &[], "", "a | p q |"),
+    (
+        Act::Down("a"),
+        &[],
+        "p: NEIGHBOR high: true; down a; ",
+        "| p q | p",
+    ),
+    (Act::Down("p"), &[], "q: NEIGHBOR high: true; ", "| q | q"),
+    (Act::Down("p"), &[], "", "| q | q"),
+    (Act::Down("a"), &[], "", "| q | q"),
+];
+
 const ROWS: &[Row] = &[
     (2, 4, "a b", FULL),
     (2, 4, "a", CONTACT),
@@ -152,6 +166,7 @@ const ROWS: &[Row] = &[
     (2, 2, "a", SHUFFLE),
     (3, 2, "a b", SHUFFLE_GOES_ON),
     (2, 4, "a", PROMOTION),
+    (2, 4, "a", LINKS_FAIL),
 ];
 
 /// All of them.
