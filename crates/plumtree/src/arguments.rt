@@ -1,15 +1,25 @@
 //! What the words of the command line ask for.
-ghost use Rattle.std.specs.Prelude.{◌≡◌, Some, codes, option_map, if◌then◌else◌};
+ghost use Rattle.std.specs.Prelude.{◌≡◌, true, false, Option, Some, IfOk, codes, option_map, if◌then◌else◌};
+ghost use Rattle.node_names.specs.declared.ids.MsgId.{MsgId};
 ghost use Rattle.clap.specs.Matches.{first_value, found_of, one_text};
 
 use clap::error::ErrorKind;
 use clap::{Arg, ArgAction, ArgMatches, Command, Error};
+use node_names::{Incarnation, MsgId, NodeName, Origin};
 use simulation::Form;
 use std::alloc::{AllocError, Global};
 
 /// What stands below the help of all.
-const EXAMPLES: &str =
-    "Examples:\n  plumtree sim scenarios/hello.toml\n  plumtree run scenarios/run/hello.toml";
+const AFTER_HELP: &str = "Examples:
+  plumtree sim scenarios/hello.toml
+  plumtree sim --trace scenarios/triangle.toml
+  plumtree run scenarios/run/hello.toml
+
+Status: 0 all was done, 1 an event was refused or writing failed, 2 the words or the scenario are wrong.
+docs/scenarios.md describes the format of scenarios and of what is printed.";
+
+/// The program's version.
+const VERSION: &str = "0.1.0";
 
 /// What is to be done with a scenario.
 #[derive(Clone, Copy, Debug, PartialEq, Eq)]
@@ -29,21 +39,50 @@ pub struct Request<'a> {
     pub file: Option<&'a str>,
     /// The form in which the outcome is written.
     pub form: Form,
+    /// Whether what means nothing in the scenario is refused.
+    pub is_strict: bool,
 }
 
 /// Reads the words, of which the first is the program's own name.
 ///
 /// An error is a mistake in the words or a wish for help, and prints itself.
 pub fn parse<'a>(alloc: Global, words: &'a [String]) -> Result<Request<'a>, Error> {
-    let matches = command(alloc)?.try_get_matches_from(words)?;
-    Ok(match matches.subcommand() {
-        Some((name, words)) => requested(task_of(name), words),
-        None => Request {
+    let matches = match command(alloc)?.try_get_matches_from(words) {
+        Ok(matches) => matches,
+        Err(error) => return Err(with_tip(alloc, words, error)),
+    };
+    match matches.subcommand() {
+        Some((name, words)) => requested(alloc, task_of(name), words),
+        None => Ok(Request {
             task: Task::Play,
             file: None,
             form: Form::Lines,
-        },
-    })
+            is_strict: false,
+        }),
+    }
+}
+
+/// The error of words, with the tip that a file comes after `sim`, if the first word is no subcommand.
+fn with_tip(alloc: Global, words: &[String], error: Error) -> Error {
+    if error.kind() != ErrorKind::InvalidSubcommand {
+        return error;
+    }
+    let Some(word) = words.get(1) else {
+        return error;
+    };
+    match tip_error(alloc, word.as_str()) {
+        Ok(tip) => tip,
+        Err(refused) => Error::from(refused),
+    }
+}
+
+fn tip_error(alloc: Global, word: &str) -> Result<Error, AllocError> {
+    let mut message = String::new(alloc);
+    write!(
+        message,
+        "unrecognized subcommand '{word}'\n\n  tip: to play a scenario, write 'plumtree sim {word}'"
+    )?;
+    command(alloc)?.error(ErrorKind::InvalidSubcommand, message.as_str())
 }
 
 /// The task of a subcommand.
@@ -52,24 +91,94 @@ fn task_of(name: &str) -> Task {
 }
 
 /// What the words after a subcommand ask for.
-fn requested<'a>(task: Task, words: &ArgMatches<'a>) -> Request<'a>
+fn requested<'a>(alloc: Global, task: Task, words: &ArgMatches<'a>) -> Result<Request<'a>, Error>
+    ensures task { IfOk result (λ request. request.task ≡ task) }
+    ensures file { IfOk result (λ request. option_map (λ file. file.now) request.file ≡ first_value (found_of words.now) (codes "FILE")) }
+    ensures traced { one_text (found_of words.now) (codes "trace") ≡ Some (codes "true") → IfOk result (λ request. request.form ≡ Form.Trace) }
+    ensures drawn { one_text (found_of words.now) (codes "trace") ≡ Some (codes "false") → one_text (found_of words.now) (codes "dot") ≡ Some (codes "true") → IfOk result (λ request. (only : Option MsgId) × (request.form ≡ Form.Graph only)) }
+    ensures plain { one_text (found_of words.now) (codes "trace") ≡ Some (codes "false") → one_text (found_of words.now) (codes "dot") ≡ Some (codes "false") → IfOk result (λ request. request.form ≡ Form.Lines) }
+    ensures strict { one_text (found_of words.now) (codes "strict") ≡ Some (codes "true") → IfOk result (λ request. request.is_strict ≡ true) }
+    ensures lenient { one_text (found_of words.now) (codes "strict") ≡ Some (codes "false") → IfOk result (λ request. request.is_strict ≡ false) }
+{
+    match asked_message(words) {
+        Ok(only) => Ok(request_of(task, words, only)),
+        Err(NoMessage) => Err(no_message(alloc)),
+    }
+}
+
+/// The request of words that ask for this message, if for one.
+fn request_of<'a>(task: Task, words: &ArgMatches<'a>, only: Option<MsgId>) -> Request<'a>
     ensures task { result.task ≡ task }
     ensures file { option_map (λ file. file.now) result.file ≡ first_value (found_of words.now) (codes "FILE") }
-    ensures drawn { one_text (found_of words.now) (codes "dot") ≡ Some (codes "true") → result.form ≡ Form.Graph }
-    ensures plain { one_text (found_of words.now) (codes "dot") ≡ Some (codes "false") → result.form ≡ Form.Lines }
+    ensures traced { one_text (found_of words.now) (codes "trace") ≡ Some (codes "true") → result.form ≡ Form.Trace }
+    ensures drawn { one_text (found_of words.now) (codes "trace") ≡ Some (codes "false") → one_text (found_of words.now) (codes "dot") ≡ Some (codes "true") → result.form ≡ Form.Graph only }
+    ensures plain { one_text (found_of words.now) (codes "trace") ≡ Some (codes "false") → one_text (found_of words.now) (codes "dot") ≡ Some (codes "false") → result.form ≡ Form.Lines }
+    ensures strict { one_text (found_of words.now) (codes "strict") ≡ Some (codes "true") → result.is_strict ≡ true }
+    ensures lenient { one_text (found_of words.now) (codes "strict") ≡ Some (codes "false") → result.is_strict ≡ false }
 {
     Request {
         task,
         file: words.get_str("FILE"),
-        form: form_of(words.get_flag("dot")),
+        form: form_of(words.get_flag("trace"), words.get_flag("dot"), only),
+        is_strict: words.get_flag("strict"),
     }
 }
 
-/// A drawing, if one is asked for.
-fn form_of(is_drawn: bool) -> Form
-    ensures { result ≡ (if is_drawn then Form.Graph else Form.Lines) }
+/// A text that is no message's id.
+struct NoMessage;
+
+/// The message that is asked for, if one is.
+fn asked_message(words: &ArgMatches<'_>) -> Result<Option<MsgId>, NoMessage> {
+    match words.get_str("message") {
+        Some(text) => match message_of(text) {
+            Some(id) => Ok(Some(id)),
+            None => Err(NoMessage),
+        },
+        None => Ok(None),
+    }
+}
+
+/// A trace or a drawing, if one is asked for.
+fn form_of(is_traced: bool, is_drawn: bool, only: Option<MsgId>) -> Form
+    ensures { result ≡ (if is_traced then Form.Trace else (if is_drawn then Form.Graph only else Form.Lines)) }
 {
-    if is_drawn { Form::Graph } else { Form::Lines }
+    if is_traced {
+        Form::Trace
+    } else if is_drawn {
+        Form::Graph(only)
+    } else {
+        Form::Lines
+    }
+}
+
+/// The message of a text `NAME/INCARNATION/NUMBER`.
+fn message_of(text: &str) -> Option<MsgId> {
+    let mut parts = text.split('/');
+    let (name, incarnation, seq) = (parts.next()?, parts.next()?, parts.next()?);
+    if parts.next().is_some() {
+        return None;
+    }
+    let origin = Origin {
+        name: NodeName::parse(name.as_bytes()).ok()?,
+        incarnation: Incarnation(incarnation.parse().ok()?),
+    };
+    Some(MsgId {
+        origin,
+        seq: seq.parse().ok()?,
+    })
+}
+
+/// The error for a text that names no message.
+fn no_message(alloc: Global) -> Error {
+    match no_message_error(alloc) {
+        Ok(error) => error,
+        Err(error) => Error::from(error),
+    }
+}
+
+fn no_message_error(alloc: Global) -> Result<Error, AllocError> {
+    let message = "a message is written NODE/INCARNATION/NUMBER, as a/1/2";
+    command(alloc)?.error(ErrorKind::ValueValidation, message)
 }
 
 /// The error for words that are no text.
@@ -93,15 +202,42 @@ fn subcommand<'a>(
     example: &'a str,
 ) -> Result<Command<'a>, AllocError> {
     let file = Arg::new(alloc, "FILE").help("The scenario, in TOML [default: standard input]");
-    let dot = Arg::new(alloc, "dot")
-        .long("dot")
-        .action(ArgAction::SetTrue)
-        .help("Draws the links and each message's tree, for Graphviz, in place of the lines");
+    let trace = flag(
+        alloc,
+        "trace",
+        "Tells what each step did and how the group stands at the end, in place of the lines",
+    );
+    let dot = flag(
+        alloc,
+        "dot",
+        "Draws the links and each message's tree, for Graphviz, in place of the lines",
+    );
+    let message = Arg::new(alloc, "message")
+        .long("message")
+        .value_name("ID")
+        .requires_arg("dot")?
+        .help("With --dot, draws this message alone, as a/1/2");
+    let strict = flag(
+        alloc,
+        "strict",
+        "Refuses keys that mean nothing, timers that are not armed and links that are none",
+    );
     Command::new(alloc, name)
         .about(about)
         .after_help(example)
+        .arg(trace.conflicts_with("dot")?)?
         .arg(dot)?
+        .arg(message)?
+        .arg(strict)?
         .arg(file)
+}
+
+/// An argument that is there or is not.
+fn flag<'a>(alloc: Global, name: &'a str, help: &'a str) -> Arg<'a> {
+    Arg::new(alloc, name)
+        .long(name)
+        .action(ArgAction::SetTrue)
+        .help(help)
 }
 
 fn command<'a>(alloc: Global) -> Result<Command<'a>, AllocError> {
@@ -119,7 +255,8 @@ fn command<'a>(alloc: Global) -> Result<Command<'a>, AllocError> {
     )?;
     Command::new(alloc, "plumtree")
         .about("Plumtree broadcast over HyParView membership; with no words as `sim`")
-        .after_help(EXAMPLES)
+        .version(VERSION)
+        .after_help(AFTER_HELP)
         .subcommand(sim)?
         .subcommand(run)
 }

@@ -7,7 +7,9 @@ use crate::code::RunCode;
 use crate::progress::{Progress, is_terminal};
 use crate::run_group::{RunFailure, run_group};
 use clap::error::ErrorKind;
-use simulation::{Form, ScenarioFault, play_input, read_text, report, report_unread, status_after};
+use simulation::{
+    Form, ScenarioFault, play_input, read_text, report, report_unknown, report_unread, status_after,
+};
 use std::env::Env;
 use std::io::{Input, Read, Write};
 use std::net::{Net, TcpListener, TcpStream};
@@ -76,16 +78,18 @@ where
                 task,
                 file: None,
                 form,
+                is_strict,
             },
-        ) => perform(rt, task, form, &mut rt.reader(), out, faults),
+        ) => perform(rt, task, form, is_strict, &mut rt.reader(), out, faults),
         Ok(
             Request {
                 task,
                 file: Some(path),
                 form,
+                is_strict,
             },
         ) => match fs::open(rt, path) {
-            Ok(mut file) => perform(rt, task, form, &mut file, out, faults),
+            Ok(mut file) => perform(rt, task, form, is_strict, &mut file, out, faults),
             Err(error) => report_unread(&error, faults),
         },
         Err(error) => explain(error, out, faults),
@@ -97,6 +101,7 @@ fn perform<R, I, W, F>(
     rt: &R,
     task: Task,
     form: Form,
+    is_strict: bool,
     input: &mut I,
     out: &mut W,
     faults: &mut F,
@@ -118,13 +123,20 @@ where
     ensures { result ≤ 2 }
 {
     match task {
-        Task::Play => play_input(rt.alloc(), form, input, out, faults),
-        Task::Run => run_input(rt, form, input, out, faults),
+        Task::Play => play_input(rt.alloc(), form, is_strict, input, out, faults),
+        Task::Run => run_input(rt, form, is_strict, input, out, faults),
     }
 }
 
 /// Runs the nodes of an input's scenario, and writes what came of it in this form, and why it ended early to `faults`.
-fn run_input<R, I, W, F>(rt: &R, form: Form, input: &mut I, out: &mut W, faults: &mut F) -> u8
+fn run_input<R, I, W, F>(
+    rt: &R,
+    form: Form,
+    is_strict: bool,
+    input: &mut I,
+    out: &mut W,
+    faults: &mut F,
+) -> u8
 where
     R: AllocGlobal
         + Files
@@ -141,21 +153,70 @@ where
     F: Write,
     ensures { result ≤ 2 }
 {
-    let alloc = rt.alloc();
-    match read_text(alloc, input) {
-        Ok(text) => {
-            let mut progress = Progress::new(faults, is_terminal(rt, alloc));
-            let ended = run_group(*rt, alloc, form, text.as_slice(), out, &mut progress);
-            progress.end();
-            conclude_run(form, ended, faults)
-        }
+    match read_text(rt.alloc(), input) {
+        Ok(text) => run_text(rt, form, is_strict, text.as_slice(), out, faults),
         Err(error) => report_unread(&error, faults),
     }
 }
 
+/// Runs the nodes of a text's scenario.
+fn run_text<R, W, F>(
+    rt: &R,
+    form: Form,
+    is_strict: bool,
+    text: &[u8],
+    out: &mut W,
+    faults: &mut F,
+) -> u8
+where
+    R: AllocGlobal
+        + Files
+        + Threads
+        + Wait
+        + Clock
+        + Net<Listener = TcpListener, Stream = TcpStream>
+        + Copy
+        + Send
+        + Drop
+        + 'static,
+    W: Write,
+    F: Write,
+    ensures { result ≤ 2 }
+{
+    if is_strict && let Some(status) = report_unknown(rt.alloc(), text, faults) {
+        return status;
+    }
+    run_known(rt, form, text, out, faults)
+}
+
+/// Runs the nodes of a text's scenario, whatever keys it has that mean nothing.
+fn run_known<R, W, F>(rt: &R, form: Form, text: &[u8], out: &mut W, faults: &mut F) -> u8
+where
+    R: AllocGlobal
+        + Files
+        + Threads
+        + Wait
+        + Clock
+        + Net<Listener = TcpListener, Stream = TcpStream>
+        + Copy
+        + Send
+        + Drop
+        + 'static,
+    W: Write,
+    F: Write,
+    ensures { result ≤ 2 }
+{
+    let alloc = rt.alloc();
+    let is_plain = form == Form::Lines;
+    let mut progress = Progress::new(faults, is_terminal(rt, alloc));
+    let ended = run_group(*rt, alloc, form, text, out, &mut progress);
+    progress.end();
+    conclude_run(is_plain, ended, faults)
+}
+
 /// Writes why a group did not run and was not written to its end, if it was not. The number is the status that the
-/// program ends with.
-fn conclude_run<F: Write>(form: Form, ended: Result<(), RunFailure>, faults: &mut F) -> u8
+/// program ends with. A fault of merging stands among the lines already, where these are printed.
+fn conclude_run<F: Write>(is_plain: bool, ended: Result<(), RunFailure>, faults: &mut F) -> u8
     ensures { result ≤ 2 }
 {
     match ended {
@@ -165,10 +226,8 @@ fn conclude_run<F: Write>(form: Form, ended: Result<(), RunFailure>, faults: &mu
         }
         Err(RunFailure::Refused(fault)) => report(faults, fault, 2),
         Err(RunFailure::Stopped(fault)) => report(faults, RunCode(fault), 1),
-        Err(RunFailure::Unmerged(fault)) => match form {
-            Form::Lines => 1,
-            Form::Graph => report(faults, fault, 1),
-        },
+        Err(RunFailure::Unmerged(_)) if is_plain => 1,
+        Err(RunFailure::Unmerged(fault)) => report(faults, fault, 1),
         Err(RunFailure::Unwritten) => 1,
     }
 }

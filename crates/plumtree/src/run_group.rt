@@ -2,10 +2,10 @@
 use crate::group::GroupScenario;
 use loopback::{Ran, RunFault, Watch, run};
 use node_core::PlumCore;
-use node_names::Limits;
+use node_names::{Limits, MsgId};
 use simulation::{
-    Form, OutputFault, ScenarioFault, broadcasts, deliveries, read_document, sort, write_graph,
-    write_lines, write_trees,
+    Form, OutputFault, ScenarioFault, Stop, broadcasts, deliveries, read_document, shown, sort,
+    write_graph, write_lines, write_trace, write_trees,
 };
 use std::alloc::{AllocError, Global};
 use std::io::Write;
@@ -113,9 +113,13 @@ fn write_run<W: Write>(
             let group = group_of(alloc, limits, merged)?;
             write_group(alloc, &mut text, &group, out)
         }
-        Form::Graph => {
+        Form::Graph(only) => {
             let group = group_of(alloc, limits, merged)?;
-            draw_group(alloc, &group, out)
+            draw_group(alloc, &group, &only, out)
+        }
+        Form::Trace => {
+            let group = group_of(alloc, limits, merged)?;
+            Ok(write_trace(alloc, &group, &[], &Stop::none(), out)?)
         }
     }
 }
@@ -195,13 +199,15 @@ fn write_group<W: Write>(
     Ok(write_trees(alloc, text, group, messages.as_slice(), out)?)
 }
 
-/// Draws the group, with the tree of each message.
+/// Draws the group, with the tree of each message or of one alone.
 fn draw_group<W: Write>(
     alloc: Global,
     group: &World<PlumCore>,
+    only: &Option<MsgId>,
     out: &mut W,
 ) -> Result<(), RunFailure> {
     let given = deliveries(alloc, group.log())?;
     let messages = broadcasts(alloc, given.as_slice())?;
-    Ok(write_graph(alloc, group, messages.as_slice(), out)?)
+    let shown = shown(alloc, messages.as_slice(), only)?;
+    Ok(write_graph(alloc, group, shown.as_slice(), out)?)
 }

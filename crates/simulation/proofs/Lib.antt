@@ -1,5 +1,7 @@
 pub mod Borrowed
 pub mod Digits
+pub mod Finding
+pub mod Idling
 pub mod Inputs
 pub mod Items
 pub mod Numbers
@@ -10,4 +12,5 @@ pub mod Ranking
 pub mod Sorting
 pub mod Telling
 pub mod Texts
+pub mod Turns
 pub mod Zips

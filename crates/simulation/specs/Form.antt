@@ -1,31 +1,19 @@
 -- What is written of a run, by the form that was asked for.
 use Rattle.std.specs.Prelude.{ℕ, List, Option}
-use Rattle.node_names.specs.NodeName.{Name}
+use Rattle.frames.specs.Content.{frame_content}
+use Rattle.node_core.specs.Plum.{plum_state}
+use Rattle.node_core.specs.Steps.{PlumStarts, PlumSteps}
 use Rattle.node_names.specs.Limits.{Limits}
-use Rattle.node_names.specs.declared.ids.Origin.{Origin}
-use Rattle.world.specs.Content.{Content}
-use Rattle.world.specs.CoreState.{CoreState}
-use Rattle.world.specs.Delivery.{Delivery}
-use Rattle.world.specs.Stimulus.{Stimulus}
-use Rattle.simulation.specs.Play.{IsPlayed, Prints}
+use Rattle.simulation.specs.Drawn.{Draws}
+use Rattle.simulation.specs.Play.{Prints}
+use Rattle.simulation.specs.Traced.{Traces}
 use Rattle.simulation.specs.declared.form.Form.{Form}
-use Rattle.simulation.specs.declared.form.Form.TheVariants.{Lines, Graph}
+use Rattle.simulation.specs.declared.form.Form.TheVariants.{Lines, Graph, Trace}
 use Rattle.simulation.specs.declared.scenario.action.Action.{Action}
 
--- The actions were played; and as lines, the output gains what is printed of the group.
-abbrev pub IsWritten :
-    {C N : Type 0} →
-    (C → CoreState) →
-    (N → Content) →
-    (Origin → Limits → List Name → Option Name → List (Name × N) → C → Type 0) →
-    (C → Stimulus N → List (Name × N) → List Delivery → C → Type 0) →
-    ℕ →
-    Form →
-    Option ℕ →
-    Limits →
-    List Action →
-    Option (List ℕ) →
-    Option (List ℕ) →
-    Type 0
-IsWritten state content starts steps most Lines seed limits actions before after = Prints state content starts steps most seed limits actions before after
-IsWritten state content starts steps most Graph seed limits actions before after = IsPlayed state starts steps most seed limits actions
+-- The actions were played in a group, and the output gains what is printed of that group, or drawn of it, or told of
+-- the run.
+abbrev pub IsWritten : ℕ → Form → Option ℕ → Limits → List Action → Option (List ℕ) → Option (List ℕ) → Type 0
+IsWritten most Lines seed limits actions before after = Prints plum_state frame_content PlumStarts PlumSteps most seed limits actions before after
+IsWritten most (Graph only) seed limits actions before after = Draws most only seed limits actions before after
+IsWritten most Trace seed limits actions before after = Traces most seed limits actions before after

@@ -1,4 +1,5 @@
 pub mod Code
+pub mod Drawn
 pub mod Form
 pub mod Graph
 pub mod Key
@@ -8,4 +9,6 @@ pub mod Ranks
 pub mod Reading
 pub mod Rolls
 pub mod Scenario
+pub mod Traced
 pub mod Trees
+pub mod Turns

@@ -1,6 +1,7 @@
 -- How the actions of a scenario are played in a group.
-use Rattle.std.specs.Prelude.{◌≡◌, ◌≢◌, ◌<◌, ◌≤◌, ℕ, zero, suc, List, [], ◌∷◌, ◌++◌, Option, Some, None, MatchOption, reverse, slice_get, take, IsPermutation, IsSorted}
+use Rattle.std.specs.Prelude.{◌≡◌, ◌≢◌, ◌<◌, ◌≤◌, ℕ, zero, suc, false, List, [], ◌∷◌, ◌++◌, Option, Some, None, MatchOption, reverse, slice_get, take, IsPermutation, IsSorted}
 use Rattle.std.specs.Io.KnownBytes.{Appends}
+use Rattle.node_names.specs.Same.{has_id, has_name}
 use Rattle.node_names.specs.NodeName.{Name}
 use Rattle.node_names.specs.Limits.{Limits}
 use Rattle.node_names.specs.Order.{id_cmp}
@@ -10,7 +11,7 @@ use Rattle.world.specs.Content.{Content}
 use Rattle.world.specs.CoreState.{CoreState}
 use Rattle.world.specs.Delivery.{Delivery}
 use Rattle.world.specs.Event.{Event}
-use Rattle.world.specs.Group.{Logged}
+use Rattle.world.specs.Group.{Group, Logged, core_of}
 use Rattle.world.specs.History as history
 use Rattle.world.specs.Refusals.{IsRefusal}
 use Rattle.world.specs.Run.{Applied}
@@ -32,6 +33,8 @@ use Rattle.simulation.specs.declared.scenario.action.Action.{Action}
 use Rattle.simulation.specs.declared.scenario.action.Action.TheVariants.{Start, Broadcast, Arrive, Lose, Again, Fire, Flush, Shuffle, Down, Stop, ArriveAll, Settle}
 use Rattle.simulation.specs.declared.play.Halt.{Halt}
 use Rattle.simulation.specs.declared.play.Halt.TheVariants as halt
+use Rattle.simulation.specs.declared.play.Idle.{Idle}
+use Rattle.simulation.specs.declared.play.Idle.TheVariants as idle
 use Rattle.simulation.specs.declared.play.PlayFault.{PlayFault}
 use Rattle.simulation.specs.declared.play.PlayFault.TheVariants as fault
 
@@ -77,6 +80,7 @@ fault_of number (halt.Refused why) = fault.Refused number (record { 0 = why })
 fault_of number halt.NoEnd = fault.NoEnd number
 fault_of number (halt.Unsettled settle.OutOfMemory) = fault.OutOfMemory
 fault_of number (halt.Unsettled why) = fault.Unsettled number (record { 0 = why })
+fault_of number (halt.Idle why) = fault.Idle number why
 
 -- all deliveries of a group, in the order in which they were given
 abbrev pub delivered : {C N : Type 0} → Logged C N → List Delivery
@@ -90,6 +94,11 @@ empty_group limits = record { limits = limits; group = record { nodes = []; sent
 pub record Standing (C N : Type 0) : Type 0 where
   pub rolls : Option Stream
   pub group : Logged C N
+
+-- The action would do nothing, though its node runs: the timer that fires is not armed, or the link that fails is none.
+abbrev pub IsIdle : {C N : Type 0} → (C → CoreState) → Idle → Action → Group C N → Type 0
+IsIdle {C} state idle.NoTimer action group = (node : Name) × (id : MsgId) × (core : C) × (action ≡ Fire node id) × (core_of node group.nodes ≡ Some core) × (has_id (state core).timers id ≡ false)
+IsIdle {C} state idle.NoLink action group = (node : Name) × (peer : Name) × (core : C) × (action ≡ Down node peer) × (core_of node group.nodes ≡ Some core) × (has_name (state core).active peer ≡ false)
 
 module _
     {C N : Type 0}
@@ -147,12 +156,13 @@ module _
       StopsSettling settle.OutOfMemory old new = (events : List Event) × Settles state starts steps events old new
 
       -- The playing of an action halts: its event, or an arrival after some others, is refused, or something is still
-      -- in flight after the most arrivals, or settling ends early.
+      -- in flight after the most arrivals, or settling ends early; or it does nothing.
       abbrev pub HaltsIn : ℕ → Action → Halt → Standing C N → Logged C N → Type 0
       HaltsIn most action (halt.Refused why) old new = MatchOption (event_of (rolled old.rolls) action)
           ((n : ℕ) × (n < most) × (between : Standing C N) × Drains n old between × (new ≡ between.group) × Refuses (oldest (rolled between.rolls)) why new)
           (λ e. (new ≡ old.group) × Refuses e why new)
       HaltsIn most action (halt.Unsettled why) old new = (event_of (rolled old.rolls) action ≡ None) × StopsSettling why old.group new
+      HaltsIn most action (halt.Idle why) old new = (new ≡ old.group) × IsIdle state why action old.group.group
       HaltsIn most action halt.NoEnd old new = (event_of (rolled old.rolls) action ≡ None) × (n : ℕ) × (n ≡ most) × (between : Standing C N) × Drains n old between × (new ≡ between.group) × (new.group.flight ≢ [])
 
       -- The playing halts at the action with this number, after all those before it.
@@ -197,19 +207,6 @@ pub record Prints
   pub rolls : Option Stream
   pub played : PlaysActions state starts steps most actions (record { rolls = rolls_of seed; group = empty_group limits }) (record { rolls = rolls; group = group })
   pub printed : PrintsGroup state content group (delivered group) before after
-
--- Some group and generator play these actions, from a group without nodes.
-abbrev pub IsPlayed :
-    {C N : Type 0} →
-    (C → CoreState) →
-    (Origin → Limits → List Name → Option Name → List (Name × N) → C → Type 0) →
-    (C → Stimulus N → List (Name × N) → List Delivery → C → Type 0) →
-    ℕ →
-    Option ℕ →
-    Limits →
-    List Action →
-    Type 0
-IsPlayed {C} {N} state starts steps most seed limits actions = (new : Standing C N) × PlaysActions state starts steps most actions (record { rolls = rolls_of seed; group = empty_group limits }) new
 
 -- What the output gains is what is printed of a group that played these actions up to the one at which it halted by
 -- this fault.

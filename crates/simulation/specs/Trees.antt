@@ -11,6 +11,7 @@ use Rattle.world.specs.Group.{Logged}
 use Rattle.world.specs.Rest.{IsAtRest}
 use Rattle.at_rest.specs.Tree.{tree_of}
 use Rattle.at_rest.specs.declared.branch.Branch.{Branch}
+use Rattle.simulation.specs.Turns.{InTurn}
 
 -- the messages among deliveries that their own origin delivered, which it does as it broadcasts them
 abbrev pub broadcasts_of : List Delivery → List MsgId
@@ -48,5 +49,4 @@ module _ {C N : Type 0} (state : C → CoreState) (content : N → Content) (gro
 
   -- The text is what is printed of messages, one after the other.
   abbrev pub TellsTrees : List MsgId → List ℕ → Type 0
-  TellsTrees [] text = text ≡ []
-  TellsTrees (id ∷ ids) text = (first : List ℕ) × (rest : List ℕ) × TellsTree id first × TellsTrees ids rest × (text ≡ first ++ rest)
+  TellsTrees ids text = InTurn TellsTree ids text

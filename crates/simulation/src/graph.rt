@@ -1,6 +1,12 @@
 //! A group as a Graphviz document: the links that its nodes have, and each message's tree.
+ghost use Rattle.std.specs.Prelude.{◌≡◌, ◌++◌, ℕ, List, OnOk, string_bytes};
+ghost use Rattle.std.specs.Io.KnownBytes.{Appends};
+ghost use Rattle.simulation.specs.Graph.{DrawsGroup};
+
+mod flying;
 mod overlay;
 mod parts;
+mod runs;
 
 use crate::output::OutputFault;
 use node_core::PlumCore;
@@ -9,14 +15,17 @@ use std::alloc::{AllocError, Allocator};
 use std::io::Write;
 use world::World;
 
-/// Writes the document: eager links as plain arrows and lazy ones dashed, the edges of each message's tree bold, and
-/// nodes that run and have not delivered it dotted. It is written whole, in one write.
+/// Writes the document: each node with its incarnation, eager links as plain arrows and lazy ones dashed, stopped nodes
+/// dotted; and for each message whether the group is at rest for it, the edges of its tree bold, and nodes that run and
+/// have not delivered it dotted. It is written whole, in one write.
 pub fn write_graph<A: Allocator + Copy, W: Write>(
     alloc: A,
     group: &World<PlumCore<A>, A>,
     messages: &[MsgId],
     out: &mut W,
-) -> Result<(), OutputFault> {
+) -> Result<(), OutputFault>
+    ensures { OnOk result ((text : List ℕ) × DrawsGroup group.now messages.now text × Appends (W.contents out.old) (W.contents out.new) text) }
+{
     let mut text = String::new(alloc);
     push_graph(alloc, &mut text, group, messages)?;
     out.write_all(text.as_bytes())?;
@@ -29,13 +38,15 @@ fn push_graph<A: Allocator + Copy>(
     text: &mut String<A>,
     group: &World<PlumCore<A>, A>,
     messages: &[MsgId],
-) -> Result<(), AllocError> {
-    write!(
-        text,
-        "digraph plumtree {{\n  subgraph \"cluster overlay\" {{\n    label = \"overlay\";\n"
+) -> Result<(), AllocError>
+    ensures { OnOk result ((drawn : List ℕ) × DrawsGroup group.now messages.now drawn × (string_bytes text.new ≡ string_bytes text.old ++ drawn)) }
+{
+    text.push_str(
+        "digraph plumtree {\n  rankdir = LR;\n  subgraph \"cluster overlay\" {\n    label = \"overlay\";\n",
     )?;
-    overlay::push_nodes(text, group.nodes())?;
+    overlay::push_overlay(text, group)?;
     text.push_str("  }\n")?;
     parts::push_trees(alloc, text, group, messages)?;
-    text.push_str("}\n")
+    text.push_str("}\n")?;
+    Ok(())
 }

@@ -1,11 +1,13 @@
 //! What comes of a scenario, over its text and any writer.
-ghost use Rattle.std.specs.Prelude.{◌≡◌, ◌≢◌, ◌<◌, ℕ, List, Option, Err, IfOk, IfErr, OnOk};
+ghost use Rattle.std.specs.Prelude.{◌≡◌, ◌≢◌, ◌<◌, ℕ, List, Option, Err, IfOk, IfErr, OnOk, [], ◌∷◌, ◌++◌};
 ghost use Rattle.node_names.specs.Limits.{Limits as Sizes};
 ghost use Rattle.simulation.specs.declared.play.PlayFault.{PlayFault};
 ghost use Rattle.simulation.specs.declared.scenario.action.Action.{Action};
 ghost use Rattle.simulation.specs.declared.scenario.fault.ScenarioFault.{ScenarioFault};
 ghost use Rattle.simulation.specs.Scenario.{IsScenario};
-ghost use Rattle.simulation.specs.Play.{delivered, IsPlayed, Prints, PrintsGroup, PrintsHalted};
+ghost use Rattle.simulation.specs.Drawn.{is_shown, shown_of, Draws, DrawsShown};
+ghost use Rattle.simulation.specs.Play.{delivered, Prints, PrintsGroup, PrintsHalted};
+ghost use Rattle.simulation.specs.Traced.{Traces};
 ghost use Rattle.frames.specs.Content.{frame_content};
 ghost use Rattle.node_core.specs.Plum.{plum_state};
 ghost use Rattle.node_core.specs.Steps.{PlumIsSpent, PlumStarts, PlumSteps};
@@ -15,9 +17,11 @@ use crate::output::OutputFault;
 use crate::play::{MOST_ARRIVALS, PlayFault, Player};
 use crate::read::{LONGEST, read_document};
 use crate::scenario::{MOST_EVENTS, Scenario, ScenarioFault};
+use crate::tracing::{Stop, write_trace};
 use crate::{graph, output, trees};
 use node_core::PlumCore;
-use std::alloc::{Allocator, Global};
+use node_names::MsgId;
+use std::alloc::{AllocError, Allocator, Global};
 use std::io::Write;
 use std::mem;
 use world::{Core, World};
@@ -28,7 +32,12 @@ const LINE_ROOM: usize = 66_000;
 /// Reads a text as a scenario, plays it, and writes what is delivered.
 ///
 /// Where the run ends early, all that was delivered before is written.
-pub fn simulate<W: Write>(alloc: Global, text: &[u8], out: &mut W) -> Result<(), Failure>
+pub fn simulate<W: Write>(
+    alloc: Global,
+    text: &[u8],
+    is_strict: bool,
+    out: &mut W,
+) -> Result<(), Failure>
     ensures printed { OnOk result ((seed : Option ℕ) × (sizes : Sizes) × (actions : List Action)
         × IsScenario LONGEST MOST_EVENTS text.now seed sizes actions
         × Prints plum_state frame_content PlumStarts PlumSteps MOST_ARRIVALS seed sizes actions (W.contents out.old) (W.contents out.new)) }
@@ -40,20 +49,48 @@ pub fn simulate<W: Write>(alloc: Global, text: &[u8], out: &mut W) -> Result<(),
     ensures unplayed { (fault : ScenarioFault) → result ≡ Err (Failure.Refused fault) → out.new ≡ out.old }
 {
     let scenario = read_scenario(alloc, text)?;
-    play_and_print::<Global, W>(alloc, &scenario, out)
+    play_and_print::<Global, W>(alloc, &scenario, is_strict, out)
 }
 
-/// Reads a text as a scenario, plays it, and writes the group as it stands then as a Graphviz document.
-pub fn draw<W: Write>(alloc: Global, text: &[u8], out: &mut W) -> Result<(), Failure>
-    ensures played { OnOk result ((seed : Option ℕ) × (sizes : Sizes) × (actions : List Action)
+/// Reads a text as a scenario, plays it, and writes the group as it stands then as a Graphviz document: with all
+/// messages, or with one alone.
+pub fn draw<W: Write>(
+    alloc: Global,
+    text: &[u8],
+    only: &Option<MsgId>,
+    is_strict: bool,
+    out: &mut W,
+) -> Result<(), Failure>
+    ensures drawn { OnOk result ((seed : Option ℕ) × (sizes : Sizes) × (actions : List Action)
         × IsScenario LONGEST MOST_EVENTS text.now seed sizes actions
-        × IsPlayed plum_state PlumStarts PlumSteps MOST_ARRIVALS seed sizes actions) }
+        × Draws MOST_ARRIVALS only.now seed sizes actions (W.contents out.old) (W.contents out.new)) }
     ensures refused { (fault : ScenarioFault) → result ≡ Err (Failure.Refused fault) → fault ≢ ScenarioFault.OutOfMemory → (seed : Option ℕ) (sizes : Sizes) (actions : List Action)
         → ¬ IsScenario LONGEST MOST_EVENTS text.now seed sizes actions }
     ensures unplayed { (fault : ScenarioFault) → result ≡ Err (Failure.Refused fault) → out.new ≡ out.old }
 {
     let scenario = read_scenario(alloc, text)?;
-    play_and_draw(alloc, &scenario, out)
+    play_and_draw(alloc, &scenario, only, is_strict, out)
+}
+
+/// Reads a text as a scenario, plays it, and writes what each step did and how the group stands at the end.
+///
+/// Where the run ends early, all steps before are written, then which event was not played to its end, and then the
+/// group.
+pub fn trace<W: Write>(
+    alloc: Global,
+    text: &[u8],
+    is_strict: bool,
+    out: &mut W,
+) -> Result<(), Failure>
+    ensures traced { OnOk result ((seed : Option ℕ) × (sizes : Sizes) × (actions : List Action)
+        × IsScenario LONGEST MOST_EVENTS text.now seed sizes actions
+        × Traces MOST_ARRIVALS seed sizes actions (W.contents out.old) (W.contents out.new)) }
+    ensures refused { (fault : ScenarioFault) → result ≡ Err (Failure.Refused fault) → fault ≢ ScenarioFault.OutOfMemory → (seed : Option ℕ) (sizes : Sizes) (actions : List Action)
+        → ¬ IsScenario LONGEST MOST_EVENTS text.now seed sizes actions }
+    ensures unplayed { (fault : ScenarioFault) → result ≡ Err (Failure.Refused fault) → out.new ≡ out.old }
+{
+    let scenario = read_scenario(alloc, text)?;
+    play_and_trace(alloc, &scenario, text, is_strict, out)
 }
 
 /// Reads a text as a scenario.
@@ -70,6 +107,7 @@ fn read_scenario(alloc: Global, text: &[u8]) -> Result<Scenario, ScenarioFault>
 pub fn play_and_print<A: Allocator + Copy, W: Write>(
     alloc: A,
     scenario: &Scenario,
+    is_strict: bool,
     out: &mut W,
 ) -> Result<(), Failure>
     ensures printed { OnOk result (Prints plum_state frame_content PlumStarts PlumSteps MOST_ARRIVALS scenario.now.seed scenario.now.limits scenario.now.actions.items (W.contents out.old) (W.contents out.new)) }
@@ -80,7 +118,7 @@ pub fn play_and_print<A: Allocator + Copy, W: Write>(
         return Err(Failure::Stopped(PlayFault::OutOfMemory));
     };
     let mut player = Player::<PlumCore<A>, A>::new(alloc, scenario.seed, scenario.limits);
-    let played = player.play(alloc, scenario.actions.as_slice());
+    let played = player.play(alloc, scenario.actions.as_slice(), is_strict);
     let printed = print(alloc, &mut text, player.group(), out);
     leave(player);
     ended(played, printed)
@@ -90,16 +128,41 @@ pub fn play_and_print<A: Allocator + Copy, W: Write>(
 fn play_and_draw<A: Allocator + Copy, W: Write>(
     alloc: A,
     scenario: &Scenario,
+    only: &Option<MsgId>,
+    is_strict: bool,
     out: &mut W,
 ) -> Result<(), Failure>
-    ensures played { OnOk result (IsPlayed plum_state PlumStarts PlumSteps MOST_ARRIVALS scenario.now.seed scenario.now.limits scenario.now.actions.items) }
+    ensures drawn { OnOk result (Draws MOST_ARRIVALS only.now scenario.now.seed scenario.now.limits scenario.now.actions.items (W.contents out.old) (W.contents out.new)) }
     ensures read { (fault : ScenarioFault) → result ≢ Err (Failure.Refused fault) }
 {
     let mut player = Player::<PlumCore<A>, A>::new(alloc, scenario.seed, scenario.limits);
-    let played = player.play(alloc, scenario.actions.as_slice());
-    let drawn = draw_group(alloc, player.group(), out);
+    let played = player.play(alloc, scenario.actions.as_slice(), is_strict);
+    let drawn = draw_group(alloc, player.group(), only, out);
     leave(player);
     ended(played, drawn)
+}
+
+/// Plays a scenario and tells what came of it. `source` is its text.
+pub fn play_and_trace<A: Allocator + Copy, W: Write>(
+    alloc: A,
+    scenario: &Scenario,
+    source: &[u8],
+    is_strict: bool,
+    out: &mut W,
+) -> Result<(), Failure>
+    ensures traced { OnOk result (Traces MOST_ARRIVALS scenario.now.seed scenario.now.limits scenario.now.actions.items (W.contents out.old) (W.contents out.new)) }
+    ensures read { (fault : ScenarioFault) → result ≢ Err (Failure.Refused fault) }
+{
+    let mut player = Player::<PlumCore<A>, A>::new(alloc, scenario.seed, scenario.limits);
+    let played = player.play(alloc, scenario.actions.as_slice(), is_strict);
+    let stop = Stop {
+        source,
+        actions: scenario.actions.as_slice(),
+        fault: played.err(),
+    };
+    let traced = write_trace(alloc, player.group(), player.begun(), &stop, out);
+    leave(player);
+    ended(played, traced)
 }
 
 /// Leaves the memory of a group to the system: the program ends next, and freeing each packet and entry takes time.
@@ -107,15 +170,58 @@ fn leave<C: Core<A>, A: Allocator + Copy>(player: Player<C, A>) {
     mem::forget(player);
 }
 
-/// Draws the group, with the tree of each message.
+/// Draws the group, with the tree of each message or of one alone.
 fn draw_group<A: Allocator + Copy, W: Write>(
     alloc: A,
     group: &World<PlumCore<A>, A>,
+    only: &Option<MsgId>,
     out: &mut W,
-) -> Result<(), OutputFault> {
+) -> Result<(), OutputFault>
+    ensures { OnOk result (DrawsShown only.now group.now (W.contents out.old) (W.contents out.new)) }
+{
     let deliveries = output::deliveries(alloc, group.log())?;
     let messages = trees::broadcasts(alloc, deliveries.as_slice())?;
-    graph::write_graph(alloc, group, messages.as_slice(), out)
+    let shown = shown(alloc, messages.as_slice(), only)?;
+    graph::write_graph(alloc, group, shown.as_slice(), out)
+}
+
+/// All of these messages, or the one that was asked for, if it is among them.
+pub fn shown<A: Allocator + Copy>(
+    alloc: A,
+    messages: &[MsgId],
+    only: &Option<MsgId>,
+) -> Result<Vec<MsgId, A>, AllocError>
+    ensures { IfOk result (λ shown. shown.items ≡ shown_of only.now messages.now) }
+{
+    let mut shown = Vec::new(alloc);
+    for message in messages {
+        push_shown(&mut shown, only, message)?;
+    }
+    Ok(shown)
+}
+
+/// Appends a message, if it is shown.
+fn push_shown<A: Allocator + Copy>(
+    shown: &mut Vec<MsgId, A>,
+    only: &Option<MsgId>,
+    message: &MsgId,
+) -> Result<(), AllocError>
+    ensures { OnOk result (shown.new.items ≡ shown.old.items ++ shown_of only.now (message.now ∷ [])) }
+{
+    if is_shown(only, message) {
+        shown.push(*message)?;
+    }
+    Ok(())
+}
+
+/// Whether a message is shown.
+fn is_shown(only: &Option<MsgId>, message: &MsgId) -> bool
+    ensures { result ≡ is_shown only.now message.now }
+{
+    match only {
+        None => true,
+        Some(only) => *only == *message,
+    }
 }
 
 /// Prints what was delivered, and then each message's tree. `text` is room for that.

@@ -1,9 +1,10 @@
 //! Playing a scenario in a simulated group.
-ghost use Rattle.std.specs.Prelude.{◌≡◌, ◌≢◌, None, IfOk, IfErr, OnOk};
+ghost use Rattle.std.specs.Prelude.{◌≡◌, ◌≢◌, None, IfOk, IfErr, IfSome, OnOk};
 ghost use Rattle.frames.specs.Content.{frame_content};
 ghost use Rattle.node_core.specs.Plum.{plum_state};
+ghost use Rattle.node_names.specs.Same.{has_id, has_name};
 ghost use Rattle.node_core.specs.Steps.{PlumIsSpent, PlumStarts, PlumSteps};
-ghost use Rattle.simulation.specs.Play.{event_of, fault_of, empty_group, rolls_after, HaltsIn, IsHalted, PlaysAction, PlaysActions, Refuses, Takes};
+ghost use Rattle.simulation.specs.Play.{event_of, fault_of, empty_group, rolls_after, HaltsIn, IsHalted, IsIdle, PlaysAction, PlaysActions, Refuses, Takes};
 ghost use Rattle.simulation.specs.Rolls.{rolled, rolls_in, rolls_of};
 
 use crate::code::{Code, SettleCode};
@@ -12,8 +13,9 @@ use crate::scenario::Action;
 use at_rest::SettleError;
 use bytes::Bytes;
 use node_core::PlumCore;
-use node_names::{Limits, Listed};
+use node_names::{Limits, Listed, MsgId, NodeName};
 use std::alloc::{AllocError, Allocator};
+use std::fmt;
 use thiserror::Error;
 use world::{Core, Event, World, WorldError};
 
@@ -32,9 +34,37 @@ pub enum PlayFault {
     /// The group was not brought to rest.
     #[error("event {event}: {code}")]
     Unsettled { event: usize, code: SettleCode },
+    /// The event does nothing, and the scenario is played strictly.
+    #[error("event {event}: {why}")]
+    Idle { event: usize, why: Idle },
     /// There was no memory left.
     #[error("out of memory")]
     OutOfMemory,
+}
+
+/// Why a strict reader refuses an event that a group would take.
+#[derive(Clone, Copy, Debug, PartialEq, Eq)]
+pub enum Idle {
+    /// A timer fires that the node has not armed.
+    NoTimer,
+    /// A link fails to a name that the node does not have in its active view.
+    NoLink,
+}
+
+impl Idle {
+    /// Why, in words.
+    pub fn words(self) -> &'static str {
+        match self {
+            Idle::NoTimer => "the node has no such timer",
+            Idle::NoLink => "the peer is not in the node's active view",
+        }
+    }
+}
+
+impl fmt::Display for Idle {
+    fn fmt<W: fmt::Write>(&self, f: &mut fmt::Formatter<W>) -> fmt::Result {
+        f.write_str(self.words())
+    }
 }
 
 /// Why an action was not played to its end.
@@ -46,6 +76,8 @@ pub enum Halt {
     NoEnd,
     /// The group was not brought to rest.
     Unsettled(SettleError),
+    /// Its event does nothing, and it is played strictly.
+    Idle(Idle),
 }
 
 impl Halt {
@@ -65,6 +97,7 @@ impl Halt {
                 event,
                 code: SettleCode(why),
             },
+            Halt::Idle(why) => PlayFault::Idle { event, why },
         }
     }
 }
@@ -74,6 +107,8 @@ impl Halt {
 pub struct Player<C: Core<A>, A: Allocator> {
     group: World<C, A>,
     rolls: Rolls,
+    /// How many events the group had taken when each action began.
+    begun: Vec<usize, A>,
 }
 
 impl<C: Core<A>, A: Allocator + Copy> Player<C, A> {
@@ -85,6 +120,7 @@ impl<C: Core<A>, A: Allocator + Copy> Player<C, A> {
         Player {
             group: World::new(alloc, limits),
             rolls: Rolls::new(seed),
+            begun: Vec::new(alloc),
         }
     }
 
@@ -93,6 +129,11 @@ impl<C: Core<A>, A: Allocator + Copy> Player<C, A> {
         ensures { result.now ≡ self.now.group }
     {
         &self.group
+    }
+
+    /// How many events the group had taken when each action began, up to the last one that did.
+    pub fn begun(&self) -> &[usize] {
+        self.begun.as_slice()
     }
 
     /// Lets the oldest packet arrive until none is in flight.
@@ -131,13 +172,17 @@ impl<C: Core<A>, A: Allocator + Copy> Player<C, A> {
 }
 
 impl<A: Allocator + Copy> Player<PlumCore<A>, A> {
-    /// Plays actions in order.
-    pub fn play(&mut self, alloc: A, actions: &[Action]) -> Result<(), PlayFault>
+    /// Plays actions in order: strictly, if so, which refuses one that does nothing.
+    pub fn play(&mut self, alloc: A, actions: &[Action], is_strict: bool) -> Result<(), PlayFault>
         ensures ok { OnOk result (PlaysActions plum_state PlumStarts PlumSteps MOST_ARRIVALS actions.now (record { rolls = rolls_in self.old.rolls; group = self.old.group }) (record { rolls = rolls_in self.new.rolls; group = self.new.group })) }
         ensures stopped { IfErr result (λ fault. fault ≢ PlayFault.OutOfMemory → IsHalted plum_state PlumStarts PlumSteps frame_content PlumIsSpent MOST_ARRIVALS actions.now fault (record { rolls = rolls_in self.old.rolls; group = self.old.group }) self.new.group) }
     {
         for (number, action) in actions.iter().enumerate() {
-            if let Err(halt) = self.play_action(alloc, action) {
+            let taken = self.group.log().len();
+            if self.begun.push(taken).is_err() {
+                return Err(PlayFault::OutOfMemory);
+            }
+            if let Err(halt) = self.play_action(alloc, action, is_strict) {
                 return Err(halt.at(number));
             }
         }
@@ -145,7 +190,30 @@ impl<A: Allocator + Copy> Player<PlumCore<A>, A> {
     }
 
     /// Plays one action.
-    fn play_action(&mut self, alloc: A, action: &Action) -> Result<(), Halt>
+    fn play_action(&mut self, alloc: A, action: &Action, is_strict: bool) -> Result<(), Halt>
+        ensures ok { OnOk result (PlaysAction plum_state PlumStarts PlumSteps MOST_ARRIVALS action.now (record { rolls = rolls_in self.old.rolls; group = self.old.group }) (record { rolls = rolls_in self.new.rolls; group = self.new.group })) }
+        ensures halted { IfErr result (λ halt. halt ≢ Halt.Refused WorldError.OutOfMemory → HaltsIn plum_state PlumStarts PlumSteps frame_content PlumIsSpent MOST_ARRIVALS action.now halt (record { rolls = rolls_in self.old.rolls; group = self.old.group }) self.new.group) }
+    {
+        if is_strict && let Some(why) = self.idle(action) {
+            return Err(Halt::Idle(why));
+        }
+        self.take_action(alloc, action)
+    }
+
+    /// Why an action would do nothing, if the node that it is of runs and it would.
+    fn idle(&self, action: &Action) -> Option<Idle>
+        ensures idle { IfSome result (λ why. IsIdle plum_state why action.now self.now.group.group) }
+        ensures busy { result ≡ None → (why : Idle) → ¬ IsIdle plum_state why action.now self.now.group.group }
+    {
+        match action {
+            Action::Fire { node, id } => idle_timer(&self.group, node, id),
+            Action::Down { node, peer } => idle_link(&self.group, node, peer),
+            _ => None,
+        }
+    }
+
+    /// Plays one action, whatever it does.
+    fn take_action(&mut self, alloc: A, action: &Action) -> Result<(), Halt>
         ensures ok { OnOk result (PlaysAction plum_state PlumStarts PlumSteps MOST_ARRIVALS action.now (record { rolls = rolls_in self.old.rolls; group = self.old.group }) (record { rolls = rolls_in self.new.rolls; group = self.new.group })) }
         ensures halted { IfErr result (λ halt. halt ≢ Halt.Refused WorldError.OutOfMemory → HaltsIn plum_state PlumStarts PlumSteps frame_content PlumIsSpent MOST_ARRIVALS action.now halt (record { rolls = rolls_in self.old.rolls; group = self.old.group }) self.new.group) }
     {
@@ -181,6 +249,50 @@ impl<A: Allocator + Copy> Player<PlumCore<A>, A> {
             Ok(_) => Ok(()),
             Err(why) => Err(Halt::Unsettled(why)),
         }
+    }
+}
+
+/// That a node of this name runs and has not armed the timer, if so.
+fn idle_timer<A: Allocator + Copy>(
+    group: &World<PlumCore<A>, A>,
+    node: &NodeName,
+    id: &MsgId,
+) -> Option<Idle>
+    ensures idle { IfSome result (λ why. IsIdle plum_state why (Action.Fire node.now id.now) group.now.group) }
+    ensures busy { result ≡ None → (why : Idle) → ¬ IsIdle plum_state why (Action.Fire node.now id.now) group.now.group }
+{
+    match group.core(node) {
+        Some(core) if !is_armed(core, id) => Some(Idle::NoTimer),
+        _ => None,
+    }
+}
+
+/// Whether a core has armed the timer.
+fn is_armed<A: Allocator + Copy>(core: &PlumCore<A>, id: &MsgId) -> bool
+    ensures { result ≡ has_id (plum_state core.now).timers id.now }
+{
+    core.timers().iter().any(|timer| id == timer)
+}
+
+/// Whether a core has the peer in its active view.
+fn is_linked<A: Allocator + Copy>(core: &PlumCore<A>, peer: &NodeName) -> bool
+    ensures { result ≡ has_name (plum_state core.now).active peer.now }
+{
+    core.active().contains(peer)
+}
+
+/// That a node of this name runs and does not have the peer in its active view, if so.
+fn idle_link<A: Allocator + Copy>(
+    group: &World<PlumCore<A>, A>,
+    node: &NodeName,
+    peer: &NodeName,
+) -> Option<Idle>
+    ensures idle { IfSome result (λ why. IsIdle plum_state why (Action.Down node.now peer.now) group.now.group) }
+    ensures busy { result ≡ None → (why : Idle) → ¬ IsIdle plum_state why (Action.Down node.now peer.now) group.now.group }
+{
+    match group.core(node) {
+        Some(core) if !is_linked(core, peer) => Some(Idle::NoLink),
+        _ => None,
     }
 }
 

@@ -1,9 +1,6 @@
 //! What a program answers for a scenario that it plays: a status, and why it ended early.
-ghost use Rattle.std.specs.Prelude.{◌≡◌, ◌≢◌, ◌⊎◌, ◌≤◌, ◌<◌, ℕ, List, Option, Err, IfSome, IsOk, OnOk};
+ghost use Rattle.std.specs.Prelude.{◌≡◌, ◌≢◌, ◌⊎◌, false, ◌≤◌, ◌<◌, ℕ, List, Option, Err, IfSome, IsOk, OnOk};
 ghost use Rattle.node_names.specs.Limits.{Limits as Sizes};
-ghost use Rattle.frames.specs.Content.{frame_content};
-ghost use Rattle.node_core.specs.Plum.{plum_state};
-ghost use Rattle.node_core.specs.Steps.{PlumStarts, PlumSteps};
 ghost use Rattle.simulation.specs.declared.play.TheConstants.{MOST_ARRIVALS};
 ghost use Rattle.simulation.specs.declared.read.TheConstants.{LONGEST};
 ghost use Rattle.simulation.specs.declared.scenario.TheConstants.{MOST_EVENTS};
@@ -14,18 +11,22 @@ ghost use Rattle.simulation.specs.Scenario.{IsScenario};
 
 use crate::failure::Failure;
 use crate::form::Form;
-use crate::outcome::{draw, simulate};
+use crate::outcome::{draw, simulate, trace};
+use crate::play::PlayFault;
 use crate::read::read_text;
 use crate::scenario::ScenarioFault;
+use crate::strict::{report_idle, report_unknown};
 use std::alloc::Global;
 use std::fmt::Display;
 use std::io;
 use std::io::{Read, Write};
 
-/// Plays the scenario of an input and writes its outcome in this form, and why it ended early to `faults`.
+/// Plays the scenario of an input and writes its outcome in this form, and why it ended early to `faults`. A strict
+/// reader refuses keys that mean nothing and events that do nothing too.
 pub fn play_input<R: Read, W: Write, F: Write>(
     alloc: Global,
     form: Form,
+    is_strict: bool,
     input: &mut R,
     out: &mut W,
     faults: &mut F,
@@ -35,10 +36,10 @@ pub fn play_input<R: Read, W: Write, F: Write>(
     ensures unplayed { result ≡ 2 → out.new ≡ out.old }
     ensures played { result ≡ 0 → IfSome (R.remaining input.old) (λ text. (seed : Option ℕ) × (sizes : Sizes) × (actions : List Action)
         × IsScenario LONGEST MOST_EVENTS text seed sizes actions
-        × IsWritten plum_state frame_content PlumStarts PlumSteps MOST_ARRIVALS form seed sizes actions (W.contents out.old) (W.contents out.new)) }
+        × IsWritten MOST_ARRIVALS form seed sizes actions (W.contents out.old) (W.contents out.new)) }
 {
     match read_text(alloc, input) {
-        Ok(text) => play(alloc, form, text.as_slice(), out, faults),
+        Ok(text) => play(alloc, form, is_strict, text.as_slice(), out, faults),
         Err(error) => report_unread(&error, faults),
     }
 }
@@ -47,6 +48,7 @@ pub fn play_input<R: Read, W: Write, F: Write>(
 fn play<W: Write, F: Write>(
     alloc: Global,
     form: Form,
+    is_strict: bool,
     text: &[u8],
     out: &mut W,
     faults: &mut F,
@@ -56,29 +58,58 @@ fn play<W: Write, F: Write>(
     ensures unplayed { result ≡ 2 → out.new ≡ out.old }
     ensures played { result ≡ 0 → (seed : Option ℕ) × (sizes : Sizes) × (actions : List Action)
         × IsScenario LONGEST MOST_EVENTS text.now seed sizes actions
-        × IsWritten plum_state frame_content PlumStarts PlumSteps MOST_ARRIVALS form seed sizes actions (W.contents out.old) (W.contents out.new) }
+        × IsWritten MOST_ARRIVALS form seed sizes actions (W.contents out.old) (W.contents out.new) }
+    ensures refused { result ≡ 2 → is_strict ≡ false → (seed : Option ℕ) (sizes : Sizes) (actions : List Action) → ¬ IsScenario LONGEST MOST_EVENTS text.now seed sizes actions }
+{
+    if is_strict && let Some(status) = report_unknown(alloc, text, faults) {
+        return status;
+    }
+    play_known(alloc, form, is_strict, text, out, faults)
+}
+
+/// Plays the scenario of a text, whatever keys it has that mean nothing.
+fn play_known<W: Write, F: Write>(
+    alloc: Global,
+    form: Form,
+    is_strict: bool,
+    text: &[u8],
+    out: &mut W,
+    faults: &mut F,
+) -> u8
+    ensures status { result ≤ 2 }
+    ensures quiet { result ≡ 0 → faults.new ≡ faults.old }
+    ensures unplayed { result ≡ 2 → out.new ≡ out.old }
+    ensures played { result ≡ 0 → (seed : Option ℕ) × (sizes : Sizes) × (actions : List Action)
+        × IsScenario LONGEST MOST_EVENTS text.now seed sizes actions
+        × IsWritten MOST_ARRIVALS form seed sizes actions (W.contents out.old) (W.contents out.new) }
     ensures refused { result ≡ 2 → (seed : Option ℕ) (sizes : Sizes) (actions : List Action) → ¬ IsScenario LONGEST MOST_EVENTS text.now seed sizes actions }
 {
-    conclude(write_outcome(alloc, form, text, out), faults)
+    let ended = write_outcome(alloc, form, is_strict, text, out);
+    if let Err(Failure::Stopped(PlayFault::Idle { event, why })) = ended {
+        return report_idle(alloc, text, event, why, faults);
+    }
+    conclude(ended, faults)
 }
 
 /// Plays the scenario of a text and writes its outcome in this form.
 fn write_outcome<W: Write>(
     alloc: Global,
     form: Form,
+    is_strict: bool,
     text: &[u8],
     out: &mut W,
 ) -> Result<(), Failure>
     ensures played { OnOk result ((seed : Option ℕ) × (sizes : Sizes) × (actions : List Action)
         × IsScenario LONGEST MOST_EVENTS text.now seed sizes actions
-        × IsWritten plum_state frame_content PlumStarts PlumSteps MOST_ARRIVALS form seed sizes actions (W.contents out.old) (W.contents out.new)) }
+        × IsWritten MOST_ARRIVALS form seed sizes actions (W.contents out.old) (W.contents out.new)) }
     ensures refused { (fault : ScenarioFault) → result ≡ Err (Failure.Refused fault) → fault ≢ ScenarioFault.OutOfMemory → (seed : Option ℕ) (sizes : Sizes) (actions : List Action)
         → ¬ IsScenario LONGEST MOST_EVENTS text.now seed sizes actions }
     ensures unplayed { (fault : ScenarioFault) → result ≡ Err (Failure.Refused fault) → out.new ≡ out.old }
 {
     match form {
-        Form::Lines => simulate(alloc, text, out),
-        Form::Graph => draw(alloc, text, out),
+        Form::Lines => simulate(alloc, text, is_strict, out),
+        Form::Graph(only) => draw(alloc, text, &only, is_strict, out),
+        Form::Trace => trace(alloc, text, is_strict, out),
     }
 }
 

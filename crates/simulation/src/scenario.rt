@@ -9,12 +9,14 @@ ghost use Rattle.simulation.specs.Scenario.{AreActions, Describes, IsAction};
 mod action;
 mod fault;
 mod limits;
+mod position;
 mod section;
 
 pub use action::Action;
 pub use fault::{Key, Place, ScenarioFault};
 pub use limits::limits_of;
 use node_names::Limits;
+pub use position::{event_line, key_line};
 pub use section::Section;
 use std::alloc::Global;
 use toml::{Table, Value};

@@ -100,7 +100,7 @@ fn push_tree<A: Allocator>(
 }
 
 /// Whether a group is at rest, as a word.
-fn rest_word(is_resting: bool) -> &'static str
+pub fn rest_word(is_resting: bool) -> &'static str
     ensures { result.now ≡ rest_word is_resting }
 {
     if is_resting { "yes" } else { "no" }

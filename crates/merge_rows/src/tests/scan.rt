@@ -1,5 +1,7 @@
 //! What a merge is, event by event, without a group.
-use crate::tests::texts::{PlumTrace, push_again, push_arrival, push_flight, push_start, push_stimulus};
+use crate::tests::texts::{
+    PlumTrace, push_again, push_arrival, push_flight, push_start, push_stimulus,
+};
 use frames::Frame;
 use node_names::{Dice, Origin};
 use std::alloc::{AllocError, Allocator, Global};

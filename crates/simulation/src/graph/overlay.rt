@@ -1,38 +1,58 @@
-//! The nodes that run, and their links.
+//! The nodes, and the links of those that run.
 ghost use Rattle.std.specs.Prelude.{◌≡◌, ◌++◌, OnOk, string_bytes};
-ghost use Rattle.simulation.specs.Graph.{link_line, link_lines, node_lines, style_text};
+ghost use Rattle.simulation.specs.Graph.{link_line, link_lines, node_lines, overlay_lines, style_text};
 
 use node_core::PlumCore;
-use node_names::NodeName;
+use node_names::{NodeName, Origin};
 use peer_sets::{Member, PeerKind};
 use std::alloc::{AllocError, Allocator};
-use world::NodeState;
+use world::{NodeState, World};
+
+/// Appends the lines of the nodes of a group.
+pub fn push_overlay<A: Allocator + Copy>(
+    text: &mut String<A>,
+    group: &World<PlumCore<A>, A>,
+) -> Result<(), AllocError>
+    ensures { OnOk result (string_bytes text.new ≡ string_bytes text.old ++ overlay_lines group.now.group.nodes) }
+{
+    push_nodes(text, group.nodes())
+}
 
 /// Appends the lines of nodes.
-pub fn push_nodes<A: Allocator>(
+fn push_nodes<A: Allocator>(
     text: &mut String<A>,
     nodes: &[NodeState<PlumCore<A>>],
-) -> Result<(), AllocError> {
+) -> Result<(), AllocError>
+    ensures { OnOk result (string_bytes text.new ≡ string_bytes text.old ++ overlay_lines nodes.now) }
+{
     for node in nodes {
-        push_node(text, &node.name, &node.core)?;
+        let run = Origin {
+            name: node.name,
+            incarnation: node.highest,
+        };
+        push_node(text, &run, &node.core)?;
     }
     Ok(())
 }
 
-/// Appends the lines of a node, if it runs.
+/// Appends the lines of a node.
 fn push_node<A: Allocator>(
     text: &mut String<A>,
-    name: &NodeName,
+    node: &Origin,
     core: &Option<PlumCore<A>>,
 ) -> Result<(), AllocError>
-    ensures { OnOk result (string_bytes text.new ≡ string_bytes text.old ++ node_lines name.now core.now) }
+    ensures { OnOk result (string_bytes text.new ≡ string_bytes text.old ++ node_lines node.now core.now) }
 {
+    let name = node.name;
     match core {
         Some(core) => {
-            write!(text, "    \"{name}\";\n")?;
-            push_links(text, name, core.peers().members())
+            write!(text, "    \"{name}\" [label = \"{node}\"];\n")?;
+            push_links(text, &name, core.peers().members())
         }
-        None => Ok(()),
+        None => write!(
+            text,
+            "    \"{name}\" [label = \"{node} stopped\", style = dotted];\n"
+        ),
     }
 }
 

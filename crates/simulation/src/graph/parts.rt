@@ -1,10 +1,14 @@
-//! The trees of messages.
-ghost use Rattle.std.specs.Prelude.{◌≡◌, ◌++◌, OnOk, string_bytes};
+//! The parts of messages: their trees, who lacks them, and what is in flight.
+ghost use Rattle.std.specs.Prelude.{◌≡◌, ◌++◌, ℕ, List, OnOk, string_bytes};
 ghost use Rattle.std.specs.List.{list_any};
 ghost use Rattle.node_names.specs.Same.{same_origin};
-ghost use Rattle.simulation.specs.Graph.{lacking_lines_of};
+ghost use Rattle.simulation.specs.Graph.{crown_lines, edge_line, head_text, lacking_lines, lacking_lines_of, opening_text, part_text, rest_text, title_text, twig_lines, DrawsPart};
+ghost use Rattle.simulation.specs.Turns.{InTurn};
 
-use at_rest::{Branch, Forest};
+use super::flying::push_flying;
+use super::runs::push_between;
+use crate::trees::rest_word;
+use at_rest::{Branch, Forest, Unrest};
 use node_core::PlumCore;
 use node_names::{MsgId, Origin};
 use std::alloc::{AllocError, Allocator};
@@ -16,28 +20,74 @@ pub fn push_trees<A: Allocator + Copy>(
     text: &mut String<A>,
     group: &World<PlumCore<A>, A>,
     messages: &[MsgId],
-) -> Result<(), AllocError> {
+) -> Result<(), AllocError>
+    ensures { OnOk result ((parts : List ℕ) × InTurn (DrawsPart group.now) messages.now parts × (string_bytes text.new ≡ string_bytes text.old ++ parts)) }
+{
     let forest = Forest::new(alloc, group)?;
+    let unrest = Unrest::new(alloc, group)?;
     for id in messages {
-        push_part(text, id, forest.tree(id), group.nodes())?;
+        push_part(text, id, unrest.is_at_rest(id), forest.tree(id), group)?;
     }
     Ok(())
 }
 
 /// Appends the part of a message with this tree.
-fn push_part<A: Allocator>(
+fn push_part<A: Allocator + Copy>(
     text: &mut String<A>,
     id: &MsgId,
+    is_resting: bool,
     branches: &[Branch],
-    nodes: &[NodeState<PlumCore<A>>],
-) -> Result<(), AllocError> {
-    write!(
-        text,
-        "  subgraph \"cluster {id}\" {{\n    label = \"{id}\";\n"
-    )?;
+    group: &World<PlumCore<A>, A>,
+) -> Result<(), AllocError>
+    ensures { OnOk result (string_bytes text.new ≡ string_bytes text.old ++ part_text id.now is_resting branches.now group.now.group) }
+{
+    push_head(text, id, is_resting)?;
     push_crown(text, id, branches)?;
-    push_lacking(text, id, branches, nodes)?;
+    push_lacking(text, id, branches, group)?;
+    push_flying(text, id, group)?;
     text.push_str("  }\n")
+}
+
+/// Appends how the part of a message begins.
+#[tactic(auto, unfolding(crate::specs::Graph::head_text))]
+fn push_head<A: Allocator>(
+    text: &mut String<A>,
+    id: &MsgId,
+    is_resting: bool,
+) -> Result<(), AllocError>
+    ensures { OnOk result (string_bytes text.new ≡ string_bytes text.old ++ head_text id.now is_resting) }
+{
+    push_opening(text, id)?;
+    push_title(text, id, is_resting)
+}
+
+/// Appends its first line.
+fn push_opening<A: Allocator>(text: &mut String<A>, id: &MsgId) -> Result<(), AllocError>
+    ensures { OnOk result (string_bytes text.new ≡ string_bytes text.old ++ opening_text id.now) }
+{
+    write!(text, "  subgraph \"cluster {id}\" {{\n")
+}
+
+/// Appends its label.
+fn push_title<A: Allocator>(
+    text: &mut String<A>,
+    id: &MsgId,
+    is_resting: bool,
+) -> Result<(), AllocError>
+    ensures { OnOk result (string_bytes text.new ≡ string_bytes text.old ++ title_text id.now is_resting) }
+{
+    write!(text, "    label = \"{id}")?;
+    push_rest(text, is_resting)
+}
+
+/// Appends how its label ends.
+#[tactic(auto, unfolding(crate::specs::Graph::rest_text))]
+fn push_rest<A: Allocator>(text: &mut String<A>, is_resting: bool) -> Result<(), AllocError>
+    ensures { OnOk result (string_bytes text.new ≡ string_bytes text.old ++ rest_text is_resting) }
+{
+    text.push_str(" rest ")?;
+    text.push_str(rest_word(is_resting))?;
+    text.push_str("\";\n")
 }
 
 /// Appends the lines of deliveries.
@@ -45,7 +95,9 @@ fn push_crown<A: Allocator>(
     text: &mut String<A>,
     id: &MsgId,
     branches: &[Branch],
-) -> Result<(), AllocError> {
+) -> Result<(), AllocError>
+    ensures { OnOk result (string_bytes text.new ≡ string_bytes text.old ++ crown_lines id.now branches.now) }
+{
     for branch in branches {
         push_twig(text, id, branch)?;
     }
@@ -57,10 +109,12 @@ fn push_twig<A: Allocator>(
     text: &mut String<A>,
     id: &MsgId,
     branch: &Branch,
-) -> Result<(), AllocError> {
+) -> Result<(), AllocError>
+    ensures { OnOk result (string_bytes text.new ≡ string_bytes text.old ++ twig_lines id.now branch.now) }
+{
     let node = branch.node;
     write!(text, "    \"{id} {node}\" [label = \"{node}\"];\n")?;
-    push_edge(text, id, &node, branch.parent)
+    push_edge(text, id, &node, &branch.parent)
 }
 
 /// Appends the arrow of a delivery, if it has one.
@@ -68,24 +122,40 @@ fn push_edge<A: Allocator>(
     text: &mut String<A>,
     id: &MsgId,
     node: &Origin,
-    parent: Option<Origin>,
-) -> Result<(), AllocError> {
+    parent: &Option<Origin>,
+) -> Result<(), AllocError>
+    ensures { OnOk result (string_bytes text.new ≡ string_bytes text.old ++ edge_line id.now node.now parent.now) }
+{
     match parent {
-        Some(parent) => write!(
-            text,
-            "    \"{id} {parent}\" -> \"{id} {node}\" [style = bold];\n"
-        ),
+        Some(parent) => {
+            push_between(text, id, parent, node)?;
+            text.push_str(" [style = bold];\n")
+        }
         None => Ok(()),
     }
 }
 
-/// Appends the lines of nodes that run and have not delivered the message.
-fn push_lacking<A: Allocator>(
+/// Appends the lines of the nodes of a group that run and have not delivered the message.
+fn push_lacking<A: Allocator + Copy>(
+    text: &mut String<A>,
+    id: &MsgId,
+    branches: &[Branch],
+    group: &World<PlumCore<A>, A>,
+) -> Result<(), AllocError>
+    ensures { OnOk result (string_bytes text.new ≡ string_bytes text.old ++ lacking_lines id.now branches.now group.now.group.nodes) }
+{
+    push_each_lacking(text, id, branches, group.nodes())
+}
+
+/// Appends the lines of those of these nodes.
+fn push_each_lacking<A: Allocator>(
     text: &mut String<A>,
     id: &MsgId,
     branches: &[Branch],
     nodes: &[NodeState<PlumCore<A>>],
-) -> Result<(), AllocError> {
+) -> Result<(), AllocError>
+    ensures { OnOk result (string_bytes text.new ≡ string_bytes text.old ++ lacking_lines id.now branches.now nodes.now) }
+{
     for node in nodes {
         push_if_lacking(text, id, branches, node)?;
     }

@@ -30,6 +30,24 @@ tree a/1/1 rest yes
   b/1 <- a/1
 ";
 
+/// What is told of it, step by step.
+const TRACED: &[u8] = b"step 0 event 0: start a/1 | peers: b | contact: -
+  a/1 | active: b | eager: b
+step 1 event 1: start b/1 | peers: a | contact: -
+  b/1 | active: a | eager: a
+step 2 event 2: broadcast by a length 5
+  deliver a/1 a/1/1 length 5
+  packet 0 a/1 -> b #1 GOSSIP a/1/1 round 0 length 5
+  flight 0:0
+step 3 event 3: arrive place 0: packet 0 a/1 -> b #1 GOSSIP a/1/1 round 0 length 5
+  deliver b/1 a/1/1 length 5
+node a/1 | active: b | passive: - | eager: b | lazy: - | queue: - | wants: - | timers: -
+node b/1 | active: a | passive: - | eager: a | lazy: - | queue: - | wants: - | timers: -
+message a/1/1 rest yes
+packets GOSSIP 1
+  a/1/1 copies 1 announcements 0 depth 1 mean 1.00
+";
+
 /// The scenario's text.
 pub(crate) fn hello() -> &'static [u8] {
     HELLO
@@ -43,4 +61,9 @@ pub(crate) fn is_told(printed: &[u8]) -> bool {
 /// Whether this is what is printed of it, without its end.
 pub(crate) fn is_front(printed: &[u8]) -> bool {
     printed.len() < TOLD.len() && TOLD.get(..printed.len()) == Some(printed)
+}
+
+/// Whether this is what is told of it, step by step.
+pub(crate) fn is_traced(told: &[u8]) -> bool {
+    told == TRACED
 }

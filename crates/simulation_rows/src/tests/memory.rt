@@ -1,9 +1,11 @@
-//! A scenario that is played and printed while one allocation is refused, each in turn: the fault is that memory is
-//! short, or nothing is missing.
-use crate::tests::hello::{hello, is_told};
+//! A scenario that is played and printed, or traced, while one allocation is refused, each in turn: the fault is that
+//! memory is short, or nothing is missing.
+use crate::tests::hello::{hello, is_told, is_traced};
 use links::TapeWriter;
 use refusing_allocator::RefusingAllocator;
-use simulation::{Scenario, ScenarioFault, conclude, play_and_print, read_document};
+use simulation::{
+    Failure, Scenario, ScenarioFault, conclude, play_and_print, play_and_trace, read_document,
+};
 use std::alloc::{Allocator, Global};
 use std::test::Fail;
 use test_support::{lend, stop_refusing, sweep};
@@ -22,9 +24,26 @@ enum End {
     Wrong,
 }
 
-/// How a scenario ended with this status, of which this was printed and told.
-fn end_of(status: u8, printed: &[u8], told: &[u8]) -> End {
-    if status == 0 && is_told(printed) && told.is_empty() {
+/// In which form a scenario is written.
+#[derive(Clone, Copy, PartialEq, Eq)]
+enum Written {
+    /// As lines.
+    Printed,
+    /// As a trace.
+    Traced,
+}
+
+/// Whether this is what is written of the scenario in this form.
+fn is_whole(form: Written, written: &[u8]) -> bool {
+    match form {
+        Written::Printed => is_told(written),
+        Written::Traced => is_traced(written),
+    }
+}
+
+/// How a scenario ended with this status, of which this was written and told.
+fn end_of(form: Written, status: u8, written: &[u8], told: &[u8]) -> End {
+    if status == 0 && is_whole(form, written) && told.is_empty() {
         End::Whole
     } else if status == 1 && told == SHORT {
         End::Short
@@ -33,10 +52,24 @@ fn end_of(status: u8, printed: &[u8], told: &[u8]) -> End {
     }
 }
 
+/// Plays a scenario and writes it in this form.
+fn play_as<A: Allocator + Copy>(
+    form: Written,
+    alloc: A,
+    scenario: &Scenario,
+    out: &mut TapeWriter,
+) -> Result<(), Failure> {
+    match form {
+        Written::Printed => play_and_print::<A, TapeWriter>(alloc, scenario, false, out),
+        Written::Traced => play_and_trace::<A, TapeWriter>(alloc, scenario, hello(), false, out),
+    }
+}
+
 /// Plays a scenario while the allocation with this number is refused. How it ended, and whether there was such an
 /// allocation.
 fn play_refused<A: Allocator + Copy>(
     heap: &RefusingAllocator,
+    form: Written,
     alloc: A,
     scenario: &Scenario,
     out: &mut TapeWriter,
@@ -44,15 +77,17 @@ fn play_refused<A: Allocator + Copy>(
     n: u64,
 ) -> (End, bool) {
     heap.refuse(n);
-    let ended = play_and_print::<A, TapeWriter>(alloc, scenario, out);
+    let ended = play_as(form, alloc, scenario, out);
     let is_spent = stop_refusing(heap);
     let status = conclude(ended, faults);
-    (end_of(status, out.as_slice(), faults.as_slice()), is_spent)
+    let end = end_of(form, status, out.as_slice(), faults.as_slice());
+    (end, is_spent)
 }
 
 /// Does so with fresh writers.
 fn play<A: Allocator + Copy>(
     heap: &RefusingAllocator,
+    form: Written,
     alloc: A,
     writers: Global,
     scenario: &Scenario,
@@ -60,20 +95,21 @@ fn play<A: Allocator + Copy>(
 ) -> (End, bool) {
     let mut out = TapeWriter::new(writers, usize::MAX, None);
     let mut faults = TapeWriter::new(writers, usize::MAX, None);
-    play_refused(heap, alloc, scenario, &mut out, &mut faults, n)
+    play_refused(heap, form, alloc, scenario, &mut out, &mut faults, n)
 }
 
 /// Does so, and counts the scenario if memory was short. Whether there was such an allocation, or none if the answer is
 /// wrong. What only asks for more room than is needed may be refused without harm.
 fn count_short<A: Allocator + Copy>(
     heap: &RefusingAllocator,
+    form: Written,
     alloc: A,
     writers: Global,
     scenario: &Scenario,
     short: &mut u64,
     n: u64,
 ) -> Option<bool> {
-    let (end, is_spent) = play(heap, alloc, writers, scenario, n);
+    let (end, is_spent) = play(heap, form, alloc, writers, scenario, n);
     let is_short = end == End::Short;
     *short = short.saturating_add(is_short as u64);
     let is_right = end == End::Whole || (is_short && is_spent);
@@ -83,13 +119,14 @@ fn count_short<A: Allocator + Copy>(
 /// Refuses each allocation of a scenario in turn. How often memory was short, or 0 if an answer is wrong.
 fn sweep_scenario<A: Allocator + Copy>(
     heap: &RefusingAllocator,
+    form: Written,
     alloc: A,
     writers: Global,
     scenario: &Scenario,
 ) -> Result<u64, ScenarioFault> {
     let mut short = 0u64;
     let count = sweep(|n| {
-        Ok::<_, ScenarioFault>(count_short(heap, alloc, writers, scenario, &mut short, n))
+        Ok::<_, ScenarioFault>(count_short(heap, form, alloc, writers, scenario, &mut short, n))
     })?;
     Ok(if count.is_some() { short } else { 0 })
 }
@@ -100,12 +137,24 @@ fn read(alloc: Global) -> Result<Scenario, ScenarioFault> {
     Scenario::from_document(alloc, &document)
 }
 
+/// How often memory was short for the scenario in this form, or 0 if an answer is wrong.
+fn shortages(alloc: Global, form: Written) -> Result<u64, ScenarioFault> {
+    let heap = RefusingAllocator::new(alloc);
+    lend(read(alloc)?, |scenario| {
+        sweep_scenario(&heap, form, &heap, alloc, scenario)
+    })
+}
+
 #[test]
 fn each_allocation(rt: HostRuntime) -> Result<(), Fail> {
-    let heap = RefusingAllocator::new(rt.alloc());
-    let short = lend(read(rt.alloc())?, |scenario| {
-        sweep_scenario(&heap, &heap, rt.alloc(), scenario)
-    })?;
+    let short = shortages(rt.alloc(), Written::Printed)?;
     assert!(rt; short > 30, "memory was short {short} times");
+    Ok(())
+}
+
+#[test]
+fn each_allocation_of_a_trace(rt: HostRuntime) -> Result<(), Fail> {
+    let short = shortages(rt.alloc(), Written::Traced)?;
+    assert!(rt; short > 60, "memory was short {short} times");
     Ok(())
 }

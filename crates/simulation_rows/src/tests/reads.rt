@@ -30,7 +30,7 @@ fn play(
     out: &mut TapeWriter,
     faults: &mut TapeWriter,
 ) -> Option<bool> {
-    let status = play_input(alloc, Form::Lines, reader, out, faults);
+    let status = play_input(alloc, Form::Lines, false, reader, out, faults);
     let is_failed = reader.failures() > 0;
     is_right(is_failed, status, out.as_slice(), faults.as_slice()).then_some(is_failed)
 }

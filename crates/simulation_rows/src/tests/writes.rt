@@ -22,7 +22,7 @@ fn is_right(is_failed: bool, status: u8, printed: &[u8], told: &[u8]) -> bool {
 /// Plays the scenario. Whether a write of what is printed failed, or none if the answer is wrong.
 fn play(alloc: Global, out: &mut TapeWriter, faults: &mut TapeWriter) -> Option<bool> {
     let mut text = hello();
-    let status = play_input(alloc, Form::Lines, &mut text, out, faults);
+    let status = play_input(alloc, Form::Lines, false, &mut text, out, faults);
     let is_failed = out.failures() > 0;
     is_right(is_failed, status, out.as_slice(), faults.as_slice()).then_some(is_failed)
 }
@@ -62,7 +62,7 @@ fn is_refused(is_failed: bool, status: u8, printed: &[u8], told: &[u8]) -> bool 
 /// Plays such a text. Whether a write of what is told failed, or none if the answer is wrong.
 fn refuse(alloc: Global, out: &mut TapeWriter, faults: &mut TapeWriter) -> Option<bool> {
     let mut text = REFUSED;
-    let status = play_input(alloc, Form::Lines, &mut text, out, faults);
+    let status = play_input(alloc, Form::Lines, false, &mut text, out, faults);
     let is_failed = faults.failures() > 0;
     is_refused(is_failed, status, out.as_slice(), faults.as_slice()).then_some(is_failed)
 }

@@ -1,7 +1,5 @@
--- The text is refused in either form where it is no scenario.
+-- A lenient reader refuses what is no scenario alone.
 use Rattle.simulation.proofs.program.play.Goals as goal
 
-pub returns-clause-refused : goal.returns-clause-refused
-returns-clause-refused g c status =
-    let (fault, is, has_memory) = c.conclude.ensures.refused status in
-    c.write_outcome.ensures.refused fault is has_memory
+pub returns-2-clause-refused : goal.returns-2-clause-refused
+returns-2-clause-refused g c status lenient = c.play_known.ensures.refused status

@@ -1,9 +1,6 @@
 -- A text that is not too long is the whole input.
 use Rattle.std.proofs.Common.{ℕ, List}
 use Rattle.std.specs.Prelude.{Option}
-use Rattle.frames.specs.Content.{frame_content}
-use Rattle.node_core.specs.Plum.{plum_state}
-use Rattle.node_core.specs.Steps.{PlumStarts, PlumSteps}
 use Rattle.node_names.specs.Limits.{Limits as Sizes}
 use Rattle.simulation.specs.Form.{IsWritten}
 use Rattle.simulation.specs.Scenario.{IsScenario}
@@ -16,6 +13,6 @@ use Rattle.simulation.proofs.program.play_input.Goals as goal
 
 pub returns-in-Ok-clause-played : goal.returns-in-Ok-clause-played
 returns-in-Ok-clause-played g c ended =
-    let Played : List ℕ → Type 0 = λ text. (seed : Option ℕ) × (sizes : Sizes) × (actions : List Action) × IsScenario LONGEST MOST_EVENTS text seed sizes actions × IsWritten plum_state frame_content PlumStarts PlumSteps MOST_ARRIVALS c.args.form seed sizes actions (g.W.Write.contents c.args.out.now) (g.W.Write.contents c.play.new.out) in
+    let Played : List ℕ → Type 0 = λ text. (seed : Option ℕ) × (sizes : Sizes) × (actions : List Action) × IsScenario LONGEST MOST_EVENTS text seed sizes actions × IsWritten MOST_ARRIVALS c.args.form seed sizes actions (g.W.Write.contents c.args.out.now) (g.W.Write.contents c.play.new.out) in
     let played : Played c.in-Ok.text.items = rw c.as_slice.ensures.value at (c.play.ensures.played ended) in
     all_bytes _ c.in-Ok.text.items LONGEST Played c.in-Ok.ensures.text played.3.short played

@@ -1,0 +1,175 @@
+//! What a strict reader refuses: keys and sections that mean nothing, and events that do nothing.
+ghost use Rattle.std.specs.Prelude.{◌≡◌, ◌⊎◌, None, IfSome};
+
+use crate::play::Idle;
+use crate::program::report;
+use crate::read::read_document;
+use crate::scenario::{Place, event_line, key_line};
+use std::alloc::Global;
+use std::fmt;
+use std::io::Write;
+use toml::{Table, Value};
+
+/// The keys at the top of a scenario, of one that is played and of one that is run.
+const TOP: [&str; 5] = ["event", "limits", "node", "seed", "ticks"];
+
+/// The keys of the limits.
+const LIMITS: [&str; 8] = [
+    "active",
+    "arwl",
+    "ka",
+    "keep",
+    "kp",
+    "passive",
+    "prwl",
+    "threshold",
+];
+
+/// The keys of a node that is to run.
+const NODE: [&str; 6] = ["contact", "incarnation", "name", "peers", "port", "say"];
+
+/// A key that means nothing where it stands.
+#[derive(Drop)]
+struct Unknown<'a> {
+    place: Place,
+    key: &'a str,
+    line: Option<usize>,
+}
+
+impl fmt::Display for Unknown<'_> {
+    fn fmt<W: fmt::Write>(&self, f: &mut fmt::Formatter<W>) -> fmt::Result {
+        let (place, key) = (self.place, self.key);
+        match self.line {
+            Some(line) => write!(f, "scenario: {place}, line {line}: unknown key {key}"),
+            None => write!(f, "scenario: {place}: unknown key {key}"),
+        }
+    }
+}
+
+/// An event that does nothing.
+#[derive(Drop)]
+struct IdleEvent {
+    event: usize,
+    why: Idle,
+    line: Option<usize>,
+}
+
+impl fmt::Display for IdleEvent {
+    fn fmt<W: fmt::Write>(&self, f: &mut fmt::Formatter<W>) -> fmt::Result {
+        let (event, why) = (self.event, self.why);
+        match self.line {
+            Some(line) => write!(f, "event {event}, line {line}: {why}"),
+            None => write!(f, "event {event}: {why}"),
+        }
+    }
+}
+
+/// Writes which key of a scenario means nothing, if one does, and returns the status that the program ends with then. A
+/// text that is no document is left to who reads it.
+pub fn report_unknown<F: Write>(alloc: Global, text: &[u8], faults: &mut F) -> Option<u8>
+    ensures status { IfSome result (λ status. (status ≡ 1) ⊎ (status ≡ 2)) }
+    ensures quiet { result ≡ None → faults.new ≡ faults.old }
+{
+    let Ok(document) = read_document(alloc, text) else {
+        return None;
+    };
+    let (place, key) = unknown_key(&document)?;
+    let line = key_line(text, place, events_of(&document), key);
+    Some(report(faults, Unknown { place, key, line }, 2))
+}
+
+/// Writes which event of a scenario does nothing. The number is the status that the program ends with.
+pub fn report_idle<F: Write>(
+    alloc: Global,
+    text: &[u8],
+    event: usize,
+    why: Idle,
+    faults: &mut F,
+) -> u8
+    ensures { result ≡ 1 }
+{
+    let line = match read_document(alloc, text) {
+        Ok(document) => event_line(text, events_of(&document), event),
+        Err(_) => None,
+    };
+    report(faults, IdleEvent { event, why, line }, 1)
+}
+
+/// How many events a document has.
+fn events_of(document: &Table) -> usize {
+    tables(document, "event").len()
+}
+
+/// The tables at a key, or none.
+fn tables<'a>(document: &'a Table, key: &str) -> &'a [Value] {
+    match document.get(key).and_then(Value::as_array) {
+        Some(values) => values.as_slice(),
+        None => &[],
+    }
+}
+
+/// The first key of a scenario that means nothing where it stands.
+fn unknown_key(document: &Table) -> Option<(Place, &str)> {
+    if let Some(key) = stranger(document, &TOP) {
+        return Some((Place::Top, key));
+    }
+    if let Some(limits) = document.get("limits").and_then(Value::as_table)
+        && let Some(key) = stranger(limits, &LIMITS)
+    {
+        return Some((Place::Limits, key));
+    }
+    match unknown_in_events(tables(document, "event")) {
+        None => unknown_in_nodes(tables(document, "node")),
+        found => found,
+    }
+}
+
+/// The first key of events that means nothing.
+fn unknown_in_events(events: &[Value]) -> Option<(Place, &str)> {
+    for (number, event) in events.iter().enumerate() {
+        if let Some(table) = event.as_table()
+            && let Some(known) = keys_of(table)
+            && let Some(key) = stranger(table, known)
+        {
+            return Some((Place::Event(number), key));
+        }
+    }
+    None
+}
+
+/// The first key of nodes that are to run that means nothing.
+fn unknown_in_nodes(nodes: &[Value]) -> Option<(Place, &str)> {
+    for (number, node) in nodes.iter().enumerate() {
+        if let Some(table) = node.as_table()
+            && let Some(key) = stranger(table, &NODE)
+        {
+            return Some((Place::Node(number), key));
+        }
+    }
+    None
+}
+
+/// The keys that an event may have, by what it does. What does nothing known is left to who reads the events.
+fn keys_of(event: &Table) -> Option<&'static [&'static str]> {
+    match event.get("do").and_then(Value::as_str)? {
+        "start" => Some(&["do", "node", "incarnation", "peers", "contact"]),
+        "broadcast" => Some(&["do", "node", "text"]),
+        "arrive" | "lose" => Some(&["do", "place"]),
+        "again" => Some(&["do", "number"]),
+        "fire" => Some(&["do", "node", "origin", "incarnation", "seq"]),
+        "flush" | "shuffle" | "stop" => Some(&["do", "node"]),
+        "down" => Some(&["do", "node", "peer"]),
+        "arrive_all" | "settle" => Some(&["do"]),
+        _ => None,
+    }
+}
+
+/// The first key of a table that is none of these.
+fn stranger<'a>(table: &'a Table, known: &[&str]) -> Option<&'a str> {
+    for key in table.keys() {
+        if !known.iter().any(|word| *word == key.as_str()) {
+            return Some(key.as_str());
+        }
+    }
+    None
+}

@@ -1,0 +1,133 @@
+//! Why a run ended early, in words.
+ghost use Rattle.std.specs.Prelude.{◌≡◌, ◌++◌, ℕ, List, OnOk, string_bytes};
+
+use crate::play::{MOST_ARRIVALS, PlayFault};
+use crate::scenario::{Action, event_line};
+use node_core::PlumCore;
+use std::alloc::{AllocError, Allocator};
+use world::{World, WorldError};
+
+/// What a run was to be, and why it ended early, if it did.
+#[derive(Clone, Copy)]
+pub struct Stop<'a> {
+    /// The scenario's text.
+    pub source: &'a [u8],
+    /// What was to happen.
+    pub actions: &'a [Action],
+    /// Why the run ended before that was done.
+    pub fault: Option<PlayFault>,
+}
+
+impl Stop<'_> {
+    /// That a run came to its end.
+    pub fn none() -> Stop<'static> {
+        Stop {
+            source: &[],
+            actions: &[],
+            fault: None,
+        }
+    }
+}
+
+/// Appends which event of the scenario was not played to its end, where it stands in the file, and why. Where memory
+/// ran out nothing is appended.
+pub fn push_stop<A: Allocator + Copy>(
+    text: &mut String<A>,
+    group: &World<PlumCore<A>, A>,
+    stop: &Stop<'_>,
+) -> Result<(), AllocError>
+    ensures { OnOk result ((told : List ℕ) × (string_bytes text.new ≡ string_bytes text.old ++ told)) }
+{
+    match stop.fault {
+        Some(PlayFault::Refused { event, code }) => {
+            push_event(text, stop, event)?;
+            push_refusal(text, group.flight().len(), group.sent().len(), code.0)
+        }
+        Some(PlayFault::NoEnd { event }) => {
+            let flying = group.flight().len();
+            push_event(text, stop, event)?;
+            write!(
+                text,
+                "{flying} packets are in flight after {MOST_ARRIVALS} arrivals\n"
+            )
+        }
+        Some(PlayFault::Unsettled { event, code }) => {
+            let why = code.0;
+            push_event(text, stop, event)?;
+            write!(text, "{why}\n")
+        }
+        Some(PlayFault::Idle { event, why }) => {
+            push_event(text, stop, event)?;
+            text.push_str(why.words())?;
+            text.push('\n')
+        }
+        Some(PlayFault::OutOfMemory) | None => Ok(()),
+    }
+}
+
+/// Appends which event it is, and its line in the file where that is known.
+fn push_event<A: Allocator>(
+    text: &mut String<A>,
+    stop: &Stop<'_>,
+    event: usize,
+) -> Result<(), AllocError>
+    ensures { OnOk result ((told : List ℕ) × (string_bytes text.new ≡ string_bytes text.old ++ told)) }
+{
+    write!(text, "stopped at event {event}")?;
+    if let Some(line) = event_line(stop.source, stop.actions.len(), event) {
+        write!(text, ", line {line}")?;
+    }
+    text.push_str(": ")?;
+    match stop.actions.get(event) {
+        Some(action) => push_action(text, action),
+        None => Ok(()),
+    }
+}
+
+/// Appends what an action was to do.
+fn push_action<A: Allocator>(text: &mut String<A>, action: &Action) -> Result<(), AllocError>
+    ensures { OnOk result ((told : List ℕ) × (string_bytes text.new ≡ string_bytes text.old ++ told)) }
+{
+    match action {
+        Action::Start {
+            node,
+            incarnation,
+            ..
+        } => {
+            let number = incarnation.0;
+            write!(text, "start {node}/{number}: ")
+        }
+        Action::Broadcast { node, text: said } => {
+            let length = said.len();
+            write!(text, "broadcast by {node} length {length}: ")
+        }
+        Action::Arrive { place } => write!(text, "arrive place {place}: "),
+        Action::Lose { place } => write!(text, "lose place {place}: "),
+        Action::Again { number } => write!(text, "again number {number}: "),
+        Action::Fire { node, id } => write!(text, "fire {node} {id}: "),
+        Action::Flush { node } => write!(text, "flush {node}: "),
+        Action::Shuffle { node } => write!(text, "shuffle {node}: "),
+        Action::Down { node, peer } => write!(text, "down {node} {peer}: "),
+        Action::Stop { node } => write!(text, "stop {node}: "),
+        Action::ArriveAll => text.push_str("arrive_all: "),
+        Action::Settle => text.push_str("settle: "),
+    }
+}
+
+/// Appends why an event was refused by a group in which so many packets are in flight and so many were sent.
+fn push_refusal<A: Allocator>(
+    text: &mut String<A>,
+    flying: usize,
+    sent: usize,
+    why: WorldError,
+) -> Result<(), AllocError>
+    ensures { OnOk result ((told : List ℕ) × (string_bytes text.new ≡ string_bytes text.old ++ told)) }
+{
+    match why {
+        WorldError::NoPacket => write!(
+            text,
+            "there is no such packet, {flying} are in flight and {sent} were sent\n"
+        ),
+        why => write!(text, "{why}\n"),
+    }
+}

@@ -1,0 +1,7 @@
+pub mod Counts
+pub mod Events
+pub mod Ends
+pub mod Names
+pub mod Packets
+pub mod Parts
+pub mod Step

@@ -1,0 +1,89 @@
+//! How many packets there are.
+ghost use Rattle.std.specs.Prelude.{◌≡◌, ◌≤◌, length, sum_by};
+ghost use Rattle.frames.specs.Kind.{kind_of, number_of};
+ghost use Rattle.trace_text.specs.Counts.{announcements_in, announcements_of, copies_of, is_kind, kind_count};
+
+use crate::contents::is_carried;
+use frames::{Body, BodyOf, Frame};
+use node_names::MsgId;
+use std::alloc::Allocator;
+use world::{Packet, Wire};
+
+/// The number of the kind of a frame.
+fn kind_number<A: Allocator>(body: &Body<A>) -> u8
+    ensures { result ≡ number_of (kind_of body.now) }
+{
+    match body {
+        BodyOf::Join => 1,
+        BodyOf::ForwardJoin { .. } => 2,
+        BodyOf::Neighbor { .. } => 3,
+        BodyOf::NeighborReply { .. } => 4,
+        BodyOf::Disconnect => 5,
+        BodyOf::Shuffle { .. } => 6,
+        BodyOf::ShuffleReply { .. } => 7,
+        BodyOf::Gossip { .. } => 8,
+        BodyOf::IHave { .. } => 9,
+        BodyOf::Graft { .. } => 10,
+        BodyOf::Prune => 11,
+        BodyOf::GraftPeer => 12,
+    }
+}
+
+/// Whether the kind of a frame has this number.
+#[tactic(auto, unfolding(crate::specs::Counts::is_kind))]
+fn is_kind<A: Allocator>(note: &Frame<A>, kind: u8) -> bool
+    ensures { result ≡ is_kind kind note.now }
+{
+    kind_number(note.body()) == kind
+}
+
+/// How many packets have the kind of this number.
+pub fn count_kind<A: Allocator>(sent: &[Packet<Frame<A>>], kind: u8) -> usize
+    ensures { result ≡ kind_count kind sent.now }
+{
+    let mut count = 0;
+    for packet in sent {
+        if is_kind(&packet.note, kind) {
+            count += 1;
+        }
+    }
+    count
+}
+
+/// How many packets carry the message.
+pub fn count_copies<A: Allocator + Copy>(sent: &[Packet<Frame<A>>], id: &MsgId) -> usize
+    ensures { result ≡ copies_of id.now sent.now }
+{
+    let mut count = 0;
+    for packet in sent {
+        if is_carried(&packet.note, id) {
+            count += 1;
+        }
+    }
+    count
+}
+
+/// How many announcements of the message packets have.
+pub fn count_announcements<A: Allocator + Copy>(sent: &[Packet<Frame<A>>], id: &MsgId) -> u128
+    ensures { result ≡ announcements_of id.now sent.now }
+{
+    let mut count = 0;
+    for packet in sent {
+        count += count_in(packet.note.announced(), id) as u128;
+    }
+    count
+}
+
+/// How many of these announcements are of the message.
+fn count_in(entries: &[(MsgId, u32)], id: &MsgId) -> usize
+    ensures value { result ≡ announcements_in id.now entries.now }
+    ensures bound { result ≤ length entries.now }
+{
+    let mut count = 0;
+    for entry in entries {
+        if *id == entry.0 {
+            count += 1;
+        }
+    }
+    count
+}

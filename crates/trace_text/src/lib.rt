@@ -1,0 +1,22 @@
+//! The texts of a trace: each step of a simulated run, the end of the run, and what it cost.
+#![tactic(auto)]
+
+mod contents;
+mod counts;
+mod depths;
+mod events;
+mod messages;
+mod names;
+mod nodes;
+mod packets;
+mod parts;
+mod steps;
+mod summary;
+mod touched;
+
+pub use contents::is_silent;
+pub use messages::push_message;
+pub use nodes::push_nodes;
+pub use steps::push_step;
+pub use summary::push_summary;
+pub use touched::Touched;
