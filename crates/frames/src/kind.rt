@@ -113,3 +113,10 @@ impl Kind {
         }
     }
 }
+
+/// The number of a body's kind, as it stands in the bytes of a frame (docs/frames.md).
+pub fn kind_number<P, L, E>(body: &BodyOf<P, L, E>) -> u8
+    ensures { result ≡ number_of (kind_of body.now) }
+{
+    Kind::of(body).number()
+}

@@ -20,6 +20,7 @@ pub use decoding::decode;
 pub use encoding::encode;
 pub use fault::FrameFault;
 pub use frame::Frame;
+pub use kind::kind_number;
 pub use laws::cuttings_agree;
 
 /// The most names in a list of a frame.

@@ -5,7 +5,6 @@ mod code;
 mod failure;
 mod form;
 mod graph;
-mod origins;
 mod outcome;
 mod output;
 mod play;

@@ -4,12 +4,12 @@ ghost use Rattle.std.specs.Io.KnownBytes.{Appends};
 ghost use Rattle.world.specs.History.{deliveries as all_deliveries};
 ghost use Rattle.simulation.specs.Lines.{hex_digit, hexadecimal, payload_text, line_of, lines_of, line_cmp};
 
-use crate::origins::{push_id, push_origin};
 use crate::ranks::{messages, nodes, rank_of_message, rank_of_node};
 use std::alloc::{AllocError, Allocator};
 use std::io::Write;
 use std::{io, str};
 use thiserror::Error;
+use trace_text::{push_id, push_origin};
 use world::{Delivery, Entry};
 
 /// Why lines were not all written.

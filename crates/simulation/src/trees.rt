@@ -4,12 +4,12 @@ ghost use Rattle.std.specs.Io.KnownBytes.{Appends};
 ghost use Rattle.node_names.specs.Order.{id_cmp};
 ghost use Rattle.simulation.specs.Trees.{branch_line, branch_lines, broadcasts_of, rest_word, tree_lines, TellsTrees};
 
-use crate::origins::push_origin;
 use crate::output::OutputFault;
 use at_rest::{Branch, Forest, Unrest};
 use node_names::MsgId;
 use std::alloc::{AllocError, Allocator};
 use std::io::Write;
+use trace_text::push_origin;
 use world::{Core, Delivery, World};
 
 /// The messages that were broadcast, each as its own origin delivered it, in the order of their ids.

@@ -4,30 +4,10 @@ ghost use Rattle.std.specs.Bool.{Decides};
 ghost use Rattle.trace_merge.specs.Projection.{said};
 ghost use Rattle.trace_merge.specs.Sameness.{entries_of, flag_of, kind_number, message_of, names_of, payload_of, walk_of};
 
-use frames::{Body, BodyOf, Frame};
+use frames::{Body, BodyOf, Frame, kind_number};
 use node_names::{MsgId, NodeName};
 use std::alloc::Allocator;
 use world::{Delivery, Packet};
-
-/// The number of a body's kind.
-fn kind_number<A: Allocator>(body: &Body<A>) -> u8
-    ensures { result ≡ kind_number body.now }
-{
-    match body {
-        BodyOf::Join => 1,
-        BodyOf::ForwardJoin { .. } => 2,
-        BodyOf::Neighbor { .. } => 3,
-        BodyOf::NeighborReply { .. } => 4,
-        BodyOf::Disconnect => 5,
-        BodyOf::Shuffle { .. } => 6,
-        BodyOf::ShuffleReply { .. } => 7,
-        BodyOf::Gossip { .. } => 8,
-        BodyOf::IHave { .. } => 9,
-        BodyOf::Graft { .. } => 10,
-        BodyOf::Prune => 11,
-        BodyOf::GraftPeer => 12,
-    }
-}
 
 /// Whether a body demands or accepts a neighbour.
 fn flag_of<A: Allocator>(body: &Body<A>) -> bool

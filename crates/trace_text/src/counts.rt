@@ -1,33 +1,12 @@
 //! How many packets there are.
 ghost use Rattle.std.specs.Prelude.{◌≡◌, ◌≤◌, length, sum_by};
-ghost use Rattle.frames.specs.Kind.{kind_of, number_of};
 ghost use Rattle.trace_text.specs.Counts.{announcements_in, announcements_of, copies_of, is_kind, kind_count};
 
 use crate::contents::is_carried;
-use frames::{Body, BodyOf, Frame};
+use frames::{Frame, kind_number};
 use node_names::MsgId;
 use std::alloc::Allocator;
 use world::{Packet, Wire};
-
-/// The number of the kind of a frame.
-fn kind_number<A: Allocator>(body: &Body<A>) -> u8
-    ensures { result ≡ number_of (kind_of body.now) }
-{
-    match body {
-        BodyOf::Join => 1,
-        BodyOf::ForwardJoin { .. } => 2,
-        BodyOf::Neighbor { .. } => 3,
-        BodyOf::NeighborReply { .. } => 4,
-        BodyOf::Disconnect => 5,
-        BodyOf::Shuffle { .. } => 6,
-        BodyOf::ShuffleReply { .. } => 7,
-        BodyOf::Gossip { .. } => 8,
-        BodyOf::IHave { .. } => 9,
-        BodyOf::Graft { .. } => 10,
-        BodyOf::Prune => 11,
-        BodyOf::GraftPeer => 12,
-    }
-}
 
 /// Whether the kind of a frame has this number.
 #[tactic(auto, unfolding(crate::specs::Counts::is_kind))]

@@ -16,6 +16,7 @@ mod touched;
 
 pub use contents::is_silent;
 pub use messages::push_message;
+pub use names::{push_id, push_origin};
 pub use nodes::push_nodes;
 pub use steps::push_step;
 pub use summary::push_summary;

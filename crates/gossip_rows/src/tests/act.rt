@@ -192,7 +192,7 @@ fn is_broadcast(act: &Act) -> bool {
     matches!(act, Act::Broadcast(_))
 }
 
-/// The answer of a call that is refused for want of memory alone.
+/// The answer of a call that is refused only where an allocation is.
 fn in_memory(answer: Result<(), AllocError>) -> Result<(), GossipFault> {
     match answer {
         Ok(()) => Ok(()),

@@ -2,9 +2,9 @@
 ghost use Rattle.std.specs.Prelude.{◌≡◌, ◌++◌, OnOk, string_bytes};
 ghost use Rattle.simulation.specs.Graph.{between_text, run_text};
 
-use crate::origins::{push_id, push_origin};
 use node_names::{MsgId, Origin};
 use std::alloc::{AllocError, Allocator};
+use trace_text::{push_id, push_origin};
 
 /// Appends an arrow from one run to another, without its style.
 #[tactic(auto, unfolding(crate::specs::Graph::between_text))]
