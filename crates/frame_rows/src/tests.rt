@@ -10,5 +10,6 @@ mod ends;
 mod failing_devices;
 mod kinds;
 mod linking;
+mod long_streams;
 mod rows;
 mod stalling;

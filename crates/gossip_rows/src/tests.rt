@@ -2,6 +2,7 @@
 mod act;
 mod announcements;
 mod halves;
+mod keeping;
 mod kept_rows;
 mod limits;
 mod links;

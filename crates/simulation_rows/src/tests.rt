@@ -1,4 +1,5 @@
 //! The tests by what they are of, and what they share.
+mod codes;
 mod hello;
 mod memory;
 mod reads;

@@ -1,5 +1,6 @@
 //! The tests by what they are of, and what they share.
 mod calls;
+mod links;
 mod node;
 mod row_sweeps;
 mod rows;

@@ -3,6 +3,7 @@ mod act;
 mod alike;
 mod flight;
 mod forest;
+mod moves;
 mod play;
 mod reach;
 mod rest;

@@ -1,10 +1,10 @@
 //! Readers that a gate orders.
 use crate::tests::ends::close;
-use crate::tests::node::{LOOKS, Started, keep, name, start_with_two};
+use crate::tests::node::{LOOKS, Started, keep, name, start_with_one, start_with_two};
 use bytes::Bytes;
 use frames::{Body, Frame, encode};
 use links::TapeReader;
-use node_threads::{Closed, Gate, Host, HostError, NodeCore, Worker, read_link};
+use node_threads::{Gate, Host, HostError, NodeCore, Worker, read_link};
 use std::alloc::{AllocError, Global};
 use std::process::Abort;
 use std::sync::{Arc, Mutex, Wait};
@@ -107,23 +107,20 @@ fn arrivals(trace: &Trace<Frame>) -> usize {
         .count()
 }
 
-/// Starts the reader of this number, to which one frame comes.
-fn start_reader<R, C>(
+/// Starts the reader of this number, to which one frame comes, behind a gate.
+fn start_reader<R, C, G>(
     rt: R,
     alloc: Global,
     host: &Host<C>,
-    watch: &Arc<Watch, Global>,
+    gate: G,
     number: usize,
     sender: &str,
 ) -> Result<Worker, HostError>
 where
     R: Threads + Wait + Clock + Abort + Copy + Send + Drop + 'static,
     C: NodeCore<Global> + Drop + Send + 'static,
+    G: Gate + Send + Drop + 'static,
 {
-    let gate = SecondFirst {
-        rt,
-        watch: Arc::try_clone(watch)?,
-    };
     let reader = TapeReader::new(prune_from(&rt, alloc, sender)?, Vec::new(alloc), None);
     read_link(rt, host, gate, number, reader, 1)
 }
@@ -141,31 +138,27 @@ where
 {
     let mut workers = Vec::with_capacity(alloc, 2)?;
     for (number, sender) in ["p", "q"].iter().enumerate() {
-        keep(
-            &mut workers,
-            start_reader(rt, alloc, host, watch, number, sender)?,
-        )?;
+        let watch = Arc::try_clone(watch)?;
+        let gate = SecondFirst { rt, watch };
+        let reader = start_reader(rt, alloc, host, gate, number, sender)?;
+        keep(&mut workers, reader)?;
     }
     Ok(workers)
 }
 
-/// Whether two frames arrived.
-fn is_whole(closed: &Closed) -> bool {
-    arrivals(&closed.trace) == 2
-}
-
-/// Closes a node. Whether two frames arrived.
-fn closes_whole<R: Threads + Wait, C: NodeCore<Global> + Drop>(
+/// Closes a node. Whether so many frames arrived.
+fn closes_with<R: Threads + Wait, C: NodeCore<Global> + Drop>(
     rt: &R,
     node: Started<C>,
     workers: Vec<Worker>,
+    wanted: usize,
 ) -> bool {
     let Started {
         host,
         ports,
         outlets: _,
     } = node;
-    close(rt, host, ports, workers).is_some_and(|closed| is_whole(&closed))
+    close(rt, host, ports, workers).is_some_and(|closed| arrivals(&closed.trace) == wanted)
 }
 
 /// Whether both readers of a node make their steps, and leave it whole.
@@ -181,7 +174,7 @@ where
 {
     let workers = start_readers(rt, alloc, &node.host, watch)?;
     let is_read = watch.wait_for_both(&rt);
-    Ok(closes_whole(&rt, node, workers) && is_read)
+    Ok(closes_with(&rt, node, workers, 2) && is_read)
 }
 
 /// Two readers with one frame each, of which the second goes first, after the first was refused. Both frames arrive,
@@ -192,5 +185,56 @@ fn gated_readers(rt: HostRuntime) -> Result<(), Fail> {
     let watch = Arc::new(alloc, Watch::new())?;
     let node = start_with_two(&rt, alloc, "a", ["p", "q"], 0)?;
     assert!(rt; reads_in_order(rt, alloc, node, &watch)?);
+    Ok(())
+}
+
+/// Lets nobody through.
+#[derive(Drop)]
+struct Shut<R: Wait + Drop> {
+    rt: R,
+    watch: Arc<Watch, Global>,
+}
+
+impl<R: Wait + Drop> Gate for Shut<R> {
+    fn pass(&self, _worker: usize) -> bool {
+        let mut reports = self.watch.reports.lock(&self.rt);
+        reports.refused = reports.refused.saturating_add(1);
+        false
+    }
+
+    fn applied(&self, _worker: usize) {}
+
+    fn pause(&self) {}
+}
+
+/// Whether a reader that its gate never lets through ends, and the node takes nothing of it.
+fn ends_at_the_gate<R, C>(
+    rt: R,
+    alloc: Global,
+    node: Started<C>,
+    watch: &Arc<Watch, Global>,
+) -> Result<bool, HostError>
+where
+    R: Threads + Wait + Clock + Abort + Copy + Send + Drop + 'static,
+    C: NodeCore<Global> + Drop + Send + 'static,
+{
+    let watch = Arc::try_clone(watch)?;
+    let gate = Shut { rt, watch };
+    let mut workers = Vec::new(alloc);
+    keep(
+        &mut workers,
+        start_reader(rt, alloc, &node.host, gate, 0, "p")?,
+    )?;
+    Ok(closes_with(&rt, node, workers, 0))
+}
+
+/// A reader asks a gate a thousand times before one step, and then ends.
+#[test]
+fn a_shut_gate(rt: HostRuntime) -> Result<(), Fail> {
+    let alloc = rt.alloc();
+    let watch = Arc::new(alloc, Watch::new())?;
+    let node = start_with_one(&rt, alloc, "a", "p", 0)?;
+    assert!(rt; ends_at_the_gate(rt, alloc, node, &watch)?);
+    assert!(rt; watch.reports(&rt).refused == 1_000);
     Ok(())
 }

@@ -1,0 +1,67 @@
+//! Which events move an active view: the log says so of each.
+use crate::tests::act::{Act, event};
+use crate::tests::alike::Group;
+use crate::tests::rest::apply;
+use node_names::Limits;
+use std::alloc::Allocator;
+use std::process::Abort;
+use std::test::Fail;
+use test_support::lend;
+use world::WorldError;
+
+/// An event, and whether it moves an active view.
+type Turn = (Act, bool);
+
+/// Two nodes, of which one broadcasts and then loses its link twice. What stops has no view any more, and moves none.
+const TURNS: &[Turn] = &[
+    (Act::Start("a", 1, "b"), false),
+    (Act::Start("b", 1, "a"), false),
+    (Act::Broadcast("a", "x"), false),
+    (Act::Again(0), false),
+    (Act::Arrive(0), false),
+    (Act::Lose(0), false),
+    (Act::Flush("b"), false),
+    (Act::Shuffle("b"), false),
+    (Act::Down("a", "b"), true),
+    (Act::Down("a", "b"), false),
+    (Act::Stop("b"), false),
+];
+
+/// Plays an event. Whether its entry says of a move what it should.
+fn is_said<A: Allocator + Copy>(
+    rt: &impl Abort,
+    alloc: A,
+    world: &mut Group<A>,
+    turn: &Turn,
+) -> Result<bool, WorldError> {
+    let event = event(rt, alloc, &turn.0)?;
+    apply(world, event)?;
+    Ok(
+        world
+            .log()
+            .last()
+            .is_some_and(|entry| entry.moved == turn.1),
+    )
+}
+
+/// Plays the events. How many entries say what they should, up to the first that does not.
+fn count_said<A: Allocator + Copy>(
+    rt: &impl Abort,
+    alloc: A,
+    world: &mut Group<A>,
+) -> Result<usize, WorldError> {
+    for (at, turn) in TURNS.iter().enumerate() {
+        if !is_said(rt, alloc, world, turn)? {
+            return Ok(at);
+        }
+    }
+    Ok(TURNS.len())
+}
+
+#[test]
+fn says_what_moved(rt: HostRuntime) -> Result<(), Fail> {
+    let world = Group::new(rt.alloc(), Limits::STANDARD);
+    let said = lend(world, |world| count_said(&rt, rt.alloc(), world))?;
+    assert!(rt; said == 11, "event {said} says otherwise");
+    Ok(())
+}
