@@ -1,0 +1,65 @@
+//! A group that runs where ports are free.
+use crate::groups::overlay::{Group, members};
+use anyhow::{Result, bail};
+use loopback::{Plan, Ran, RunFault, Unwatched, run};
+use node_names::Limits;
+use std::alloc::Global;
+use std::net::{Net, TcpListener, TcpStream};
+use std::sync::Wait;
+use std::thread::Threads;
+use std::time::Clock;
+
+/// The first port that is tried.
+const FIRST_PORT: u16 = 20_000;
+
+/// How far apart are the first ports of two attempts: more than a group has nodes.
+const APART: u16 = 100;
+
+/// How often a run is tried.
+const ATTEMPTS: u16 = 100;
+
+/// Runs a group with ports from this one on. There is none where one of them is taken.
+fn run_at<R>(rt: R, alloc: Global, group: &Group, first_port: u16) -> Result<Option<Ran>>
+where
+    R: Threads
+        + Wait
+        + Clock
+        + Net<Listener = TcpListener, Stream = TcpStream>
+        + Copy
+        + Send
+        + Drop
+        + 'static,
+{
+    let plan = Plan {
+        limits: Limits::STANDARD,
+        seed: 1,
+        ticks: group.ticks,
+    };
+    let members = members(alloc, group, first_port)?;
+    match run(rt, alloc, &plan, members, &mut Unwatched) {
+        Ok(ran) => Ok(Some(ran)),
+        Err(RunFault::CannotListen { .. }) => Ok(None),
+        Err(fault) => Err(fault.into()),
+    }
+}
+
+/// Runs a group at the first ports that are free.
+pub(crate) fn run_somewhere<R>(rt: R, alloc: Global, group: &Group) -> Result<Ran>
+where
+    R: Threads
+        + Wait
+        + Clock
+        + Net<Listener = TcpListener, Stream = TcpStream>
+        + Copy
+        + Send
+        + Drop
+        + 'static,
+{
+    for attempt in 0..ATTEMPTS {
+        let first_port = FIRST_PORT.saturating_add(APART.saturating_mul(attempt));
+        if let Some(ran) = run_at(rt, alloc, group, first_port)? {
+            return Ok(ran);
+        }
+    }
+    bail!("no ports are free")
+}

@@ -1,0 +1,93 @@
+//! What the crates cost. Without an argument it prints what each benchmark makes of a little, which is the same in each
+//! run; given the name of one and its numbers, it prints how long that takes. The scripts of `bench` call it.
+#![tactic(auto)]
+
+mod broadcasts;
+mod groups;
+mod merges;
+mod running_node;
+mod steps;
+mod streams;
+mod words;
+
+use crate::groups::Group;
+use crate::words::{number, size, small};
+use anyhow::Result;
+use std::alloc::Global;
+use std::env;
+use std::io::Print;
+use std::net::{Net, TcpListener, TcpStream};
+use std::sync::Wait;
+use std::thread::Threads;
+use std::time::Clock;
+
+/// The group that words describe: how many nodes, messages and bytes, and after how many ticks the nodes are stopped,
+/// which is to be long after the last delivery.
+fn group(words: &[String]) -> Result<Group> {
+    Ok(Group {
+        nodes: size(words, 2, 8)?,
+        messages: size(words, 3, 1_000)?,
+        bytes: size(words, 4, 100)?,
+        ticks: small(words, 5, 1_000)?,
+    })
+}
+
+/// Prints what each benchmark makes of a little.
+fn tell<R>(rt: R, alloc: Global) -> Result<()>
+where
+    R: Print
+        + Threads
+        + Wait
+        + Clock
+        + Net<Listener = TcpListener, Stream = TcpStream>
+        + Copy
+        + Send
+        + Drop
+        + 'static,
+{
+    broadcasts::tell(&rt, alloc)?;
+    streams::run_all(&rt, alloc, None)?;
+    merges::tell(&rt, alloc)?;
+    running_node::tell(rt, alloc)?;
+    steps::tell(&rt, alloc)?;
+    groups::tell(rt, alloc)
+}
+
+/// Measures what the word names, with the numbers that follow.
+fn measure<R>(rt: R, alloc: Global, what: &str, words: &[String]) -> Result<()>
+where
+    R: Print
+        + Threads
+        + Wait
+        + Clock
+        + Net<Listener = TcpListener, Stream = TcpStream>
+        + Copy
+        + Send
+        + Drop
+        + 'static,
+{
+    match what {
+        "broadcasts" => broadcasts::measure(&rt, alloc, size(words, 2, 500)?),
+        "hops" => broadcasts::measure_hops(&rt, alloc, small(words, 2, 0)?),
+        "settle" => broadcasts::measure_settling(&rt, alloc, size(words, 2, 10_000)?),
+        "frames" => streams::run_all(&rt, alloc, Some(number(words, 2, 32)?)),
+        "merge" => merges::measure(&rt, alloc, words),
+        "node" => running_node::measure(
+            rt,
+            alloc,
+            number(words, 2, 100_000)?,
+            number(words, 3, 0)?,
+        ),
+        "groups" => groups::measure(rt, alloc, &group(words)?),
+        part => steps::measure(&rt, alloc, part, number(words, 2, 100_000)?),
+    }
+}
+
+fn main(rt: HostRuntime) -> Result<()> {
+    let alloc = rt.alloc();
+    let words: Vec<String> = env::args(&rt)?.collect(alloc)?;
+    match words.get(1) {
+        Some(what) => measure(rt, alloc, what.as_str(), words.as_slice()),
+        None => tell(rt, alloc),
+    }
+}

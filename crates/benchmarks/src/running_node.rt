@@ -1,0 +1,57 @@
+//! A node that runs, with four links each way: how many frames go in and out, and how long that takes.
+mod draining;
+mod messages;
+mod running;
+mod tally;
+
+use crate::running_node::messages::Sent;
+use crate::running_node::running::run;
+use anyhow::Result;
+use std::alloc::Global;
+use std::io::Print;
+use std::sync::Wait;
+use std::thread::Threads;
+use std::time::Clock;
+
+/// So many messages come in where nothing is measured.
+const TOLD: u64 = 1_000;
+
+/// Prints how many frames went in and out.
+fn tell_sent(rt: &impl Print, sent: &Sent) -> Result<()> {
+    let Sent {
+        frames_in,
+        frames_out,
+        ..
+    } = *sent;
+    println!(rt; "frames in  frames out")?;
+    println!(rt; "{frames_in:9} {frames_out:11}")?;
+    Ok(())
+}
+
+/// Prints how long that took.
+fn tell_time(rt: &impl Print, sent: &Sent, held: u64) -> Result<()> {
+    let micros = sent.micros.max(1);
+    let taken = sent.frames_in.saturating_mul(1_000_000) / micros;
+    let written = sent.frames_out.saturating_mul(1_000_000) / micros;
+    println!(rt; "{held} messages held: {taken} frames in and {written} out in a second")?;
+    Ok(())
+}
+
+/// Prints how many frames go in and out.
+pub(crate) fn tell<R>(rt: R, alloc: Global) -> Result<()>
+where
+    R: Print + Clock + Threads + Wait + Copy + Send + Drop + 'static,
+{
+    let sent = run(rt, alloc, TOLD, 0)?;
+    tell_sent(&rt, &sent)
+}
+
+/// Prints how long it takes until so many messages are passed on, while so many others are held.
+pub(crate) fn measure<R>(rt: R, alloc: Global, count: u64, held: u64) -> Result<()>
+where
+    R: Print + Clock + Threads + Wait + Copy + Send + Drop + 'static,
+{
+    let sent = run(rt, alloc, count, held)?;
+    tell_sent(&rt, &sent)?;
+    tell_time(&rt, &sent, held)
+}

@@ -1,0 +1,75 @@
+//! What the parts of a node cost alone: what comes of a few messages, and how long it takes with more.
+mod cell_steps;
+mod core_steps;
+mod known;
+mod messages;
+mod sealing;
+
+use crate::steps::cell_steps::step_cell;
+use crate::steps::core_steps::{see_all, step_core};
+use crate::steps::known::know_all;
+use crate::steps::messages::Taken;
+use crate::steps::sealing::seal;
+use anyhow::{Result, bail};
+use std::alloc::Global;
+use std::io::Print;
+use std::time::Clock;
+
+/// So many messages come where nothing is measured: a hundred of each origin.
+const TOLD: u64 = 6_400;
+
+/// How many payloads a core holds that does not hold all.
+const KEPT: u32 = 1_000;
+
+/// Prints how many messages came in and frames went out, and in how long, if that is asked for.
+fn tell_taken(rt: &impl Print, what: &str, taken: Taken, is_timed: bool) -> Result<()> {
+    let Taken { came, sent, nanos } = taken;
+    println!(rt; "{what:5} {came:8} in {sent:8} out")?;
+    if is_timed {
+        let (each, all) = (nanos / came.max(1), nanos / 1_000);
+        println!(rt; "{each} nanoseconds each, {all} microseconds in all")?;
+    }
+    Ok(())
+}
+
+/// Does what the word says with so many messages.
+fn step<R: Print + Clock>(
+    rt: &R,
+    alloc: Global,
+    word: &str,
+    count: u64,
+    is_timed: bool,
+) -> Result<()> {
+    let taken = match word {
+        "core" => step_core(rt, alloc, count)?,
+        "cell" => step_cell(rt, alloc, count)?,
+        "ids" => know_all(rt, alloc, count, 0)?,
+        "gaps" => know_all(rt, alloc, count, 100)?,
+        "seen" => see_all(rt, alloc, count, 0)?,
+        "kept" => see_all(rt, alloc, count, KEPT)?,
+        "seal" => seal(rt, alloc, count, false)?,
+        "copy" => seal(rt, alloc, count, true)?,
+        _ => bail!("core, cell, ids, gaps, seen, kept, seal or copy"),
+    };
+    tell_taken(rt, word, taken, is_timed)
+}
+
+/// Prints what comes of a few messages, for each part.
+pub(crate) fn tell<R: Print + Clock>(rt: &R, alloc: Global) -> Result<()> {
+    for word in [
+        "core", "cell", "ids", "gaps", "seen", "kept", "seal", "copy",
+    ] {
+        step(rt, alloc, word, TOLD, false)?;
+    }
+    Ok(())
+}
+
+/// Prints how long the part that the word names takes with so many messages.
+pub(crate) fn measure<R: Print + Clock>(
+    rt: &R,
+    alloc: Global,
+    word: &str,
+    count: u64,
+) -> Result<()> {
+    step(rt, alloc, word, count, true)
+}

@@ -1,0 +1,69 @@
+//! Known ids alone.
+use crate::steps::messages::{ORIGINS, Taken, origin};
+use anyhow::Result;
+use known_ids::KnownIds;
+use node_names::{MsgId, Origin};
+use std::alloc::{AllocError, Global};
+use std::time::{Clock, Instant};
+
+/// Makes an id known.
+fn know(ids: &mut KnownIds, id: &MsgId) -> Result<(), AllocError> {
+    ids.make_room(id)?;
+    ids.insert(id);
+    Ok(())
+}
+
+/// Makes the message of this number known, of each origin.
+fn know_round(ids: &mut KnownIds, origins: &[Origin], seq: u64) -> Result<(), AllocError> {
+    for origin in origins {
+        know(
+            ids,
+            &MsgId {
+                origin: *origin,
+                seq,
+            },
+        )?;
+    }
+    Ok(())
+}
+
+/// Makes the messages of so many numbers known, but for each that `gap` divides.
+fn know_rounds(
+    ids: &mut KnownIds,
+    origins: &[Origin],
+    rounds: u64,
+    gap: u64,
+) -> Result<(), AllocError> {
+    for round in 0..rounds {
+        let seq = round.saturating_add(1);
+        if gap == 0 || seq % gap != 0 {
+            know_round(ids, origins, seq)?;
+        }
+    }
+    Ok(())
+}
+
+/// The origins.
+fn origins(alloc: Global) -> Result<Vec<Origin>> {
+    let mut origins = Vec::new(alloc);
+    for number in 0..ORIGINS {
+        origins.push(origin(number)?)?;
+    }
+    Ok(origins)
+}
+
+/// Makes so many messages known, of 64 origins in turn, but for those whose number `gap` divides.
+pub(crate) fn know_all<R: Clock>(rt: &R, alloc: Global, count: u64, gap: u64) -> Result<Taken> {
+    let origins = origins(alloc)?;
+    let mut ids = KnownIds::new(alloc);
+    let rounds = count / ORIGINS;
+    let left_out = if gap == 0 { 0 } else { rounds / gap };
+    let start = Instant::now(rt)?;
+    know_rounds(&mut ids, origins.as_slice(), rounds, gap)?;
+    let nanos = u64::try_from(start.elapsed(rt)?.as_nanos()).unwrap_or(u64::MAX);
+    Ok(Taken {
+        came: rounds.saturating_sub(left_out).saturating_mul(ORIGINS),
+        sent: 0,
+        nanos,
+    })
+}

@@ -1,0 +1,88 @@
+//! Writes streams of frames, and cuts them in pieces of several sizes: each once, and then it prints how many bytes and
+//! frames went through, or for so many MiB, and then how many a second.
+mod stream;
+mod through;
+
+use crate::streams::stream::{Stream, long, mixed, short};
+use crate::streams::through::{Through, cut, write};
+use anyhow::Result;
+use std::alloc::Global;
+use std::io::Print;
+use std::time::{Clock, Instant};
+
+/// The sizes of pieces in which a stream is cut.
+const SIZES: [usize; 3] = [1, 64, 4_096];
+
+/// What is done with a stream.
+#[derive(Clone, Copy)]
+enum Work {
+    Write,
+    /// In pieces of this size.
+    Cut(usize),
+}
+
+fn work_on(alloc: Global, stream: &Stream, work: Work, enough: u64) -> Result<Through> {
+    match work {
+        Work::Write => write(alloc, stream, enough),
+        Work::Cut(size) => cut(alloc, stream, size, enough),
+    }
+}
+
+fn print(rt: &impl Print, stream: &Stream, work: Work, bytes: u64, frames: u64) -> Result<()> {
+    let name = stream.name;
+    match work {
+        Work::Write => println!(rt; "{name:6} written             {bytes:12} {frames:10}")?,
+        Work::Cut(size) => println!(rt; "{name:6} cut, pieces of {size:4} {bytes:12} {frames:10}")?,
+    }
+    Ok(())
+}
+
+/// So many in so many microseconds, as so many a second.
+fn in_a_second(count: u64, micros: u64) -> u64 {
+    count.saturating_mul(1_000_000) / micros.max(1)
+}
+
+/// Does the work once, or for so many MiB, and prints a line.
+fn run<R: Print + Clock>(
+    rt: &R,
+    alloc: Global,
+    stream: &Stream,
+    work: Work,
+    mib: Option<u64>,
+) -> Result<()> {
+    let enough = mib.unwrap_or(0).saturating_mul(1_048_576);
+    let start = Instant::now(rt)?;
+    let Through { bytes, frames } = work_on(alloc, stream, work, enough)?;
+    let micros = u64::try_from(start.elapsed(rt)?.as_micros()).unwrap_or(u64::MAX);
+    if mib.is_none() {
+        print(rt, stream, work, bytes, frames)
+    } else {
+        let bytes = in_a_second(bytes, micros);
+        let frames = in_a_second(frames, micros);
+        print(rt, stream, work, bytes, frames)
+    }
+}
+
+fn run_stream<R: Print + Clock>(
+    rt: &R,
+    alloc: Global,
+    stream: &Stream,
+    mib: Option<u64>,
+) -> Result<()> {
+    run(rt, alloc, stream, Work::Write, mib)?;
+    for size in SIZES {
+        run(rt, alloc, stream, Work::Cut(size), mib)?;
+    }
+    Ok(())
+}
+
+/// Prints what went through, each stream once, or how much a second, for so many MiB each.
+pub(crate) fn run_all<R: Print + Clock>(rt: &R, alloc: Global, mib: Option<u64>) -> Result<()> {
+    match mib {
+        Some(_) => println!(rt; "stream work                   bytes / s frames / s")?,
+        None => println!(rt; "stream work                       bytes     frames")?,
+    }
+    run_stream(rt, alloc, &short(alloc)?, mib)?;
+    run_stream(rt, alloc, &mixed(alloc)?, mib)?;
+    run_stream(rt, alloc, &long(alloc)?, mib)
+}
