@@ -8,13 +8,9 @@ use crate::groups::figures::{Figures, measured, repeated};
 pub(crate) use crate::groups::overlay::Group;
 use crate::groups::running::run_somewhere;
 use anyhow::Result;
-use loopback::Ran;
+use loopback::{Machine, Ran};
 use std::alloc::Global;
 use std::io::Print;
-use std::net::{Net, TcpListener, TcpStream};
-use std::sync::Wait;
-use std::thread::Threads;
-use std::time::Clock;
 
 /// What runs where nothing is measured.
 const SMALL: Group = Group {
@@ -55,33 +51,11 @@ fn tell_measured(rt: &impl Print, alloc: Global, group: &Group, ran: &Ran) -> Re
 }
 
 /// Prints how many messages a small group delivers.
-pub(crate) fn tell<R>(rt: R, alloc: Global) -> Result<()>
-where
-    R: Print
-        + Threads
-        + Wait
-        + Clock
-        + Net<Listener = TcpListener, Stream = TcpStream>
-        + Copy
-        + Send
-        + Drop
-        + 'static,
-{
+pub(crate) fn tell<R: Print + Machine>(rt: R, alloc: Global) -> Result<()> {
     tell_ran(&rt, &run_somewhere(rt, alloc, &SMALL)?)
 }
 
 /// Prints how fast the messages of this group are delivered.
-pub(crate) fn measure<R>(rt: R, alloc: Global, group: &Group) -> Result<()>
-where
-    R: Print
-        + Threads
-        + Wait
-        + Clock
-        + Net<Listener = TcpListener, Stream = TcpStream>
-        + Copy
-        + Send
-        + Drop
-        + 'static,
-{
+pub(crate) fn measure<R: Print + Machine>(rt: R, alloc: Global, group: &Group) -> Result<()> {
     tell_measured(&rt, alloc, group, &run_somewhere(rt, alloc, group)?)
 }

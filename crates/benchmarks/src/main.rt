@@ -13,13 +13,10 @@ mod words;
 use crate::groups::Group;
 use crate::words::{number, size, small};
 use anyhow::Result;
+use loopback::Machine;
 use std::alloc::Global;
 use std::env;
 use std::io::Print;
-use std::net::{Net, TcpListener, TcpStream};
-use std::sync::Wait;
-use std::thread::Threads;
-use std::time::Clock;
 
 /// The group that words describe: how many nodes, messages and bytes, and after how many ticks the nodes are stopped,
 /// which is to be long after the last delivery.
@@ -33,18 +30,7 @@ fn group(words: &[String]) -> Result<Group> {
 }
 
 /// Prints what each benchmark makes of a little.
-fn tell<R>(rt: R, alloc: Global) -> Result<()>
-where
-    R: Print
-        + Threads
-        + Wait
-        + Clock
-        + Net<Listener = TcpListener, Stream = TcpStream>
-        + Copy
-        + Send
-        + Drop
-        + 'static,
-{
+fn tell<R: Print + Machine>(rt: R, alloc: Global) -> Result<()> {
     broadcasts::tell(&rt, alloc)?;
     streams::run_all(&rt, alloc, None)?;
     merges::tell(&rt, alloc)?;
@@ -54,18 +40,7 @@ where
 }
 
 /// Measures what the word names, with the numbers that follow.
-fn measure<R>(rt: R, alloc: Global, what: &str, words: &[String]) -> Result<()>
-where
-    R: Print
-        + Threads
-        + Wait
-        + Clock
-        + Net<Listener = TcpListener, Stream = TcpStream>
-        + Copy
-        + Send
-        + Drop
-        + 'static,
-{
+fn measure<R: Print + Machine>(rt: R, alloc: Global, what: &str, words: &[String]) -> Result<()> {
     match what {
         "broadcasts" => broadcasts::measure(&rt, alloc, size(words, 2, 500)?),
         "hops" => broadcasts::measure_hops(&rt, alloc, small(words, 2, 0)?),

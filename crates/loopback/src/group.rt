@@ -2,6 +2,7 @@
 use crate::closing::{Ran, close_all};
 use crate::common::Common;
 use crate::fault::RunFault;
+use crate::machine::Machine;
 use crate::member::Member;
 use crate::node::Node;
 use crate::starting::{listen_all, start_nodes};
@@ -9,7 +10,7 @@ use crate::watch::Watch;
 use node_names::Limits;
 use node_threads::NodeCore;
 use std::alloc::Global;
-use std::net::{Net, TcpListener, TcpStream};
+use std::net::TcpListener;
 use std::sync::Wait;
 use std::thread;
 use std::thread::Threads;
@@ -59,14 +60,7 @@ where
 /// One turn of each node.
 fn turn<R, C>(common: &mut Common<R>, nodes: &mut [Node<C>], is_quiet: bool) -> Result<(), RunFault>
 where
-    R: Threads
-        + Wait
-        + Clock
-        + Net<Listener = TcpListener, Stream = TcpStream>
-        + Copy
-        + Send
-        + Drop
-        + 'static,
+    R: Machine,
     C: NodeCore<Global> + Drop + Send + 'static,
 {
     for node in nodes.iter_mut() {
@@ -110,14 +104,7 @@ fn make_turns<R, C, V>(
     watch: &mut V,
 ) -> Result<(), RunFault>
 where
-    R: Threads
-        + Wait
-        + Clock
-        + Net<Listener = TcpListener, Stream = TcpStream>
-        + Copy
-        + Send
-        + Drop
-        + 'static,
+    R: Machine,
     C: NodeCore<Global> + Drop + Send + 'static,
     V: Watch,
 {
@@ -144,14 +131,7 @@ fn work<R, C, V>(
     watch: &mut V,
 ) -> Result<(), RunFault>
 where
-    R: Threads
-        + Wait
-        + Clock
-        + Net<Listener = TcpListener, Stream = TcpStream>
-        + Copy
-        + Send
-        + Drop
-        + 'static,
+    R: Machine,
     C: NodeCore<Global> + Drop + Send + 'static,
     V: Watch,
 {
@@ -167,14 +147,7 @@ fn run_members<R, V>(
     watch: &mut V,
 ) -> Result<Ran, RunFault>
 where
-    R: Threads
-        + Wait
-        + Clock
-        + Net<Listener = TcpListener, Stream = TcpStream>
-        + Copy
-        + Send
-        + Drop
-        + 'static,
+    R: Machine,
     V: Watch,
 {
     let rt = common.rt;
@@ -203,14 +176,7 @@ pub fn run<R, V>(
     watch: &mut V,
 ) -> Result<Ran, RunFault>
 where
-    R: Threads
-        + Wait
-        + Clock
-        + Net<Listener = TcpListener, Stream = TcpStream>
-        + Copy
-        + Send
-        + Drop
-        + 'static,
+    R: Machine,
     V: Watch,
 {
     let start = Instant::now(&rt).ok();

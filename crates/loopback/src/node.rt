@@ -4,13 +4,14 @@ use crate::common::Common;
 use crate::fault::RunFault;
 use crate::inbox::{Inbox, ToInbox};
 use crate::link_table::LinkTable;
+use crate::machine::Machine;
 use crate::running::Running;
 use crate::speech::Speech;
 use crate::ticks::Ticks;
 use node_names::NodeName;
 use node_threads::NodeCore;
 use std::alloc::Global;
-use std::net::{Net, TcpListener, TcpStream};
+use std::net::TcpListener;
 use std::sync::{Arc, Wait};
 use std::thread::Threads;
 use std::time::Clock;
@@ -68,14 +69,7 @@ impl<C: NodeCore<Global> + Drop + Send + 'static> Node<C> {
     /// One turn: it broadcasts, unless it is quiet, and its new connections and links get threads.
     pub(crate) fn turn<R>(&mut self, common: &mut Common<R>, is_quiet: bool) -> Result<(), RunFault>
     where
-        R: Threads
-            + Wait
-            + Clock
-            + Net<Listener = TcpListener, Stream = TcpStream>
-            + Copy
-            + Send
-            + Drop
-            + 'static,
+        R: Machine,
     {
         self.read_arrivals(common)?;
         if !is_quiet {

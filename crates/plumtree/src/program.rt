@@ -7,33 +7,19 @@ use crate::code::RunCode;
 use crate::progress::{Progress, is_terminal};
 use crate::run_group::{RunFailure, run_group};
 use clap::error::ErrorKind;
+use loopback::Machine;
 use simulation::{
     Form, ScenarioFault, play_input, read_text, report, report_unknown, report_unread, status_after,
 };
 use std::env::Env;
 use std::io::{Input, Read, Write};
-use std::net::{Net, TcpListener, TcpStream};
 use std::rt::Files;
-use std::sync::Wait;
-use std::thread::Threads;
-use std::time::Clock;
 use std::{env, fs, io};
 
 /// Does what the command line asks for. The number is the status that the program ends with.
 pub fn run<R, W, F>(rt: &R, out: &mut W, faults: &mut F) -> u8
 where
-    R: AllocGlobal
-        + Env
-        + Files
-        + Input
-        + Threads
-        + Wait
-        + Clock
-        + Net<Listener = TcpListener, Stream = TcpStream>
-        + Copy
-        + Send
-        + Drop
-        + 'static,
+    R: AllocGlobal + Env + Files + Input + Machine,
     W: Write,
     F: Write,
     ensures { result ≤ 2 }
@@ -57,17 +43,7 @@ fn words<R: AllocGlobal + Env>(rt: &R) -> io::Result<Vec<String>> {
 
 fn obey<R, W, F>(rt: &R, words: &[String], out: &mut W, faults: &mut F) -> u8
 where
-    R: AllocGlobal
-        + Files
-        + Input
-        + Threads
-        + Wait
-        + Clock
-        + Net<Listener = TcpListener, Stream = TcpStream>
-        + Copy
-        + Send
-        + Drop
-        + 'static,
+    R: AllocGlobal + Files + Input + Machine,
     W: Write,
     F: Write,
     ensures { result ≤ 2 }
@@ -107,16 +83,7 @@ fn perform<R, I, W, F>(
     faults: &mut F,
 ) -> u8
 where
-    R: AllocGlobal
-        + Files
-        + Threads
-        + Wait
-        + Clock
-        + Net<Listener = TcpListener, Stream = TcpStream>
-        + Copy
-        + Send
-        + Drop
-        + 'static,
+    R: AllocGlobal + Files + Machine,
     I: Read,
     W: Write,
     F: Write,
@@ -138,16 +105,7 @@ fn run_input<R, I, W, F>(
     faults: &mut F,
 ) -> u8
 where
-    R: AllocGlobal
-        + Files
-        + Threads
-        + Wait
-        + Clock
-        + Net<Listener = TcpListener, Stream = TcpStream>
-        + Copy
-        + Send
-        + Drop
-        + 'static,
+    R: AllocGlobal + Files + Machine,
     I: Read,
     W: Write,
     F: Write,
@@ -169,16 +127,7 @@ fn run_text<R, W, F>(
     faults: &mut F,
 ) -> u8
 where
-    R: AllocGlobal
-        + Files
-        + Threads
-        + Wait
-        + Clock
-        + Net<Listener = TcpListener, Stream = TcpStream>
-        + Copy
-        + Send
-        + Drop
-        + 'static,
+    R: AllocGlobal + Files + Machine,
     W: Write,
     F: Write,
     ensures { result ≤ 2 }
@@ -192,16 +141,7 @@ where
 /// Runs the nodes of a text's scenario, whatever keys it has that mean nothing.
 fn run_known<R, W, F>(rt: &R, form: Form, text: &[u8], out: &mut W, faults: &mut F) -> u8
 where
-    R: AllocGlobal
-        + Files
-        + Threads
-        + Wait
-        + Clock
-        + Net<Listener = TcpListener, Stream = TcpStream>
-        + Copy
-        + Send
-        + Drop
-        + 'static,
+    R: AllocGlobal + Files + Machine,
     W: Write,
     F: Write,
     ensures { result ≤ 2 }

@@ -1,6 +1,6 @@
 //! A group that runs, and what is written of it.
 use crate::group::GroupScenario;
-use loopback::{Ran, RunFault, Watch, run};
+use loopback::{Machine, Ran, RunFault, Watch, run};
 use node_core::PlumCore;
 use node_names::{Limits, MsgId};
 use simulation::{
@@ -9,10 +9,6 @@ use simulation::{
 };
 use std::alloc::{AllocError, Global};
 use std::io::Write;
-use std::net::{Net, TcpListener, TcpStream};
-use std::sync::Wait;
-use std::thread::Threads;
-use std::time::Clock;
 use trace_merge::{MergeFault, merge};
 use world::{Delivery, Event, World, WorldError};
 
@@ -72,14 +68,7 @@ pub fn run_group<R, W, V>(
     watch: &mut V,
 ) -> Result<(), RunFailure>
 where
-    R: Threads
-        + Wait
-        + Clock
-        + Net<Listener = TcpListener, Stream = TcpStream>
-        + Copy
-        + Send
-        + Drop
-        + 'static,
+    R: Machine,
     W: Write,
     V: Watch,
 {

@@ -1,13 +1,9 @@
 //! A group that runs where ports are free.
 use crate::groups::overlay::{Group, members};
 use anyhow::{Result, bail};
-use loopback::{Plan, Ran, RunFault, Unwatched, run};
+use loopback::{Machine, Plan, Ran, RunFault, Unwatched, run};
 use node_names::Limits;
 use std::alloc::Global;
-use std::net::{Net, TcpListener, TcpStream};
-use std::sync::Wait;
-use std::thread::Threads;
-use std::time::Clock;
 
 /// The first port that is tried.
 const FIRST_PORT: u16 = 20_000;
@@ -19,17 +15,7 @@ const APART: u16 = 100;
 const ATTEMPTS: u16 = 100;
 
 /// Runs a group with ports from this one on. There is none where one of them is taken.
-fn run_at<R>(rt: R, alloc: Global, group: &Group, first_port: u16) -> Result<Option<Ran>>
-where
-    R: Threads
-        + Wait
-        + Clock
-        + Net<Listener = TcpListener, Stream = TcpStream>
-        + Copy
-        + Send
-        + Drop
-        + 'static,
-{
+fn run_at<R: Machine>(rt: R, alloc: Global, group: &Group, first_port: u16) -> Result<Option<Ran>> {
     let plan = Plan {
         limits: Limits::STANDARD,
         seed: 1,
@@ -44,17 +30,7 @@ where
 }
 
 /// Runs a group at the first ports that are free.
-pub(crate) fn run_somewhere<R>(rt: R, alloc: Global, group: &Group) -> Result<Ran>
-where
-    R: Threads
-        + Wait
-        + Clock
-        + Net<Listener = TcpListener, Stream = TcpStream>
-        + Copy
-        + Send
-        + Drop
-        + 'static,
-{
+pub(crate) fn run_somewhere<R: Machine>(rt: R, alloc: Global, group: &Group) -> Result<Ran> {
     for attempt in 0..ATTEMPTS {
         let first_port = FIRST_PORT.saturating_add(APART.saturating_mul(attempt));
         if let Some(ran) = run_at(rt, alloc, group, first_port)? {
