@@ -1,0 +1,7 @@
+-- Nobody is there twice.
+use Rattle.std.specs.List.{IsDistinct}
+use Rattle.gossip_rows.proofs.tests.keeping.start.Goals as goal
+
+pub new_tuned-requires : goal.new_tuned-requires
+unfolding IsDistinct
+new_tuned-requires g c = tt
