@@ -11,18 +11,31 @@ use std::test::Fail;
 use test_support::{first_run, lend};
 use world::{Core, Stimulus, StimulusOf};
 
-/// Whether a link is closed by the first call alone, and a broadcast then finds it missing.
+/// Whether the link to the peer is open, is closed by the first call alone, and stays so.
+fn closes_once<A: Allocator + Copy>(cell: &mut NodeCell<PlumCore<A>, A>, peer: &NodeName) -> bool {
+    let was_open = cell.link_is_open(peer) && cell.close_link(peer);
+    was_open && !cell.link_is_open(peer) && !cell.close_link(peer)
+}
+
+/// Whether a broadcast finds the link to the peer missing, and no other.
+fn misses<A: Allocator + Copy>(
+    alloc: A,
+    cell: &mut NodeCell<PlumCore<A>, A>,
+    peer: &NodeName,
+) -> Result<bool, HostError> {
+    let applied = cell.apply(broadcast(alloc, 1)?)?;
+    Ok(applied.unlinked.as_slice() == [*peer].as_slice())
+}
+
+/// Whether a link is closed once, and a broadcast puts nothing into it then.
 fn is_closed_once<A: Allocator + Copy>(
     alloc: A,
     cell: &mut NodeCell<PlumCore<A>, A>,
     peer: &NodeName,
 ) -> Result<bool, HostError> {
     let mut outlet = cell.open_link(*peer, 4)?;
-    let was_open = cell.link_is_open(peer) && cell.close_link(peer);
-    let stays_closed = !cell.link_is_open(peer) && !cell.close_link(peer);
-    let applied = cell.apply(broadcast(alloc, 1)?)?;
-    let is_missing = applied.unlinked.as_slice() == [*peer].as_slice();
-    Ok(was_open && stays_closed && is_missing && outlet.pop()?.is_none())
+    let is_right = closes_once(cell, peer) && misses(alloc, cell, peer)?;
+    Ok(is_right && outlet.pop()?.is_none())
 }
 
 #[test]
@@ -113,10 +126,11 @@ fn tells_of_downs(rt: HostRuntime) -> Result<(), Fail> {
 }
 
 /// The first JOIN of a node, as it comes.
-fn join<A: Allocator + Copy>(rt: &impl Abort, sender: Origin) -> Stimulus<Frame<A>, A> {
+fn join<A: Allocator + Copy>(rt: &impl Abort, sender: &Origin) -> Stimulus<Frame<A>, A> {
+    let note = Frame::new(*sender, 1, BodyOf::Join).expect(rt, "a frame");
     StimulusOf::Arrive {
-        sender,
-        note: Frame::new(sender, 1, BodyOf::Join).expect(rt, "a frame"),
+        sender: note.sender(),
+        note,
         dice: Dice::ZEROS,
     }
 }
@@ -125,33 +139,36 @@ fn join<A: Allocator + Copy>(rt: &impl Abort, sender: Origin) -> Stimulus<Frame<
 fn is_joined<A: Allocator + Copy>(
     rt: &impl Abort,
     cell: &mut NodeCell<PlumCore<A>, A>,
-    sender: Origin,
+    sender: &Origin,
     active: usize,
 ) -> Result<bool, HostError> {
     let _ = cell.apply(join(rt, sender))?;
     Ok(cell.core().active().len() == active)
 }
 
+/// The next run of a node.
+fn restarted(name: NodeName) -> Origin {
+    Origin {
+        name,
+        incarnation: Incarnation(2),
+    }
+}
+
 /// Whether a JOIN under the node's own name, of this run or of another, does nothing, and one of `q` does.
 fn is_deaf_to_itself<A: Allocator + Copy>(
     rt: &impl Abort,
     cell: &mut NodeCell<PlumCore<A>, A>,
+    names: &Names,
 ) -> Result<bool, HostError> {
-    let names = parse_names(rt);
-    let restarted = Origin {
-        name: names.me.name,
-        incarnation: Incarnation(2),
-    };
-    Ok(
-        is_joined(rt, cell, names.me, 1)?
-            && is_joined(rt, cell, restarted, 1)?
-            && is_joined(rt, cell, first_run(names.q), 2)?,
-    )
+    let is_deaf = is_joined(rt, cell, &names.me, 1)?
+        && is_joined(rt, cell, &restarted(names.me.name), 1)?;
+    Ok(is_deaf && is_joined(rt, cell, &first_run(names.q), 2)?)
 }
 
 #[test]
 fn hears_nothing_of_its_own_name(rt: HostRuntime) -> Result<(), Fail> {
     let cell = start_with_p(&rt, rt.alloc(), 9)?;
-    assert!(rt; lend(cell, |cell| is_deaf_to_itself(&rt, cell))?);
+    let names = parse_names(&rt);
+    assert!(rt; lend(cell, |cell| is_deaf_to_itself(&rt, cell, &names))?);
     Ok(())
 }

@@ -58,10 +58,18 @@ fn count_said<A: Allocator + Copy>(
     Ok(TURNS.len())
 }
 
+/// Does so in a fresh group.
+fn count_said_from_start<A: Allocator + Copy>(
+    rt: &impl Abort,
+    alloc: A,
+) -> Result<usize, WorldError> {
+    let world = Group::new(alloc, Limits::STANDARD);
+    lend(world, |world| count_said(rt, alloc, world))
+}
+
 #[test]
 fn says_what_moved(rt: HostRuntime) -> Result<(), Fail> {
-    let world = Group::new(rt.alloc(), Limits::STANDARD);
-    let said = lend(world, |world| count_said(&rt, rt.alloc(), world))?;
+    let said = count_said_from_start(&rt, rt.alloc())?;
     assert!(rt; said == 11, "event {said} says otherwise");
     Ok(())
 }
