@@ -17,6 +17,10 @@ use loopback::Machine;
 use std::alloc::Global;
 use std::env;
 use std::io::Print;
+use std::net::{Net, TcpListener, TcpStream};
+use std::sync::Wait;
+use std::thread::Threads;
+use std::time::Clock;
 
 /// The group that words describe: how many nodes, messages and bytes, and after how many ticks the nodes are stopped,
 /// which is to be long after the last delivery.
@@ -58,11 +62,28 @@ fn measure<R: Print + Machine>(rt: R, alloc: Global, what: &str, words: &[String
     }
 }
 
+/// Does what the words say. It names the parts of a `Machine`, since the prover does not cover a call that gives the
+/// host's runtime as one.
+fn obey<R>(rt: R, alloc: Global, words: &[String]) -> Result<()>
+where
+    R: Print
+        + Threads
+        + Wait
+        + Clock
+        + Net<Listener = TcpListener, Stream = TcpStream>
+        + Copy
+        + Send
+        + Drop
+        + 'static,
+{
+    match words.get(1) {
+        Some(what) => measure(rt, alloc, what.as_str(), words),
+        None => tell(rt, alloc),
+    }
+}
+
 fn main(rt: HostRuntime) -> Result<()> {
     let alloc = rt.alloc();
     let words: Vec<String> = env::args(&rt)?.collect(alloc)?;
-    match words.get(1) {
-        Some(what) => measure(rt, alloc, what.as_str(), words.as_slice()),
-        None => tell(rt, alloc),
-    }
+    obey(rt, alloc, words.as_slice())
 }

@@ -13,13 +13,30 @@ use simulation::{
 };
 use std::env::Env;
 use std::io::{Input, Read, Write};
+use std::net::{Net, TcpListener, TcpStream};
 use std::rt::Files;
+use std::sync::Wait;
+use std::thread::Threads;
+use std::time::Clock;
 use std::{env, fs, io};
 
 /// Does what the command line asks for. The number is the status that the program ends with.
+///
+/// It names the parts of a `Machine`, since the prover does not cover a call that gives the host's runtime as one.
 pub fn run<R, W, F>(rt: &R, out: &mut W, faults: &mut F) -> u8
 where
-    R: AllocGlobal + Env + Files + Input + Machine,
+    R: AllocGlobal
+        + Env
+        + Files
+        + Input
+        + Threads
+        + Wait
+        + Clock
+        + Net<Listener = TcpListener, Stream = TcpStream>
+        + Copy
+        + Send
+        + Drop
+        + 'static,
     W: Write,
     F: Write,
     ensures { result ≤ 2 }

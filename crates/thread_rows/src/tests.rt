@@ -1,6 +1,6 @@
 //! The tests by what they are of, and what they share.
 mod calls;
-mod links;
+mod downs;
 mod node;
 mod row_sweeps;
 mod rows;
