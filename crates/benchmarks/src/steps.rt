@@ -49,7 +49,9 @@ fn step<R: Print + Clock>(
         "kept" => see_all(rt, alloc, count, KEPT)?,
         "seal" => seal(rt, alloc, count, false)?,
         "copy" => seal(rt, alloc, count, true)?,
-        _ => bail!("core, cell, ids, gaps, seen, kept, seal or copy"),
+        _ => bail!(
+            "broadcasts, hops, settle, frames, merge, node, groups, core, cell, ids, gaps, seen, kept, seal or copy"
+        ),
     };
     tell_taken(rt, word, taken, is_timed)
 }
