@@ -1,7 +1,5 @@
 //! The tests by what they are of, and what they share.
-mod act;
 mod halves;
-mod named;
 mod packets;
 mod play;
 mod rows;

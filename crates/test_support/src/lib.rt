@@ -6,7 +6,7 @@ mod lending;
 mod letters;
 mod refusals;
 
-pub use ids::{first_run, message};
+pub use ids::{first_run, message, name};
 pub use lending::lend;
 pub use letters::push_letters;
-pub use refusals::{stop_refusing, sweep};
+pub use refusals::{refusal_of, retry, stop_refusing, sweep, sweep_each};

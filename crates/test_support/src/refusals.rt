@@ -11,6 +11,37 @@ pub fn stop_refusing(heap: &RefusingAllocator) -> bool {
     is_spent
 }
 
+/// Why a call failed, if it did.
+///
+/// A function that names the type of what was refused takes the prover a minute where that is a node, and next to
+/// nothing here.
+pub fn refusal_of<T: Drop, E: Drop>(answer: Result<T, E>) -> Option<E> {
+    answer.err()
+}
+
+/// Makes a call while the allocation with this number is refused, and makes it again if it failed. Whether there is such
+/// an allocation, or none if the call fails otherwise.
+///
+/// The call answers why it failed, if it did, and `is_expected` whether a refused allocation leads to that.
+pub fn retry<E: Drop, F: FnMut() -> Option<E>, W: FnOnce(E) -> bool>(
+    heap: &RefusingAllocator,
+    n: u64,
+    mut call: F,
+    is_expected: W,
+) -> Option<bool>
+    requires call { F.IsAlwaysCallable call }
+    requires is_expected { W.IsAlwaysCallable is_expected }
+{
+    heap.refuse(n);
+    let refusal = call();
+    let is_spent = stop_refusing(heap);
+    let is_right = match refusal {
+        None => !is_spent,
+        Some(error) => is_spent && is_expected(error) && call().is_none(),
+    };
+    is_right.then_some(is_spent)
+}
+
 /// Makes a call once for each of its allocations, which is refused, and at last with none refused. How many there are,
 /// or none if an answer is wrong.
 ///
@@ -19,7 +50,7 @@ pub fn stop_refusing(heap: &RefusingAllocator) -> bool {
 pub fn sweep<E: Drop, F: FnMut(u64) -> Result<Option<bool>, E>>(
     mut call: F,
 ) -> Result<Option<u64>, E>
-    requires { F.IsAlwaysCallable call }
+    requires pre { (f : _) (x : _) → F.pre f x }
 {
     for n in 1..MANY {
         match call(n)? {
@@ -29,4 +60,22 @@ pub fn sweep<E: Drop, F: FnMut(u64) -> Result<Option<bool>, E>>(
         }
     }
     Ok(None)
+}
+
+/// Sweeps so many calls, each of which is given its place and the number of the allocation that it has refused. How many
+/// allocations they have together, or none if an answer is wrong.
+pub fn sweep_each<E: Drop, F: FnMut(usize, u64) -> Result<Option<bool>, E>>(
+    count: usize,
+    mut call: F,
+) -> Result<Option<u64>, E>
+    requires pre { (f : _) (x1 : _) (x2 : _) → F.pre f x1 x2 }
+{
+    let mut refused = 0u64;
+    for place in 0..count {
+        match sweep(|n| call(place, n))? {
+            Some(allocations) => refused = refused.saturating_add(allocations),
+            None => return Ok(None),
+        }
+    }
+    Ok(Some(refused))
 }

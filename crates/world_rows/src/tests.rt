@@ -1,5 +1,4 @@
 //! The tests by what they are of, and what they share.
-mod act;
 mod alike;
 mod flight;
 mod forest;

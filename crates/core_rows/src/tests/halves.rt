@@ -1,19 +1,17 @@
 //! Steps of a node in two halves: what is prepared is what a step gives, preparing changes nothing, and advancing
 //! leaves what the step leaves. Each allocation of the second half is refused in turn: the node is then as before, and
 //! the step can be made again.
-use crate::tests::act::Act;
-use crate::tests::named::{Id, id, name};
-use crate::tests::play::happen;
 use crate::tests::texts::{Group, push_core, push_out};
 use bytes::Bytes;
 use frames::Frame;
+use group_events::{Act, Id, id, play_acts};
 use node_core::PlumCore;
 use node_names::{Dice, Limits, MsgId};
 use refusing_allocator::RefusingAllocator;
 use std::alloc::{AllocError, Allocator};
 use std::process::Abort;
 use std::test::Fail;
-use test_support::{lend, stop_refusing};
+use test_support::{lend, name, stop_refusing};
 use world::{Core, CoreError, Out, Prepared, Stimulus, StimulusOf, StimulusRef, Wire, WorldError};
 
 /// More allocations than a half has.
@@ -42,17 +40,17 @@ struct Case {
 
 /// Three nodes know each other.
 const CORNERS: &[Act] = &[
-    Act::Start("a", "b c"),
-    Act::Start("b", "a c"),
-    Act::Start("c", "a b"),
+    Act::Start("a", 1, "b c"),
+    Act::Start("b", 1, "a c"),
+    Act::Start("c", 1, "a b"),
     Act::Broadcast("a", "m"),
 ];
 
 /// In a line a repeated packet makes c lazy to b, so that c hears of the next message, waits, and asks for it.
 const ASKING: &[Act] = &[
-    Act::Start("a", "b"),
-    Act::Start("b", "a c"),
-    Act::Start("c", "b"),
+    Act::Start("a", 1, "b"),
+    Act::Start("b", 1, "a c"),
+    Act::Start("c", 1, "b"),
     Act::Broadcast("a", "m"),
     Act::Arrive(0),
     Act::Arrive(0),
@@ -68,9 +66,9 @@ const ASKING: &[Act] = &[
 
 /// In a line a's shuffle walks on to c, which takes a into its passive view.
 const WALK: &[Act] = &[
-    Act::Start("a", "b"),
-    Act::Start("b", "a c"),
-    Act::Start("c", "b"),
+    Act::Start("a", 1, "b"),
+    Act::Start("b", 1, "a c"),
+    Act::Start("c", 1, "b"),
     Act::Shuffle("a"),
     Act::Arrive(0),
     Act::Arrive(0),
@@ -167,7 +165,7 @@ const CASES: &[Case] = &[
     },
     Case {
         name: "a JOIN",
-        acts: &[Act::Start("a", ""), Act::Join("b", "a")],
+        acts: &[Act::Start("a", 1, ""), Act::Join("b", 1, "a")],
         before: 2,
         node: "a",
         act: Act::Arrive(0),
@@ -425,20 +423,6 @@ fn sweep_alone<A: Allocator + Copy>(
     })
 }
 
-/// Plays the first of these acts, so many of them.
-fn play_acts<A: Allocator + Copy>(
-    rt: &impl Abort,
-    alloc: A,
-    world: &mut Group<A>,
-    acts: &[Act],
-    count: usize,
-) -> Result<(), WorldError> {
-    for act in acts.iter().take(count) {
-        happen(rt, alloc, world, act)?;
-    }
-    Ok(())
-}
-
 /// Sweeps the step of a case at its node.
 fn sweep_node<A: Allocator + Copy>(
     rt: &impl Abort,
@@ -464,7 +448,8 @@ fn sweep_group<A: Allocator + Copy>(
     world: &mut Group<A>,
     case: &Case,
 ) -> Result<Option<u64>, WorldError> {
-    play_acts(rt, alloc, world, case.acts, case.before)?;
+    let before = case.acts.get(..case.before).unwrap_or(case.acts);
+    play_acts(rt, alloc, world, before)?;
     Ok(sweep_node(rt, heap, alloc, text, world, case)?)
 }
 

@@ -1,11 +1,10 @@
 //! Playing the rows event by event.
-use crate::tests::act::{Act, event};
-use crate::tests::named::id;
 use crate::tests::rows::{Row, Turn, rows};
 use crate::tests::texts::{
     Group, push_given, push_listed, push_standing, push_told, push_views, push_whole,
 };
 use crate::tests::tuned_rows::tuned_rows;
+use group_events::{Act, event, id};
 use node_names::{Limits, MsgId};
 use std::alloc::{AllocError, Allocator};
 use std::process::Abort;

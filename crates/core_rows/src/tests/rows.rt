@@ -1,6 +1,5 @@
 //! Runs of small groups of Plumtree nodes, with what each event gives and leaves worked out by hand.
-use crate::tests::act::Act;
-use crate::tests::named::Id;
+use group_events::{Act, Id};
 
 /// An event, what it gives, the nodes' views after it, and what stands then.
 pub(crate) type Turn = (Act, &'static str, &'static str, &'static str);
@@ -53,9 +52,14 @@ const TRIANGLE: Row = Row {
     second: (A2, "a <- -; b <- a; c <- b; | a=n b=n c=n "),
     before: &[],
     turns: &[
-        (Act::Start("a", "b c"), "", "a: b c /; ", "| | "),
-        (Act::Start("b", "a c"), "", "a: b c /; b: a c /; ", "| | "),
-        (Act::Start("c", "a b"), "", CORNERS, "| | "),
+        (Act::Start("a", 1, "b c"), "", "a: b c /; ", "| | "),
+        (
+            Act::Start("b", 1, "a c"),
+            "",
+            "a: b c /; b: a c /; ",
+            "| | ",
+        ),
+        (Act::Start("c", 1, "a b"), "", CORNERS, "| | "),
         (
             Act::Broadcast("a", "m"),
             "a delivers a/1/1 m; #0 a to b GOSSIP a/1/1 0; #1 a to c GOSSIP a/1/1 0; ",
@@ -129,9 +133,9 @@ const TRIANGLE: Row = Row {
 
 /// In a line a repeated packet makes c lazy to b, so that c hears of the next message, waits, and asks for it.
 pub(crate) const ASKING: &[Turn] = &[
-    (Act::Start("a", "b"), "", "a: b /; ", "| | "),
-    (Act::Start("b", "a c"), "", "a: b /; b: a c /; ", "| | "),
-    (Act::Start("c", "b"), "", LINE, "| | "),
+    (Act::Start("a", 1, "b"), "", "a: b /; ", "| | "),
+    (Act::Start("b", 1, "a c"), "", "a: b /; b: a c /; ", "| | "),
+    (Act::Start("c", 1, "b"), "", LINE, "| | "),
     (
         Act::Broadcast("a", "m"),
         "a delivers a/1/1 m; #0 a to b GOSSIP a/1/1 0; ",
@@ -252,9 +256,9 @@ const JOIN: Row = Row {
     second: (A1, "| "),
     before: &[],
     turns: &[
-        (Act::Start("a", ""), "", "a: /; ", "| | "),
+        (Act::Start("a", 1, ""), "", "a: /; ", "| | "),
         (
-            Act::Join("b", "a"),
+            Act::Join("b", 1, "a"),
             "#0 b to a JOIN; ",
             "a: /; b: /; ",
             "0 | | ",
@@ -302,8 +306,8 @@ const ONE_PEER: Row = Row {
     second: (A2, "| "),
     before: &[],
     turns: &[
-        (Act::Start("a", "b"), "", "a: b /; ", "| | "),
-        (Act::Start("b", "a"), "", PAIR, "| | "),
+        (Act::Start("a", 1, "b"), "", "a: b /; ", "| | "),
+        (Act::Start("b", 1, "a"), "", PAIR, "| | "),
         (
             Act::Broadcast("a", "m"),
             "a delivers a/1/1 m; #0 a to b GOSSIP a/1/1 0; ",
@@ -325,8 +329,8 @@ const HELLO: Row = Row {
     second: (A2, "| "),
     before: &[],
     turns: &[
-        (Act::Start("a", "b"), "", "a: b /; ", "| | "),
-        (Act::Start("b", "a"), "", PAIR, "| | "),
+        (Act::Start("a", 1, "b"), "", "a: b /; ", "| | "),
+        (Act::Start("b", 1, "a"), "", PAIR, "| | "),
         (
             Act::Broadcast("a", "hello"),
             "a delivers a/1/1 hello; #0 a to b GOSSIP a/1/1 0; ",

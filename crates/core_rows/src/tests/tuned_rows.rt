@@ -1,8 +1,7 @@
 //! Runs of nodes that swap branches or forget payloads. They stand apart from the other runs since a function that
 //! names a table costs by all of its rows.
-use crate::tests::act::Act;
-use crate::tests::named::Id;
 use crate::tests::rows::{ASKING, Row};
+use group_events::{Act, Id};
 
 const A1: Id = ("a", 1);
 
@@ -22,15 +21,20 @@ const SHORTER_WAY: Row = Row {
     second: (A3, "a <- -; b <- a; d <- a; c <- b; | a=o b=o c=o d=o "),
     before: &[],
     turns: &[
-        (Act::Start("a", "b d"), "", "a: b d /; ", "| | "),
-        (Act::Start("b", "a c"), "", "a: b d /; b: a c /; ", "| | "),
+        (Act::Start("a", 1, "b d"), "", "a: b d /; ", "| | "),
         (
-            Act::Start("c", "b d"),
+            Act::Start("b", 1, "a c"),
+            "",
+            "a: b d /; b: a c /; ",
+            "| | ",
+        ),
+        (
+            Act::Start("c", 1, "b d"),
             "",
             "a: b d /; b: a c /; c: b d /; ",
             "| | ",
         ),
-        (Act::Start("d", "c a"), "", SQUARE, "| | "),
+        (Act::Start("d", 1, "c a"), "", SQUARE, "| | "),
         (
             Act::Broadcast("a", "m"),
             "a delivers a/1/1 m; #0 a to b GOSSIP a/1/1 0; #1 a to d GOSSIP a/1/1 0; ",

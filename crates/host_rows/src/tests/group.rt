@@ -100,10 +100,7 @@ where
     C: NodeCore<Global> + Drop + Send + 'static,
 {
     keep(workers, tick(rt, host, OpenGate, 2, Millisecond { rt }, 1)?)?;
-    let sink = ToInbox {
-        rt,
-        inbox: Arc::try_clone(inbox)?,
-    };
+    let sink = ToInbox::new(rt, Arc::try_clone(inbox)?);
     keep(workers, hand_out(rt, host, OpenGate, 3, sink)?)?;
     Ok(())
 }

@@ -55,8 +55,15 @@ impl Inbox {
 /// Puts what a node hands out into an inbox.
 #[derive(Drop)]
 pub(crate) struct ToInbox<R: Wait + Drop> {
-    pub(crate) rt: R,
-    pub(crate) inbox: Arc<Inbox, Global>,
+    rt: R,
+    inbox: Arc<Inbox, Global>,
+}
+
+impl<R: Wait + Drop> ToInbox<R> {
+    /// What puts into this inbox.
+    pub(crate) fn new(rt: R, inbox: Arc<Inbox, Global>) -> ToInbox<R> {
+        ToInbox { rt, inbox }
+    }
 }
 
 impl<R: Wait + Drop> Handed<Vec<Delivery>> for ToInbox<R> {

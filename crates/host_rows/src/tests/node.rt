@@ -8,7 +8,7 @@ use node_names::{Limits, NodeName, Origin};
 use node_threads::{Host, HostError, NodeCore, Outlet, Port};
 use std::alloc::{AllocError, Allocator, Global};
 use std::process::Abort;
-use test_support::first_run;
+use test_support::{first_run, name};
 use world::{Core, Out};
 
 /// How many frames a link has room for: more than any test sends.
@@ -40,11 +40,6 @@ struct Names {
     me: Origin,
     first: NodeName,
     second: NodeName,
-}
-
-/// The name of this text.
-pub(crate) fn name(rt: &impl Abort, text: &str) -> NodeName {
-    NodeName::parse(text.as_bytes()).expect(rt, "a name")
 }
 
 /// The names of these texts, which are distinct.

@@ -1,7 +1,7 @@
 //! The start and the broadcasts of a node, each allocation of them refused in turn: the call fails as out of memory,
 //! and made again it answers as if nothing had been refused.
 use crate::tests::ends::broadcast;
-use crate::tests::node::{Started, name, start_alone};
+use crate::tests::node::{Started, start_alone};
 use crate::tests::texts::push_answer;
 use bytes::Bytes;
 use node_threads::{HostError, NodeCore, Port, Receipt};
@@ -11,13 +11,8 @@ use std::process::Abort;
 use std::sync::Wait;
 use std::test::Fail;
 use std::thread::Threads;
-use test_support::{message, stop_refusing, sweep};
+use test_support::{message, name, refusal_of, retry, stop_refusing, sweep};
 use world::CoreError;
-
-/// Why a call was refused, if it was.
-fn refusal_of<T: Drop>(answer: Result<T, HostError>) -> Option<HostError> {
-    answer.err()
-}
 
 /// Whether a start failed as out of memory, in the core or behind it.
 fn is_out_of_memory(error: HostError) -> bool {
@@ -35,18 +30,8 @@ fn refuse_start<A: Allocator + Copy>(
     alloc: A,
     n: u64,
 ) -> Option<bool> {
-    heap.refuse(n);
-    let refusal = refusal_of(start_alone(rt, alloc, "a", 1));
-    let is_spent = stop_refusing(heap);
-    let is_right = match refusal {
-        None => !is_spent,
-        Some(error) => {
-            is_spent
-                && is_out_of_memory(error)
-                && refusal_of(start_alone(rt, alloc, "a", 1)).is_none()
-        }
-    };
-    is_right.then_some(is_spent)
+    let call = || refusal_of(start_alone(rt, alloc, "a", 1));
+    retry(heap, n, call, is_out_of_memory)
 }
 
 #[test]

@@ -1,5 +1,5 @@
 //! Runs of small groups, and what the merges of their traces are, worked out by hand.
-use crate::tests::act::Act;
+use group_events::Act;
 
 /// A run of a group, and merges of traces of it.
 #[derive(Clone, Copy)]
@@ -13,9 +13,9 @@ pub(crate) struct Case {
 /// Three nodes know each other. `c` has the message from `b`, and then once more from `a`; `a` has its own back from
 /// `c`.
 pub(crate) const TRIANGLE: &[Act] = &[
-    Act::Start("a1", "b c"),
-    Act::Start("b1", "a c"),
-    Act::Start("c1", "a b"),
+    Act::Start("a", 1, "b c"),
+    Act::Start("b", 1, "a c"),
+    Act::Start("c", 1, "a b"),
     Act::Broadcast("a", "m"),
     Act::Arrive(0),
     Act::Arrive(1),
@@ -61,12 +61,12 @@ const CORNERS: Case = Case {
 /// A node runs a second time. Its first run is played out before that, wherever it stands.
 const RESTART: Case = Case {
     acts: &[
-        Act::Start("a1", "b"),
-        Act::Start("b1", "a"),
+        Act::Start("a", 1, "b"),
+        Act::Start("b", 1, "a"),
         Act::Broadcast("b", "x"),
         Act::Arrive(0),
         Act::Broadcast("a", "y"),
-        Act::Start("a2", "b"),
+        Act::Start("a", 2, "b"),
         Act::Broadcast("a", "z"),
         Act::Arrive(0),
         Act::Arrive(0),
@@ -89,8 +89,8 @@ const RESTART: Case = Case {
 /// A packet comes twice, and what is answered to the second never comes.
 const TWICE: Case = Case {
     acts: &[
-        Act::Start("a1", "b"),
-        Act::Start("b1", "a"),
+        Act::Start("a", 1, "b"),
+        Act::Start("b", 1, "a"),
         Act::Broadcast("a", "m"),
         Act::Again(0),
         Act::Arrive(0),

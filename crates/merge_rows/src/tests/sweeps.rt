@@ -1,10 +1,10 @@
 //! Calls of which each allocation is refused in turn: the call is refused as out of memory, and made again answers as
 //! before.
-use crate::tests::act::play_acts;
 use crate::tests::merged::{project_all, push_project};
 use crate::tests::named::run;
 use crate::tests::rows::triangle;
 use crate::tests::texts::{Group, PlumTrace, Texts, push_events};
+use group_events::play_acts;
 use node_names::Limits;
 use refusing_allocator::RefusingAllocator;
 use std::alloc::{AllocError, Allocator};

@@ -1,38 +1,14 @@
 //! Bringing the groups of the rows to rest.
-use crate::tests::act::{Act, Group, event};
 use crate::tests::rows::{Row, rows};
-use crate::tests::texts::{push_held, push_log};
+use crate::tests::texts::{Group, push_held, push_log};
 use at_rest::{SettleError, is_calm, settle};
+use group_events::play_acts;
 use node_names::Limits;
 use std::alloc::{AllocError, Allocator};
 use std::process::Abort;
 use std::test::Fail;
 use test_support::lend;
 use world::WorldError;
-
-/// Plays an event over ample memory.
-fn happen<A: Allocator + Copy>(
-    rt: &impl Abort,
-    alloc: A,
-    world: &mut Group<A>,
-    act: &Act,
-) -> Result<(), WorldError> {
-    let event = event(rt, alloc, act)?;
-    world.play(&event)
-}
-
-/// Plays what happens first.
-pub(crate) fn prepare<A: Allocator + Copy>(
-    rt: &impl Abort,
-    alloc: A,
-    world: &mut Group<A>,
-    acts: &[Act],
-) -> Result<(), WorldError> {
-    for act in acts {
-        happen(rt, alloc, world, act)?;
-    }
-    Ok(())
-}
 
 /// Compares a text with what it should be.
 fn compare_text(rt: &impl Abort, text: &str, wanted: &str) {
@@ -76,7 +52,7 @@ fn play_group<A: Allocator + Copy>(
     world: &mut Group<A>,
     row: &Row,
 ) -> Result<(), WorldError> {
-    prepare(rt, alloc, world, row.before)?;
+    play_acts(rt, alloc, world, row.before)?;
     compare_count(rt, alloc, world, row.count);
     compare(rt, text, world, row.before.len(), row)?;
     compare_count(rt, alloc, world, row.count.map(|_| 0));

@@ -1,5 +1,5 @@
 //! Groups before they are brought to rest, with what that plays and leaves worked out by hand.
-use crate::tests::act::Act;
+use group_events::Act;
 
 /// A group under the standard limits, but for the number of payloads that a node keeps.
 #[derive(Clone, Copy)]
@@ -20,8 +20,8 @@ pub(crate) struct Row {
 const HELLO: Row = Row {
     keep: 0,
     before: &[
-        Act::Start("a", "b"),
-        Act::Start("b", "a"),
+        Act::Start("a", 1, "b"),
+        Act::Start("b", 1, "a"),
         Act::Broadcast("a", "hello"),
     ],
     count: Some(1),
@@ -33,9 +33,9 @@ const HELLO: Row = Row {
 const TRIANGLE: Row = Row {
     keep: 0,
     before: &[
-        Act::Start("a", "b c"),
-        Act::Start("b", "a c"),
-        Act::Start("c", "a b"),
+        Act::Start("a", 1, "b c"),
+        Act::Start("b", 1, "a c"),
+        Act::Start("c", 1, "a b"),
         Act::Broadcast("a", "m"),
     ],
     count: Some(6),
@@ -47,17 +47,17 @@ const TRIANGLE: Row = Row {
 pub(crate) const REPAIR: Row = Row {
     keep: 0,
     before: &[
-        Act::Start("a", "b"),
-        Act::Start("b", "a c"),
-        Act::Start("c", "b"),
+        Act::Start("a", 1, "b"),
+        Act::Start("b", 1, "a c"),
+        Act::Start("c", 1, "b"),
         Act::Broadcast("a", "m"),
-        Act::Arrive,
-        Act::Arrive,
+        Act::Arrive(0),
+        Act::Arrive(0),
         Act::Again(1),
-        Act::Arrive,
-        Act::Arrive,
+        Act::Arrive(0),
+        Act::Arrive(0),
         Act::Broadcast("a", "n"),
-        Act::Arrive,
+        Act::Arrive(0),
     ],
     count: Some(5),
     told: "b flushes; #4 arrives; c fires a/1/2; #5 arrives; #6 arrives; c delivers a/1/2 n; ",
@@ -68,20 +68,20 @@ pub(crate) const REPAIR: Row = Row {
 const FORGOTTEN: Row = Row {
     keep: 1,
     before: &[
-        Act::Start("a", "b"),
-        Act::Start("b", "a c"),
-        Act::Start("c", "b"),
+        Act::Start("a", 1, "b"),
+        Act::Start("b", 1, "a c"),
+        Act::Start("c", 1, "b"),
         Act::Broadcast("a", "m"),
-        Act::Arrive,
-        Act::Arrive,
+        Act::Arrive(0),
+        Act::Arrive(0),
         Act::Again(1),
-        Act::Arrive,
-        Act::Arrive,
+        Act::Arrive(0),
+        Act::Arrive(0),
         Act::Broadcast("a", "n"),
-        Act::Arrive,
+        Act::Arrive(0),
         Act::Flush("b"),
-        Act::Arrive,
-        Act::Fire("c", 2),
+        Act::Arrive(0),
+        Act::Fire("c", ("a", 2)),
         Act::Broadcast("b", "o"),
     ],
     count: Some(8),
@@ -92,7 +92,7 @@ const FORGOTTEN: Row = Row {
 /// A packet about membership is in flight.
 const JOINING: Row = Row {
     keep: 0,
-    before: &[Act::Start("a", ""), Act::Join("b", "a")],
+    before: &[Act::Start("a", 1, ""), Act::Join("b", 1, "a")],
     count: None,
     told: "",
     held: "a:; b:; ",
@@ -101,7 +101,7 @@ const JOINING: Row = Row {
 /// A link goes one way, to a node that does not run.
 const ONE_WAY: Row = Row {
     keep: 0,
-    before: &[Act::Start("a", "b")],
+    before: &[Act::Start("a", 1, "b")],
     count: None,
     told: "",
     held: "a:; ",

@@ -1,9 +1,10 @@
 //! Groups that are brought to rest while an allocation is refused, each in turn: the refusal is as out of memory, and a
 //! second call plays what is left.
-use crate::tests::act::Group;
-use crate::tests::play::{compare, limits, prepare};
+use crate::tests::play::{compare, limits};
 use crate::tests::rows::{REPAIR, Row};
+use crate::tests::texts::Group;
 use at_rest::{SettleError, settle};
+use group_events::play_acts;
 use refusing_allocator::RefusingAllocator;
 use std::alloc::Allocator;
 use std::process::Abort;
@@ -39,7 +40,7 @@ fn play_refused<A: Allocator + Copy>(
     row: &Row,
     n: u64,
 ) -> Result<Option<bool>, WorldError> {
-    prepare(rt, alloc, world, row.before)?;
+    play_acts(rt, alloc, world, row.before)?;
     let answer = settle_refused(heap, alloc, world, n);
     assert!(rt; settle(alloc, world).is_ok());
     compare(rt, text, world, row.before.len(), row)?;

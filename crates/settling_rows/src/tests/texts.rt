@@ -1,11 +1,13 @@
 //! What happened in a group, and what its nodes hold, as texts.
-use crate::tests::act::Group;
 use node_core::PlumCore;
 use node_names::MsgId;
 use std::alloc::{AllocError, Allocator};
 use std::fmt::Write;
 use test_support::push_letters;
-use world::{Core, Delivery, Entry, EventOf, NodeState};
+use world::{Core, Delivery, Entry, EventOf, NodeState, World};
+
+/// A group of Plumtree nodes.
+pub(crate) type Group<A> = World<PlumCore<A>, A>;
 
 /// Appends what an event of settling is.
 fn push_event<A: Allocator>(text: &mut String, entry: &Entry<A>) -> Result<(), AllocError> {

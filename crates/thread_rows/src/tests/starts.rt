@@ -8,13 +8,8 @@ use refusing_allocator::RefusingAllocator;
 use std::alloc::Allocator;
 use std::process::Abort;
 use std::test::Fail;
-use test_support::{lend, stop_refusing, sweep};
+use test_support::{lend, refusal_of, retry, stop_refusing, sweep};
 use world::CoreError;
-
-/// Why a start was refused, if it was.
-fn refusal_of<T: Drop>(answer: Result<T, HostError>) -> Option<HostError> {
-    answer.err()
-}
 
 /// Whether a start failed as out of memory, in the core or behind it.
 fn is_out_of_memory(error: HostError) -> bool {
@@ -32,16 +27,8 @@ fn refuse_start<A: Allocator + Copy>(
     alloc: A,
     n: u64,
 ) -> Option<bool> {
-    heap.refuse(n);
-    let refusal = refusal_of(start_with_p(rt, alloc, 2));
-    let is_spent = stop_refusing(heap);
-    let is_right = match refusal {
-        None => !is_spent,
-        Some(error) => {
-            is_spent && is_out_of_memory(error) && refusal_of(start_with_p(rt, alloc, 2)).is_none()
-        }
-    };
-    is_right.then_some(is_spent)
+    let call = || refusal_of(start_with_p(rt, alloc, 2));
+    retry(heap, n, call, is_out_of_memory)
 }
 
 /// Opens a link while the allocation with this number is refused, and again if it is refused. Whether there is such an

@@ -1,7 +1,6 @@
 //! What is in flight after each event: the packet that an event names leaves, and the others keep their order.
-use crate::tests::act::{Act, event};
 use crate::tests::alike::Group;
-use crate::tests::rest::apply;
+use group_events::{Act, play_act};
 use node_names::Limits;
 use std::alloc::Allocator;
 use std::process::Abort;
@@ -85,8 +84,7 @@ fn is_flown<A: Allocator + Copy>(
     world: &mut Group<A>,
     turn: &Turn,
 ) -> Result<bool, WorldError> {
-    let event = event(rt, alloc, &turn.0)?;
-    apply(world, event)?;
+    play_act(rt, alloc, world, &turn.0)?;
     Ok(world.flight() == turn.1)
 }
 

@@ -1,8 +1,8 @@
 //! The trees of all messages at once, which are those of each message alone.
-use crate::tests::act::id;
 use crate::tests::alike::Group;
-use crate::tests::rest::{Case, cases, is_drawn, play_acts};
+use crate::tests::rest::{Case, cases, is_drawn};
 use at_rest::{Forest, tree};
+use group_events::{id, play_acts};
 use node_names::{Limits, MsgId};
 use refusing_allocator::RefusingAllocator;
 use std::alloc::{AllocError, Allocator};
@@ -73,9 +73,8 @@ fn is_forest<A: Allocator + Copy>(
     forest: &Forest<A>,
     case: &Case,
 ) -> Result<bool, AllocError> {
-    let (node, incarnation, seq) = case.id;
-    let message = id(rt, node, incarnation, seq);
-    let unsaid = id(rt, "z", 1, 1);
+    let message = id(rt, case.id);
+    let unsaid = id(rt, ("z", 1));
     Ok(
         is_drawn(text, forest.tree(&message), case.tree)?
             && is_bare(alloc, world, forest, &unsaid)?

@@ -1,7 +1,6 @@
 //! Which events move an active view: the log says so of each.
-use crate::tests::act::{Act, event};
 use crate::tests::alike::Group;
-use crate::tests::rest::apply;
+use group_events::{Act, play_act};
 use node_names::Limits;
 use std::alloc::Allocator;
 use std::process::Abort;
@@ -34,8 +33,7 @@ fn is_said<A: Allocator + Copy>(
     world: &mut Group<A>,
     turn: &Turn,
 ) -> Result<bool, WorldError> {
-    let event = event(rt, alloc, &turn.0)?;
-    apply(world, event)?;
+    play_act(rt, alloc, world, &turn.0)?;
     Ok(
         world
             .log()
@@ -70,6 +68,6 @@ fn count_said_from_start<A: Allocator + Copy>(
 #[test]
 fn says_what_moved(rt: HostRuntime) -> Result<(), Fail> {
     let said = count_said_from_start(&rt, rt.alloc())?;
-    assert!(rt; said == 11, "event {said} says otherwise");
+    assert!(rt; said == TURNS.len(), "event {said} says otherwise");
     Ok(())
 }

@@ -1,8 +1,8 @@
 //! What can be told of a group: whether it is at rest for a message, whether its links go both ways, and the message's
 //! tree.
-use crate::tests::act::{Act, event, id};
 use crate::tests::alike::Group;
 use at_rest::{Branch, is_at_rest, is_symmetric, tree};
+use group_events::{Act, Id, id, play_acts};
 use node_names::{Limits, MsgId};
 use refusing_allocator::RefusingAllocator;
 use std::alloc::{AllocError, Allocator};
@@ -10,7 +10,7 @@ use std::fmt::Write;
 use std::process::Abort;
 use std::test::Fail;
 use test_support::{lend, stop_refusing};
-use world::{Event, WorldError};
+use world::WorldError;
 
 /// More allocations than a call has.
 const MANY: u64 = 20;
@@ -21,8 +21,7 @@ pub(crate) struct Case {
     pub(crate) name: &'static str,
     pub(crate) acts: &'static [Act],
     is_symmetric: bool,
-    /// A message, by its origin's name and incarnation and its number.
-    pub(crate) id: (&'static str, u64, u64),
+    pub(crate) id: Id,
     pub(crate) is_at_rest: bool,
     /// The message's tree, a branch behind the other.
     pub(crate) tree: &'static str,
@@ -33,7 +32,7 @@ const CASES: &[Case] = &[
         name: "a lone node",
         acts: &[Act::Start("a", 1, ""), Act::Broadcast("a", "x")],
         is_symmetric: true,
-        id: ("a", 1, 1),
+        id: ("a", 1),
         is_at_rest: true,
         tree: "a/1 <- -\n",
     },
@@ -45,7 +44,7 @@ const CASES: &[Case] = &[
             Act::Broadcast("a", "x"),
         ],
         is_symmetric: true,
-        id: ("a", 1, 1),
+        id: ("a", 1),
         is_at_rest: false,
         tree: "a/1 <- -\n",
     },
@@ -58,7 +57,7 @@ const CASES: &[Case] = &[
             Act::Arrive(0),
         ],
         is_symmetric: true,
-        id: ("a", 1, 1),
+        id: ("a", 1),
         is_at_rest: true,
         tree: "a/1 <- -\nb/1 <- a/1\n",
     },
@@ -72,7 +71,7 @@ const CASES: &[Case] = &[
             Act::Lose(0),
         ],
         is_symmetric: true,
-        id: ("a", 1, 1),
+        id: ("a", 1),
         is_at_rest: true,
         tree: "a/1 <- -\n",
     },
@@ -88,7 +87,7 @@ const CASES: &[Case] = &[
             Act::Arrive(1),
         ],
         is_symmetric: true,
-        id: ("a", 1, 1),
+        id: ("a", 1),
         is_at_rest: false,
         tree: "a/1 <- -\nb/1 <- a/1\nc/1 <- b/1\n",
     },
@@ -106,7 +105,7 @@ const CASES: &[Case] = &[
             Act::Stop("b"),
         ],
         is_symmetric: false,
-        id: ("b", 1, 1),
+        id: ("b", 1),
         is_at_rest: true,
         tree: "b/1 <- -\na/1 <- b/1\na/2 <- b/1\n",
     },
@@ -119,7 +118,7 @@ const CASES: &[Case] = &[
             Act::Arrive(0),
         ],
         is_symmetric: false,
-        id: ("a", 1, 2),
+        id: ("a", 2),
         is_at_rest: true,
         tree: "",
     },
@@ -128,29 +127,6 @@ const CASES: &[Case] = &[
 /// All cases. The table is named here alone, since a function that names it is proved over the whole of it.
 pub(crate) fn cases() -> &'static [Case] {
     CASES
-}
-
-/// Plays an event. What it gives stands in the log too.
-pub(crate) fn apply<A: Allocator + Copy>(
-    world: &mut Group<A>,
-    event: Event<A>,
-) -> Result<(), WorldError> {
-    let _ = world.apply(event)?;
-    Ok(())
-}
-
-/// Plays acts, all of which are accepted.
-pub(crate) fn play_acts<A: Allocator + Copy>(
-    rt: &impl Abort,
-    alloc: A,
-    world: &mut Group<A>,
-    acts: &[Act],
-) -> Result<(), WorldError> {
-    for act in acts {
-        let event = event(rt, alloc, act)?;
-        apply(world, event)?;
-    }
-    Ok(())
 }
 
 /// Appends a branch as a line.
@@ -260,8 +236,7 @@ fn sweep_told<A: Allocator + Copy>(
     world: &Group<A>,
     case: &Case,
 ) -> Result<Option<u64>, AllocError> {
-    let (node, incarnation, seq) = case.id;
-    let message = id(rt, node, incarnation, seq);
+    let message = id(rt, case.id);
     if is_told(heap, world, &message, case) {
         sweep_tree(heap, alloc, text, world, &message, case.tree)
     } else {

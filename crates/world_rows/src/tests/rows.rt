@@ -1,6 +1,6 @@
 //! Runs of small groups, with what each event gives worked out by hand.
-use crate::tests::act::Act;
 use crate::tests::play::Wanted;
+use group_events::Act;
 use node_names::Incarnation;
 use world::WorldError;
 
@@ -97,7 +97,7 @@ const ROWS: &[Row] = &[
         turns: &[
             (Act::Start("a", 1, "a"), Err(WorldError::BadPeers)),
             (Act::Start("a", 1, "b b"), Err(WorldError::BadPeers)),
-            (Act::StartAt("a", 1, "a"), Err(WorldError::BadPeers)),
+            (Act::Join("a", 1, "a"), Err(WorldError::BadPeers)),
             (Act::Start("a", 1, "b c d e f g"), Err(WorldError::BadPeers)),
             (Act::Broadcast("z", "x"), Err(WorldError::UnknownNode)),
             (Act::Stop("z"), Err(WorldError::UnknownNode)),
@@ -153,7 +153,7 @@ const ROWS: &[Row] = &[
         turns: &[
             (Act::Start("a", 1, "b c"), Ok(&[])),
             (Act::Start("c", 1, ""), Ok(&[])),
-            (Act::Fire("a", "c"), Ok(&[])),
+            (Act::Fire("a", ("c", 1)), Ok(&[])),
             (Act::Flush("a"), Ok(&[])),
             (Act::Shuffle("a"), Ok(&[])),
             (Act::Down("a", "b"), Ok(&[])),

@@ -1,8 +1,8 @@
 //! The messages that a group is not at rest for, found at once: each is told of as it is alone.
-use crate::tests::act::id;
 use crate::tests::alike::Group;
-use crate::tests::rest::{Case, cases, play_acts};
+use crate::tests::rest::{Case, cases};
 use at_rest::{Unrest, is_at_rest};
+use group_events::{id, play_acts};
 use node_names::{Limits, MsgId};
 use refusing_allocator::RefusingAllocator;
 use std::alloc::{AllocError, Allocator};
@@ -45,9 +45,8 @@ fn is_unrest<A: Allocator + Copy>(
     unrest: &Unrest<A>,
     case: &Case,
 ) -> bool {
-    let (node, incarnation, seq) = case.id;
-    let message = id(rt, node, incarnation, seq);
-    let unsaid = id(rt, "z", 1, 1);
+    let message = id(rt, case.id);
+    let unsaid = id(rt, ("z", 1));
     unrest.is_at_rest(&message) == case.is_at_rest
         && unrest.is_at_rest(&unsaid)
         && is_told(world, unrest, &unsaid)

@@ -1,32 +1,15 @@
-//! Events of a group written by names and texts.
-use crate::tests::named::{Id, id, name};
+//! Acts as events.
+use crate::act::{Act, Id};
 use bytes::Bytes;
-use node_names::{Dice, Incarnation, Listed, NodeName};
+use node_names::{Dice, Incarnation, Listed, MsgId, NodeName};
 use std::alloc::{AllocError, Allocator};
 use std::process::Abort;
+use test_support::{message, name};
 use world::{Event, EventOf};
 
-/// An event in plain texts and numbers. Nodes start under incarnation 1, and all dice are zeros.
-#[derive(Clone, Copy)]
-pub(crate) enum Act {
-    /// A node starts with these peers, between blanks.
-    Start(&'static str, &'static str),
-    /// A node without peers starts at a contact.
-    Join(&'static str, &'static str),
-    /// A node broadcasts a text.
-    Broadcast(&'static str, &'static str),
-    /// The packet at this place of the flight arrives.
-    Arrive(usize),
-    /// The packet at this place of the flight is lost.
-    Lose(usize),
-    /// The packet with this number is in flight once more.
-    Again(usize),
-    /// A node's timer for a message fires.
-    Fire(&'static str, Id),
-    Flush(&'static str),
-    /// A node's link to a peer fails.
-    Down(&'static str, &'static str),
-    Shuffle(&'static str),
+/// The id of the message.
+pub fn id(rt: &impl Abort, id: Id) -> MsgId {
+    message(name(rt, id.0), id.1)
 }
 
 /// The names of a text.
@@ -46,21 +29,28 @@ fn start<A: Allocator>(
     rt: &impl Abort,
     alloc: A,
     node: &str,
+    incarnation: u64,
     peers: &str,
 ) -> Result<Event<A>, AllocError> {
     let peers = names(rt, alloc, peers)?;
     Ok(EventOf::Start {
         name: name(rt, node),
-        incarnation: Incarnation(1),
+        incarnation: Incarnation(incarnation),
         peers,
         contact: None,
     })
 }
 
-fn join<A: Allocator>(rt: &impl Abort, alloc: A, node: &str, contact: &str) -> Event<A> {
+fn join<A: Allocator>(
+    rt: &impl Abort,
+    alloc: A,
+    node: &str,
+    incarnation: u64,
+    contact: &str,
+) -> Event<A> {
     EventOf::Start {
         name: name(rt, node),
-        incarnation: Incarnation(1),
+        incarnation: Incarnation(incarnation),
         contact: Some(name(rt, contact)),
         peers: Listed::new(alloc),
     }
@@ -70,13 +60,24 @@ fn broadcast<A: Allocator + Copy>(
     rt: &impl Abort,
     alloc: A,
     node: &str,
-    text: &str,
+    payload: &[u8],
 ) -> Result<Event<A>, AllocError> {
-    let payload = Bytes::copy_from_slice(alloc, text.as_bytes())?;
+    let payload = Bytes::copy_from_slice(alloc, payload)?;
     Ok(EventOf::Broadcast {
         name: name(rt, node),
         payload,
     })
+}
+
+fn broadcast_zeros<A: Allocator + Copy>(
+    rt: &impl Abort,
+    alloc: A,
+    node: &str,
+    count: usize,
+) -> Result<Event<A>, AllocError> {
+    let mut zeros = Vec::new(alloc);
+    zeros.resize(count, 0u8)?;
+    broadcast(rt, alloc, node, zeros.as_slice())
 }
 
 fn arrive<A: Allocator>(place: usize) -> Event<A> {
@@ -114,16 +115,23 @@ fn shuffle<A: Allocator>(rt: &impl Abort, node: &str) -> Event<A> {
     }
 }
 
-/// The event.
-pub(crate) fn event<A: Allocator + Copy>(
+fn stop<A: Allocator>(rt: &impl Abort, node: &str) -> Event<A> {
+    EventOf::Stop {
+        name: name(rt, node),
+    }
+}
+
+/// The event of an act. It aborts where a text is no name.
+pub fn event<A: Allocator + Copy>(
     rt: &impl Abort,
     alloc: A,
     act: &Act,
 ) -> Result<Event<A>, AllocError> {
     match *act {
-        Act::Start(node, peers) => start(rt, alloc, node, peers),
-        Act::Join(node, contact) => Ok(join(rt, alloc, node, contact)),
-        Act::Broadcast(node, text) => broadcast(rt, alloc, node, text),
+        Act::Start(node, incarnation, peers) => start(rt, alloc, node, incarnation, peers),
+        Act::Join(node, incarnation, contact) => Ok(join(rt, alloc, node, incarnation, contact)),
+        Act::Broadcast(node, text) => broadcast(rt, alloc, node, text.as_bytes()),
+        Act::BroadcastZeros(node, count) => broadcast_zeros(rt, alloc, node, count),
         Act::Arrive(place) => Ok(arrive(place)),
         Act::Lose(place) => Ok(EventOf::Lose { place }),
         Act::Again(number) => Ok(EventOf::Again { number }),
@@ -131,5 +139,6 @@ pub(crate) fn event<A: Allocator + Copy>(
         Act::Flush(node) => Ok(flush(rt, node)),
         Act::Down(node, peer) => Ok(down(rt, node, peer)),
         Act::Shuffle(node) => Ok(shuffle(rt, node)),
+        Act::Stop(node) => Ok(stop(rt, node)),
     }
 }

@@ -1,0 +1,10 @@
+//! Events of a group written by names and texts, for tests, and groups that play them.
+#![tactic(auto)]
+
+mod act;
+mod events;
+mod playing;
+
+pub use act::{Act, Id};
+pub use events::{event, id};
+pub use playing::{play_act, play_acts};
