@@ -21,7 +21,7 @@ pub use error::SettleError;
 pub use forest::Forest;
 pub use links::is_symmetric;
 pub use reaching::reach;
-pub use rest::is_at_rest;
+pub use rest::{is_at_rest, is_carried, is_silent};
 pub use settling::settle;
 pub use trees::tree;
 pub use unrest::Unrest;

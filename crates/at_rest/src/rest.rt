@@ -25,7 +25,7 @@ fn is_nothing_left<C: Core<A>, A: Allocator + Copy>(world: &World<C, A>, id: &Ms
 }
 
 /// Whether a packet carries the message.
-fn is_carried<N: Wire<A>, A: Allocator>(note: &N, id: &MsgId) -> bool
+pub fn is_carried<N: Wire<A>, A: Allocator>(note: &N, id: &MsgId) -> bool
     ensures { result ≡ is_carried id.now (N.content note.now).carried }
 {
     match note.carried() {
@@ -51,9 +51,9 @@ fn is_asked(asked: Option<MsgId>, id: &MsgId) -> bool
     }
 }
 
-/// Whether a packet says nothing of the message.
+/// Whether a packet says nothing of the message: it neither carries nor announces it, nor asks for it.
 #[tactic(auto, unfolding(crate::specs::Silence::is_silent))]
-fn is_silent<N: Wire<A>, A: Allocator>(note: &N, id: &MsgId) -> bool
+pub fn is_silent<N: Wire<A>, A: Allocator>(note: &N, id: &MsgId) -> bool
     ensures { result ≡ is_silent id.now (N.content note.now) }
 {
     !is_carried(note, id) && !is_announced(note.announced(), id) && !is_asked(note.asked(), id)

@@ -4,7 +4,9 @@
 mod act;
 mod events;
 mod playing;
+mod runs;
 
 pub use act::{Act, Id};
 pub use events::{event, id};
-pub use playing::{play_act, play_acts};
+pub use playing::{play_act, play_acts, play_runs};
+pub use runs::{ASKING, QUEUING};

@@ -28,3 +28,16 @@ pub fn play_acts<C: Core<A>, A: Allocator + Copy>(
     }
     Ok(())
 }
+
+/// Plays runs, one behind the other, up to the first act that is refused.
+pub fn play_runs<C: Core<A>, A: Allocator + Copy>(
+    rt: &impl Abort,
+    alloc: A,
+    world: &mut World<C, A>,
+    runs: &[&[Act]],
+) -> Result<(), WorldError> {
+    for acts in runs {
+        play_acts(rt, alloc, world, acts)?;
+    }
+    Ok(())
+}

@@ -2,7 +2,7 @@
 ghost use Rattle.std.specs.Prelude.{◌≡◌, ◌≤◌, length, sum_by};
 ghost use Rattle.trace_text.specs.Counts.{announcements_in, announcements_of, copies_of, is_kind, kind_count};
 
-use crate::contents::is_carried;
+use at_rest::is_carried;
 use frames::{Frame, kind_number};
 use node_names::MsgId;
 use std::alloc::Allocator;

@@ -1,7 +1,6 @@
 //! The texts of a trace: each step of a simulated run, the end of the run, and what it cost.
 #![tactic(auto)]
 
-mod contents;
 mod counts;
 mod depths;
 mod events;
@@ -14,7 +13,6 @@ mod steps;
 mod summary;
 mod touched;
 
-pub use contents::is_silent;
 pub use messages::push_message;
 pub use names::{push_id, push_origin};
 pub use nodes::push_nodes;

@@ -5,11 +5,10 @@ ghost use Rattle.node_names.specs.Same.{same_origin};
 ghost use Rattle.world.specs.Group.{origin_of};
 ghost use Rattle.trace_text.specs.Ends.{flying_at, flying_line, flying_lines, in_flight_line, lacking_line, lacking_lines, lacks_line, message_text, queued_at, queued_by, queued_line, queued_lines, rest_line, rest_word, timer_line, timer_lines, timers_at, timers_by};
 
-use crate::contents::is_silent;
 use crate::names::{push_end, push_id, push_origin};
 use crate::nodes::run_of;
 use crate::packets::push_packet;
-use at_rest::Branch;
+use at_rest::{Branch, is_silent};
 use frames::Frame;
 use node_core::PlumCore;
 use node_names::{MsgId, NodeName, Origin};

@@ -4,7 +4,7 @@
 use crate::tests::texts::{Group, push_core, push_out};
 use bytes::Bytes;
 use frames::Frame;
-use group_events::{Act, Id, id, play_acts};
+use group_events::{ASKING, Act, Id, QUEUING, id, play_runs};
 use node_core::PlumCore;
 use node_names::{Dice, Limits, MsgId};
 use refusing_allocator::RefusingAllocator;
@@ -21,9 +21,8 @@ const MANY: u64 = 60;
 #[derive(Clone, Copy)]
 struct Case {
     name: &'static str,
-    /// A run, of which so many events happen before.
-    acts: &'static [Act],
-    before: usize,
+    /// Runs that happen before, one behind the other.
+    before: &'static [&'static [Act]],
     /// Who takes the step.
     node: &'static str,
     /// What makes it step. What arrives is the packet at this place of the flight, and stays there.
@@ -43,25 +42,6 @@ const CORNERS: &[Act] = &[
     Act::Start("a", 1, "b c"),
     Act::Start("b", 1, "a c"),
     Act::Start("c", 1, "a b"),
-    Act::Broadcast("a", "m"),
-];
-
-/// In a line a repeated packet makes c lazy to b, so that c hears of the next message, waits, and asks for it.
-const ASKING: &[Act] = &[
-    Act::Start("a", 1, "b"),
-    Act::Start("b", 1, "a c"),
-    Act::Start("c", 1, "b"),
-    Act::Broadcast("a", "m"),
-    Act::Arrive(0),
-    Act::Arrive(0),
-    Act::Again(1),
-    Act::Arrive(0),
-    Act::Arrive(0),
-    Act::Broadcast("a", "n"),
-    Act::Arrive(0),
-    Act::Flush("b"),
-    Act::Arrive(0),
-    Act::Fire("c", ("a", 2)),
 ];
 
 /// In a line a's shuffle walks on to c, which takes a into its passive view.
@@ -77,8 +57,7 @@ const WALK: &[Act] = &[
 const CASES: &[Case] = &[
     Case {
         name: "a broadcast",
-        acts: CORNERS,
-        before: 3,
+        before: &[CORNERS],
         node: "a",
         act: Act::Broadcast("a", "m"),
         message: ("a", 1),
@@ -88,8 +67,7 @@ const CASES: &[Case] = &[
     },
     Case {
         name: "an arrival that delivers",
-        acts: CORNERS,
-        before: 4,
+        before: &[CORNERS, &[Act::Broadcast("a", "m")]],
         node: "b",
         act: Act::Arrive(0),
         message: ("a", 1),
@@ -99,8 +77,7 @@ const CASES: &[Case] = &[
     },
     Case {
         name: "a flush",
-        acts: ASKING,
-        before: 11,
+        before: &[QUEUING],
         node: "b",
         act: Act::Flush("b"),
         message: ("a", 2),
@@ -110,8 +87,7 @@ const CASES: &[Case] = &[
     },
     Case {
         name: "an announcement",
-        acts: ASKING,
-        before: 12,
+        before: &[QUEUING, &[Act::Flush("b")]],
         node: "c",
         act: Act::Arrive(0),
         message: ("a", 2),
@@ -121,8 +97,7 @@ const CASES: &[Case] = &[
     },
     Case {
         name: "a timer",
-        acts: ASKING,
-        before: 13,
+        before: &[QUEUING, &[Act::Flush("b"), Act::Arrive(0)]],
         node: "c",
         act: Act::Fire("c", ("a", 2)),
         message: ("a", 2),
@@ -132,8 +107,7 @@ const CASES: &[Case] = &[
     },
     Case {
         name: "a GRAFT",
-        acts: ASKING,
-        before: 14,
+        before: &[QUEUING, ASKING],
         node: "b",
         act: Act::Arrive(0),
         message: ("a", 2),
@@ -143,8 +117,7 @@ const CASES: &[Case] = &[
     },
     Case {
         name: "a failed link",
-        acts: WALK,
-        before: 6,
+        before: &[WALK],
         node: "c",
         act: Act::Down("c", "b"),
         message: ("a", 1),
@@ -154,8 +127,7 @@ const CASES: &[Case] = &[
     },
     Case {
         name: "a tick",
-        acts: WALK,
-        before: 6,
+        before: &[WALK],
         node: "c",
         act: Act::Shuffle("c"),
         message: ("a", 1),
@@ -165,8 +137,7 @@ const CASES: &[Case] = &[
     },
     Case {
         name: "a JOIN",
-        acts: &[Act::Start("a", 1, ""), Act::Join("b", 1, "a")],
-        before: 2,
+        before: &[&[Act::Start("a", 1, ""), Act::Join("b", 1, "a")]],
         node: "a",
         act: Act::Arrive(0),
         message: ("a", 1),
@@ -439,7 +410,7 @@ fn sweep_node<A: Allocator + Copy>(
     sweep_alone(heap, alloc, text, core, &stimulus, &message, case)
 }
 
-/// Does so in a group that a case's acts are played in.
+/// Does so in a group in which what happens before a case is played.
 fn sweep_group<A: Allocator + Copy>(
     rt: &impl Abort,
     heap: &RefusingAllocator,
@@ -448,8 +419,7 @@ fn sweep_group<A: Allocator + Copy>(
     world: &mut Group<A>,
     case: &Case,
 ) -> Result<Option<u64>, WorldError> {
-    let before = case.acts.get(..case.before).unwrap_or(case.acts);
-    play_acts(rt, alloc, world, before)?;
+    play_runs(rt, alloc, world, case.before)?;
     Ok(sweep_node(rt, heap, alloc, text, world, case)?)
 }
 

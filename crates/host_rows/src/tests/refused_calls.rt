@@ -24,20 +24,15 @@ fn is_out_of_memory(error: HostError) -> bool {
 
 /// Starts the node while the allocation with this number is refused, and again if it is refused. Whether there is such
 /// an allocation, or none if something is wrong.
-fn refuse_start<A: Allocator + Copy>(
-    rt: &impl Abort,
-    heap: &RefusingAllocator,
-    alloc: A,
-    n: u64,
-) -> Option<bool> {
-    let call = || refusal_of(start_alone(rt, alloc, "a", 1));
+fn refuse_start(rt: &impl Abort, heap: &RefusingAllocator, n: u64) -> Option<bool> {
+    let call = || refusal_of(start_alone(rt, heap, "a", 1));
     retry(heap, n, call, is_out_of_memory)
 }
 
 #[test]
 fn each_allocation_of_a_start(rt: HostRuntime) -> Result<(), Fail> {
     let heap = RefusingAllocator::new(rt.alloc());
-    let refused = sweep(|n| Ok::<_, HostError>(refuse_start(&rt, &heap, &heap, n)))?.unwrap_or(0);
+    let refused = sweep(|n| Ok::<_, HostError>(refuse_start(&rt, &heap, n)))?.unwrap_or(0);
     assert!(rt;
         refused >= 5,
         "few allocations were refused, or a wrong answer: {refused}"

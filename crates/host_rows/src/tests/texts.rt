@@ -1,11 +1,11 @@
 //! What a node leaves, as a text.
 use bytes::Bytes;
-use frames::{Body, BodyOf, Frame};
+use frames::Frame;
 use node_names::{Dice, NodeName, Origin};
 use node_threads::{CloseError, Closed, LinkReport, NodeCore};
 use std::alloc::{AllocError, Allocator};
 use std::fmt::Write;
-use test_support::push_letters;
+use test_support::{push_frame, push_letters};
 use world::{Delivery, Out, Step, Stimulus, StimulusOf, Trace};
 
 /// Appends whether dice are other than all zeros.
@@ -14,24 +14,6 @@ fn push_dice(text: &mut String, dice: &Dice) -> Result<(), AllocError> {
         write!(text, " by dice")?;
     }
     Ok(())
-}
-
-/// Appends what a frame says.
-fn push_body<A: Allocator>(text: &mut String, body: &Body<A>) -> Result<(), AllocError> {
-    match body {
-        BodyOf::Gossip { id, round, payload } => {
-            write!(text, "GOSSIP {id} {round} ")?;
-            push_letters(text, payload.as_slice())
-        }
-        BodyOf::Prune => write!(text, "PRUNE"),
-        _ => write!(text, "{body:?}"),
-    }
-}
-
-/// Appends a frame: who sent it, its number, and what it says.
-fn push_frame<A: Allocator>(text: &mut String, frame: &Frame<A>) -> Result<(), AllocError> {
-    write!(text, "{}#{} ", frame.sender(), frame.number())?;
-    push_body(text, frame.body())
 }
 
 /// Appends a broadcast.

@@ -1,11 +1,11 @@
 //! Events and traces as texts.
 use bytes::Bytes;
-use frames::{Body, BodyOf, Frame};
+use frames::Frame;
 use node_core::PlumCore;
 use node_names::{Dice, NodeName, Origin};
 use std::alloc::{AllocError, Allocator, Global};
 use std::fmt::Write;
-use test_support::push_letters;
+use test_support::{push_frame, push_letters};
 use world::{Delivery, Event, EventOf, Out, Step, Stimulus, StimulusOf, Trace, World};
 
 /// A group of Plumtree nodes.
@@ -132,24 +132,6 @@ pub(crate) fn push_flight(text: &mut String, flight: &[usize]) -> Result<(), All
         write!(text, " {number}")?;
     }
     Ok(())
-}
-
-/// Appends what a packet says.
-fn push_body<A: Allocator>(text: &mut String, body: &Body<A>) -> Result<(), AllocError> {
-    match body {
-        BodyOf::Gossip { id, round, payload } => {
-            write!(text, "GOSSIP {id} {round} ")?;
-            push_letters(text, payload.as_slice())
-        }
-        BodyOf::Prune => write!(text, "PRUNE"),
-        _ => write!(text, "{body:?}"),
-    }
-}
-
-/// Appends a frame: who sent it, its number, and what it says.
-fn push_frame<A: Allocator>(text: &mut String, frame: &Frame<A>) -> Result<(), AllocError> {
-    write!(text, "{}#{} ", frame.sender(), frame.number())?;
-    push_body(text, frame.body())
 }
 
 /// Appends the arrival of a frame.

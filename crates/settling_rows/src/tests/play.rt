@@ -2,7 +2,7 @@
 use crate::tests::rows::{Row, rows};
 use crate::tests::texts::{Group, push_held, push_log};
 use at_rest::{SettleError, is_calm, settle};
-use group_events::play_acts;
+use group_events::play_runs;
 use node_names::Limits;
 use std::alloc::{AllocError, Allocator};
 use std::process::Abort;
@@ -52,11 +52,12 @@ fn play_group<A: Allocator + Copy>(
     world: &mut Group<A>,
     row: &Row,
 ) -> Result<(), WorldError> {
-    play_acts(rt, alloc, world, row.before)?;
+    play_runs(rt, alloc, world, row.before)?;
+    let played = world.log().len();
     compare_count(rt, alloc, world, row.count);
-    compare(rt, text, world, row.before.len(), row)?;
+    compare(rt, text, world, played, row)?;
     compare_count(rt, alloc, world, row.count.map(|_| 0));
-    compare(rt, text, world, row.before.len(), row)?;
+    compare(rt, text, world, played, row)?;
     Ok(())
 }
 

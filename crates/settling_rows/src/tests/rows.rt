@@ -1,13 +1,13 @@
 //! Groups before they are brought to rest, with what that plays and leaves worked out by hand.
-use group_events::Act;
+use group_events::{ASKING, Act, QUEUING};
 
 /// A group under the standard limits, but for the number of payloads that a node keeps.
 #[derive(Clone, Copy)]
 pub(crate) struct Row {
     /// How many of the messages that it delivered last a node holds, and 0 where it holds all.
     pub(crate) keep: u32,
-    /// What happens first.
-    pub(crate) before: &'static [Act],
+    /// Runs that happen first, one behind the other.
+    pub(crate) before: &'static [&'static [Act]],
     /// How many events bring the group to rest, or `None` where it is not calm.
     pub(crate) count: Option<u64>,
     /// What these events are, and what they deliver.
@@ -19,11 +19,11 @@ pub(crate) struct Row {
 /// Two nodes, and a packet between them.
 const HELLO: Row = Row {
     keep: 0,
-    before: &[
+    before: &[&[
         Act::Start("a", 1, "b"),
         Act::Start("b", 1, "a"),
         Act::Broadcast("a", "hello"),
-    ],
+    ]],
     count: Some(1),
     told: "#0 arrives; b delivers a/1/1 hello; ",
     held: "a: a/1/1; b: a/1/1; ",
@@ -32,12 +32,12 @@ const HELLO: Row = Row {
 /// Packets of two nodes cross, and each prunes the other.
 const TRIANGLE: Row = Row {
     keep: 0,
-    before: &[
+    before: &[&[
         Act::Start("a", 1, "b c"),
         Act::Start("b", 1, "a c"),
         Act::Start("c", 1, "a b"),
         Act::Broadcast("a", "m"),
-    ],
+    ]],
     count: Some(6),
     told: "#0 arrives; b delivers a/1/1 m; #1 arrives; c delivers a/1/1 m; #2 arrives; #3 arrives; #4 arrives; #5 arrives; ",
     held: "a: a/1/1; b: a/1/1; c: a/1/1; ",
@@ -46,19 +46,7 @@ const TRIANGLE: Row = Row {
 /// `b` has a message queued for `c`, which asks for it once it has heard of it.
 pub(crate) const REPAIR: Row = Row {
     keep: 0,
-    before: &[
-        Act::Start("a", 1, "b"),
-        Act::Start("b", 1, "a c"),
-        Act::Start("c", 1, "b"),
-        Act::Broadcast("a", "m"),
-        Act::Arrive(0),
-        Act::Arrive(0),
-        Act::Again(1),
-        Act::Arrive(0),
-        Act::Arrive(0),
-        Act::Broadcast("a", "n"),
-        Act::Arrive(0),
-    ],
+    before: &[QUEUING],
     count: Some(5),
     told: "b flushes; #4 arrives; c fires a/1/2; #5 arrives; #6 arrives; c delivers a/1/2 n; ",
     held: "a: a/1/1 a/1/2; b: a/1/1 a/1/2; c: a/1/1 a/1/2; ",
@@ -67,23 +55,7 @@ pub(crate) const REPAIR: Row = Row {
 /// `c` asks `b` for a message that it has forgotten, and hears of another.
 const FORGOTTEN: Row = Row {
     keep: 1,
-    before: &[
-        Act::Start("a", 1, "b"),
-        Act::Start("b", 1, "a c"),
-        Act::Start("c", 1, "b"),
-        Act::Broadcast("a", "m"),
-        Act::Arrive(0),
-        Act::Arrive(0),
-        Act::Again(1),
-        Act::Arrive(0),
-        Act::Arrive(0),
-        Act::Broadcast("a", "n"),
-        Act::Arrive(0),
-        Act::Flush("b"),
-        Act::Arrive(0),
-        Act::Fire("c", ("a", 2)),
-        Act::Broadcast("b", "o"),
-    ],
+    before: &[QUEUING, ASKING, &[Act::Broadcast("b", "o")]],
     count: Some(8),
     told: "#5 arrives; #6 arrives; a delivers b/1/1 o; b flushes; #7 arrives; c fires a/1/2; c fires b/1/1; #8 arrives; #9 arrives; c delivers b/1/1 o; ",
     held: "a: b/1/1; b: b/1/1; c: b/1/1; ",
@@ -92,7 +64,7 @@ const FORGOTTEN: Row = Row {
 /// A packet about membership is in flight.
 const JOINING: Row = Row {
     keep: 0,
-    before: &[Act::Start("a", 1, ""), Act::Join("b", 1, "a")],
+    before: &[&[Act::Start("a", 1, ""), Act::Join("b", 1, "a")]],
     count: None,
     told: "",
     held: "a:; b:; ",
@@ -101,7 +73,7 @@ const JOINING: Row = Row {
 /// A link goes one way, to a node that does not run.
 const ONE_WAY: Row = Row {
     keep: 0,
-    before: &[Act::Start("a", 1, "b")],
+    before: &[&[Act::Start("a", 1, "b")]],
     count: None,
     told: "",
     held: "a:; ",

@@ -4,7 +4,7 @@ use crate::tests::play::{compare, limits};
 use crate::tests::rows::{REPAIR, Row};
 use crate::tests::texts::Group;
 use at_rest::{SettleError, settle};
-use group_events::play_acts;
+use group_events::play_runs;
 use refusing_allocator::RefusingAllocator;
 use std::alloc::Allocator;
 use std::process::Abort;
@@ -40,10 +40,11 @@ fn play_refused<A: Allocator + Copy>(
     row: &Row,
     n: u64,
 ) -> Result<Option<bool>, WorldError> {
-    play_acts(rt, alloc, world, row.before)?;
+    play_runs(rt, alloc, world, row.before)?;
+    let played = world.log().len();
     let answer = settle_refused(heap, alloc, world, n);
     assert!(rt; settle(alloc, world).is_ok());
-    compare(rt, text, world, row.before.len(), row)?;
+    compare(rt, text, world, played, row)?;
     Ok(answer)
 }
 

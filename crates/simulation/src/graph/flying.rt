@@ -4,11 +4,11 @@ ghost use Rattle.world.specs.Group.{node_of, origin_of};
 ghost use Rattle.simulation.specs.Graph.{flying_arrow, flying_at, flying_line, flying_lines, packet_style};
 
 use super::runs::push_between;
+use at_rest::is_silent;
 use frames::Frame;
 use node_core::PlumCore;
 use node_names::{MsgId, NodeName, Origin};
 use std::alloc::{AllocError, Allocator};
-use trace_text::is_silent;
 use world::{NodeState, Packet, World};
 
 /// Appends the arrows of the packets in flight that carry, announce or ask for the message.

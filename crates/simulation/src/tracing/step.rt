@@ -97,7 +97,25 @@ fn push_label<A: Allocator>(
 fn copy_event<A: Allocator + Copy>(event: &KeptEvent<A>) -> Result<Event<A>, AllocError>
     ensures { IfOk result (λ copy. copy ≡ event.now) }
 {
+    // Events with dice come first: a log keeps those in another form.
     Ok(match event {
+        EventOf::Arrive { place, dice } => EventOf::Arrive {
+            place: *place,
+            dice: dice.get(),
+        },
+        EventOf::Down { name, peer, dice } => EventOf::Down {
+            name: *name,
+            peer: *peer,
+            dice: dice.get(),
+        },
+        EventOf::Shuffle { name, dice } => EventOf::Shuffle {
+            name: *name,
+            dice: dice.get(),
+        },
+        EventOf::Broadcast { name, payload } => EventOf::Broadcast {
+            name: *name,
+            payload: payload.clone()?,
+        },
         EventOf::Start {
             name,
             incarnation,
@@ -109,14 +127,6 @@ fn copy_event<A: Allocator + Copy>(event: &KeptEvent<A>) -> Result<Event<A>, All
             peers: peers.copy()?,
             contact: *contact,
         },
-        EventOf::Broadcast { name, payload } => EventOf::Broadcast {
-            name: *name,
-            payload: payload.clone()?,
-        },
-        EventOf::Arrive { place, dice } => EventOf::Arrive {
-            place: *place,
-            dice: dice.get(),
-        },
         EventOf::Lose { place } => EventOf::Lose { place: *place },
         EventOf::Again { number } => EventOf::Again { number: *number },
         EventOf::Fire { name, id } => EventOf::Fire {
@@ -124,15 +134,6 @@ fn copy_event<A: Allocator + Copy>(event: &KeptEvent<A>) -> Result<Event<A>, All
             id: *id,
         },
         EventOf::Flush { name } => EventOf::Flush { name: *name },
-        EventOf::Down { name, peer, dice } => EventOf::Down {
-            name: *name,
-            peer: *peer,
-            dice: dice.get(),
-        },
-        EventOf::Shuffle { name, dice } => EventOf::Shuffle {
-            name: *name,
-            dice: dice.get(),
-        },
         EventOf::Stop { name } => EventOf::Stop { name: *name },
     })
 }

@@ -21,13 +21,8 @@ fn is_out_of_memory(error: HostError) -> bool {
 
 /// Starts the node while the allocation with this number is refused, and again if it is refused. Whether there is such
 /// an allocation, or none if something is wrong.
-fn refuse_start<A: Allocator + Copy>(
-    rt: &impl Abort,
-    heap: &RefusingAllocator,
-    alloc: A,
-    n: u64,
-) -> Option<bool> {
-    let call = || refusal_of(start_with_p(rt, alloc, 2));
+fn refuse_start(rt: &impl Abort, heap: &RefusingAllocator, n: u64) -> Option<bool> {
+    let call = || refusal_of(start_with_p(rt, heap, 2));
     retry(heap, n, call, is_out_of_memory)
 }
 
@@ -69,7 +64,7 @@ fn refuse_opening_of_fresh<A: Allocator + Copy>(
 #[test]
 fn each_allocation_of_a_start(rt: HostRuntime) -> Result<(), Fail> {
     let heap = RefusingAllocator::new(rt.alloc());
-    let started = sweep(|n| Ok::<_, HostError>(refuse_start(&rt, &heap, &heap, n)))?;
+    let started = sweep(|n| Ok::<_, HostError>(refuse_start(&rt, &heap, n)))?;
     let opened = sweep(|n| refuse_opening_of_fresh(&rt, &heap, &heap, n))?;
     assert!(rt;
         started.is_some_and(|count| count >= 2) && opened.is_some_and(|count| count >= 2),
