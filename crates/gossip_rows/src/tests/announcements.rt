@@ -8,7 +8,7 @@ use std::alloc::{AllocError, Allocator};
 use std::fmt::Write;
 use std::process::Abort;
 use std::test::Fail;
-use test_support::{lend, stop_refusing};
+use test_support::{lend, stop_refusing, sweep, sweep_each};
 
 /// A call in letters and numbers.
 #[derive(Clone, Copy)]
@@ -18,14 +18,6 @@ enum Act {
     Armed(Id),
     Got(Id),
     Down(u8),
-}
-
-/// What a call gives.
-#[derive(Clone, Copy)]
-enum Given {
-    Nothing,
-    Flag(bool),
-    First(Option<(NodeName, u32)>),
 }
 
 /// A call, what it gives, and what the readers answer after it.
@@ -74,9 +66,6 @@ fn turns() -> &'static [Turn] {
 /// What the readers answer before any call.
 const START: &str = "| ";
 
-/// More allocations than any call has.
-const MANY: u64 = 50;
-
 /// Whether the call takes no memory.
 fn takes_none(act: &Act) -> bool {
     !matches!(act, Act::Announce(..))
@@ -101,96 +90,77 @@ fn is_shown<A: Allocator>(
     Ok(text.as_str() == wanted)
 }
 
-/// Announces. Whether a timer was armed.
+/// Announces, and appends whether a timer was armed.
 fn announce<A: Allocator + Copy>(
     rt: &impl Abort,
+    text: &mut String,
     missing: &mut Missing<A>,
     message: Id,
     peer: u8,
     round: u32,
-) -> Result<bool, AllocError> {
+) -> Result<(), AllocError> {
     let message = id(rt, message);
-    let peer = name(rt, peer);
-    missing.announce(&message, &peer, round)
+    let is_armed = missing.announce(&message, &name(rt, peer), round)?;
+    write!(text, "{is_armed}")
 }
 
-/// What an announcement gives.
-fn told(answer: Result<bool, AllocError>) -> Result<Given, AllocError> {
-    match answer {
-        Ok(is_armed) => Ok(Given::Flag(is_armed)),
-        Err(why) => Err(why),
+/// Takes who announced first, and appends that.
+fn take_first<A: Allocator>(
+    rt: &impl Abort,
+    text: &mut String,
+    missing: &mut Missing<A>,
+    message: Id,
+) -> Result<(), AllocError> {
+    match missing.take_first(&id(rt, message)) {
+        Some((peer, round)) => write!(text, "{peer} {round}"),
+        None => Ok(()),
     }
 }
 
-fn take_first<A: Allocator>(rt: &impl Abort, missing: &mut Missing<A>, message: Id) -> Given {
-    Given::First(missing.take_first(&id(rt, message)))
+/// Appends whether a timer is armed, which fires.
+fn armed<A: Allocator>(
+    rt: &impl Abort,
+    text: &mut String,
+    missing: &mut Missing<A>,
+    message: Id,
+) -> Result<(), AllocError> {
+    let is_armed = missing.armed(&id(rt, message));
+    write!(text, "{is_armed}")
 }
 
-fn armed<A: Allocator>(rt: &impl Abort, missing: &mut Missing<A>, message: Id) -> Given {
-    Given::Flag(missing.armed(&id(rt, message)))
-}
-
-fn got<A: Allocator>(rt: &impl Abort, missing: &mut Missing<A>, message: Id) -> Given {
+fn got<A: Allocator>(rt: &impl Abort, missing: &mut Missing<A>, message: Id) {
     missing.got(&id(rt, message));
-    Given::Nothing
 }
 
-fn down<A: Allocator>(rt: &impl Abort, missing: &mut Missing<A>, peer: u8) -> Given {
+fn lose<A: Allocator>(rt: &impl Abort, missing: &mut Missing<A>, peer: u8) {
     missing.down(&name(rt, peer));
-    Given::Nothing
 }
 
-/// Makes the call.
+/// Makes the call, and writes what it gives in place of what the text said.
 fn call<A: Allocator + Copy>(
     rt: &impl Abort,
+    text: &mut String,
     missing: &mut Missing<A>,
     act: &Act,
-) -> Result<Given, AllocError> {
-    match *act {
-        Act::Announce(message, peer, round) => told(announce(rt, missing, message, peer, round)),
-        Act::TakeFirst(message) => Ok(take_first(rt, missing, message)),
-        Act::Armed(message) => Ok(armed(rt, missing, message)),
-        Act::Got(message) => Ok(got(rt, missing, message)),
-        Act::Down(peer) => Ok(down(rt, missing, peer)),
-    }
-}
-
-/// Appends what a call gave.
-fn push_given(text: &mut String, given: &Given) -> Result<(), AllocError> {
-    match given {
-        Given::Flag(flag) => write!(text, "{flag}"),
-        Given::First(Some((peer, round))) => write!(text, "{peer} {round}"),
-        _ => Ok(()),
-    }
-}
-
-/// Whether a call was not refused, and gave this. What it gave otherwise is the text.
-fn is_given(
-    text: &mut String,
-    answer: &Result<Given, AllocError>,
-    wanted: &str,
-) -> Result<bool, AllocError> {
+) -> Result<(), AllocError> {
     text.clear();
-    match answer {
-        Ok(given) => {
-            push_given(text, given)?;
-            Ok(text.as_str() == wanted)
-        }
-        Err(_) => Ok(false),
+    match *act {
+        Act::Announce(message, peer, round) => announce(rt, text, missing, message, peer, round)?,
+        Act::TakeFirst(message) => take_first(rt, text, missing, message)?,
+        Act::Armed(message) => armed(rt, text, missing, message)?,
+        Act::Got(message) => got(rt, missing, message),
+        Act::Down(peer) => lose(rt, missing, peer),
     }
+    Ok(())
 }
 
-/// Whether a call gave and left what it should.
+/// Whether a call that was not refused gave what the text should say, and left what it should.
 fn is_left<A: Allocator>(
     text: &mut String,
     missing: &Missing<A>,
-    answer: &Result<Given, AllocError>,
     turn: &Turn,
 ) -> Result<bool, AllocError> {
-    if !is_given(text, answer, turn.1)? {
-        return Ok(false);
-    }
-    is_shown(text, missing, turn.2)
+    Ok(text.as_str() == turn.1 && is_shown(text, missing, turn.2)?)
 }
 
 /// Makes a call. Whether it gives and leaves what it should.
@@ -200,8 +170,8 @@ fn is_turn<A: Allocator + Copy>(
     missing: &mut Missing<A>,
     turn: &Turn,
 ) -> Result<bool, AllocError> {
-    let answer = call(rt, missing, &turn.0);
-    is_left(text, missing, &answer, turn)
+    call(rt, text, missing, &turn.0)?;
+    is_left(text, missing, turn)
 }
 
 /// Makes calls. Whether each of them does so.
@@ -239,19 +209,20 @@ fn plays_calls(rt: HostRuntime) -> Result<(), Fail> {
     Ok(lend(text, |text| play(&rt, rt.alloc(), text))?)
 }
 
-/// Makes a call while the allocation with this number is refused. Whether there is such an allocation, and what the
-/// call gives.
+/// Makes a call while the allocation with this number is refused. Whether there is such an allocation, and whether it
+/// is refused.
 fn try_call<A: Allocator + Copy>(
     rt: &impl Abort,
     heap: &RefusingAllocator,
+    text: &mut String,
     missing: &mut Missing<A>,
     turn: &Turn,
     n: u64,
-) -> (bool, Result<Given, AllocError>) {
+) -> (bool, bool) {
     heap.refuse(n);
-    let answer = call(rt, missing, &turn.0);
+    let is_refused = call(rt, text, missing, &turn.0).is_err();
     let is_spent = stop_refusing(heap);
-    (is_spent, answer)
+    (is_spent, is_refused)
 }
 
 /// Makes a call again that was refused. Whether it takes memory, its refusal left what stood, and it gives and leaves
@@ -271,7 +242,7 @@ fn is_turn_again<A: Allocator + Copy>(
 }
 
 /// Makes a call while the allocation with this number is refused, and again if it is refused. Whether there is such an
-/// allocation.
+/// allocation, or none if an answer is wrong.
 fn refuse_call<A: Allocator + Copy>(
     rt: &impl Abort,
     heap: &RefusingAllocator,
@@ -280,19 +251,18 @@ fn refuse_call<A: Allocator + Copy>(
     stood: &str,
     turn: &Turn,
     n: u64,
-) -> Result<bool, AllocError> {
-    let (is_spent, answer) = try_call(rt, heap, missing, turn, n);
-    let is_right = if answer.is_err() {
-        assert!(rt; is_spent);
-        is_turn_again(rt, text, missing, stood, turn)?
+) -> Result<Option<bool>, AllocError> {
+    let (is_spent, is_refused) = try_call(rt, heap, text, missing, turn, n);
+    let is_right = if is_refused {
+        is_spent && is_turn_again(rt, text, missing, stood, turn)?
     } else {
-        is_left(text, missing, &answer, turn)?
+        is_left(text, missing, turn)?
     };
-    assert!(rt; is_right);
-    Ok(is_spent)
+    Ok(is_right.then_some(is_spent))
 }
 
-/// Makes the calls up to one, and refuses its allocation with this number. Whether there is such an allocation.
+/// Makes the calls up to one, and refuses its allocation with this number. Whether there is such an allocation, or none
+/// if an answer is wrong.
 fn sweep_parts<A: Allocator + Copy>(
     rt: &impl Abort,
     heap: &RefusingAllocator,
@@ -300,12 +270,12 @@ fn sweep_parts<A: Allocator + Copy>(
     missing: &mut Missing<A>,
     parts: Parts<'_>,
     n: u64,
-) -> Result<bool, AllocError> {
+) -> Result<Option<bool>, AllocError> {
     let are_right = are_turns(rt, text, missing, parts.0)?;
     assert!(rt; are_right);
     match parts.1.first() {
         Some(turn) => refuse_call(rt, heap, text, missing, left(parts.0), turn, n),
-        None => Ok(false),
+        None => Ok(Some(false)),
     }
 }
 
@@ -317,7 +287,7 @@ fn sweep_call<A: Allocator + Copy>(
     text: &mut String,
     parts: Parts<'_>,
     n: u64,
-) -> Result<bool, AllocError> {
+) -> Result<Option<bool>, AllocError> {
     heap.refuse(1);
     let missing = Missing::new(alloc);
     assert!(rt; !heap.is_spent());
@@ -328,45 +298,25 @@ fn sweep_call<A: Allocator + Copy>(
     )
 }
 
-/// Refuses each allocation of one call in turn. How many it has.
-fn sweep<A: Allocator + Copy>(
-    rt: &impl Abort,
-    heap: &RefusingAllocator,
-    alloc: A,
-    text: &mut String,
-    parts: Parts<'_>,
-) -> Result<u64, AllocError> {
-    for n in 1..MANY {
-        if !sweep_call(rt, heap, alloc, text, parts, n)? {
-            return Ok(n - 1);
-        }
-    }
-    assert!(rt; false, "the sweep did not end");
-    Ok(MANY)
-}
-
-/// Does so for each call. How many they have.
-fn sweep_all<A: Allocator + Copy>(
-    rt: &impl Abort,
-    heap: &RefusingAllocator,
-    alloc: A,
-    text: &mut String,
-    turns: &[Turn],
-) -> Result<u64, AllocError> {
-    let mut refused = 0u64;
-    for at in 0..turns.len() {
-        let allocations = sweep(rt, heap, alloc, text, turns.split_at(at))?;
-        refused = refused.saturating_add(allocations);
-    }
-    Ok(refused)
-}
-
 #[test]
 fn each_allocation_of_each_call(rt: HostRuntime) -> Result<(), Fail> {
     let heap = RefusingAllocator::new(rt.alloc());
     let mut text = String::new(rt.alloc());
-    let refused = sweep_all(&rt, &heap, &heap, &mut text, turns())?;
-    assert!(rt; refused > 1, "few allocations were refused: {refused}");
+    let turns = turns();
+    let refused = sweep_each(turns.len(), |at, n| {
+        sweep_call(
+            &rt,
+            &heap,
+            &heap,
+            &mut text,
+            turns.split_at(at.min(turns.len())),
+            n,
+        )
+    })?;
+    assert!(rt;
+        refused.unwrap_or(0) > 1,
+        "few allocations were refused, or a wrong answer: {text}"
+    );
     Ok(())
 }
 
@@ -386,51 +336,35 @@ fn is_copy<A: Allocator>(
     }
 }
 
-/// Copies what calls left while the allocation with this number is refused. Whether there is such an allocation.
+/// Copies what calls left while the allocation with this number is refused. Whether there is such an allocation, or none
+/// if the copy is wrong.
 fn refuse_copy<A: Allocator + Copy>(
-    rt: &impl Abort,
     heap: &RefusingAllocator,
     text: &mut String,
     missing: &Missing<A>,
     wanted: &str,
     n: u64,
-) -> Result<bool, AllocError> {
+) -> Result<Option<bool>, AllocError> {
     heap.refuse(n);
     let copy = missing.copy();
     let is_spent = stop_refusing(heap);
     let is_right = lend(copy, |copy| is_copy(text, copy, is_spent, wanted))?;
-    assert!(rt; is_right);
-    Ok(is_spent)
+    Ok(is_right.then_some(is_spent))
 }
 
-/// Refuses each allocation of a copy of what calls leave in turn. How many it has.
-fn sweep_copy<A: Allocator + Copy>(
-    rt: &impl Abort,
-    heap: &RefusingAllocator,
-    text: &mut String,
-    missing: &Missing<A>,
-    wanted: &str,
-) -> Result<u64, AllocError> {
-    for n in 1..MANY {
-        if !refuse_copy(rt, heap, text, missing, wanted, n)? {
-            return Ok(n - 1);
-        }
-    }
-    assert!(rt; false, "the sweep did not end");
-    Ok(MANY)
-}
-
-/// Makes calls, and does so for what they leave.
+/// Makes calls, and refuses each allocation of a copy of what they leave in turn. How many it has, or none if a copy is
+/// wrong.
 fn sweep_left<A: Allocator + Copy>(
     rt: &impl Abort,
     heap: &RefusingAllocator,
     text: &mut String,
     missing: &mut Missing<A>,
     turns: &[Turn],
-) -> Result<u64, AllocError> {
+) -> Result<Option<u64>, AllocError> {
     let are_right = are_turns(rt, text, missing, turns)?;
     assert!(rt; are_right);
-    sweep_copy(rt, heap, text, missing, left(turns))
+    let missing = &*missing;
+    sweep(|n| refuse_copy(heap, text, missing, left(turns), n))
 }
 
 /// Makes them from nothing.
@@ -440,7 +374,7 @@ fn sweep_left_from_start<A: Allocator + Copy>(
     alloc: A,
     text: &mut String,
     turns: &[Turn],
-) -> Result<u64, AllocError> {
+) -> Result<Option<u64>, AllocError> {
     let missing = Missing::new(alloc);
     lend(
         missing,
@@ -456,6 +390,9 @@ fn each_allocation_of_a_copy(rt: HostRuntime) -> Result<(), Fail> {
     let turns = turns();
     let (before, _) = turns.split_at(11.min(turns.len()));
     let refused = sweep_left_from_start(&rt, &heap, &heap, &mut text, before)?;
-    assert!(rt; refused > 1, "few allocations were refused: {refused}");
+    assert!(rt;
+        refused.unwrap_or(0) > 1,
+        "few allocations were refused, or a wrong answer: {text}"
+    );
     Ok(())
 }

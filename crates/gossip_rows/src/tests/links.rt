@@ -9,10 +9,7 @@ use refusing_allocator::RefusingAllocator;
 use std::alloc::{AllocError, Allocator};
 use std::process::Abort;
 use std::test::Fail;
-use test_support::{lend, stop_refusing};
-
-/// More allocations than the call has.
-const MANY: u64 = 50;
+use test_support::{lend, stop_refusing, sweep};
 
 const A1: Id = (b'a', 1);
 
@@ -76,7 +73,7 @@ fn try_relink<A: Allocator + Copy>(
 }
 
 /// Makes the call while the allocation with this number is refused, and again if it is refused. Whether there is such
-/// an allocation.
+/// an allocation, or none if an answer is wrong.
 fn refuse<A: Allocator + Copy>(
     rt: &impl Abort,
     heap: &RefusingAllocator,
@@ -85,15 +82,14 @@ fn refuse<A: Allocator + Copy>(
     gossip: &mut Gossip<A>,
     stood: &str,
     n: u64,
-) -> Result<bool, AllocError> {
+) -> Result<Option<bool>, AllocError> {
     let (is_spent, is_refused) = try_relink(rt, heap, gossip, n);
     let is_right = if is_refused {
         is_shown(text, ids, gossip, stood)? && is_relinked(rt, text, ids, gossip)?
     } else {
         is_shown(text, ids, gossip, AFTER)?
     };
-    assert!(rt; is_right && is_refused == is_spent, "{text}");
-    Ok(is_spent)
+    Ok((is_right && is_refused == is_spent).then_some(is_spent))
 }
 
 /// Makes the calls before, and does so.
@@ -106,7 +102,7 @@ fn refuse_after<A: Allocator + Copy>(
     gossip: &mut Gossip<A>,
     turns: &[Turn],
     n: u64,
-) -> Result<bool, AllocError> {
+) -> Result<Option<bool>, AllocError> {
     let are_right = are_turns(rt, alloc, text, ids, gossip, turns)?;
     assert!(rt; are_right);
     refuse(rt, heap, text, ids, gossip, left(turns), n)
@@ -121,35 +117,24 @@ fn refuse_from_start<A: Allocator + Copy>(
     ids: &[MsgId],
     turns: &[Turn],
     n: u64,
-) -> Result<bool, AllocError> {
+) -> Result<Option<bool>, AllocError> {
     let gossip = start(rt, alloc)?;
     lend(gossip, |gossip| {
         refuse_after(rt, heap, alloc, text, ids, gossip, turns, n)
     })
 }
 
-/// Refuses each allocation of the call in turn. How many it has.
-fn sweep<A: Allocator + Copy>(
-    rt: &impl Abort,
-    heap: &RefusingAllocator,
-    alloc: A,
-    text: &mut String,
-    ids: &[MsgId],
-) -> Result<u64, AllocError> {
-    for n in 1..MANY {
-        if !refuse_from_start(rt, heap, alloc, text, ids, before(), n)? {
-            return Ok(n - 1);
-        }
-    }
-    assert!(rt; false, "the sweep did not end");
-    Ok(MANY)
-}
-
 #[test]
 fn each_allocation_of_a_relink(rt: HostRuntime) -> Result<(), Fail> {
     let heap = RefusingAllocator::new(rt.alloc());
     let mut text = String::new(rt.alloc());
-    let refused = sweep(&rt, &heap, &heap, &mut text, &asked(&rt))?;
-    assert!(rt; refused > 1, "few allocations were refused: {refused}");
+    let ids = asked(&rt);
+    let refused = sweep(|n| {
+        refuse_from_start(&rt, &heap, &heap, &mut text, &ids, before(), n)
+    })?;
+    assert!(rt;
+        refused.unwrap_or(0) > 1,
+        "few allocations were refused, or a wrong answer: {text}"
+    );
     Ok(())
 }

@@ -11,7 +11,7 @@ use std::alloc::{AllocError, Allocator};
 use std::fmt::Write;
 use std::process::Abort;
 use std::test::Fail;
-use test_support::{lend, stop_refusing};
+use test_support::{lend, stop_refusing, sweep, sweep_each};
 
 /// A call in letters and numbers.
 #[derive(Clone, Copy)]
@@ -95,9 +95,6 @@ fn turns() -> &'static [Turn] {
 
 /// What the readers answer before any call.
 const START: &str = "b+ c+ | ";
-
-/// More allocations than any call has.
-const MANY: u64 = 50;
 
 /// Whether the call takes no memory.
 fn takes_none(act: &Act) -> bool {
@@ -350,7 +347,7 @@ fn is_turn_again<A: Allocator + Copy>(
 }
 
 /// Makes a call while the allocation with this number is refused, and again if it is refused. Whether there is such an
-/// allocation.
+/// allocation, or none if an answer is wrong.
 fn refuse_call<A: Allocator + Copy>(
     rt: &impl Abort,
     heap: &RefusingAllocator,
@@ -359,19 +356,18 @@ fn refuse_call<A: Allocator + Copy>(
     stood: &str,
     turn: &Turn,
     n: u64,
-) -> Result<bool, AllocError> {
+) -> Result<Option<bool>, AllocError> {
     let (is_spent, is_refused) = try_call(rt, heap, text, peers, turn, n);
     let is_right = if is_refused {
-        assert!(rt; is_spent);
-        is_turn_again(rt, text, peers, stood, turn)?
+        is_spent && is_turn_again(rt, text, peers, stood, turn)?
     } else {
         is_left(text, peers, turn.1, turn.2)?
     };
-    assert!(rt; is_right);
-    Ok(is_spent)
+    Ok(is_right.then_some(is_spent))
 }
 
-/// Makes the calls up to one, and refuses its allocation with this number. Whether there is such an allocation.
+/// Makes the calls up to one, and refuses its allocation with this number. Whether there is such an allocation, or none
+/// if an answer is wrong.
 fn sweep_parts<A: Allocator + Copy>(
     rt: &impl Abort,
     heap: &RefusingAllocator,
@@ -379,12 +375,12 @@ fn sweep_parts<A: Allocator + Copy>(
     peers: &mut PeerSets<A>,
     parts: Parts<'_>,
     n: u64,
-) -> Result<bool, AllocError> {
+) -> Result<Option<bool>, AllocError> {
     let are_right = are_turns(rt, text, peers, parts.0)?;
     assert!(rt; are_right);
     match parts.1.first() {
         Some(turn) => refuse_call(rt, heap, text, peers, left(parts.0), turn, n),
-        None => Ok(false),
+        None => Ok(Some(false)),
     }
 }
 
@@ -396,50 +392,30 @@ fn sweep_call<A: Allocator + Copy>(
     text: &mut String,
     parts: Parts<'_>,
     n: u64,
-) -> Result<bool, AllocError> {
+) -> Result<Option<bool>, AllocError> {
     let peers = start(rt, alloc)?;
     lend(peers, |peers| sweep_parts(rt, heap, text, peers, parts, n))
-}
-
-/// Refuses each allocation of one call in turn. How many it has.
-fn sweep<A: Allocator + Copy>(
-    rt: &impl Abort,
-    heap: &RefusingAllocator,
-    alloc: A,
-    text: &mut String,
-    parts: Parts<'_>,
-) -> Result<u64, AllocError> {
-    for n in 1..MANY {
-        if !sweep_call(rt, heap, alloc, text, parts, n)? {
-            return Ok(n - 1);
-        }
-    }
-    assert!(rt; false, "the sweep did not end");
-    Ok(MANY)
-}
-
-/// Does so for each call. How many they have.
-fn sweep_all<A: Allocator + Copy>(
-    rt: &impl Abort,
-    heap: &RefusingAllocator,
-    alloc: A,
-    text: &mut String,
-    turns: &[Turn],
-) -> Result<u64, AllocError> {
-    let mut refused = 0u64;
-    for at in 0..turns.len() {
-        let allocations = sweep(rt, heap, alloc, text, turns.split_at(at))?;
-        refused = refused.saturating_add(allocations);
-    }
-    Ok(refused)
 }
 
 #[test]
 fn each_allocation_of_each_call(rt: HostRuntime) -> Result<(), Fail> {
     let heap = RefusingAllocator::new(rt.alloc());
     let mut text = String::new(rt.alloc());
-    let refused = sweep_all(&rt, &heap, &heap, &mut text, turns())?;
-    assert!(rt; refused > 5, "few allocations were refused: {refused}");
+    let turns = turns();
+    let refused = sweep_each(turns.len(), |at, n| {
+        sweep_call(
+            &rt,
+            &heap,
+            &heap,
+            &mut text,
+            turns.split_at(at.min(turns.len())),
+            n,
+        )
+    })?;
+    assert!(rt;
+        refused.unwrap_or(0) > 5,
+        "few allocations were refused, or a wrong answer: {text}"
+    );
     Ok(())
 }
 
@@ -459,51 +435,35 @@ fn is_copy<A: Allocator>(
     }
 }
 
-/// Copies what calls left while the allocation with this number is refused. Whether there is such an allocation.
+/// Copies what calls left while the allocation with this number is refused. Whether there is such an allocation, or none
+/// if the copy is wrong.
 fn refuse_copy<A: Allocator + Copy>(
-    rt: &impl Abort,
     heap: &RefusingAllocator,
     text: &mut String,
     peers: &PeerSets<A>,
     wanted: &str,
     n: u64,
-) -> Result<bool, AllocError> {
+) -> Result<Option<bool>, AllocError> {
     heap.refuse(n);
     let copy = peers.copy();
     let is_spent = stop_refusing(heap);
     let is_right = lend(copy, |copy| is_copy(text, copy, is_spent, wanted))?;
-    assert!(rt; is_right);
-    Ok(is_spent)
+    Ok(is_right.then_some(is_spent))
 }
 
-/// Refuses each allocation of a copy of what calls leave in turn. How many it has.
-fn sweep_copy<A: Allocator + Copy>(
-    rt: &impl Abort,
-    heap: &RefusingAllocator,
-    text: &mut String,
-    peers: &PeerSets<A>,
-    wanted: &str,
-) -> Result<u64, AllocError> {
-    for n in 1..MANY {
-        if !refuse_copy(rt, heap, text, peers, wanted, n)? {
-            return Ok(n - 1);
-        }
-    }
-    assert!(rt; false, "the sweep did not end");
-    Ok(MANY)
-}
-
-/// Makes calls, and does so for what they leave.
+/// Makes calls, and refuses each allocation of a copy of what they leave in turn. How many it has, or none if a copy is
+/// wrong.
 fn sweep_left<A: Allocator + Copy>(
     rt: &impl Abort,
     heap: &RefusingAllocator,
     text: &mut String,
     peers: &mut PeerSets<A>,
     turns: &[Turn],
-) -> Result<u64, AllocError> {
+) -> Result<Option<u64>, AllocError> {
     let are_right = are_turns(rt, text, peers, turns)?;
     assert!(rt; are_right);
-    sweep_copy(rt, heap, text, peers, left(turns))
+    let peers = &*peers;
+    sweep(|n| refuse_copy(heap, text, peers, left(turns), n))
 }
 
 /// Makes them at fresh peer sets.
@@ -513,7 +473,7 @@ fn sweep_left_from_start<A: Allocator + Copy>(
     alloc: A,
     text: &mut String,
     turns: &[Turn],
-) -> Result<u64, AllocError> {
+) -> Result<Option<u64>, AllocError> {
     let peers = start(rt, alloc)?;
     lend(peers, |peers| sweep_left(rt, heap, text, peers, turns))
 }
@@ -526,7 +486,10 @@ fn each_allocation_of_a_copy(rt: HostRuntime) -> Result<(), Fail> {
     let turns = turns();
     let (before, _) = turns.split_at(8.min(turns.len()));
     let refused = sweep_left_from_start(&rt, &heap, &heap, &mut text, before)?;
-    assert!(rt; refused > 1, "few allocations were refused: {refused}");
+    assert!(rt;
+        refused.unwrap_or(0) > 1,
+        "few allocations were refused, or a wrong answer: {text}"
+    );
     Ok(())
 }
 

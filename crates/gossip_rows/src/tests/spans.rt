@@ -9,7 +9,7 @@ use refusing_allocator::RefusingAllocator;
 use std::alloc::{AllocError, Allocator};
 use std::process::Abort;
 use std::test::Fail;
-use test_support::{lend, stop_refusing};
+use test_support::{lend, stop_refusing, sweep_each};
 
 /// A message of `a` by its number, whether it was not known before, and the span of `a` after it.
 type Step = (u64, bool, (u64, usize));
@@ -41,9 +41,6 @@ const STEPS: &[Step] = &[
 fn steps() -> &'static [Step] {
     STEPS
 }
-
-/// More allocations than adding an id has.
-const MANY: u64 = 20;
 
 /// Whether the span of `a` is this, and nothing is known of `b`.
 fn is_span<A: Allocator>(rt: &impl Abort, gossip: &Gossip<A>, wanted: &(u64, usize)) -> bool {
@@ -201,7 +198,8 @@ fn is_added<A: Allocator + Copy>(
     Ok(is_known(known, message, true, wanted))
 }
 
-/// Adds an id while the allocation with this number is refused, and then without. Whether there is such an allocation.
+/// Adds an id while the allocation with this number is refused, and then without. Whether there is such an allocation,
+/// or none if an answer is wrong.
 fn refuse_add<A: Allocator + Copy>(
     rt: &impl Abort,
     heap: &RefusingAllocator,
@@ -209,13 +207,12 @@ fn refuse_add<A: Allocator + Copy>(
     stood: &(u64, usize),
     step: &Step,
     n: u64,
-) -> Result<bool, AllocError> {
+) -> Result<Option<bool>, AllocError> {
     let message = id(rt, (b'a', step.0));
     let (is_spent, is_refused) = try_room(heap, known, &message, n);
     let stands = is_known(known, &message, !step.1, stood);
     let is_right = stands && is_added(known, &message, &step.2)?;
-    assert!(rt; is_right && is_refused == is_spent);
-    Ok(is_spent)
+    Ok((is_right && is_refused == is_spent).then_some(is_spent))
 }
 
 /// Adds the ids up to one, and does so with that. Whether there is such an allocation.
@@ -225,11 +222,11 @@ fn refuse_step<A: Allocator + Copy>(
     known: &mut KnownIds<A>,
     parts: Parts<'_>,
     n: u64,
-) -> Result<bool, AllocError> {
+) -> Result<Option<bool>, AllocError> {
     add_all(rt, known, parts.0)?;
     match parts.1.first() {
         Some(step) => refuse_add(rt, heap, known, &left(parts.0), step, n),
-        None => Ok(false),
+        None => Ok(Some(false)),
     }
 }
 
@@ -240,46 +237,21 @@ fn refuse_step_from_nothing<A: Allocator + Copy>(
     alloc: A,
     parts: Parts<'_>,
     n: u64,
-) -> Result<bool, AllocError> {
+) -> Result<Option<bool>, AllocError> {
     let known = KnownIds::new(alloc);
     lend(known, |known| refuse_step(rt, heap, known, parts, n))
-}
-
-/// Refuses each allocation of adding an id in turn. How many it has.
-fn sweep<A: Allocator + Copy>(
-    rt: &impl Abort,
-    heap: &RefusingAllocator,
-    alloc: A,
-    parts: Parts<'_>,
-) -> Result<u64, AllocError> {
-    for n in 1..MANY {
-        if !refuse_step_from_nothing(rt, heap, alloc, parts, n)? {
-            return Ok(n - 1);
-        }
-    }
-    assert!(rt; false, "the sweep did not end");
-    Ok(MANY)
-}
-
-/// Does so for each id. How many allocations they have.
-fn sweep_all<A: Allocator + Copy>(
-    rt: &impl Abort,
-    heap: &RefusingAllocator,
-    alloc: A,
-    steps: &[Step],
-) -> Result<u64, AllocError> {
-    let mut refused = 0u64;
-    for at in 0..steps.len() {
-        let allocations = sweep(rt, heap, alloc, steps.split_at(at))?;
-        refused = refused.saturating_add(allocations);
-    }
-    Ok(refused)
 }
 
 #[test]
 fn each_allocation_of_each_id(rt: HostRuntime) -> Result<(), Fail> {
     let heap = RefusingAllocator::new(rt.alloc());
-    let refused = sweep_all(&rt, &heap, &heap, steps())?;
-    assert!(rt; refused > 1, "few allocations were refused: {refused}");
+    let steps = steps();
+    let refused = sweep_each(steps.len(), |at, n| {
+        refuse_step_from_nothing(&rt, &heap, &heap, steps.split_at(at.min(steps.len())), n)
+    })?;
+    assert!(rt;
+        refused.unwrap_or(0) > 1,
+        "few allocations were refused, or a wrong answer"
+    );
     Ok(())
 }

@@ -8,11 +8,8 @@ use refusing_allocator::RefusingAllocator;
 use std::alloc::{AllocError, Allocator};
 use std::process::Abort;
 use std::test::Fail;
-use test_support::{lend, stop_refusing};
+use test_support::{lend, stop_refusing, sweep};
 use world::{Delivery, WorldError};
-
-/// More allocations than a call has.
-const MANY: u64 = 40;
 
 /// Whether the forest has the tree of a message as it is found alone.
 fn is_tree<A: Allocator + Copy>(
@@ -118,26 +115,7 @@ fn refuse_allocation<A: Allocator + Copy>(
     Ok(is_right.then_some(is_spent))
 }
 
-/// Refuses each allocation in turn, and at last none. How many there are, or none if an answer is wrong.
-fn sweep<A: Allocator + Copy>(
-    rt: &impl Abort,
-    heap: &RefusingAllocator,
-    alloc: A,
-    text: &mut String<A>,
-    world: &Group<A>,
-    case: &Case,
-) -> Result<Option<u64>, AllocError> {
-    for n in 1..MANY {
-        match refuse_allocation(rt, heap, alloc, text, world, case, n)? {
-            Some(true) => {}
-            Some(false) => return Ok(Some(n - 1)),
-            None => return Ok(None),
-        }
-    }
-    Ok(None)
-}
-
-/// Does so at the end of a case.
+/// Does so at the end of a case, each allocation refused in turn. How many there are, or none if an answer is wrong.
 fn sweep_case<A: Allocator + Copy>(
     rt: &impl Abort,
     heap: &RefusingAllocator,
@@ -147,7 +125,8 @@ fn sweep_case<A: Allocator + Copy>(
     case: &Case,
 ) -> Result<Option<u64>, WorldError> {
     play_acts(rt, alloc, world, case.acts)?;
-    Ok(sweep(rt, heap, alloc, text, world, case)?)
+    let world = &*world;
+    Ok(sweep(|n| refuse_allocation(rt, heap, alloc, text, world, case, n))?)
 }
 
 /// Plays the case in a fresh group.

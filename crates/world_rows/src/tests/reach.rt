@@ -7,11 +7,8 @@ use refusing_allocator::RefusingAllocator;
 use std::alloc::{AllocError, Allocator};
 use std::process::Abort;
 use std::test::Fail;
-use test_support::{lend, name, stop_refusing};
+use test_support::{lend, name, stop_refusing, sweep_each};
 use world::WorldError;
-
-/// More allocations than the call has.
-const MANY: u64 = 40;
 
 /// A name, and those in reach of it between blanks.
 type Asked = (&'static str, &'static str);
@@ -208,37 +205,20 @@ fn refuse_allocation<A: Allocator + Copy>(
     lend(answer, |answer| is_answer(answer, is_spent, whole)).then_some(is_spent)
 }
 
-/// Asks while each allocation is refused in turn, and at last while none is. How many there are, or none if an answer
-/// is wrong.
-fn sweep<A: Allocator + Copy>(
-    heap: &RefusingAllocator,
-    alloc: A,
-    world: &Group<A>,
-    from: NodeName,
-    whole: &str,
-) -> Option<u64> {
-    for n in 1..MANY {
-        if !refuse_allocation(heap, alloc, world, from, whole, n)? {
-            return Some(n - 1);
-        }
-    }
-    None
-}
-
-/// Does so for each name that is asked about.
+/// Asks about each name while each allocation is refused in turn. How many there are, or none if an answer is wrong.
 fn sweep_asked<A: Allocator + Copy>(
     rt: &impl Abort,
     heap: &RefusingAllocator,
     alloc: A,
     world: &Group<A>,
     asked: &[Asked],
-) -> Option<u64> {
-    let mut refused = 0u64;
-    for (from, whole) in asked {
-        let allocations = sweep(heap, alloc, world, name(rt, from), whole)?;
-        refused = refused.saturating_add(allocations);
-    }
-    Some(refused)
+) -> Result<Option<u64>, WorldError> {
+    sweep_each(asked.len(), |place, n| {
+        let Some((from, whole)) = asked.get(place) else {
+            return Ok(None);
+        };
+        Ok(refuse_allocation(heap, alloc, world, name(rt, from), whole, n))
+    })
 }
 
 /// Does so at the end of a case.
@@ -250,7 +230,7 @@ fn sweep_case<A: Allocator + Copy>(
     case: &Case,
 ) -> Result<Option<u64>, WorldError> {
     play_acts(rt, alloc, world, case.acts)?;
-    Ok(sweep_asked(rt, heap, alloc, world, case.asked))
+    sweep_asked(rt, heap, alloc, world, case.asked)
 }
 
 /// Plays the case in a fresh group.

@@ -9,11 +9,8 @@ use std::alloc::{AllocError, Allocator};
 use std::fmt::Write;
 use std::process::Abort;
 use std::test::Fail;
-use test_support::{lend, stop_refusing};
+use test_support::{lend, stop_refusing, sweep};
 use world::WorldError;
-
-/// More allocations than a call has.
-const MANY: u64 = 20;
 
 /// A run, and what is told of its end.
 #[derive(Clone, Copy)]
@@ -179,22 +176,6 @@ fn refuse_allocation<A: Allocator + Copy>(
     lend(answer, |answer| is_answer(answer, is_spent, whole)).then_some(is_spent)
 }
 
-/// Asks while each allocation is refused in turn. How many there are, or none if an answer is wrong.
-fn sweep<A: Allocator + Copy>(
-    heap: &RefusingAllocator,
-    alloc: A,
-    world: &Group<A>,
-    message: &MsgId,
-    whole: &[Branch],
-) -> Option<u64> {
-    for n in 1..MANY {
-        if !refuse_allocation(heap, alloc, world, message, whole, n)? {
-            return Some(n - 1);
-        }
-    }
-    None
-}
-
 /// Compares a tree with its text, and then asks for it while each allocation is refused in turn. How many allocations
 /// there are, or none if an answer is wrong.
 fn sweep_tree<A: Allocator + Copy>(
@@ -207,7 +188,8 @@ fn sweep_tree<A: Allocator + Copy>(
 ) -> Result<Option<u64>, AllocError> {
     let branches = tree(alloc, world, message)?;
     if is_drawn(text, branches.as_slice(), wanted)? {
-        Ok(sweep(heap, alloc, world, message, branches.as_slice()))
+        let whole = branches.as_slice();
+        sweep(|n| Ok(refuse_allocation(heap, alloc, world, message, whole, n)))
     } else {
         Ok(None)
     }

@@ -9,11 +9,8 @@ use refusing_allocator::RefusingAllocator;
 use std::alloc::{AllocError, Allocator};
 use std::process::Abort;
 use std::test::Fail;
-use test_support::{lend, stop_refusing};
+use test_support::{lend, stop_refusing, sweep, sweep_each};
 use world::{Event, Given, RunFault, WorldError};
-
-/// More allocations than any event or row has.
-const MANY: u64 = 400;
 
 /// Plays turns, none of which is refused an allocation.
 fn play_turns<A: Allocator + Copy>(
@@ -160,38 +157,17 @@ fn sweep_turn<A: Allocator + Copy>(
     )
 }
 
-/// Refuses each allocation of an event in turn. How many there are.
-fn sweep_event<A: Allocator + Copy>(
-    rt: &impl Abort,
-    heap: &RefusingAllocator,
-    alloc: A,
-    text: &mut String<A>,
-    row: &Row,
-    at: usize,
-) -> Result<u64, AllocError> {
-    for n in 1..MANY {
-        if !sweep_turn(rt, heap, alloc, text, row, at, n)? {
-            return Ok(n - 1);
-        }
-    }
-    assert!(rt; false, "the sweep did not end");
-    Ok(MANY)
-}
-
-/// Does so for each event of a row.
+/// Refuses each allocation of each event of a row in turn. How many there are, or none if that has no end.
 fn sweep_row<A: Allocator + Copy>(
     rt: &impl Abort,
     heap: &RefusingAllocator,
     alloc: A,
     text: &mut String<A>,
     row: &Row,
-) -> Result<u64, AllocError> {
-    let mut refused = 0u64;
-    for at in 0..row.turns.len() {
-        let allocations = sweep_event(rt, heap, alloc, text, row, at)?;
-        refused = refused.saturating_add(allocations);
-    }
-    Ok(refused)
+) -> Result<Option<u64>, AllocError> {
+    sweep_each(row.turns.len(), |at, n| {
+        Ok(Some(sweep_turn(rt, heap, alloc, text, row, at, n)?))
+    })
 }
 
 /// Every event of every row, each of its allocations refused in turn.
@@ -202,7 +178,7 @@ fn each_allocation_of_each_event(rt: HostRuntime) -> Result<(), Fail> {
     let mut refused = 0u64;
     for row in rows() {
         let allocations = sweep_row(&rt, &heap, &heap, &mut text, row)?;
-        refused = refused.saturating_add(allocations);
+        refused = refused.saturating_add(allocations.expect(&rt, "an end"));
     }
     assert!(rt; refused > 100, "few allocations were refused: {refused}");
     Ok(())
@@ -320,32 +296,17 @@ fn sweep_run<A: Allocator + Copy>(
     lend(world, |world| run_beside(rt, heap, alloc, world, events, n))
 }
 
-/// Refuses each allocation of a run in turn. How many there are.
-fn sweep_events<A: Allocator + Copy>(
-    rt: &impl Abort,
-    heap: &RefusingAllocator,
-    alloc: A,
-    events: &[Event<A>],
-) -> u64 {
-    for n in 1..MANY {
-        if !sweep_run(rt, heap, alloc, events, n) {
-            return n - 1;
-        }
-    }
-    assert!(rt; false, "the sweep did not end");
-    MANY
-}
-
-/// Does so for the events of a row that are accepted.
+/// Refuses each allocation of a run of the events of a row that are accepted in turn. How many there are, or none if
+/// that has no end.
 fn sweep_accepted<A: Allocator + Copy>(
     rt: &impl Abort,
     heap: &RefusingAllocator,
     alloc: A,
     row: &Row,
-) -> Result<u64, AllocError> {
+) -> Result<Option<u64>, AllocError> {
     let mut events = Vec::new(alloc);
     push_accepted(rt, alloc, &mut events, row.turns)?;
-    Ok(sweep_events(rt, heap, alloc, events.as_slice()))
+    sweep(|n| Ok(Some(sweep_run(rt, heap, alloc, events.as_slice(), n))))
 }
 
 /// Every row as one run, each of its allocations refused in turn.
@@ -354,7 +315,7 @@ fn each_allocation_of_each_run(rt: HostRuntime) -> Result<(), Fail> {
     let heap = RefusingAllocator::new(rt.alloc());
     for row in rows() {
         let refused = sweep_accepted(&rt, &heap, &heap, row)?;
-        assert!(rt; refused > 5, "few allocations were refused: {refused}");
+        assert!(rt; refused.unwrap_or(0) > 5, "few allocations were refused");
     }
     Ok(())
 }

@@ -8,11 +8,8 @@ use refusing_allocator::RefusingAllocator;
 use std::alloc::{AllocError, Allocator};
 use std::process::Abort;
 use std::test::Fail;
-use test_support::{lend, stop_refusing};
+use test_support::{lend, stop_refusing, sweep};
 use world::{Delivery, WorldError};
-
-/// More allocations than a call has.
-const MANY: u64 = 40;
 
 /// Whether the group is told to be at rest for a message just as it is told of it alone.
 fn is_told<A: Allocator + Copy>(world: &Group<A>, unrest: &Unrest<A>, message: &MsgId) -> bool {
@@ -87,23 +84,7 @@ fn refuse_allocation<A: Allocator + Copy>(
     is_right.then_some(is_spent)
 }
 
-/// Refuses each allocation in turn, and at last none. How many there are, or none if an answer is wrong.
-fn sweep<A: Allocator + Copy>(
-    rt: &impl Abort,
-    heap: &RefusingAllocator,
-    alloc: A,
-    world: &Group<A>,
-    case: &Case,
-) -> Option<u64> {
-    for n in 1..MANY {
-        if !refuse_allocation(rt, heap, alloc, world, case, n)? {
-            return Some(n - 1);
-        }
-    }
-    None
-}
-
-/// Does so at the end of a case.
+/// Does so at the end of a case, each allocation refused in turn. How many there are, or none if an answer is wrong.
 fn sweep_case<A: Allocator + Copy>(
     rt: &impl Abort,
     heap: &RefusingAllocator,
@@ -112,7 +93,8 @@ fn sweep_case<A: Allocator + Copy>(
     case: &Case,
 ) -> Result<Option<u64>, WorldError> {
     play_acts(rt, alloc, world, case.acts)?;
-    Ok(sweep(rt, heap, alloc, world, case))
+    let world = &*world;
+    sweep(|n| Ok(refuse_allocation(rt, heap, alloc, world, case, n)))
 }
 
 /// Plays the case in a fresh group.
