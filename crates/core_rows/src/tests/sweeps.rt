@@ -10,11 +10,8 @@ use refusing_allocator::RefusingAllocator;
 use std::alloc::Allocator;
 use std::process::Abort;
 use std::test::Fail;
-use test_support::{lend, stop_refusing};
+use test_support::{lend, stop_refusing, sweep_each};
 use world::WorldError;
-
-/// More allocations than any event has.
-const MANY: u64 = 400;
 
 /// Plays an event whose allocation with this number is refused. Whether it had so many, and whether it was refused.
 fn try_event<A: Allocator + Copy>(
@@ -126,28 +123,7 @@ fn sweep_event<A: Allocator + Copy>(
     })
 }
 
-/// Refuses each allocation of one event in turn. How many it has.
-fn sweep<A: Allocator + Copy>(
-    rt: &impl Abort,
-    heap: &RefusingAllocator,
-    alloc: A,
-    text: &mut String,
-    stood: &mut String,
-    limits: Limits,
-    ids: &[MsgId; 2],
-    before: &[Turn],
-    turns: (&[Turn], &[Turn]),
-) -> Result<u64, WorldError> {
-    for n in 1..MANY {
-        if !sweep_event(rt, heap, alloc, text, stood, limits, ids, before, turns, n)? {
-            return Ok(n - 1);
-        }
-    }
-    assert!(rt; false, "the sweep did not end");
-    Ok(MANY)
-}
-
-/// Refuses each allocation of each of a row's own events in turn. How many they have.
+/// Refuses each allocation of each of a row's own events in turn. How many they have, or none if that has no end.
 fn sweep_row<A: Allocator + Copy>(
     rt: &impl Abort,
     heap: &RefusingAllocator,
@@ -155,17 +131,16 @@ fn sweep_row<A: Allocator + Copy>(
     text: &mut String,
     stood: &mut String,
     row: &Row,
-) -> Result<u64, WorldError> {
+) -> Result<Option<u64>, WorldError> {
     let ids = asked(rt, row);
     let limits = limits(row);
-    let mut refused = 0u64;
-    for at in 0..row.turns.len() {
+    sweep_each(row.turns.len(), |at, n| {
         let turns = row.turns.split_at(at.min(row.turns.len()));
-        refused = refused.saturating_add(sweep(
-            rt, heap, alloc, text, stood, limits, &ids, row.before, turns,
-        )?);
-    }
-    Ok(refused)
+        let is_spent = sweep_event(
+            rt, heap, alloc, text, stood, limits, &ids, row.before, turns, n,
+        )?;
+        Ok(Some(is_spent))
+    })
 }
 
 /// Does so for all rows that are swept. How many allocations they have.
@@ -180,7 +155,7 @@ fn sweep_rows<A: Allocator + Copy>(
     let mut refused = 0u64;
     for row in rows {
         if row.is_swept {
-            let allocations = sweep_row(rt, heap, alloc, text, stood, row)?;
+            let allocations = sweep_row(rt, heap, alloc, text, stood, row)?.unwrap_or(0);
             assert!(rt;
                 allocations > 5,
                 "few allocations were refused: {allocations}"
