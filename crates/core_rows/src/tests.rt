@@ -1,5 +1,6 @@
 //! The tests by what they are of, and what they share.
 mod halves;
+mod named;
 mod packets;
 mod play;
 mod rows;

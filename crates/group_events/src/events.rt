@@ -1,83 +1,84 @@
-//! Acts as events.
+//! Acts as events. A text that is no name is in no event.
 use crate::act::{Act, Id};
 use bytes::Bytes;
 use node_names::{Dice, Incarnation, Listed, MsgId, NodeName};
 use std::alloc::{AllocError, Allocator};
-use std::process::Abort;
-use test_support::{message, name};
+use test_support::message;
 use world::{Event, EventOf};
 
+/// The name of this text.
+fn name(text: &str) -> Option<NodeName> {
+    NodeName::parse(text.as_bytes()).ok()
+}
+
 /// The id of the message.
-pub fn id(rt: &impl Abort, id: Id) -> MsgId {
-    message(name(rt, id.0), id.1)
+fn id(id: Id) -> Option<MsgId> {
+    Some(message(name(id.0)?, id.1))
 }
 
 /// The names of a text.
-fn names<A: Allocator>(
-    rt: &impl Abort,
-    alloc: A,
-    text: &str,
-) -> Result<Listed<NodeName, A>, AllocError> {
+fn names<A: Allocator>(alloc: A, text: &str) -> Result<Option<Listed<NodeName, A>>, AllocError> {
     let mut names = Listed::new(alloc);
     for word in text.split_whitespace() {
-        names.push(name(rt, word))?;
+        let Some(name) = name(word) else {
+            return Ok(None);
+        };
+        names.push(name)?;
     }
-    Ok(names)
+    Ok(Some(names))
 }
 
 fn start<A: Allocator>(
-    rt: &impl Abort,
     alloc: A,
     node: &str,
     incarnation: u64,
     peers: &str,
-) -> Result<Event<A>, AllocError> {
-    let peers = names(rt, alloc, peers)?;
-    Ok(EventOf::Start {
-        name: name(rt, node),
+) -> Result<Option<Event<A>>, AllocError> {
+    let Some(name) = name(node) else {
+        return Ok(None);
+    };
+    let Some(peers) = names(alloc, peers)? else {
+        return Ok(None);
+    };
+    Ok(Some(EventOf::Start {
+        name,
         incarnation: Incarnation(incarnation),
         peers,
         contact: None,
-    })
+    }))
 }
 
-fn join<A: Allocator>(
-    rt: &impl Abort,
-    alloc: A,
-    node: &str,
-    incarnation: u64,
-    contact: &str,
-) -> Event<A> {
-    EventOf::Start {
-        name: name(rt, node),
+fn join<A: Allocator>(alloc: A, node: &str, incarnation: u64, contact: &str) -> Option<Event<A>> {
+    let node = name(node)?;
+    let contact = name(contact)?;
+    Some(EventOf::Start {
+        name: node,
         incarnation: Incarnation(incarnation),
-        contact: Some(name(rt, contact)),
+        contact: Some(contact),
         peers: Listed::new(alloc),
-    }
+    })
 }
 
 fn broadcast<A: Allocator + Copy>(
-    rt: &impl Abort,
     alloc: A,
     node: &str,
     payload: &[u8],
-) -> Result<Event<A>, AllocError> {
+) -> Result<Option<Event<A>>, AllocError> {
+    let Some(name) = name(node) else {
+        return Ok(None);
+    };
     let payload = Bytes::copy_from_slice(alloc, payload)?;
-    Ok(EventOf::Broadcast {
-        name: name(rt, node),
-        payload,
-    })
+    Ok(Some(EventOf::Broadcast { name, payload }))
 }
 
 fn broadcast_zeros<A: Allocator + Copy>(
-    rt: &impl Abort,
     alloc: A,
     node: &str,
     count: usize,
-) -> Result<Event<A>, AllocError> {
+) -> Result<Option<Event<A>>, AllocError> {
     let mut zeros = Vec::new(alloc);
     zeros.resize(count, 0u8)?;
-    broadcast(rt, alloc, node, zeros.as_slice())
+    broadcast(alloc, node, zeros.as_slice())
 }
 
 fn arrive<A: Allocator>(place: usize) -> Event<A> {
@@ -87,58 +88,50 @@ fn arrive<A: Allocator>(place: usize) -> Event<A> {
     }
 }
 
-fn fire<A: Allocator>(rt: &impl Abort, node: &str, message: Id) -> Event<A> {
-    EventOf::Fire {
-        name: name(rt, node),
-        id: id(rt, message),
-    }
+fn fire<A: Allocator>(node: &str, message: Id) -> Option<Event<A>> {
+    Some(EventOf::Fire {
+        name: name(node)?,
+        id: id(message)?,
+    })
 }
 
-fn flush<A: Allocator>(rt: &impl Abort, node: &str) -> Event<A> {
-    EventOf::Flush {
-        name: name(rt, node),
-    }
+fn flush<A: Allocator>(node: &str) -> Option<Event<A>> {
+    Some(EventOf::Flush { name: name(node)? })
 }
 
-fn down<A: Allocator>(rt: &impl Abort, node: &str, peer: &str) -> Event<A> {
-    EventOf::Down {
-        name: name(rt, node),
-        peer: name(rt, peer),
+fn down<A: Allocator>(node: &str, peer: &str) -> Option<Event<A>> {
+    Some(EventOf::Down {
+        name: name(node)?,
+        peer: name(peer)?,
         dice: Dice::ZEROS,
-    }
+    })
 }
 
-fn shuffle<A: Allocator>(rt: &impl Abort, node: &str) -> Event<A> {
-    EventOf::Shuffle {
-        name: name(rt, node),
+fn shuffle<A: Allocator>(node: &str) -> Option<Event<A>> {
+    Some(EventOf::Shuffle {
+        name: name(node)?,
         dice: Dice::ZEROS,
-    }
+    })
 }
 
-fn stop<A: Allocator>(rt: &impl Abort, node: &str) -> Event<A> {
-    EventOf::Stop {
-        name: name(rt, node),
-    }
+fn stop<A: Allocator>(node: &str) -> Option<Event<A>> {
+    Some(EventOf::Stop { name: name(node)? })
 }
 
-/// The event of an act. It aborts where a text is no name.
-pub fn event<A: Allocator + Copy>(
-    rt: &impl Abort,
-    alloc: A,
-    act: &Act,
-) -> Result<Event<A>, AllocError> {
+/// The event of an act, if its texts are names.
+pub fn event<A: Allocator + Copy>(alloc: A, act: &Act) -> Result<Option<Event<A>>, AllocError> {
     match *act {
-        Act::Start(node, incarnation, peers) => start(rt, alloc, node, incarnation, peers),
-        Act::Join(node, incarnation, contact) => Ok(join(rt, alloc, node, incarnation, contact)),
-        Act::Broadcast(node, text) => broadcast(rt, alloc, node, text.as_bytes()),
-        Act::BroadcastZeros(node, count) => broadcast_zeros(rt, alloc, node, count),
-        Act::Arrive(place) => Ok(arrive(place)),
-        Act::Lose(place) => Ok(EventOf::Lose { place }),
-        Act::Again(number) => Ok(EventOf::Again { number }),
-        Act::Fire(node, message) => Ok(fire(rt, node, message)),
-        Act::Flush(node) => Ok(flush(rt, node)),
-        Act::Down(node, peer) => Ok(down(rt, node, peer)),
-        Act::Shuffle(node) => Ok(shuffle(rt, node)),
-        Act::Stop(node) => Ok(stop(rt, node)),
+        Act::Start(node, incarnation, peers) => start(alloc, node, incarnation, peers),
+        Act::Join(node, incarnation, contact) => Ok(join(alloc, node, incarnation, contact)),
+        Act::Broadcast(node, text) => broadcast(alloc, node, text.as_bytes()),
+        Act::BroadcastZeros(node, count) => broadcast_zeros(alloc, node, count),
+        Act::Arrive(place) => Ok(Some(arrive(place))),
+        Act::Lose(place) => Ok(Some(EventOf::Lose { place })),
+        Act::Again(number) => Ok(Some(EventOf::Again { number })),
+        Act::Fire(node, message) => Ok(fire(node, message)),
+        Act::Flush(node) => Ok(flush(node)),
+        Act::Down(node, peer) => Ok(down(node, peer)),
+        Act::Shuffle(node) => Ok(shuffle(node)),
+        Act::Stop(node) => Ok(stop(node)),
     }
 }

@@ -7,6 +7,6 @@ mod playing;
 mod runs;
 
 pub use act::{Act, Id};
-pub use events::{event, id};
+pub use events::event;
 pub use playing::{play_act, play_acts, play_runs};
 pub use runs::{ASKING, QUEUING};

@@ -2,42 +2,45 @@
 use crate::act::Act;
 use crate::events::event;
 use std::alloc::Allocator;
-use std::process::Abort;
 use world::{Core, World, WorldError};
 
-/// Plays an act. What it delivers stands in the log.
+/// Plays an act. Whether its texts are names; if not, nothing is played. What it delivers stands in the log.
 pub fn play_act<C: Core<A>, A: Allocator + Copy>(
-    rt: &impl Abort,
     alloc: A,
     world: &mut World<C, A>,
     act: &Act,
-) -> Result<(), WorldError> {
-    let event = event(rt, alloc, act)?;
-    world.play(&event)
+) -> Result<bool, WorldError> {
+    let Some(event) = event(alloc, act)? else {
+        return Ok(false);
+    };
+    world.play(&event)?;
+    Ok(true)
 }
 
-/// Plays acts, up to the first that is refused.
+/// Plays acts, up to the first that is refused. Whether their texts are names.
 pub fn play_acts<C: Core<A>, A: Allocator + Copy>(
-    rt: &impl Abort,
     alloc: A,
     world: &mut World<C, A>,
     acts: &[Act],
-) -> Result<(), WorldError> {
+) -> Result<bool, WorldError> {
     for act in acts {
-        play_act(rt, alloc, world, act)?;
+        if !play_act(alloc, world, act)? {
+            return Ok(false);
+        }
     }
-    Ok(())
+    Ok(true)
 }
 
-/// Plays runs, one behind the other, up to the first act that is refused.
+/// Plays runs, one behind the other, up to the first act that is refused. Whether their texts are names.
 pub fn play_runs<C: Core<A>, A: Allocator + Copy>(
-    rt: &impl Abort,
     alloc: A,
     world: &mut World<C, A>,
     runs: &[&[Act]],
-) -> Result<(), WorldError> {
+) -> Result<bool, WorldError> {
     for acts in runs {
-        play_acts(rt, alloc, world, acts)?;
+        if !play_acts(alloc, world, acts)? {
+            return Ok(false);
+        }
     }
-    Ok(())
+    Ok(true)
 }

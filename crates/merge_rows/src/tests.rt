@@ -3,6 +3,7 @@ mod altered;
 mod divided;
 mod merged;
 mod named;
+mod play;
 mod random;
 mod rows;
 mod scan;

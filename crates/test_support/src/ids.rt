@@ -1,15 +1,7 @@
-//! Names, and runs and messages of a node's first incarnation.
+//! Runs and messages of a node's first incarnation.
 ghost use Rattle.std.specs.Prelude.{◌≡◌};
 
 use node_names::{Incarnation, MsgId, NodeName, Origin};
-use std::process::Abort;
-
-/// The name of this text. It aborts where the text is none.
-pub fn name(rt: &impl Abort, text: &str) -> NodeName
-    ensures { result ≡ text.now }
-{
-    NodeName::parse(text.as_bytes()).expect(rt, "a name")
-}
 
 /// The first incarnation of a name.
 pub fn first_run(name: NodeName) -> Origin

@@ -8,7 +8,7 @@ mod letters;
 mod refusals;
 
 pub use frame_texts::push_frame;
-pub use ids::{first_run, message, name};
+pub use ids::{first_run, message};
 pub use lending::lend;
 pub use letters::push_letters;
 pub use refusals::{refusal_of, retry, stop_refusing, sweep, sweep_each};

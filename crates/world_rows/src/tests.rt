@@ -3,6 +3,7 @@ mod alike;
 mod flight;
 mod forest;
 mod moves;
+mod named;
 mod play;
 mod reach;
 mod rest;

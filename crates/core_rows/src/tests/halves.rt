@@ -1,17 +1,18 @@
 //! Steps of a node in two halves: what is prepared is what a step gives, preparing changes nothing, and advancing
 //! leaves what the step leaves. Each allocation of the second half is refused in turn: the node is then as before, and
 //! the step can be made again.
+use crate::tests::named::{id, name};
 use crate::tests::texts::{Group, push_core, push_out};
 use bytes::Bytes;
 use frames::Frame;
-use group_events::{ASKING, Act, Id, QUEUING, id, play_runs};
+use group_events::{ASKING, Act, Id, QUEUING, play_runs};
 use node_core::PlumCore;
 use node_names::{Dice, Limits, MsgId};
 use refusing_allocator::RefusingAllocator;
 use std::alloc::{AllocError, Allocator};
 use std::process::Abort;
 use std::test::Fail;
-use test_support::{lend, name, stop_refusing};
+use test_support::{lend, stop_refusing};
 use world::{Core, CoreError, Out, Prepared, Stimulus, StimulusOf, StimulusRef, Wire, WorldError};
 
 /// More allocations than a half has.
@@ -419,7 +420,8 @@ fn sweep_group<A: Allocator + Copy>(
     world: &mut Group<A>,
     case: &Case,
 ) -> Result<Option<u64>, WorldError> {
-    play_runs(rt, alloc, world, case.before)?;
+    let are_names = play_runs(alloc, world, case.before)?;
+    assert!(rt; are_names);
     Ok(sweep_node(rt, heap, alloc, text, world, case)?)
 }
 

@@ -1,16 +1,26 @@
 //! Playing the rows event by event.
+use crate::tests::named::id;
 use crate::tests::rows::{Row, Turn, rows};
 use crate::tests::texts::{
     Group, push_given, push_listed, push_standing, push_told, push_views, push_whole,
 };
 use crate::tests::tuned_rows::tuned_rows;
-use group_events::{Act, event, id};
+use group_events::Act;
 use node_names::{Limits, MsgId};
 use std::alloc::{AllocError, Allocator};
 use std::process::Abort;
 use std::test::Fail;
 use test_support::lend;
 use world::{Event, WorldError};
+
+/// The event of an act.
+pub(crate) fn event<A: Allocator + Copy>(
+    rt: &impl Abort,
+    alloc: A,
+    act: &Act,
+) -> Result<Event<A>, AllocError> {
+    Ok(group_events::event(alloc, act)?.expect(rt, "names"))
+}
 
 /// Plays an event. What it gives stands in the log too.
 pub(crate) fn apply<A: Allocator + Copy>(

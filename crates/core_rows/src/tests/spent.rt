@@ -2,16 +2,17 @@
 ghost use Rattle.std.specs.Prelude.{IsTrue, not};
 ghost use Rattle.node_names.specs.Same.{same_name};
 
+use crate::tests::named::{id, name};
 use bytes::Bytes;
 use frames::Frame;
-use group_events::{Id, id};
+use group_events::Id;
 use node_core::PlumCore;
 use node_names::{Limits, MsgId, NodeName, Origin};
 use refusing_allocator::RefusingAllocator;
 use std::alloc::{AllocError, Allocator};
 use std::process::Abort;
 use std::test::Fail;
-use test_support::{first_run, lend, name, stop_refusing};
+use test_support::{first_run, lend, stop_refusing};
 use world::{Core, CoreError, Out, Stimulus, StimulusOf};
 
 /// More allocations than any step has.

@@ -1,10 +1,10 @@
 //! Rows in which each allocation is refused in turn: the refusal is as out of memory, all readers answer as before the
 //! refused event, and the event made again answers as if nothing had been refused.
-use crate::tests::play::{apply, asked, compare, compare_whole, happen, limits, play};
+use crate::tests::play::{apply, asked, compare, compare_whole, event, happen, limits, play};
 use crate::tests::rows::{Row, Turn, rows};
 use crate::tests::texts::{Group, push_whole};
 use crate::tests::tuned_rows::tuned_rows;
-use group_events::{Act, event};
+use group_events::Act;
 use node_names::{Limits, MsgId};
 use refusing_allocator::RefusingAllocator;
 use std::alloc::Allocator;

@@ -1,6 +1,6 @@
 //! Streams that end or fail within a frame: each frame before that is a step, and then the link of their sender is
 //! down.
-use crate::tests::node::{Started, keep, start_with_one};
+use crate::tests::node::{Started, keep, name, start_with_one};
 use crate::tests::tally::{Counting, Tally};
 use crate::tests::texts::push_closed;
 use bytes::Bytes;
@@ -16,7 +16,7 @@ use std::sync::{Arc, Wait};
 use std::test::Fail;
 use std::thread::Threads;
 use std::time::Clock;
-use test_support::{first_run, name};
+use test_support::first_run;
 use world::{Step, StimulusOf, Trace};
 
 /// How many bytes the PRUNE of a node with a name of one letter has.

@@ -1,6 +1,6 @@
 //! Readers that a gate orders.
 use crate::tests::ends::close;
-use crate::tests::node::{LOOKS, Started, keep, start_with_one, start_with_two};
+use crate::tests::node::{LOOKS, Started, keep, name, start_with_one, start_with_two};
 use bytes::Bytes;
 use frames::{Body, Frame, encode};
 use links::TapeReader;
@@ -12,7 +12,7 @@ use std::test::Fail;
 use std::thread;
 use std::thread::Threads;
 use std::time::{Clock, Duration};
-use test_support::{first_run, name};
+use test_support::first_run;
 use world::{StimulusOf, Trace};
 
 /// How often each of two workers was reported to have made a step, and how often the first was refused.

@@ -8,7 +8,7 @@ use node_names::{Limits, NodeName, Origin};
 use node_threads::{Host, HostError, NodeCore, Outlet, Port};
 use std::alloc::{AllocError, Allocator, Global};
 use std::process::Abort;
-use test_support::{first_run, name};
+use test_support::first_run;
 use world::{Core, Out};
 
 /// How many frames a link has room for: more than any test sends.
@@ -40,6 +40,11 @@ struct Names {
     me: Origin,
     first: NodeName,
     second: NodeName,
+}
+
+/// The name of this text.
+pub(crate) fn name(rt: &impl Abort, text: &str) -> NodeName {
+    NodeName::parse(text.as_bytes()).expect(rt, "a name")
 }
 
 /// The names of these texts, which are distinct.
@@ -91,6 +96,11 @@ pub(crate) fn start_alone<A: Allocator + Copy>(
 ) -> Result<Started<PlumCore<A>, A>, HostError> {
     let me = first_run(name(rt, me));
     start_among(alloc, me, Limits::STANDARD, &[], ports)
+}
+
+/// The name of this text.
+pub(crate) fn name(rt: &impl Abort, text: &str) -> NodeName {
+    NodeName::parse(text.as_bytes()).expect(rt, "a name")
 }
 
 /// The names of these texts, which are distinct.

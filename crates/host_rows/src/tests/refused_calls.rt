@@ -1,7 +1,7 @@
 //! The start and the broadcasts of a node, each allocation of them refused in turn: the call fails as out of memory,
 //! and made again it answers as if nothing had been refused.
 use crate::tests::ends::broadcast;
-use crate::tests::node::{Started, start_alone};
+use crate::tests::node::{Started, name, start_alone};
 use crate::tests::texts::push_answer;
 use bytes::Bytes;
 use node_threads::{HostError, NodeCore, Port, Receipt};
@@ -11,7 +11,7 @@ use std::process::Abort;
 use std::sync::Wait;
 use std::test::Fail;
 use std::thread::Threads;
-use test_support::{message, name, refusal_of, retry, stop_refusing, sweep};
+use test_support::{message, refusal_of, retry, stop_refusing, sweep};
 use world::CoreError;
 
 /// Whether a start failed as out of memory, in the core or behind it.

@@ -1,10 +1,9 @@
 //! Events of a membership written by names.
-use crate::tests::named::names;
+use crate::tests::named::{name, names};
 use membership::{Membership, Moves};
 use node_names::Dice;
 use std::alloc::{AllocError, Allocator};
 use std::process::Abort;
-use test_support::name;
 
 /// An event in plain texts and numbers; the first name is the sender's. Names of lists stand between blanks.
 #[derive(Clone, Copy)]

@@ -2,10 +2,14 @@
 use node_names::{Dice, Limits, NodeName};
 use std::alloc::{AllocError, Allocator};
 use std::process::Abort;
-use test_support::name;
 
 /// The words of dice that are not 0, each after its place.
 pub(crate) type Words = &'static [(usize, u64)];
+
+/// The name of this text.
+pub(crate) fn name(rt: &impl Abort, text: &str) -> NodeName {
+    NodeName::parse(text.as_bytes()).expect(rt, "a name")
+}
 
 /// The names of a text.
 pub(crate) fn names<A: Allocator>(

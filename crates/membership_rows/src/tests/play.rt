@@ -1,6 +1,6 @@
 //! Playing the rows event by event.
 use crate::tests::act::hear;
-use crate::tests::named::{dice, limits};
+use crate::tests::named::{dice, limits, name};
 use crate::tests::rows::{Row, Turn, rows};
 use crate::tests::texts::{write_given, write_shown};
 use membership::{Membership, Moves};
@@ -8,7 +8,6 @@ use node_names::{Dice, Limits, NodeName};
 use std::alloc::{AllocError, Allocator};
 use std::process::Abort;
 use std::test::Fail;
-use test_support::name;
 
 /// The membership of a node that knows nobody.
 fn lone<A: Allocator + Copy>(

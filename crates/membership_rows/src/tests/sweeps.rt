@@ -1,7 +1,7 @@
 //! The rows with each allocation refused in turn: the event answers out of memory, all readers answer as before it, and
 //! the event made again answers as if nothing had been refused.
 use crate::tests::act::hear;
-use crate::tests::named::dice;
+use crate::tests::named::{dice, name};
 use crate::tests::play::{are_turns, is_given, is_shown, is_turn, start};
 use crate::tests::rows::{Row, Turn, rows};
 use crate::tests::texts::write_shown;
@@ -10,7 +10,7 @@ use refusing_allocator::RefusingAllocator;
 use std::alloc::{AllocError, Allocator, Global};
 use std::process::Abort;
 use std::test::Fail;
-use test_support::{name, stop_refusing, sweep_each};
+use test_support::{stop_refusing, sweep_each};
 
 /// Two texts, in which what was shown before and after an event is written.
 #[derive(Drop)]

@@ -1,5 +1,5 @@
 //! Calls of the views of `x`, worked out by hand, and each of their allocations refused in turn.
-use crate::tests::named::{Words, dice, limits, names};
+use crate::tests::named::{Words, dice, limits, name, names};
 use crate::tests::texts::{push_names, write_views};
 use node_names::{Dice, Limits, NodeName};
 use refusing_allocator::RefusingAllocator;
@@ -7,7 +7,7 @@ use std::alloc::{AllocError, Allocator, Global};
 use std::fmt::Write;
 use std::process::Abort;
 use std::test::Fail;
-use test_support::{name, stop_refusing, sweep_each};
+use test_support::{stop_refusing, sweep_each};
 use views::Views;
 
 /// A call in plain texts and numbers. Names of lists stand between blanks.

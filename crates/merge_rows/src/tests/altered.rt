@@ -1,16 +1,16 @@
 //! Traces that are none, or no longer those of one run of a group.
 use crate::tests::merged::{are_merged, project_all, push_project};
-use crate::tests::named::run;
+use crate::tests::named::{name, run};
+use crate::tests::play::play_acts;
 use crate::tests::rows::triangle;
 use crate::tests::texts::{Group, PlumTrace, Texts};
 use bytes::Bytes;
 use frames::{Body, BodyOf, Frame};
-use group_events::play_acts;
 use node_names::{Dice, Limits, MsgId, Origin};
 use std::alloc::{AllocError, Allocator};
 use std::process::Abort;
 use std::test::Fail;
-use test_support::{lend, message, name};
+use test_support::{lend, message};
 use world::{Delivery, Out, Step, Stimulus, StimulusOf, WorldError};
 
 /// The first step of `c` in the triangle, and nothing after it.

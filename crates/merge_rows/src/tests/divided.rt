@@ -1,9 +1,9 @@
 //! Traces that are divided into segments are merged like whole ones.
 use crate::tests::merged::{are_merged, project_all};
+use crate::tests::play::play_acts;
 use crate::tests::rows::{merging_of_triangle, triangle};
 use crate::tests::texts::{Group, PlumTrace, Texts};
 use frames::Frame;
-use group_events::play_acts;
 use node_names::{Limits, Listed, NodeName};
 use std::alloc::{AllocError, Allocator};
 use std::process::Abort;

@@ -1,8 +1,8 @@
 //! Traces that are merged, and the merged run played and read off again.
 use crate::tests::named::run;
+use crate::tests::play::play_acts;
 use crate::tests::rows::{Case, cases};
 use crate::tests::texts::{Group, PlumTrace, Texts, push_events, push_flight, push_trace};
-use group_events::play_acts;
 use node_names::{Limits, Origin};
 use std::alloc::{AllocError, Allocator};
 use std::fmt::Write;

@@ -1,5 +1,6 @@
 //! Traces of random runs: merged in two orders, they are what a plain scan gives, and the merged run has them again.
 use crate::tests::merged::{are_merged, project_all};
+use crate::tests::named::name;
 use crate::tests::scan::push_scan;
 use crate::tests::texts::{Group, PlumTrace, Texts};
 use bytes::Bytes;
@@ -9,7 +10,7 @@ use rand_pcg::Lcg128Xsl64;
 use std::alloc::{AllocError, Allocator, Global};
 use std::process::Abort;
 use std::test::Fail;
-use test_support::{lend, name};
+use test_support::lend;
 use world::{Core, Event, EventOf, WorldError};
 
 /// How many runs there are.

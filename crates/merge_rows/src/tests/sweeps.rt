@@ -2,9 +2,9 @@
 //! before.
 use crate::tests::merged::{project_all, push_project};
 use crate::tests::named::run;
+use crate::tests::play::play_acts;
 use crate::tests::rows::triangle;
 use crate::tests::texts::{Group, PlumTrace, Texts, push_events};
-use group_events::play_acts;
 use node_names::Limits;
 use refusing_allocator::RefusingAllocator;
 use std::alloc::{AllocError, Allocator};

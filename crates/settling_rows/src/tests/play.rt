@@ -52,7 +52,8 @@ fn play_group<A: Allocator + Copy>(
     world: &mut Group<A>,
     row: &Row,
 ) -> Result<(), WorldError> {
-    play_runs(rt, alloc, world, row.before)?;
+    let are_names = play_runs(alloc, world, row.before)?;
+    assert!(rt; are_names);
     let played = world.log().len();
     compare_count(rt, alloc, world, row.count);
     compare(rt, text, world, played, row)?;

@@ -40,7 +40,8 @@ fn play_refused<A: Allocator + Copy>(
     row: &Row,
     n: u64,
 ) -> Result<Option<bool>, WorldError> {
-    play_runs(rt, alloc, world, row.before)?;
+    let are_names = play_runs(alloc, world, row.before)?;
+    assert!(rt; are_names);
     let played = world.log().len();
     let answer = settle_refused(heap, alloc, world, n);
     assert!(rt; settle(alloc, world).is_ok());

@@ -9,7 +9,7 @@ use node_names::{Limits, NodeName, Origin};
 use node_threads::{HostError, NodeCell};
 use std::alloc::Allocator;
 use std::process::Abort;
-use test_support::{first_run, name};
+use test_support::first_run;
 use world::{Core, Out};
 
 /// A node and two others.
@@ -18,6 +18,11 @@ pub(crate) struct Names {
     pub(crate) me: Origin,
     pub(crate) p: NodeName,
     pub(crate) q: NodeName,
+}
+
+/// The name of this text.
+fn name(rt: &impl Abort, text: &str) -> NodeName {
+    NodeName::parse(text.as_bytes()).expect(rt, "a name")
 }
 
 /// The node `a` and the others `p` and `q`.

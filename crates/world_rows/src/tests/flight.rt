@@ -3,7 +3,6 @@ use crate::tests::alike::Group;
 use group_events::{Act, play_act};
 use node_names::Limits;
 use std::alloc::Allocator;
-use std::process::Abort;
 use std::test::Fail;
 use test_support::lend;
 use world::WorldError;
@@ -79,24 +78,22 @@ fn rows() -> &'static [Row] {
 
 /// Plays an event. Whether the packets in flight are then those that should be.
 fn is_flown<A: Allocator + Copy>(
-    rt: &impl Abort,
     alloc: A,
     world: &mut Group<A>,
     turn: &Turn,
 ) -> Result<bool, WorldError> {
-    play_act(rt, alloc, world, &turn.0)?;
-    Ok(world.flight() == turn.1)
+    let is_named = play_act(alloc, world, &turn.0)?;
+    Ok(is_named && world.flight() == turn.1)
 }
 
 /// Plays events. How many of them left what they should, up to the first that did not.
 fn count_flown<A: Allocator + Copy>(
-    rt: &impl Abort,
     alloc: A,
     world: &mut Group<A>,
     turns: &[Turn],
 ) -> Result<usize, WorldError> {
     for (at, turn) in turns.iter().enumerate() {
-        if !is_flown(rt, alloc, world, turn)? {
+        if !is_flown(alloc, world, turn)? {
             return Ok(at);
         }
     }
@@ -105,18 +102,17 @@ fn count_flown<A: Allocator + Copy>(
 
 /// Does so in a fresh group.
 fn count_flown_from_start<A: Allocator + Copy>(
-    rt: &impl Abort,
     alloc: A,
     turns: &[Turn],
 ) -> Result<usize, WorldError> {
     let world = Group::new(alloc, Limits::STANDARD);
-    lend(world, |world| count_flown(rt, alloc, world, turns))
+    lend(world, |world| count_flown(alloc, world, turns))
 }
 
 #[test]
 fn the_oldest_leaves_first(rt: HostRuntime) -> Result<(), Fail> {
     for row in rows() {
-        let flown = count_flown_from_start(&rt, rt.alloc(), row.turns)?;
+        let flown = count_flown_from_start(rt.alloc(), row.turns)?;
         assert_eq!(rt; flown, row.turns.len(), "at {}", row.name);
     }
     Ok(())

@@ -1,8 +1,8 @@
 //! The trees of all messages at once, which are those of each message alone.
 use crate::tests::alike::Group;
-use crate::tests::rest::{Case, cases, is_drawn};
+use crate::tests::named::id;
+use crate::tests::rest::{Case, cases, is_drawn, play_acts};
 use at_rest::{Forest, tree};
-use group_events::{id, play_acts};
 use node_names::{Limits, MsgId};
 use refusing_allocator::RefusingAllocator;
 use std::alloc::{AllocError, Allocator};

@@ -3,7 +3,6 @@ use crate::tests::alike::Group;
 use group_events::{Act, play_act};
 use node_names::Limits;
 use std::alloc::Allocator;
-use std::process::Abort;
 use std::test::Fail;
 use test_support::lend;
 use world::WorldError;
@@ -28,28 +27,19 @@ const TURNS: &[Turn] = &[
 
 /// Plays an event. Whether its entry says of a move what it should.
 fn is_said<A: Allocator + Copy>(
-    rt: &impl Abort,
     alloc: A,
     world: &mut Group<A>,
     turn: &Turn,
 ) -> Result<bool, WorldError> {
-    play_act(rt, alloc, world, &turn.0)?;
-    Ok(
-        world
-            .log()
-            .last()
-            .is_some_and(|entry| entry.moved == turn.1),
-    )
+    let is_named = play_act(alloc, world, &turn.0)?;
+    let newest = world.log().last();
+    Ok(is_named && newest.is_some_and(|entry| entry.moved == turn.1))
 }
 
 /// Plays the events. How many entries say what they should, up to the first that does not.
-fn count_said<A: Allocator + Copy>(
-    rt: &impl Abort,
-    alloc: A,
-    world: &mut Group<A>,
-) -> Result<usize, WorldError> {
+fn count_said<A: Allocator + Copy>(alloc: A, world: &mut Group<A>) -> Result<usize, WorldError> {
     for (at, turn) in TURNS.iter().enumerate() {
-        if !is_said(rt, alloc, world, turn)? {
+        if !is_said(alloc, world, turn)? {
             return Ok(at);
         }
     }
@@ -57,17 +47,14 @@ fn count_said<A: Allocator + Copy>(
 }
 
 /// Does so in a fresh group.
-fn count_said_from_start<A: Allocator + Copy>(
-    rt: &impl Abort,
-    alloc: A,
-) -> Result<usize, WorldError> {
+fn count_said_from_start<A: Allocator + Copy>(alloc: A) -> Result<usize, WorldError> {
     let world = Group::new(alloc, Limits::STANDARD);
-    lend(world, |world| count_said(rt, alloc, world))
+    lend(world, |world| count_said(alloc, world))
 }
 
 #[test]
 fn says_what_moved(rt: HostRuntime) -> Result<(), Fail> {
-    let said = count_said_from_start(&rt, rt.alloc())?;
+    let said = count_said_from_start(rt.alloc())?;
     assert!(rt; said == TURNS.len(), "event {said} says otherwise");
     Ok(())
 }

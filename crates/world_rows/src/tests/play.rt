@@ -1,7 +1,7 @@
 //! Playing the rows event by event.
 use crate::tests::alike::{Group, holds_given};
+use crate::tests::named::event;
 use crate::tests::rows::{Row, Turn, rows};
-use group_events::event;
 use node_names::Limits;
 use std::alloc::{AllocError, Allocator};
 use std::fmt::Write;

@@ -1,13 +1,15 @@
 //! Who is in reach of a name: by the fewest links that lead there, and of those as near by name.
 use crate::tests::alike::Group;
+use crate::tests::named::name;
+use crate::tests::rest::play_acts;
 use at_rest::reach;
-use group_events::{Act, play_acts};
+use group_events::Act;
 use node_names::{Limits, NodeName};
 use refusing_allocator::RefusingAllocator;
 use std::alloc::{AllocError, Allocator};
 use std::process::Abort;
 use std::test::Fail;
-use test_support::{lend, name, stop_refusing, sweep_each};
+use test_support::{lend, stop_refusing, sweep_each};
 use world::WorldError;
 
 /// A name, and those in reach of it between blanks.

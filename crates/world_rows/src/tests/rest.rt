@@ -1,8 +1,9 @@
 //! What can be told of a group: whether it is at rest for a message, whether its links go both ways, and the message's
 //! tree.
 use crate::tests::alike::Group;
+use crate::tests::named::id;
 use at_rest::{Branch, is_at_rest, is_symmetric, tree};
-use group_events::{Act, Id, id, play_acts};
+use group_events::{Act, Id};
 use node_names::{Limits, MsgId};
 use refusing_allocator::RefusingAllocator;
 use std::alloc::{AllocError, Allocator};
@@ -124,6 +125,18 @@ const CASES: &[Case] = &[
 /// All cases. The table is named here alone, since a function that names it is proved over the whole of it.
 pub(crate) fn cases() -> &'static [Case] {
     CASES
+}
+
+/// Plays acts, all of which are accepted.
+pub(crate) fn play_acts<A: Allocator + Copy>(
+    rt: &impl Abort,
+    alloc: A,
+    world: &mut Group<A>,
+    acts: &[Act],
+) -> Result<(), WorldError> {
+    let are_names = group_events::play_acts(alloc, world, acts)?;
+    assert!(rt; are_names);
+    Ok(())
 }
 
 /// Appends a branch as a line.

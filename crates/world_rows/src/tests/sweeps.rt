@@ -1,9 +1,9 @@
 //! Rows in which each allocation is refused in turn: the refusal is as out of memory, the group is as it was before the
 //! refused event, and the event made again answers as if nothing had been refused.
 use crate::tests::alike::{Group, are_alike, holds_given};
+use crate::tests::named::event;
 use crate::tests::play::{Answer, Wanted, are_turns, is_answer};
 use crate::tests::rows::{Row, Turn, rows};
-use group_events::event;
 use node_names::Limits;
 use refusing_allocator::RefusingAllocator;
 use std::alloc::{AllocError, Allocator};

@@ -1,8 +1,8 @@
 //! The messages that a group is not at rest for, found at once: each is told of as it is alone.
 use crate::tests::alike::Group;
-use crate::tests::rest::{Case, cases};
+use crate::tests::named::id;
+use crate::tests::rest::{Case, cases, play_acts};
 use at_rest::{Unrest, is_at_rest};
-use group_events::{id, play_acts};
 use node_names::{Limits, MsgId};
 use refusing_allocator::RefusingAllocator;
 use std::alloc::{AllocError, Allocator};

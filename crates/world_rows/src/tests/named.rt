@@ -1,0 +1,26 @@
+//! Names, ids and events written as texts and numbers.
+use group_events::{Act, Id};
+use node_names::{MsgId, NodeName};
+use std::alloc::{AllocError, Allocator};
+use std::process::Abort;
+use test_support::message;
+use world::Event;
+
+/// The name of this text.
+pub(crate) fn name(rt: &impl Abort, text: &str) -> NodeName {
+    NodeName::parse(text.as_bytes()).expect(rt, "a name")
+}
+
+/// The id of the message.
+pub(crate) fn id(rt: &impl Abort, id: Id) -> MsgId {
+    message(name(rt, id.0), id.1)
+}
+
+/// The event of an act.
+pub(crate) fn event<A: Allocator + Copy>(
+    rt: &impl Abort,
+    alloc: A,
+    act: &Act,
+) -> Result<Event<A>, AllocError> {
+    Ok(group_events::event(alloc, act)?.expect(rt, "names"))
+}
