@@ -98,11 +98,6 @@ pub(crate) fn start_alone<A: Allocator + Copy>(
     start_among(alloc, me, Limits::STANDARD, &[], ports)
 }
 
-/// The name of this text.
-pub(crate) fn name(rt: &impl Abort, text: &str) -> NodeName {
-    NodeName::parse(text.as_bytes()).expect(rt, "a name")
-}
-
 /// The names of these texts, which are distinct.
 fn parse_two(rt: &impl Abort, me: &str, peer: &str) -> (Origin, NodeName)
     ensures { IsTrue (not (same_name result.0.name result.1)) }
