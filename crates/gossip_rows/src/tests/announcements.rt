@@ -154,13 +154,17 @@ fn call<A: Allocator + Copy>(
     Ok(())
 }
 
-/// Whether a call that was not refused gave what the text should say, and left what it should.
+/// Whether a call that was not refused gave what the text should say, and left this.
 fn is_left<A: Allocator>(
     text: &mut String,
     missing: &Missing<A>,
-    turn: &Turn,
+    given: &str,
+    shown: &str,
 ) -> Result<bool, AllocError> {
-    Ok(text.as_str() == turn.1 && is_shown(text, missing, turn.2)?)
+    if text.as_str() != given {
+        return Ok(false);
+    }
+    is_shown(text, missing, shown)
 }
 
 /// Makes a call. Whether it gives and leaves what it should.
@@ -171,7 +175,7 @@ fn is_turn<A: Allocator + Copy>(
     turn: &Turn,
 ) -> Result<bool, AllocError> {
     call(rt, text, missing, &turn.0)?;
-    is_left(text, missing, turn)
+    is_left(text, missing, turn.1, turn.2)
 }
 
 /// Makes calls. Whether each of them does so.
@@ -256,7 +260,7 @@ fn refuse_call<A: Allocator + Copy>(
     let is_right = if is_refused {
         is_spent && is_turn_again(rt, text, missing, stood, turn)?
     } else {
-        is_left(text, missing, turn)?
+        is_left(text, missing, turn.1, turn.2)?
     };
     Ok(is_right.then_some(is_spent))
 }

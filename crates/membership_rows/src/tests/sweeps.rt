@@ -10,7 +10,10 @@ use refusing_allocator::RefusingAllocator;
 use std::alloc::{AllocError, Allocator, Global};
 use std::process::Abort;
 use std::test::Fail;
-use test_support::{stop_refusing, sweep_each};
+use test_support::stop_refusing;
+
+/// More allocations than any event has.
+const MANY: u64 = 100;
 
 /// Two texts, in which what was shown before and after an event is written.
 #[derive(Drop)]
@@ -161,20 +164,37 @@ fn sweep_event<A: Allocator + Copy>(
     sweep_at(rt, heap, alloc, texts, &mut membership, parts(row, at), n)
 }
 
-/// Refuses each allocation of each event of a row, and of the copy of what the row leaves, in turn. How many they have,
-/// or none if that has no end.
+/// Refuses each allocation of one event in turn. How many it has.
+fn sweep<A: Allocator + Copy>(
+    rt: &impl Abort,
+    heap: &RefusingAllocator,
+    alloc: A,
+    texts: &mut Texts,
+    row: &Row,
+    at: usize,
+) -> Result<u64, AllocError> {
+    for n in 1..MANY {
+        if !sweep_event(rt, heap, alloc, texts, row, at, n)? {
+            return Ok(n - 1);
+        }
+    }
+    assert!(rt; false, "the sweep did not end");
+    Ok(MANY)
+}
+
+/// Refuses each allocation of each event of a row, and of the copy of what the row leaves, in turn. How many they have.
 fn sweep_row<A: Allocator + Copy>(
     rt: &impl Abort,
     heap: &RefusingAllocator,
     alloc: A,
     texts: &mut Texts,
     row: &Row,
-) -> Result<Option<u64>, AllocError> {
-    let places = row.3.len().saturating_add(1);
-    sweep_each(
-        places,
-        |at, n| Ok(Some(sweep_event(rt, heap, alloc, texts, row, at, n)?)),
-    )
+) -> Result<u64, AllocError> {
+    let mut refused = 0u64;
+    for at in 0..=row.3.len() {
+        refused = refused.saturating_add(sweep(rt, heap, alloc, texts, row, at)?);
+    }
+    Ok(refused)
 }
 
 /// Sweeps each row. How many allocations the row with the fewest has.
@@ -186,7 +206,7 @@ fn sweep_rows<A: Allocator + Copy>(
 ) -> Result<u64, AllocError> {
     let mut fewest = u64::MAX;
     for row in rows() {
-        fewest = fewest.min(sweep_row(rt, heap, alloc, texts, row)?.unwrap_or(0));
+        fewest = fewest.min(sweep_row(rt, heap, alloc, texts, row)?);
     }
     Ok(fewest)
 }
