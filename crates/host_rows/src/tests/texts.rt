@@ -53,14 +53,22 @@ fn push_stimulus<A: Allocator>(
     }
 }
 
+/// Appends a delivery.
+fn push_delivery<A: Allocator>(
+    text: &mut String,
+    delivery: &Delivery<A>,
+) -> Result<(), AllocError> {
+    write!(text, "; {} delivers {} ", delivery.node, delivery.id)?;
+    push_letters(text, delivery.payload.as_slice())
+}
+
 /// Appends deliveries.
 fn push_deliveries<A: Allocator>(
     text: &mut String,
     given: &[Delivery<A>],
 ) -> Result<(), AllocError> {
     for delivery in given {
-        write!(text, "; {} delivers {} ", delivery.node, delivery.id)?;
-        push_letters(text, delivery.payload.as_slice())?;
+        push_delivery(text, delivery)?;
     }
     Ok(())
 }
