@@ -1,4 +1,10 @@
 //! Acts as events. A text that is no name is in no event.
+ghost use Rattle.std.specs.Prelude.{◌≡◌, ℕ, [], List, IfOk, Some, None, replicate};
+ghost use Rattle.std.specs.Option.{ForSome};
+ghost use Rattle.node_names.specs.NodeName.{Name};
+ghost use Rattle.world.specs.declared.event.EventOf.TheVariants as made;
+ghost use Rattle.group_events.specs.Acts.{IsEventOf, zeros};
+
 use crate::act::{Act, Id};
 use bytes::Bytes;
 use node_names::{Dice, Incarnation, Listed, MsgId, NodeName};
@@ -7,12 +13,16 @@ use test_support::message;
 use world::{Event, EventOf};
 
 /// The name of this text.
-fn name(text: &str) -> Option<NodeName> {
+fn name(text: &str) -> Option<NodeName>
+    ensures { ForSome result (λ name. name ≡ text.now) }
+{
     NodeName::parse(text.as_bytes()).ok()
 }
 
 /// The id of the message.
-fn id(id: Id) -> Option<MsgId> {
+fn id(id: Id) -> Option<MsgId>
+    ensures { ForSome result (λ message. message ≡ record { origin = record { name = id.entry.0.now; incarnation = record { 0 = 1 } }; seq = id.entry.1 }) }
+{
     Some(message(name(id.0)?, id.1))
 }
 
@@ -33,7 +43,9 @@ fn start<A: Allocator>(
     node: &str,
     incarnation: u64,
     peers: &str,
-) -> Result<Option<Event<A>>, AllocError> {
+) -> Result<Option<Event<A>>, AllocError>
+    ensures { IfOk result (λ found. ForSome found (λ e. (names : List Name) × (e ≡ made.Start node.now (record { 0 = incarnation }) names None))) }
+{
     let Some(name) = name(node) else {
         return Ok(None);
     };
@@ -48,7 +60,9 @@ fn start<A: Allocator>(
     }))
 }
 
-fn join<A: Allocator>(alloc: A, node: &str, incarnation: u64, contact: &str) -> Option<Event<A>> {
+fn join<A: Allocator>(alloc: A, node: &str, incarnation: u64, contact: &str) -> Option<Event<A>>
+    ensures { ForSome result (λ e. e ≡ made.Start node.now (record { 0 = incarnation }) [] (Some contact.now)) }
+{
     let node = name(node)?;
     let contact = name(contact)?;
     Some(EventOf::Start {
@@ -63,7 +77,9 @@ fn broadcast<A: Allocator + Copy>(
     alloc: A,
     node: &str,
     payload: &[u8],
-) -> Result<Option<Event<A>>, AllocError> {
+) -> Result<Option<Event<A>>, AllocError>
+    ensures { IfOk result (λ found. ForSome found (λ e. e ≡ made.Broadcast node.now payload.now)) }
+{
     let Some(name) = name(node) else {
         return Ok(None);
     };
@@ -75,31 +91,41 @@ fn broadcast_zeros<A: Allocator + Copy>(
     alloc: A,
     node: &str,
     count: usize,
-) -> Result<Option<Event<A>>, AllocError> {
+) -> Result<Option<Event<A>>, AllocError>
+    ensures { IfOk result (λ found. ForSome found (λ e. e ≡ made.Broadcast node.now (replicate count 0))) }
+{
     let mut zeros = Vec::new(alloc);
     zeros.resize(count, 0u8)?;
     broadcast(alloc, node, zeros.as_slice())
 }
 
-fn arrive<A: Allocator>(place: usize) -> Event<A> {
+fn arrive<A: Allocator>(place: usize) -> Event<A>
+    ensures { result ≡ made.Arrive place zeros }
+{
     EventOf::Arrive {
         place,
         dice: Dice::ZEROS,
     }
 }
 
-fn fire<A: Allocator>(node: &str, message: Id) -> Option<Event<A>> {
+fn fire<A: Allocator>(node: &str, message: Id) -> Option<Event<A>>
+    ensures { ForSome result (λ e. e ≡ made.Fire node.now (record { origin = record { name = message.entry.0.now; incarnation = record { 0 = 1 } }; seq = message.entry.1 })) }
+{
     Some(EventOf::Fire {
         name: name(node)?,
         id: id(message)?,
     })
 }
 
-fn flush<A: Allocator>(node: &str) -> Option<Event<A>> {
+fn flush<A: Allocator>(node: &str) -> Option<Event<A>>
+    ensures { ForSome result (λ e. e ≡ made.Flush node.now) }
+{
     Some(EventOf::Flush { name: name(node)? })
 }
 
-fn down<A: Allocator>(node: &str, peer: &str) -> Option<Event<A>> {
+fn down<A: Allocator>(node: &str, peer: &str) -> Option<Event<A>>
+    ensures { ForSome result (λ e. e ≡ made.Down node.now peer.now zeros) }
+{
     Some(EventOf::Down {
         name: name(node)?,
         peer: name(peer)?,
@@ -107,19 +133,25 @@ fn down<A: Allocator>(node: &str, peer: &str) -> Option<Event<A>> {
     })
 }
 
-fn shuffle<A: Allocator>(node: &str) -> Option<Event<A>> {
+fn shuffle<A: Allocator>(node: &str) -> Option<Event<A>>
+    ensures { ForSome result (λ e. e ≡ made.Shuffle node.now zeros) }
+{
     Some(EventOf::Shuffle {
         name: name(node)?,
         dice: Dice::ZEROS,
     })
 }
 
-fn stop<A: Allocator>(node: &str) -> Option<Event<A>> {
+fn stop<A: Allocator>(node: &str) -> Option<Event<A>>
+    ensures { ForSome result (λ e. e ≡ made.Stop node.now) }
+{
     Some(EventOf::Stop { name: name(node)? })
 }
 
 /// The event of an act, if its texts are names.
-pub fn event<A: Allocator + Copy>(alloc: A, act: &Act) -> Result<Option<Event<A>>, AllocError> {
+pub fn event<A: Allocator + Copy>(alloc: A, act: &Act) -> Result<Option<Event<A>>, AllocError>
+    ensures { IfOk result (λ made. ForSome made (IsEventOf act.now)) }
+{
     match *act {
         Act::Start(node, incarnation, peers) => start(alloc, node, incarnation, peers),
         Act::Join(node, incarnation, contact) => Ok(join(alloc, node, incarnation, contact)),

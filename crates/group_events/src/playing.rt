@@ -1,4 +1,10 @@
 //! Groups that play acts.
+ghost use Rattle.std.specs.Prelude.{◌≡◌, List, IfOk, OnErr, true, false};
+ghost use Rattle.world.specs.Delivery.{Delivery as Delivered};
+ghost use Rattle.world.specs.Event.{Event};
+ghost use Rattle.world.specs.Run.{Applied};
+ghost use Rattle.group_events.specs.Acts.{IsEventOf};
+
 use crate::act::Act;
 use crate::events::event;
 use std::alloc::Allocator;
@@ -9,7 +15,11 @@ pub fn play_act<C: Core<A>, A: Allocator + Copy>(
     alloc: A,
     world: &mut World<C, A>,
     act: &Act,
-) -> Result<bool, WorldError> {
+) -> Result<bool, WorldError>
+    ensures played { IfOk result (λ is_named. is_named ≡ true → (event : Event) × (given : List Delivered) × IsEventOf act.now event × Applied C.state C.starts C.steps event given world.old world.new) }
+    ensures unnamed { IfOk result (λ is_named. is_named ≡ false → world.new ≡ world.old) }
+    ensures err { OnErr result (world.new ≡ world.old) }
+{
     let Some(event) = event(alloc, act)? else {
         return Ok(false);
     };
