@@ -3,6 +3,7 @@ ghost use Rattle.std.specs.Prelude.{◌≡◌, true, false, Option, Some, IfOk, 
 ghost use Rattle.node_names.specs.declared.ids.MsgId.{MsgId};
 ghost use Rattle.clap.specs.Matches.{first_value, found_of, one_text};
 
+use crate::version::VERSION;
 use clap::error::ErrorKind;
 use clap::{Arg, ArgAction, ArgMatches, Command, Error};
 use node_names::{Incarnation, MsgId, NodeName, Origin};
@@ -17,9 +18,6 @@ const AFTER_HELP: &str = "Examples:
 
 Status: 0 all was done, 1 an event was refused or writing failed, 2 the words or the scenario are wrong.
 docs/scenarios.md describes the format of scenarios and of what is printed.";
-
-/// The program's version.
-const VERSION: &str = "0.1.0";
 
 /// What is to be done with a scenario.
 #[derive(Clone, Copy, Debug, PartialEq, Eq)]

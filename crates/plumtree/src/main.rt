@@ -8,6 +8,7 @@ mod member;
 mod program;
 mod progress;
 mod run_group;
+mod version;
 
 use simulation::{ScenarioFault, report};
 use std::io::BufWriter;

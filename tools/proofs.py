@@ -1,0 +1,154 @@
+"""Proves crates side by side with `rt`, which keeps what passes, for the scripts of this repository."""
+import os
+import re
+import subprocess
+import sys
+import time
+
+from tools.crates import TOP
+
+# What one crate's proof may take, in KiB.
+MEMORY = 5 << 20
+# What a crate is taken for that docs/GATE.md does not list, in processor minutes.
+UNKNOWN = 5.0
+# A row of the table of docs/GATE.md: a crate and its processor minutes.
+ROW = re.compile(r"^\| `(\w+)` \| (\d+\.\d) \|", re.MULTILINE)
+
+
+def recorded(crates):
+    """Returns the processor minutes that docs/GATE.md records of each of these crates."""
+    with open(f"{TOP}/docs/GATE.md", encoding="utf-8") as page:
+        found = {name: float(minutes) for name, minutes in ROW.findall(page.read())}
+    return {name: found.get(name, UNKNOWN) for name in crates}
+
+
+def chains(crates):
+    """Returns how many processor minutes each crate's longest chain of crates that wait for one another takes, itself counted."""
+    minutes, known = recorded(crates), {}
+    above = {name: [it for it in crates if name in crates[it]] for name in crates}
+
+    def chain(name):
+        if name not in known:
+            known[name] = minutes[name] + max((chain(it) for it in above[name]), default=0)
+        return known[name]
+
+    return {name: chain(name) for name in crates}
+
+
+class Queue:
+    """Which crates to prove next: of those whose libraries have passed, the ones that begin the longest chains."""
+
+    def __init__(self, crates, most):
+        self.crates, self.most, self.chains = crates, most, chains(crates)
+        self.running, self.passed = set(), set()
+
+    def ready(self):
+        """Returns the crates that can be begun, the most urgent first."""
+        waiting = [it for it in self.crates if it not in self.passed and it not in self.running]
+        return sorted((it for it in waiting if self.crates[it] <= self.passed), key=lambda it: -self.chains[it])
+
+    def begin(self):
+        """Returns the crates to begin now, each with whether it may take more than one processor.
+
+        Processors that share a proof read the libraries each for itself, so they do only where one would be idle, and, of more than
+        two, for the crate that all others wait for.
+        """
+        ready, found = self.ready(), []
+        at_once = len(ready) + len(self.running)
+        for name in ready[: max(0, self.most - len(self.running))]:
+            others = [it for it in (*ready, *self.running) if it != name]
+            is_first = self.most > 2 and all(self.chains[name] > self.chains[it] for it in others)
+            found.append((name, is_first or at_once < self.most))
+        self.running |= {name for name, _ in found}
+        return found
+
+    def end(self, name, is_passed):
+        self.running.discard(name)
+        if is_passed:
+            self.passed.add(name)
+
+    def is_done(self):
+        return len(self.passed) == len(self.crates)
+
+
+class Proof:
+    """A run of `rt ci` for one crate, which finds what it stands on kept."""
+
+    def __init__(self, name, room, has_more):
+        self.name, self.log, self.began = name, f"{room}/{name}", time.monotonic()
+        # (`rt` takes no crates' names where CI is set, since only a run over all is the gate)
+        environment = {key: text for key, text in os.environ.items() if key != "CI"}
+        environment |= {} if has_more else {"RT_JOBS": "1"}
+        with open(self.log, "w", encoding="utf-8") as log:
+            self.process = subprocess.Popen(["rt", "ci", name], cwd=TOP, env=environment, stdin=subprocess.DEVNULL, stdout=log, stderr=log)
+        self.seconds, self.took = 0.0, 0.0
+
+    def has_ended(self):
+        """Returns whether it has ended, and notes then how long it took, and how much of the processors."""
+        pid, status, usage = os.wait4(self.process.pid, os.WNOHANG)
+        if pid == 0:
+            return False
+        self.process.returncode = os.waitstatus_to_exitcode(status)
+        self.seconds, self.took = usage.ru_utime + usage.ru_stime, time.monotonic() - self.began
+        return True
+
+    def text(self):
+        with open(self.log, encoding="utf-8", errors="replace") as log:
+            return log.read()
+
+    def passed(self):
+        return self.process.returncode == 0
+
+    def is_refused(self):
+        """Returns whether the prover refused it, and nothing else went wrong."""
+        return self.process.returncode == 1 and "NOT PROVED" in self.text() and "was killed" not in self.text()
+
+    def was_kept(self):
+        return f"rt: {self.name} is kept" in self.text()
+
+    def stop(self):
+        self.process.terminate()
+        self.process.wait()
+
+
+def told(proof):
+    """Returns what there is to say of a proof that has ended."""
+    if not proof.passed():
+        return f"{proof.text()}prove: {proof.name} {'was refused' if proof.is_refused() else 'was not proved, and not refused either'}"
+    return f"{proof.name}: kept" if proof.was_kept() else f"{proof.name}: {proof.seconds / 60:.1f} processor minutes, {proof.took / 60:.1f} minutes"
+
+
+def keeps(name, room):
+    """Returns whether `rt` keeps what passes, by two runs of a crate that stands on none. One that does not pass ends the script."""
+    for _ in range(2):
+        proof = Proof(name, room, True)
+        while not proof.has_ended():
+            time.sleep(0.2)
+        print(told(proof), flush=True)
+        if not proof.passed():
+            sys.exit(1 if proof.is_refused() else 2)
+        if proof.was_kept():
+            return True
+    return False
+
+
+def prove(crates, room, most, watch=lambda passed, running: None):
+    """Proves crates, each once those that it stands on have passed and at most so many at once. Returns the first that did not pass,
+    if one did not, and the processors' seconds. `watch` gets the names of those that passed and the proofs under way."""
+    queue, running, seconds, failed = Queue(crates, most), {}, 0.0, None
+    try:
+        while running or not (queue.is_done() or failed):
+            for name, has_more in [] if failed else queue.begin():
+                running[name] = Proof(name, room, has_more)
+            watch(queue.passed, [*running.values()])
+            time.sleep(0.5)
+            for proof in [it for it in running.values() if it.has_ended()]:
+                del running[proof.name]
+                queue.end(proof.name, proof.passed())
+                print(told(proof), flush=True)
+                seconds += proof.seconds
+                failed = failed or (None if proof.passed() else proof)
+    finally:
+        for proof in running.values():
+            proof.stop()
+    return failed, seconds
