@@ -99,9 +99,13 @@ class Proof:
     def passed(self):
         return self.process.returncode == 0
 
+    def was_killed(self):
+        """Returns whether the system ended a check of it, most likely for memory."""
+        return not self.passed() and "the check was killed" in self.text()
+
     def is_refused(self):
         """Returns whether the prover refused it, and nothing else went wrong."""
-        return self.process.returncode == 1 and "NOT PROVED" in self.text() and "was killed" not in self.text()
+        return self.process.returncode == 1 and "NOT PROVED" in self.text() and not self.was_killed()
 
     def was_kept(self):
         return f"rt: {self.name} is kept" in self.text()
@@ -133,8 +137,9 @@ def keeps(name, room):
 
 
 def prove(crates, room, most, watch=lambda passed, running: None):
-    """Proves crates, each once those that it stands on have passed and at most so many at once. Returns the first that did not pass,
-    if one did not, and the processors' seconds. `watch` gets the names of those that passed and the proofs under way."""
+    """Proves crates, each once those that it stands on have passed and at most `most` at once. Returns the first that did not pass,
+    if one did not, and the processors' seconds. One that the system ended for memory is proved once more, alone.
+    `watch` gets the names of those that passed and the proofs under way."""
     queue, running, seconds, failed = Queue(crates, most), {}, 0.0, None
     try:
         while running or not (queue.is_done() or failed):
@@ -145,8 +150,12 @@ def prove(crates, room, most, watch=lambda passed, running: None):
             for proof in [it for it in running.values() if it.has_ended()]:
                 del running[proof.name]
                 queue.end(proof.name, proof.passed())
-                print(told(proof), flush=True)
                 seconds += proof.seconds
+                if proof.was_killed() and queue.most > 1:
+                    print(f"{proof.name}: ended by the system, most likely for memory: from now on one at a time", flush=True)
+                    queue.most = 1
+                    continue
+                print(told(proof), flush=True)
                 failed = failed or (None if proof.passed() else proof)
     finally:
         for proof in running.values():
