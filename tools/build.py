@@ -40,7 +40,7 @@ class Progress:
             return
         self.next = now + (1 if self.is_terminal else 20)
         at = ", ".join(it.name for it in running)
-        text = f"plumtree: {now // 60}:{now % 60:02} of about {self.expected:.0f}:00 minutes, {len(passed)} of {self.count} crates proved; at {at}"
+        text = f"plumtree: {now // 60}:{now % 60:02} of at most some {self.expected:.0f} minutes, {len(passed)} of {self.count} crates proved; at {at}"
         sys.stderr.write(f"\r\033[K{text[:150]}" if self.is_terminal else f"{text}\n")
         sys.stderr.flush()
 

@@ -128,11 +128,11 @@ def keeps(name, room):
         proof = Proof(name, room, True)
         while not proof.has_ended():
             time.sleep(0.2)
+        if proof.was_kept():
+            return True
         print(told(proof), flush=True)
         if not proof.passed():
             sys.exit(1 if proof.is_refused() else 2)
-        if proof.was_kept():
-            return True
     return False
 
 
