@@ -26,15 +26,16 @@ def sources():
     return subprocess.run([f"{TOP}/tools/sources"], stdout=subprocess.PIPE, text=True, check=True).stdout
 
 
-class Progress:
-    """The line on standard error that says how far the proofs are. A terminal has one, which is written over; a file one each 20 seconds."""
+class Progress(proofs.Teller):
+    """The line on standard error that says how far the proofs are. A terminal has one, which is written over; a file one each 20 seconds.
+    What comes of a proof stands above it."""
 
     def __init__(self, crates, most):
         self.count, self.expected = len(crates), plan(crates, most)[1]
         self.began, self.next = time.monotonic(), 0
         self.is_terminal = sys.stderr.isatty()
 
-    def show(self, passed, running):
+    def watch(self, passed, running):
         now = int(time.monotonic() - self.began)
         if now < self.next:
             return
@@ -44,7 +45,11 @@ class Progress:
         sys.stderr.write(f"\r\033[K{text[:150]}" if self.is_terminal else f"{text}\n")
         sys.stderr.flush()
 
-    def end(self):
+    def tell(self, text):
+        self.clear()
+        sys.stderr.write(f"{text}\n")
+
+    def clear(self):
         if self.is_terminal:
             sys.stderr.write("\r\033[K")
 
@@ -56,8 +61,8 @@ def prove(crates, room):
         print("plumtree: the toolchain keeps nothing here, so all is proved by one run, which says nothing before it ends")
         return
     progress = Progress(crates, most)
-    failed, _ = proofs.prove(crates, room, most, progress.show)
-    progress.end()
+    failed, _ = proofs.prove(crates, room, most, progress)
+    progress.clear()
     if failed:
         sys.exit("plumtree: so the program was not built")
 

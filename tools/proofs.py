@@ -136,26 +136,35 @@ def keeps(name, room):
     return False
 
 
-def prove(crates, room, most, watch=lambda passed, running: None):
+class Teller:
+    """Prints what comes of proofs, each as it ends."""
+
+    def tell(self, text):
+        print(text, flush=True)
+
+    def watch(self, passed, running):
+        """Is told now and then which crates have passed, and which proofs are under way."""
+
+
+def prove(crates, room, most, teller):
     """Proves crates, each once those that it stands on have passed and at most `most` at once. Returns the first that did not pass,
-    if one did not, and the processors' seconds. One that the system ended for memory is proved once more, alone.
-    `watch` gets the names of those that passed and the proofs under way."""
+    if one did not, and the processors' seconds. One that the system ended for memory is proved once more, alone."""
     queue, running, seconds, failed = Queue(crates, most), {}, 0.0, None
     try:
         while running or not (queue.is_done() or failed):
             for name, has_more in [] if failed else queue.begin():
                 running[name] = Proof(name, room, has_more)
-            watch(queue.passed, [*running.values()])
+            teller.watch(queue.passed, [*running.values()])
             time.sleep(0.5)
             for proof in [it for it in running.values() if it.has_ended()]:
                 del running[proof.name]
                 queue.end(proof.name, proof.passed())
                 seconds += proof.seconds
                 if proof.was_killed() and queue.most > 1:
-                    print(f"{proof.name}: ended by the system, most likely for memory: from now on one at a time", flush=True)
+                    teller.tell(f"{proof.name}: ended by the system, most likely for memory: from now on one at a time")
                     queue.most = 1
                     continue
-                print(told(proof), flush=True)
+                teller.tell(told(proof))
                 failed = failed or (None if proof.passed() else proof)
     finally:
         for proof in running.values():
