@@ -10,6 +10,7 @@ mod ListsAgree
 mod NameReading
 pub mod Putting
 mod RowsAgree
+mod SameFields
 mod Sizes
 mod Times
 mod Streams

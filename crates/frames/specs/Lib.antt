@@ -7,5 +7,6 @@ pub mod Frame
 pub mod Grammar
 pub mod Kind
 pub mod Reading
+pub mod Sameness
 pub mod Writing
 pub mod Cutting

@@ -72,6 +72,37 @@ fn put_length(out: &mut [u8])
     out[..4].copy_from_slice(&len.to_be_bytes());
 }
 
+/// The most bytes of a frame without a payload, names and announcements: its length, the part before the fields with a
+/// name of 32 bytes, and the fields of a GOSSIP.
+const FIXED_ROOM: usize = 112;
+
+/// The most bytes of a name, and of an announcement.
+const NAME_ROOM: usize = 33;
+
+const ANNOUNCEMENT_ROOM: usize = 53;
+
+/// Room for a frame that says this: no less than its bytes, so that they are never moved while they are written.
+fn room_for<A: Allocator>(body: &Body<A>) -> usize {
+    let lists = match body {
+        BodyOf::Shuffle { names, .. } | BodyOf::ShuffleReply { names } => names
+            .len()
+            .saturating_mul(NAME_ROOM),
+        BodyOf::IHave { entries } => entries.len().saturating_mul(ANNOUNCEMENT_ROOM),
+        BodyOf::Gossip { payload, .. } => payload.len(),
+        _ => 0,
+    };
+    lists.saturating_add(FIXED_ROOM)
+}
+
+/// Four bytes for the length of the frame, with room for the rest of it.
+fn begin<A: Allocator + Copy>(alloc: A, frame: &Frame<A>) -> Result<Vec<u8, A>, AllocError>
+    ensures { IfOk result (λ out. length out.items ≡ 4) }
+{
+    let mut out = Vec::with_capacity(alloc, room_for(frame.body()))?;
+    out.extend_from_slice(&[0; 4])?;
+    Ok(out)
+}
+
 /// The one spelling of the frame.
 pub fn encode<A: Allocator + Copy>(alloc: A, frame: &Frame<A>) -> Result<Bytes<A>, AllocError>
     ensures spelled { IfOk result (λ bytes. IsSpelling frame.now bytes) }
@@ -79,7 +110,7 @@ pub fn encode<A: Allocator + Copy>(alloc: A, frame: &Frame<A>) -> Result<Bytes<A
     ensures alone { IfOk result (λ bytes. (f : Spelled) (spelling x y : List ℕ) → IsSpelling f spelling
         → bytes ++ x ≡ spelling ++ y → (bytes ≡ spelling) × (frame.now ≡ f)) }
 {
-    let mut out = Vec::from_slice(alloc, &[0; 4])?;
+    let mut out = begin(alloc, frame)?;
     put_frame(&mut out, frame)?;
     put_length(out.as_mut_slice());
     Ok(Bytes::from_vec(out)?)

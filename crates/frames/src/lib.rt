@@ -13,6 +13,7 @@ mod laws;
 mod list;
 mod put;
 mod rows;
+mod sameness;
 
 pub use body::{Body, BodyOf};
 pub use cutter::Cutter;
@@ -22,6 +23,7 @@ pub use fault::FrameFault;
 pub use frame::Frame;
 pub use kind::kind_number;
 pub use laws::cuttings_agree;
+pub use sameness::same_frame;
 
 /// The most names in a list of a frame.
 pub const MAX_NAMES: usize = 8;

@@ -10,7 +10,7 @@ mod StartLemmas
 mod RefusalLemmas
 mod SpentLemmas
 mod StepRefusals
-mod SameFields
+mod SameSends
 mod PassedLemmas
 mod RemainingLemmas
 mod UnsentLemmas

@@ -1,7 +1,6 @@
 pub mod Projection
 pub mod Merging
 pub mod FrameIds
-pub mod Sameness
 pub mod Numbers
 pub mod Held
 pub mod Steps

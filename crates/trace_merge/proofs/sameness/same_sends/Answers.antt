@@ -3,7 +3,7 @@ use Rattle.std.proofs.Common.{◌∙◌, refl, rules, tests}
 use Rattle.std.proofs.lemmas.List.{length-map}
 use Rattle.std.proofs.lemmas.Iterator.{YieldsList-from_slice, YieldsList-from_zip, same_from_all}
 use Rattle.trace_merge.specs.Projection.{said}
-use Rattle.trace_merge.proofs.SameFields.{said_from_slice}
+use Rattle.trace_merge.proofs.SameSends.{said_from_slice}
 use Rattle.trace_merge.proofs.sameness.same_sends.Goals as goal
 
 pub returns-then-packets-sends : goal.returns-then-packets-sends

@@ -1,24 +1,17 @@
--- Bodies are equal where their fields are; and packets, read as what they say.
+-- Bodies are equal where their fields are.
 use Rattle.std.proofs.Common.{◌≡◌, ◌∙◌, ℕ, Bool, Bor, Iter, List, [], ◌∷◌, ap, length, refl, subst, sym, true≢false}
 use Rattle.std.specs.Prelude.{Option, Some, None, ◌==◌, ◌&&◌, map, nat_eq, if◌then◌else◌}
 use Rattle.std.specs.Bool.{Decides}
 use Rattle.std.specs.Cmp.{unsigned_Decides}
 use Rattle.std.specs.Cmp.Lexicographic.{pointwise, pointwise_decides}
 use Rattle.std.proofs.lemmas.Bool.Decides.{Decides-and, Decides-at, Decides-like}
-use Rattle.std.proofs.lemmas.List.{length-map}
 use Rattle.std.specs.Option.{is_none, option_eq, unwrap_or}
-use Rattle.std.specs.Slice.Iter.{iter_rest}
-use Rattle.std.proofs.iter.Yields.{fronts}
-use Rattle.std.proofs.lemmas.Iterator.{YieldsList}
-use Rattle.std.proofs.lemmas.Iterator.Consumers.{YieldsList-from_shown}
 use Rattle.node_names.specs.NodeName.{Name}
 use Rattle.node_names.specs.Same.{same_id, same_id-Decides, same_name, same_name-Decides}
 use Rattle.node_names.specs.declared.ids.MsgId.{MsgId}
 use Rattle.frames.specs.Body.{Body}
 use Rattle.frames.specs.declared.body.BodyOf.TheVariants.{Join, ForwardJoin, Neighbor, NeighborReply, Disconnect, Shuffle, ShuffleReply, Gossip, IHave, Graft, Prune, GraftPeer}
-use Rattle.world.specs.declared.packet.Packet.{Packet}
-use Rattle.trace_merge.specs.Projection.{said}
-use Rattle.trace_merge.specs.Sameness.{entries_of, flag_of, kind_number, message_of, names_of, payload_of, walk_of}
+use Rattle.frames.specs.Sameness.{entries_of, flag_of, kind_number, message_of, names_of, payload_of, walk_of}
 
 -- what stands in for a walk or a message that is not there
 no_walk : Name × ℕ
@@ -95,13 +88,3 @@ entries_Decide = pointwise_decides entry_Decides
 -- the test of two values decides as much of two that equal them
 pub decides_of : {X : Type 0} {r t : Bool} {a b x y : X} → r ≡ t → Decides t (a ≡ b) → a ≡ x → b ≡ y → Decides r (x ≡ y)
 decides_of {X} {r} {t} e d p q = Decides-like r (λ h. sym p ∙ h ∙ q) (λ h. p ∙ h ∙ sym q) (Decides-at r t e d)
-
--- packets, read as what they say
-pub said_from_slice : {N : Type 0} {s : Iter (Packet N)} (xs : List (Packet N)) → iter_rest s ≡ xs → YieldsList fronts (λ y. said y.now) s (map said xs)
-said_from_slice {N} {s} xs e = subst (λ ys. YieldsList fronts (λ y. said y.now) s (map said ys)) e (YieldsList-from_shown fronts (λ y. said y.now) (λ t. map said (iter_rest t)) none more s)
-  where
-    none : (t u : Iter (Packet N)) → fronts t None u → length (map said (iter_rest t)) ≡ 0
-    none t u h = length-map (iter_rest t) said ∙ h.0
-
-    more : (t : Iter (Packet N)) (x : Bor (Packet N)) (u : Iter (Packet N)) → fronts t (Some x) u → map said (iter_rest t) ≡ said x.now ∷ map said (iter_rest u)
-    more t x u h = ap (map said) h
