@@ -1,4 +1,5 @@
 //! The tests by what they are of, and what they share.
+mod dice;
 mod ends;
 mod failing_readers;
 mod failing_writers;
@@ -8,6 +9,7 @@ mod inbox;
 mod node;
 mod refused_calls;
 mod refused_closes;
+mod retiring;
 mod tally;
 mod texts;
 mod writers;

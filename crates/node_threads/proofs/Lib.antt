@@ -1,8 +1,12 @@
 pub mod DownSteps
+pub mod Failing
 pub mod Keeping
+pub mod Left
+pub mod Lettering
 pub mod Links
 pub mod Made
-pub mod Putting
 pub mod Receipting
+pub mod Reporting
 pub mod Stripping
+pub mod TakingFrames
 pub mod Within

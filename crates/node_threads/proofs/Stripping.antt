@@ -1,12 +1,14 @@
 -- What is left of a list after a text, part by part.
-use Rattle.std.specs.Prelude.{◌≡◌, ◌⊎◌, ◌+◌, ◌<◌, ◌≤◌, ◌==◌, ℕ, Bool, true, false, List, [], ◌∷◌, ◌++◌, Option, Some, None, drop, filter, length, map, refl, if◌then◌else◌}
+use Rattle.std.specs.Prelude.{◌≡◌, ◌⊎◌, ◌+◌, ◌<◌, ◌≤◌, ◌==◌, ℕ, Bool, true, false, List, [], ◌∷◌, ◌++◌, Option, Some, None, drop, filter, length, map, not, refl, if◌then◌else◌}
 use Rattle.std.specs.List.{slice_get}
-use Rattle.std.proofs.Common.{◌∙◌, ap, subst, sym, append_assoc, arith, get_or, inl, inr}
+use Rattle.std.specs.Prelude.{nat_eq}
+use Rattle.std.specs.Cmp.Lexicographic.{pointwise}
+use Rattle.std.proofs.Common.{◌∙◌, ap, subst, sym, append_assoc, arith, get_or, inl, inr, true≢false}
 use Rattle.std.proofs.lemmas.List.{append-nil, drop_all, drop_more, map-append}
 use Rattle.std.proofs.lemmas.Option.{get_or_from_slice_get, slice_get_cases, slice_get_within}
 use mathlib.Core.List.{IsPrefix}
 use Rattle.node_names.specs.NodeName.{Name}
-use Rattle.node_names.specs.Same.{same_name}
+use Rattle.node_names.specs.Same.{same_name, same_name-Decides}
 use Rattle.world.specs.Trace.{Step, Trace}
 use Rattle.frames.specs.Frame.{Frame}
 use Rattle.node_threads.specs.Applying.{mail_for}
@@ -157,3 +159,32 @@ module _ (trace : Trace Frame) (outlet : Outlet) where
 
   pub is_used_up : (rest : Texts) → Leaves outlet.given its_text (Some rest) → BeginsText trace outlet → length rest ≡ 0
   is_used_up rest left text = begins_whole outlet.given its_text rest left text.begins
+
+-- ---- one packet that goes to the peer
+
+pub not_false : (b : Bool) → not b ≡ false → b ≡ true
+not_false true is = refl
+not_false false is = absurd (true≢false is)
+
+module _ (given rest : Texts) (first : List ℕ) (peer : Name) (send : Name × Frame) (parts : given ≡ first ∷ rest) (goes : same_name send.0 peer ≡ true) where
+  its_mail : mail_for (send ∷ []) peer ≡ spelling send.1 ∷ []
+  its_mail = ap (λ b. bytes_of (if b then send ∷ [] else [])) goes
+
+  -- what came out first is the packet
+  pub after_it : pointwise nat_eq first (spelling send.1) ≡ true → Leaves given (mail_for (send ∷ []) peer) (Some rest)
+  after_it same = subst (λ g. Leaves g (mail_for (send ∷ []) peer) (Some rest)) (sym parts) (subst (λ mail. Leaves (first ∷ rest) mail (Some rest)) (sym its_mail) both)
+    where
+      equal : first ≡ spelling send.1
+      equal = (same_name-Decides first (spelling send.1)).0 same
+
+      both : Leaves (first ∷ rest) (spelling send.1 ∷ []) (Some rest)
+      both more = (λ p. (p.0, ap (drop 1) p.1), λ p. (p.0, λ i. equal i ∷ p.1 i))
+
+  -- it is another frame
+  pub after_another : pointwise nat_eq first (spelling send.1) ≡ false → Leaves given (mail_for (send ∷ []) peer) None
+  after_another differs = subst (λ g. Leaves g (mail_for (send ∷ []) peer) None) (sym parts) (subst (λ mail. Leaves (first ∷ rest) mail None) (sym its_mail) none)
+    where
+      none : Leaves (first ∷ rest) (spelling send.1 ∷ []) None
+      none more p =
+          let equal : first ≡ spelling send.1 = ap (λ texts. get_or texts 0 first) p.1 in
+          absurd (true≢false (sym ((same_name-Decides first (spelling send.1)).1 equal) ∙ differs))

@@ -45,13 +45,6 @@ Puts (mail ∷ mails) (link ∷ links) live full =
     ((rest : List Link) × (live ≡ record link { pushed = link.pushed ++ mail } ∷ rest) × Puts mails links rest full)
     ⊎ ((rest : List Name) × (full ≡ link.peer ∷ rest) × (0 < length mail) × Puts mails links live rest)
 
--- One link takes its mail, and is the last of those that stay open; or it is closed, and its name the last of those
--- listed.
-abbrev pub PutsOne : List (List ℕ) → Link → List Link → List Name → List Link → List Name → Type 0
-PutsOne mail link live full live' full' =
-    ((live' ≡ live ++ record link { pushed = link.pushed ++ mail } ∷ []) × (full' ≡ full))
-    ⊎ ((0 < length mail) × (live' ≡ live) × (full' ≡ full ++ link.peer ∷ []))
-
 -- what these sends put into a link
 abbrev pub mail_to : List (Name × Frame) → Link → List (List ℕ)
 mail_to sends link = mail_for sends link.peer

@@ -43,6 +43,10 @@ is_linked links name = list_any (λ link. same_name name link.peer) links
 abbrev pub peers_of : List Link → List Name
 peers_of links = map (λ link. link.peer) links
 
+-- These are the names of the links, in their order.
+abbrev pub IsListed : List Link → List Name → Type 0
+IsListed links names = names ≡ peers_of links
+
 -- What a lock keeps, whatever happened: the trace replays and the core is the state at its end; what was not handed out
 -- is what the trace delivered after what was; and there is at most one link to a name, which follows its text.
 pub record IsKept

@@ -1,8 +1,11 @@
 pub mod Applying
+pub mod Calls
 pub mod Cell
 pub mod Closing
 pub mod Downs
 pub mod History
+pub mod Leaving
+pub mod Letters
 pub mod LinkText
 pub mod Marks
 pub mod Opened
@@ -11,4 +14,6 @@ pub mod Outlet
 pub mod Receipts
 pub mod Refusal
 pub mod Report
+pub mod Working
 pub mod lawful
+pub mod Taking

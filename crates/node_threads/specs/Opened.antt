@@ -9,6 +9,10 @@ use Rattle.node_threads.specs.Cell.{Cell, Link}
 abbrev pub without : Name → List Link → List Link
 without name links = filter (λ link. not (same_name name link.peer)) links
 
+-- the other names
+abbrev pub others : Name → List Name → List Name
+others name names = filter (λ other. not (same_name name other)) names
+
 -- what a link that is opened now begins with: where the node has made no step, what its opening sent to the name
 abbrev pub first_mail : {C : Type 0} → Cell C → Name → List (List ℕ)
 first_mail cell name = if length cell.trace.steps == 0 then mail_for cell.trace.opening.sends name else []

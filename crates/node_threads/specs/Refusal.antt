@@ -1,5 +1,5 @@
 -- When a running node refuses a step.
-use Rattle.std.specs.Prelude.{◌≡◌, ◌<◌, ◌≤◌, true, false, length}
+use Rattle.std.specs.Prelude.{◌≡◌, ◌<◌, ◌≤◌, ℕ, List, true, false, length}
 use Rattle.world.specs.IdentityLaw.{IsTooLong}
 use Rattle.world.specs.Stimulus.{Stimulus}
 use Rattle.world.specs.declared.protocol.CoreError.TheVariants.{PayloadTooLong, SeqSpent, OutOfMemory}
@@ -31,3 +31,14 @@ Refuses is_spent cell stimulus host.TraceFull = (cell.is_shut ≡ false) × (cel
 Refuses is_spent cell stimulus (host.Refused error) = HasRoom cell × CoreRefuses is_spent cell.core stimulus (host.Refused error)
 Refuses is_spent cell stimulus host.GateShut = ⊥
 Refuses is_spent cell stimulus host.OutOfMemory = HasRoom cell × (IsTooLong stimulus → ⊥)
+
+-- A port refuses to broadcast a payload so: where it is said to be too long, it is, and where all numbers are said to be
+-- used up, it is not. It never speaks of a gate.
+abbrev pub RefusesPayload : List ℕ → HostError → Type 0
+RefusesPayload payload host.Closed = Unit {0}
+RefusesPayload payload host.TraceFull = Unit {0}
+RefusesPayload payload (host.Refused PayloadTooLong) = 32768 < length payload
+RefusesPayload payload (host.Refused SeqSpent) = length payload ≤ 32768
+RefusesPayload payload (host.Refused OutOfMemory) = ⊥
+RefusesPayload payload host.GateShut = ⊥
+RefusesPayload payload host.OutOfMemory = Unit {0}

@@ -1,10 +1,12 @@
 -- When what came out of a link is what its node sent.
-use Rattle.std.specs.Prelude.{ℕ, ◌≤◌, ◌↔◌, List, ◌++◌, Option, Some, None, length, map}
+use Rattle.std.specs.Prelude.{◌≡◌, ℕ, ◌≤◌, ◌↔◌, List, ◌∷◌, ◌++◌, Option, Some, None, All, length, map}
+use Rattle.node_names.specs.NodeName.{Name}
 use mathlib.Core.List.{IsPrefix}
 use Rattle.world.specs.Trace.{Trace}
 use Rattle.frames.specs.Frame.{Frame}
 use Rattle.node_threads.specs.LinkText.{link_text, spelling}
 use Rattle.node_threads.specs.Outlet.{Outlet}
+use Rattle.node_threads.specs.declared.report.LinkReport.{LinkReport}
 
 -- The link was opened when the trace had no more steps than now, and what came out of it is how the frames begin that
 -- the node sent to its peer since then, each frame as its bytes.
@@ -18,3 +20,22 @@ pub record BeginsText (trace : Trace Frame) (outlet : Outlet) : Type 0 where
 abbrev pub Leaves : List (List ℕ) → List (List ℕ) → Option (List (List ℕ)) → Type 0
 Leaves given frames (Some rest) = (more : List (List ℕ)) → IsPrefix given (frames ++ more) ↔ IsPrefix rest more
 Leaves given frames None = (more : List (List ℕ)) → IsPrefix given (frames ++ more) → ⊥
+
+-- the report of an outlet: where its link goes to, since when, and how many frames came out
+abbrev pub report_of : Outlet → LinkReport
+report_of outlet = record { peer = outlet.peer; opened = outlet.opened; taken = length outlet.given }
+
+-- The reports of these outlets are put last, one each and in order, and what came out of each is how its text begins.
+pub record AddsReports (trace : Trace Frame) (outlets : List Outlet) (old new : List LinkReport) : Type 0 where
+  pub reports : new ≡ old ++ map report_of outlets
+  pub begun : All (BeginsText trace) outlets
+
+-- What came out of an outlet to this peer is not how its text begins, and it is the first such outlet among these.
+pub record IsFirstTorn (trace : Trace Frame) (outlets : List Outlet) (peer : Name) : Type 0 where
+  pub before : List Outlet
+  pub outlet : Outlet
+  pub after : List Outlet
+  pub parts : outlets ≡ before ++ outlet ∷ after
+  pub begun : All (BeginsText trace) before
+  pub torn : BeginsText trace outlet → ⊥
+  pub its_peer : outlet.peer ≡ peer

@@ -10,11 +10,11 @@ use crate::applied::Applied;
 use crate::cores::NodeCore;
 use crate::error::HostError;
 use crate::link::Link;
-use crate::posting::{Posting, post_all, posting_for};
+use crate::posting::{Posting, close_full, post_all, posting_for};
 use crate::recording::record;
 use frames::Frame;
 use node_core::Turn;
-use node_names::{Listed, MsgId, NodeName};
+use node_names::{Listed, MsgId, NameSet, NodeName};
 use std::alloc::{AllocError, Allocator, Global};
 use std::marker::Model;
 use std::mem;
@@ -29,19 +29,24 @@ pub struct NodeCell<C: NodeCore<A> + Drop, A: Allocator = Global> {
     pub(crate) trace: Trace<Frame<A>, A>,
     limit: usize,
     pub(crate) links: Vec<Link<A>, A>,
+    /// The names that the links go to, in the order of the links: so the place of a link is found by its name.
+    pub(crate) names: NameSet<A>,
+    /// Room for the names of all links.
+    pub(crate) room: Vec<NodeName, A>,
     pending: Listed<Delivery<A>, A>,
     handed_out: usize,
     is_shut: bool,
 }
 
 impl<C: NodeCore<A> + Drop, A: Allocator> Model for NodeCell<C, A> {
-    ghost use Rattle.node_threads.specs.Cell.{Cell, IsKept};
+    ghost use Rattle.std.specs.Prelude.{◌≡◌, []};
+    ghost use Rattle.node_threads.specs.Cell.{Cell, IsKept, IsListed};
 
     ghost Value = { Cell C };
 
     ghost view = { λ c. record { core = c.core; trace = c.trace; limit = c.limit; links = c.links.items; pending = c.pending; handed_out = c.handed_out; is_shut = c.is_shut } };
 
-    ghost invariant = { λ c. IsKept C.starts C.steps (record { core = c.core; trace = c.trace; limit = c.limit; links = c.links.items; pending = c.pending; handed_out = c.handed_out; is_shut = c.is_shut }) };
+    ghost invariant = { λ c. IsKept C.starts C.steps (record { core = c.core; trace = c.trace; limit = c.limit; links = c.links.items; pending = c.pending; handed_out = c.handed_out; is_shut = c.is_shut }) × IsListed c.links.items c.names.keys × (c.room.items ≡ []) };
 }
 
 /// The id of the message that was broadcast, if the step was a broadcast.
@@ -126,6 +131,8 @@ impl<C: NodeCore<A> + Drop, A: Allocator + Copy> NodeCell<C, A> {
             trace,
             limit: trace_limit,
             links: Vec::new(alloc),
+            names: NameSet::new(alloc),
+            room: Vec::new(alloc),
             pending: Listed::new(alloc),
             handed_out: 0,
             is_shut: false,
@@ -152,13 +159,13 @@ impl<C: NodeCore<A> + Drop, A: Allocator + Copy> NodeCell<C, A> {
         }
         let alloc = *self.links.allocator();
         let (turn, out) = prepare(alloc, &self.core, &stimulus)?;
+        self.room.reserve(self.links.len())?;
         let Posting {
-            mails,
-            live,
-            mut full,
+            letters,
+            mut blocked,
             unlinked,
             copies,
-        } = posting_for(alloc, &self.links, &out)?;
+        } = posting_for(alloc, &self.names, &out)?;
         let id = broadcast_id(&stimulus, out.deliveries.as_slice());
         let step = Step { stimulus, out };
         record(
@@ -169,8 +176,8 @@ impl<C: NodeCore<A> + Drop, A: Allocator + Copy> NodeCell<C, A> {
             step,
             turn,
         )?;
-        let links = mem::replace(&mut self.links, live);
-        post_all(links, mails, &mut self.links, &mut full);
+        post_all(self.links.as_mut_slice(), letters, &mut blocked);
+        let full = close_full(&mut self.links, &mut self.names, &mut self.room, blocked);
         Ok(Applied {
             id,
             place,
@@ -247,6 +254,8 @@ impl<C: NodeCore<A> + Drop, A: Allocator + Copy> NodeCell<C, A> {
             trace,
             limit: _,
             links: _,
+            names: _,
+            room: _,
             pending: _,
             handed_out: _,
             is_shut: _,

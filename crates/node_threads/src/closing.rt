@@ -1,7 +1,10 @@
 //! A running node comes to its end.
-ghost use Rattle.std.specs.Prelude.{◌≡◌, ◌≢◌, List, IfOk, IfErr, length};
-ghost use Rattle.node_threads.specs.Closing.{Fails, Matches, Mismatches};
+ghost use Rattle.std.specs.Prelude.{◌≡◌, ◌≤◌, true, List, ◌∷◌, [], ◌++◌, IfOk, IfErr, length};
+ghost use Rattle.world.specs.Trace.{delivered};
+ghost use Rattle.node_threads.specs.Closing.{Fails, Finds, IsClosed, Matches, Mismatches};
 ghost use Rattle.node_threads.specs.History.{IsHistory};
+ghost use Rattle.node_threads.specs.Leaving.{AreLeft, outlets_of};
+ghost use Rattle.node_threads.specs.Outlet.{Outlet};
 ghost use Rattle.node_threads.specs.Receipts.{Call as Made};
 
 use crate::cell::NodeCell;
@@ -20,20 +23,31 @@ use std::sync::Wait;
 use std::thread::Threads;
 use world::Trace;
 
-/// Waits for the ends of all workers, and answers the outlets that they had. If an allocation is refused, all are
-/// waited for all the same.
+/// Puts what a worker left last, and answers whether there was room for it and for all before.
+fn keep<A: Allocator>(kept: bool, given: &mut Vec<Outlets<A>, A>, outlets: Outlets<A>) -> bool
+    ensures before { result ≡ true → kept ≡ true }
+    ensures here { result ≡ true → given.new.items ≡ given.old.items ++ outlets ∷ [] }
+{
+    given.push(outlets).is_ok() && kept
+}
+
+/// Waits for the ends of all workers, and puts the outlets that they had behind those of others. If an allocation is
+/// refused, all are waited for all the same.
 fn join_all<R: Threads, A: Allocator + Copy>(
     rt: &R,
-    alloc: A,
+    mut given: Vec<Outlets<A>, A>,
     workers: Vec<Worker<A>, A>,
-) -> Result<Vec<Outlets<A>, A>, AllocError> {
-    let mut given = Vec::new(alloc);
-    let mut refused = false;
+) -> Result<Vec<Outlets<A>, A>, AllocError>
+    ensures { IfOk result (λ outlets. AreLeft (outlets_of given.items) workers.items (outlets_of outlets.items)) }
+{
+    let mut kept = true;
     for worker in workers {
-        let outlets = worker.join(rt);
-        refused |= given.push(outlets).is_err();
+        kept = keep(kept, &mut given, worker.join(rt));
     }
-    if refused { Err(AllocError) } else { Ok(given) }
+    if !kept {
+        return Err(AllocError);
+    }
+    Ok(given)
 }
 
 /// The calls of all ports.
@@ -54,15 +68,14 @@ fn calls_of<C: NodeCore<A> + Drop, A: Allocator + Copy>(
 fn judge<C: NodeCore<A> + Drop, A: Allocator + Copy>(
     cell: &NodeCell<C, A>,
     ports: Vec<Port<C, A>, A>,
-    workers: Result<Vec<Outlets<A>, A>, AllocError>,
+    workers: &[Outlets<A>],
 ) -> Result<Vec<LinkReport, A>, Mismatch>
-    ensures ok { IfOk result (λ links. Matches cell.now.trace ports.items links.items) }
-    ensures err { IfErr result (λ mismatch. Mismatches cell.now.trace ports.items mismatch) }
+    ensures ok { IfOk result (λ links. Matches cell.now.trace ports.items (outlets_of workers.now) links.items) }
+    ensures err { IfErr result (Mismatches cell.now.trace ports.items (outlets_of workers.now)) }
 {
     let alloc = cell.alloc();
     let calls = calls_of(alloc, ports)?;
-    let workers = workers?;
-    compare(alloc, cell, calls.as_slice(), workers.as_slice())
+    compare(alloc, cell, calls.as_slice(), workers)
 }
 
 /// The error that hands the trace out.
@@ -70,7 +83,7 @@ fn close_error<C: NodeCore<A> + Drop, A: Allocator + Copy>(
     mismatch: Mismatch,
     trace: Trace<Frame<A>, A>,
 ) -> CloseError<C, A>
-    ensures { (ports : List (List Made)) → IsHistory C.starts C.steps trace → Mismatches trace ports mismatch → Fails C.starts C.steps (length ports) ports result }
+    ensures { (ports : List (List Made)) (outlets : List Outlet) → IsHistory C.starts C.steps trace → Mismatches trace ports outlets mismatch → Finds C.starts C.steps ports outlets result }
 {
     match mismatch {
         Mismatch::Port(port) => CloseError::Unlike { port, trace },
@@ -79,18 +92,32 @@ fn close_error<C: NodeCore<A> + Drop, A: Allocator + Copy>(
     }
 }
 
+impl<C: NodeCore<A> + Drop, A: Allocator + Copy> NodeCell<C, A> {
+    /// The number of deliveries that were handed out, which are the first ones of its trace.
+    fn count_handed(&self) -> u64
+        ensures same { result ≡ self.now.handed_out }
+        ensures within { result ≤ length (delivered self.now.trace.steps) }
+    {
+        let _steps = self.trace.len();
+        self.handed_out()
+    }
+}
+
 /// What a node leaves that was stopped and whose workers have ended.
 fn hand_back<C: NodeCore<A> + Drop, A: Allocator + Copy>(
     cell: NodeCell<C, A>,
     ports: Vec<Port<C, A>, A>,
-    workers: Result<Vec<Outlets<A>, A>, AllocError>,
+    workers: Vec<Outlets<A>, A>,
 ) -> Result<Closed<A>, CloseError<C, A>>
+    ensures trace { IfOk result (λ closed. closed.trace ≡ cell.trace) }
     ensures history { IfOk result (λ closed. IsHistory C.starts C.steps closed.trace) }
-    ensures matches { IfOk result (λ closed. Matches closed.trace ports.items closed.links.items) }
-    ensures err { IfErr result (Fails C.starts C.steps (length ports.items) ports.items) }
+    ensures handed { IfOk result (λ closed. closed.handed_out ≡ cell.handed_out) }
+    ensures handed_within { IfOk result (λ closed. closed.handed_out ≤ length (delivered closed.trace.steps)) }
+    ensures matches { IfOk result (λ closed. Matches closed.trace ports.items (outlets_of workers.items) closed.links.items) }
+    ensures err { IfErr result (Finds C.starts C.steps ports.items (outlets_of workers.items)) }
 {
-    let verdict = judge(&cell, ports, workers);
-    let handed_out = cell.handed_out();
+    let verdict = judge(&cell, ports, workers.as_slice());
+    let handed_out = cell.count_handed();
     let trace = cell.into_trace();
     match verdict {
         Ok(links) => Ok(Closed {
@@ -105,7 +132,7 @@ fn hand_back<C: NodeCore<A> + Drop, A: Allocator + Copy>(
 impl<C: NodeCore<A> + Drop, A: Allocator + Copy> Host<C, A> {
     /// Stops the node, waits for its workers to end, and compares what its ports and its workers had with its trace.
     ///
-    /// `PortMissing`: not as many ports or workers came back as were made, and nothing was stopped. Then `Unlike`,
+    /// `PortMissing`: not as many ports or workers came back as were made and not joined yet, and nothing was stopped. Then `Unlike`,
     /// `Torn` and `OutOfMemory`, in this order but that an allocation may be refused at any point: the node is closed,
     /// and its trace is handed out. It is to be called in the thread that started the workers, and it returns when they
     /// have ended: readers whose links do not end keep it waiting.
@@ -117,8 +144,9 @@ impl<C: NodeCore<A> + Drop, A: Allocator + Copy> Host<C, A> {
     ) -> Result<Closed<A>, CloseError<C, A>>
         ensures counted { IfOk result (λ closed. length ports.items ≡ self) }
         ensures history { IfOk result (λ closed. IsHistory C.starts C.steps closed.trace) }
-        ensures matches { IfOk result (λ closed. Matches closed.trace ports.items closed.links.items) }
-        ensures err { IfErr result (Fails C.starts C.steps self ports.items) }
+        ensures handed { IfOk result (λ closed. closed.handed_out ≤ length (delivered closed.trace.steps)) }
+        ensures matches { IfOk result (λ closed. IsClosed closed.trace ports.items workers.items closed.links.items) }
+        ensures err { IfErr result (Fails C.starts C.steps self ports.items workers.items) }
     {
         if ports.len() != self.ports || workers.len() != self.shared.workers() {
             return Err(CloseError::PortMissing {
@@ -128,9 +156,14 @@ impl<C: NodeCore<A> + Drop, A: Allocator + Copy> Host<C, A> {
             });
         }
         self.stop(rt);
-        let alloc = self.shared.alloc;
-        let outlets = join_all(rt, alloc, workers);
-        let cell = self.shared.take(rt);
-        hand_back(cell, ports, outlets)
+        let Host { shared, left, .. } = self;
+        let outlets = join_all(rt, left, workers);
+        let cell = shared.take(rt);
+        match outlets {
+            Ok(outlets) => hand_back(cell, ports, outlets),
+            Err(_) => Err(CloseError::OutOfMemory {
+                trace: cell.into_trace(),
+            }),
+        }
     }
 }

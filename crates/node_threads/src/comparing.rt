@@ -1,7 +1,11 @@
 //! What a closed node left is compared with its trace.
-ghost use Rattle.std.specs.Prelude.{◌≡◌, [], ◌∷◌, ◌++◌, All, IfOk, IfErr, IfSome, OnOk};
-ghost use Rattle.node_threads.specs.Closing.{IsWithin, Matches, Mismatches, NamesNoPort};
+ghost use Rattle.std.specs.Prelude.{◌≡◌, List, [], ◌∷◌, ◌++◌, IfOk, IfErr, IfSome, OnOk};
+ghost use Rattle.std.specs.Option.{option_to_list};
+ghost use Rattle.node_threads.specs.Closing.{Matches, Mismatches, Tears};
+ghost use Rattle.node_threads.specs.Leaving.{outlets_in, outlets_of};
+ghost use Rattle.node_threads.specs.Outlet.{Outlet as Seen};
 ghost use Rattle.node_threads.specs.Receipts.{AllAlike, IsFirstUnlike};
+ghost use Rattle.node_threads.specs.Report.{AddsReports};
 
 use crate::cell::NodeCell;
 use crate::cores::NodeCore;
@@ -45,7 +49,7 @@ fn compare_ports<A: Allocator + Copy>(
     ports: &[Listed<Call<A>, A>],
 ) -> Result<(), Mismatch>
     ensures ok { OnOk result (AllAlike trace.now.steps ports.now) }
-    ensures err { IfErr result (Mismatches trace.now ports.now) }
+    ensures err { (outlets : List Seen) → IfErr result (Mismatches trace.now ports.now outlets) }
 {
     match first_unlike(alloc, trace, ports)? {
         Some(port) => Err(Mismatch::Port(port)),
@@ -70,9 +74,8 @@ fn report_one<C: NodeCore<A> + Drop, A: Allocator + Copy>(
     outlet: &Outlet<A>,
     links: &mut Vec<LinkReport, A>,
 ) -> Result<(), Mismatch>
-    requires { All (IsWithin cell.now.trace) links.old.items }
-    ensures ok { OnOk result (All (IsWithin cell.now.trace) links.new.items) }
-    ensures err { IfErr result NamesNoPort }
+    ensures ok { OnOk result (AddsReports cell.now.trace (outlet.now ∷ []) links.old.items links.new.items) }
+    ensures err { IfErr result (Tears cell.now.trace (outlet.now ∷ [])) }
 {
     match cell.report(outlet) {
         Ok(Some(report)) => Ok(add_report(links, report)?),
@@ -81,23 +84,47 @@ fn report_one<C: NodeCore<A> + Drop, A: Allocator + Copy>(
     }
 }
 
-/// Puts the reports of a worker's outlets last.
+/// Puts the reports of outlets last.
 fn report_each<C: NodeCore<A> + Drop, A: Allocator + Copy>(
+    cell: &NodeCell<C, A>,
+    outlets: &[Outlet<A>],
+    links: &mut Vec<LinkReport, A>,
+) -> Result<(), Mismatch>
+    ensures ok { OnOk result (AddsReports cell.now.trace outlets.now links.old.items links.new.items) }
+    ensures err { IfErr result (Tears cell.now.trace outlets.now) }
+{
+    for outlet in outlets {
+        report_one(cell, outlet, links)?;
+    }
+    Ok(())
+}
+
+/// Puts the report of an outlet last, if there is one.
+fn report_last<C: NodeCore<A> + Drop, A: Allocator + Copy>(
+    cell: &NodeCell<C, A>,
+    outlet: &Option<Outlet<A>>,
+    links: &mut Vec<LinkReport, A>,
+) -> Result<(), Mismatch>
+    ensures ok { OnOk result (AddsReports cell.now.trace (option_to_list outlet.now) links.old.items links.new.items) }
+    ensures err { IfErr result (Tears cell.now.trace (option_to_list outlet.now)) }
+{
+    match outlet {
+        Some(outlet) => report_one(cell, outlet, links),
+        None => Ok(()),
+    }
+}
+
+/// Puts the reports of a worker's outlets last.
+fn report_worker<C: NodeCore<A> + Drop, A: Allocator + Copy>(
     cell: &NodeCell<C, A>,
     outlets: &Outlets<A>,
     links: &mut Vec<LinkReport, A>,
 ) -> Result<(), Mismatch>
-    requires { All (IsWithin cell.now.trace) links.old.items }
-    ensures ok { OnOk result (All (IsWithin cell.now.trace) links.new.items) }
-    ensures err { IfErr result NamesNoPort }
+    ensures ok { OnOk result (AddsReports cell.now.trace (outlets_in outlets.now) links.old.items links.new.items) }
+    ensures err { IfErr result (Tears cell.now.trace (outlets_in outlets.now)) }
 {
-    for outlet in &outlets.spent {
-        report_one(cell, outlet, links)?;
-    }
-    match &outlets.last {
-        Some(outlet) => report_one(cell, outlet, links),
-        None => Ok(()),
-    }
+    report_each(cell, outlets.spent.as_slice(), links)?;
+    report_last(cell, &outlets.last, links)
 }
 
 /// The reports of all outlets that the workers had.
@@ -106,12 +133,12 @@ fn compare_links<C: NodeCore<A> + Drop, A: Allocator + Copy>(
     cell: &NodeCell<C, A>,
     workers: &[Outlets<A>],
 ) -> Result<Vec<LinkReport, A>, Mismatch>
-    ensures ok { IfOk result (λ links. All (IsWithin cell.now.trace) links.items) }
-    ensures err { IfErr result NamesNoPort }
+    ensures ok { IfOk result (λ links. AddsReports cell.now.trace (outlets_of workers.now) [] links.items) }
+    ensures err { IfErr result (Tears cell.now.trace (outlets_of workers.now)) }
 {
     let mut links = Vec::new(alloc);
     for outlets in workers {
-        report_each(cell, outlets, &mut links)?;
+        report_worker(cell, outlets, &mut links)?;
     }
     Ok(links)
 }
@@ -123,8 +150,8 @@ pub(crate) fn compare<C: NodeCore<A> + Drop, A: Allocator + Copy>(
     ports: &[Listed<Call<A>, A>],
     workers: &[Outlets<A>],
 ) -> Result<Vec<LinkReport, A>, Mismatch>
-    ensures ok { IfOk result (λ links. Matches cell.now.trace ports.now links.items) }
-    ensures err { IfErr result (λ mismatch. Mismatches cell.now.trace ports.now mismatch) }
+    ensures ok { IfOk result (λ links. Matches cell.now.trace ports.now (outlets_of workers.now) links.items) }
+    ensures err { IfErr result (Mismatches cell.now.trace ports.now (outlets_of workers.now)) }
 {
     compare_ports(alloc, cell.trace(), ports)?;
     compare_links(alloc, cell, workers)

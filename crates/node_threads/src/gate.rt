@@ -34,11 +34,16 @@ const ASKINGS: u32 = 1_000;
 
 /// Asks until the gate lets the worker pass, and answers whether it did.
 pub(crate) fn passes<G: Gate>(gate: &G, worker: usize) -> bool {
-    for _ in 0..ASKINGS {
+    gate.pass(worker) || passes_later(gate, worker)
+}
+
+/// Goes on asking a gate that did not let the worker pass, and answers whether it did then.
+pub(crate) fn passes_later<G: Gate>(gate: &G, worker: usize) -> bool {
+    for _ in 1..ASKINGS {
+        gate.pause();
         if gate.pass(worker) {
             return true;
         }
-        gate.pause();
     }
     false
 }

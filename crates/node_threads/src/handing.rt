@@ -4,7 +4,7 @@ use crate::error::HostError;
 use crate::gate::Gate;
 use crate::host::Host;
 use crate::stepper::Stepper;
-use crate::worker::{Outlets, Worker, start};
+use crate::worker::{Worker, start};
 use std::alloc::Allocator;
 use std::sync::Wait;
 use std::thread::Threads;
@@ -54,10 +54,10 @@ where
     G: Gate + Drop + Send + 'static,
     S: Handed<Vec<Delivery<A>, A>> + Drop + Send + 'static,
 {
-    let steps = host.stepper(&rt, gate, number)?;
-    let thread = start(&rt, move || {
+    let steps = host.stepper(gate, number)?;
+    let alloc = steps.shared.alloc;
+    let worker = start(&rt, alloc, move || {
         hand_batches(&rt, &steps, sink);
-        Outlets::none(steps.shared.alloc)
     })?;
-    Ok(host.employ(thread))
+    Ok(host.employ(worker))
 }

@@ -18,7 +18,6 @@ use node_names::NodeName;
 use std::alloc::{AllocError, Allocator, Global};
 use std::marker::Model;
 use std::sync::{Arc, Wait};
-use std::thread::JoinHandle;
 use world::Out;
 
 /// A running node. Its ports are the application's, and its workers move frames and deliveries.
@@ -29,6 +28,8 @@ pub struct Host<C: NodeCore<A> + Drop, A: Allocator = Global> {
     pub(crate) shared: Arc<Shared<C, A>, A>,
     /// How many ports were made.
     pub(crate) ports: usize,
+    /// What the workers that were joined left, for the close.
+    pub(crate) left: Vec<Outlets<A>, A>,
 }
 
 impl<C: NodeCore<A> + Drop, A: Allocator> Model for Host<C, A> {
@@ -85,9 +86,10 @@ fn open_links<C: NodeCore<A> + Drop, A: Allocator + Copy>(
 fn share<C: NodeCore<A> + Drop, A: Allocator + Copy>(
     alloc: A,
     cell: NodeCell<C, A>,
+    names: &[NodeName],
     ring: usize,
 ) -> Result<Arc<Shared<C, A>, A>, AllocError> {
-    Ok(Arc::new(alloc, Shared::new(alloc, cell, ring)?)?)
+    Ok(Arc::new(alloc, Shared::new(alloc, cell, names, ring)?)?)
 }
 
 impl<C: NodeCore<A> + Drop, A: Allocator + Copy> Host<C, A> {
@@ -115,9 +117,18 @@ impl<C: NodeCore<A> + Drop, A: Allocator + Copy> Host<C, A> {
     {
         let mut cell = NodeCell::new(alloc, core, opening, trace_limit)?;
         let outlets = open_links(alloc, &mut cell, names, ring)?;
-        let shared = share(alloc, cell, ring)?;
+        let shared = share(alloc, cell, names, ring)?;
         let given = new_ports(alloc, &shared, ports)?;
-        Ok((Host { shared, ports }, given, outlets))
+        let left = Vec::new(alloc);
+        Ok((
+            Host {
+                shared,
+                ports,
+                left,
+            },
+            given,
+            outlets,
+        ))
     }
 
     /// Stops the node: from now on no step is made. Its workers come to their ends.
@@ -136,23 +147,32 @@ impl<C: NodeCore<A> + Drop, A: Allocator + Copy> Host<C, A> {
         self.shared.is_neighbour(rt, name)
     }
 
+    /// Asks the worker that writes the link to this name to end once its outlet has no frame. Its connection is dropped
+    /// then, and `join_ended` answers its outlet.
+    pub fn retire<R: Wait>(&self, rt: &R, peer: &NodeName) {
+        if let Some(place) = self.shared.writer(peer) {
+            place.retire(rt);
+        }
+    }
+
     /// A worker's way to the node's steps.
-    pub(crate) fn stepper<R: Wait, G: Gate + Drop>(
+    pub(crate) fn stepper<G: Gate + Drop>(
         &self,
-        rt: &R,
         gate: G,
         number: usize,
     ) -> Result<Stepper<C, A, G>, HostError> {
-        if self.shared.is_stopped(rt) {
+        if self.shared.is_stopped() {
             return Err(HostError::Closed);
         }
         let shared = Arc::try_clone(&self.shared)?;
         Ok(Stepper::new(shared, gate, number))
     }
 
-    /// The worker of a thread, which is to come back when the node is closed.
-    pub(crate) fn employ(&self, thread: JoinHandle<Outlets<A>>) -> Worker<A> {
+    /// A worker that was started, which is to come back when the node is closed.
+    pub(crate) fn employ(&self, worker: Worker<A>) -> Worker<A>
+        ensures { result ≡ worker }
+    {
         self.shared.count_worker();
-        Worker::new(thread)
+        worker
     }
 }

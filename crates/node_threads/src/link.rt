@@ -1,14 +1,14 @@
 //! The writing end of a link.
-ghost use Rattle.std.specs.Prelude.{◌≡◌, ◌<◌, ◌++◌, true, false, length};
+ghost use Rattle.std.specs.Prelude.{◌≡◌, ◌++◌, ◌∷◌, [], false, true};
 
-use crate::spelled::Spelled;
+use crate::link_frame::LinkFrame;
 use node_names::{Listed, NodeName};
 use rtrb::Producer;
 use std::alloc::Allocator;
 use std::marker::Model;
 
 /// The frames of a step that go to one link.
-pub(crate) type Mail<A> = Listed<Spelled<A>, A>;
+pub(crate) type Mail<A> = Listed<LinkFrame<A>, A>;
 
 /// A link that is open: the name that it goes to, and the ring from which its outlet takes.
 #[derive(Drop)]
@@ -16,7 +16,7 @@ pub(crate) struct Link<A: Allocator> {
     pub(crate) peer: NodeName,
     /// How many steps the trace had when the link was opened.
     pub(crate) opened: usize,
-    pub(crate) ring: Producer<Spelled<A>, A>,
+    pub(crate) ring: Producer<LinkFrame<A>, A>,
 }
 
 impl<A: Allocator> Model for Link<A> {
@@ -36,17 +36,12 @@ impl<A: Allocator> Link<A> {
         self.peer
     }
 
-    /// Puts the frames into the ring, in order, and answers whether there was room for all.
-    pub(crate) fn post(&mut self, mail: Mail<A>) -> bool
-        ensures posted { result ≡ true → self.new ≡ record self.old { pushed = self.old.pushed ++ mail } }
-        ensures full { result ≡ false → 0 < length mail }
+    /// Puts a frame into the ring, and answers whether there was room.
+    pub(crate) fn push(&mut self, frame: LinkFrame<A>) -> bool
+        ensures pushed { result ≡ true → self.new ≡ record self.old { pushed = self.old.pushed ++ frame ∷ [] } }
+        ensures kept { result ≡ false → self.new ≡ self.old }
         ensures peer { self.new.peer ≡ self.old.peer }
     {
-        for frame in mail.into_vec() {
-            let Ok(()) = self.ring.push(frame) else {
-                return false;
-            };
-        }
-        true
+        self.ring.push(frame).is_ok()
     }
 }

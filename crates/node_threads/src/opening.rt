@@ -1,24 +1,25 @@
 //! Links are opened and closed.
-ghost use Rattle.std.specs.Prelude.{◌≡◌, ◌≤◌, ◌<◌, ◌+◌, ◌++◌, [], ◌∷◌, not, nat_le, if◌then◌else◌, IfOk, IfErr, OnOk, OnErr, length, vec_len, vec_capacity};
-ghost use Rattle.node_names.specs.Same.{same_name};
+ghost use Rattle.std.specs.Prelude.{◌≡◌, ◌≤◌, ◌<◌, ◌+◌, ◌++◌, [], ◌∷◌, false, not, nat_le, if◌then◌else◌, IfOk, IfErr, OnOk, OnErr, length, vec_len, vec_capacity};
+ghost use Rattle.node_names.specs.Same.{has_name, same_name};
 ghost use Rattle.rtrb.specs.Ring.{sent, known_free};
 ghost use Rattle.node_threads.specs.Applying.{mail_for};
-ghost use Rattle.node_threads.specs.Cell.{is_linked};
-ghost use Rattle.node_threads.specs.Opened.{first_mail, linked_to, without};
+ghost use Rattle.indexmap.specs.IndexSet.{spare};
+ghost use Rattle.node_threads.specs.Cell.{IsListed, is_linked};
+ghost use Rattle.node_threads.specs.Opened.{first_mail, linked_to, others, without};
 
 use crate::cell::NodeCell;
 use crate::cores::NodeCore;
 use crate::error::HostError;
 use crate::link::{Link, Mail};
+use crate::link_frame::LinkFrame;
 use crate::outlet::Outlet;
 use crate::posting::{has_link, mail_for};
-use crate::spelled::Spelled;
-use node_names::{Listed, NodeName};
+use node_names::{Listed, NameSet, NodeName};
 use rtrb::{Producer, RingBuffer};
 use std::alloc::{AllocError, Allocator};
 
 /// Puts the frames into a ring that has room for them.
-fn fill<A: Allocator>(ring: &mut Producer<Spelled<A>, A>, mail: Mail<A>)
+fn fill<A: Allocator>(ring: &mut Producer<LinkFrame<A>, A>, mail: Mail<A>)
     requires { length mail ≤ known_free ring.old }
     ensures { sent ring.new ≡ sent ring.old ++ mail }
 {
@@ -28,37 +29,58 @@ fn fill<A: Allocator>(ring: &mut Producer<Spelled<A>, A>, mail: Mail<A>)
 }
 
 /// Closes the link to the name, if one is open.
-fn close<A: Allocator>(links: &mut Vec<Link<A>, A>, name: &NodeName)
+fn close<A: Allocator>(links: &mut Vec<Link<A>, A>, names: &mut NameSet<A>, name: &NodeName)
     ensures links { links.new.items ≡ without name.now links.old.items }
+    ensures names { names.new.keys ≡ others name.now names.old.keys }
     ensures len { vec_len links.new ≤ vec_len links.old }
     ensures capacity { vec_capacity links.new ≡ vec_capacity links.old }
+    ensures room { spare names.old ≤ spare names.new }
 {
     links.retain(
         |link: &Link<A>| -> bool
             ensures { result ≡ not (same_name name.entry.now link.now.peer) }
         { *name != link.peer() },
     );
+    names.retain(
+        |other: &NodeName| -> bool
+            ensures { result ≡ not (same_name name.entry.now other.now) }
+        { name != other },
+    );
+}
+
+/// Puts a name that is not there last, in the room that there is.
+fn put_last<A: Allocator>(names: &mut NameSet<A>, name: NodeName)
+    requires room { 0 < spare names.old }
+    requires absent { has_name names.old.keys name ≡ false }
+    ensures { names.new.keys ≡ names.old.keys ++ name ∷ [] }
+{
+    let _ = names.insert(name).unwrap();
 }
 
 /// Puts a link to the name in place of the one that there is, if what it begins with fits its ring, which has room for
-/// so many frames.
+/// `room` frames.
 fn link<A: Allocator>(
     links: &mut Vec<Link<A>, A>,
+    names: &mut NameSet<A>,
     peer: NodeName,
     opened: usize,
-    mut ring: Producer<Spelled<A>, A>,
+    mut ring: Producer<LinkFrame<A>, A>,
     mail: Mail<A>,
     room: usize,
 )
     requires place { vec_len links.old < vec_capacity links.old }
+    requires name_place { 0 < spare names.old }
+    requires listed { IsListed links.old.items names.old.keys }
     requires empty { sent ring ≡ [] }
     requires free { known_free ring ≡ room }
-    ensures { links.new.items ≡ without peer links.old.items ++ (if nat_le (length mail) room then record { peer = peer; opened = opened; pushed = mail } ∷ [] else []) }
+    ensures links { links.new.items ≡ without peer links.old.items ++ (if nat_le (length mail) room then record { peer = peer; opened = opened; pushed = mail } ∷ [] else []) }
+    ensures names { IsListed links.new.items names.new.keys }
 {
-    close(links, &peer);
+    close(links, names, &peer);
     if mail.len() <= room {
         fill(&mut ring, mail);
         links.push(Link { peer, opened, ring }).unwrap();
+        put_last(names, peer);
     }
 }
 
@@ -88,7 +110,16 @@ impl<C: NodeCore<A> + Drop, A: Allocator + Copy> NodeCell<C, A> {
         let mail = self.first_mail(alloc, &name)?;
         let (producer, consumer) = RingBuffer::new(alloc, ring)?;
         self.links.reserve(1)?;
-        link(&mut self.links, name, opened, producer, mail, ring);
+        self.names.reserve(1)?;
+        link(
+            &mut self.links,
+            &mut self.names,
+            name,
+            opened,
+            producer,
+            mail,
+            ring,
+        );
         Ok(Outlet::new(alloc, name, opened, consumer))
     }
 
@@ -105,7 +136,7 @@ impl<C: NodeCore<A> + Drop, A: Allocator + Copy> NodeCell<C, A> {
         ensures closed { self.new ≡ record self.old { links = without name.now self.old.links } }
     {
         let was_open = has_link(&self.links, name);
-        close(&mut self.links, name);
+        close(&mut self.links, &mut self.names, name);
         was_open
     }
 }

@@ -1,5 +1,6 @@
 //! Where the application broadcasts.
-ghost use Rattle.std.specs.Prelude.{◌≡◌, [], ◌∷◌, ◌++◌, ◌<◌, IfOk, OnErr, vec_len, vec_capacity};
+ghost use Rattle.std.specs.Prelude.{◌≡◌, [], ◌∷◌, ◌++◌, ◌<◌, IfErr, IfOk, OnErr, vec_len, vec_capacity};
+ghost use Rattle.node_threads.specs.Refusal.{RefusesPayload};
 
 use crate::cores::NodeCore;
 use crate::error::HostError;
@@ -47,6 +48,7 @@ fn broadcast<R: Wait, C: NodeCore<A> + Drop, A: Allocator + Copy>(
 ) -> Result<Receipt, HostError>
     ensures ok { IfOk result (λ receipt. calls.new.items ≡ calls.old.items ++ record { payload = payload; receipt = receipt } ∷ []) }
     ensures err { OnErr result (calls.new.items ≡ calls.old.items) }
+    ensures refused { IfErr result (RefusesPayload payload) }
 {
     let kept = payload.clone()?;
     calls.reserve(1)?;
@@ -73,6 +75,7 @@ impl<C: NodeCore<A> + Drop, A: Allocator + Copy> Port<C, A> {
     pub fn broadcast<R: Wait>(&mut self, rt: &R, payload: Bytes<A>) -> Result<Receipt, HostError>
         ensures ok { IfOk result (λ receipt. self.new ≡ self.old ++ record { payload = payload; receipt = receipt } ∷ []) }
         ensures err { OnErr result (self.new ≡ self.old) }
+        ensures refused { IfErr result (RefusesPayload payload) }
     {
         broadcast(rt, &self.shared, &mut self.calls, payload)
     }

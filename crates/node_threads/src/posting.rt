@@ -1,15 +1,23 @@
 //! From the packets of a step to the rings of the open links.
-ghost use Rattle.std.specs.Prelude.{◌≡◌, ◌≤◌, ◌<◌, ◌+◌, ◌++◌, [], IfOk, OnOk, OnErr, map, length, vec_len, vec_capacity};
-ghost use Rattle.node_threads.specs.Cell.{is_linked};
-ghost use Rattle.node_threads.specs.Applying.{Puts, PutsOne, mail_for, mail_to, unlinked, with_name, with_receiver};
+ghost use Rattle.std.specs.Prelude.{◌≡◌, ◌≤◌, ◌<◌, ◌+◌, ◌∷◌, ◌++◌, [], true, not, filter, if◌then◌else◌, IfOk, OnOk, All, List, length, vec_len, vec_capacity};
+ghost use Rattle.std.specs.List.{IsDistinct};
+ghost use Rattle.node_names.specs.NodeName.{Name};
+ghost use Rattle.node_names.specs.Same.{has_name, same_name};
+ghost use Rattle.node_threads.specs.Applying.{mail_for, with_name};
+ghost use Rattle.node_threads.specs.Cell.{is_linked, peers_of, Link as Seen};
+ghost use Rattle.node_threads.specs.Letters.{HaveMail, IsAddressed, Letter as Sent, Posted, lacking, left_open, mail_in, still_named, with_lacking};
+ghost use Rattle.node_threads.specs.LinkText.{spelling};
 
 use crate::link::{Link, Mail};
-use crate::spelled::spell;
+use crate::link_frame::LinkFrame;
 use frames::Frame;
-use node_names::{Listed, NodeName};
+use node_names::{Listed, NameSet, NodeName, has_name};
 use std::alloc::{AllocError, Allocator};
-use std::collections::VecDeque;
+use std::mem;
 use world::{Delivery, Out, copy_deliveries};
+
+/// A frame for an open link: the name that the link goes to, and the link's place.
+pub(crate) type Letter<A> = (NodeName, usize, LinkFrame<A>);
 
 /// Whether a link to the name is open.
 pub(crate) fn has_link<A: Allocator>(links: &[Link<A>], name: &NodeName) -> bool
@@ -18,7 +26,21 @@ pub(crate) fn has_link<A: Allocator>(links: &[Link<A>], name: &NodeName) -> bool
     links.iter().any(|link| *name == link.peer)
 }
 
-/// The frames of these packets that go to the peer, spelled, in order.
+/// Puts the frame of a packet last, if it goes to the peer.
+fn add_mail<A: Allocator + Copy>(
+    mail: &mut Mail<A>,
+    peer: &NodeName,
+    send: &(NodeName, Frame<A>),
+) -> Result<(), AllocError>
+    ensures { OnOk result (mail.new ≡ mail.old ++ mail_for (send.now ∷ []) peer.now) }
+{
+    if send.0 != *peer {
+        return Ok(());
+    }
+    mail.push(LinkFrame::of(&send.1)?)
+}
+
+/// The frames of these packets that go to the peer, in order.
 pub(crate) fn mail_for<A: Allocator + Copy>(
     alloc: A,
     peer: &NodeName,
@@ -28,27 +50,9 @@ pub(crate) fn mail_for<A: Allocator + Copy>(
 {
     let mut mail = Listed::new(alloc);
     for send in sends {
-        if send.0 == *peer {
-            mail.push(spell(alloc, &send.1)?)?;
-        }
+        add_mail(&mut mail, peer, send)?;
     }
     Ok(mail)
-}
-
-/// What goes to each of the links, in their order.
-fn mails<A: Allocator + Copy>(
-    alloc: A,
-    links: &[Link<A>],
-    sends: &[(NodeName, Frame<A>)],
-) -> Result<VecDeque<Mail<A>, A>, AllocError>
-    ensures { IfOk result (λ mails. mails.items ≡ map (mail_to sends.now) links.now) }
-{
-    let mut mails = VecDeque::new(alloc);
-    for link in links {
-        let peer = link.peer();
-        mails.push_back(mail_for(alloc, &peer, sends)?)?;
-    }
-    Ok(mails)
 }
 
 /// Puts a name last, unless it is there.
@@ -62,111 +66,201 @@ fn add_name<A: Allocator>(names: &mut Vec<NodeName, A>, name: NodeName) -> Resul
     Ok(())
 }
 
-/// Puts the receiver of a packet last, unless a link to it is open or it is there.
-fn add_receiver<A: Allocator>(
-    names: &mut Vec<NodeName, A>,
-    links: &[Link<A>],
+/// Puts a letter last.
+fn add_letter<A: Allocator + Copy>(
+    letters: &mut Vec<Letter<A>, A>,
+    place: usize,
     send: &(NodeName, Frame<A>),
 ) -> Result<(), AllocError>
-    ensures { OnOk result (names.new.items ≡ with_receiver links.now names.old.items send.now) }
+    ensures { OnOk result (letters.new.items ≡ letters.old.items ++ (send.now.0, place, spelling send.now.1) ∷ []) }
 {
-    if has_link(links, &send.0) {
-        return Ok(());
-    }
-    add_name(names, send.0)
+    let frame = LinkFrame::of(&send.1)?;
+    letters.push((send.0, place, frame))?;
+    Ok(())
 }
 
-/// The receivers of these packets to which no link is open, each once.
-fn unlinked<A: Allocator + Copy>(
-    alloc: A,
-    links: &[Link<A>],
-    sends: &[(NodeName, Frame<A>)],
-) -> Result<Vec<NodeName, A>, AllocError>
-    ensures { IfOk result (λ names. names.items ≡ unlinked links.now sends.now) }
+/// Puts the frame of a packet to the letters, if a link to its receiver is open, and else the receiver to those that
+/// have none.
+fn address<A: Allocator + Copy>(
+    names: &NameSet<A>,
+    send: &(NodeName, Frame<A>),
+    letters: &mut Vec<Letter<A>, A>,
+    lacking: &mut Vec<NodeName, A>,
+) -> Result<(), AllocError>
+    ensures mail { OnOk result ((peer : Name) → has_name names.now.keys peer ≡ true → mail_in letters.new.items peer ≡ mail_in letters.old.items peer ++ mail_for (send.now ∷ []) peer) }
+    ensures addressed { OnOk result (All (IsAddressed names.now.keys) letters.old.items → All (IsAddressed names.now.keys) letters.new.items) }
+    ensures lacking { OnOk result (lacking.new.items ≡ with_lacking names.now.keys lacking.old.items send.now) }
 {
-    let mut names = Vec::new(alloc);
-    for send in sends {
-        add_receiver(&mut names, links, send)?;
+    match names.get_index_of(&send.0) {
+        Some(place) => add_letter(letters, place, send),
+        None => add_name(lacking, send.0),
     }
-    Ok(names)
+}
+
+/// The frames of these packets for the open links, which have these names in their order; and the receivers that have
+/// none, each once.
+fn letters_for<A: Allocator + Copy>(
+    alloc: A,
+    names: &NameSet<A>,
+    sends: &[(NodeName, Frame<A>)],
+) -> Result<(Vec<Letter<A>, A>, Vec<NodeName, A>), AllocError>
+    ensures mail { IfOk result (λ r. HaveMail names.now.keys sends.now r.0.items) }
+    ensures addressed { IfOk result (λ r. All (IsAddressed names.now.keys) r.0.items) }
+    ensures lacking { IfOk result (λ r. r.1.items ≡ lacking names.now.keys sends.now) }
+{
+    let mut letters = Vec::with_capacity(alloc, sends.len())?;
+    let mut lacking = Vec::new(alloc);
+    for send in sends {
+        address(names, send, &mut letters, &mut lacking)?;
+    }
+    Ok((letters, lacking))
+}
+
+/// Puts a frame that has room in its ring, or the name of its link to those that are blocked. Of a link that is
+/// blocked nothing more is put into the ring, since what comes out of it is to be how its text begins.
+fn post_one<A: Allocator>(links: &mut [Link<A>], letter: Letter<A>, blocked: &mut Vec<NodeName, A>)
+    requires addressed { IsAddressed (peers_of links.old) letter }
+    requires within { letter.1 < length links.old }
+    requires distinct { IsDistinct same_name (peers_of links.old) }
+    requires room { vec_len blocked.old < vec_capacity blocked.old }
+    ensures posted { (before : List Sent) (first : List Seen) → Posted blocked.old.items before first links.old → Posted blocked.new.items (before ++ letter ∷ []) first links.new }
+    ensures peers { peers_of links.new ≡ peers_of links.old }
+    ensures room { (vec_len blocked.new ≤ vec_len blocked.old + 1) × (vec_capacity blocked.old ≤ vec_capacity blocked.new) }
+{
+    let (peer, place, frame) = letter;
+    if has_name(blocked.as_slice(), &peer) {
+        return;
+    }
+    if !links[place].push(frame) {
+        blocked.push(peer).unwrap();
+    }
+}
+
+/// Puts the letters into the rings of their links, in order, and the names of the links that had no room for all of
+/// theirs to the blocked ones.
+pub(crate) fn post_all<A: Allocator>(
+    links: &mut [Link<A>],
+    letters: Vec<Letter<A>, A>,
+    blocked: &mut Vec<NodeName, A>,
+)
+    requires addressed { All (IsAddressed (peers_of links.old)) letters.items }
+    requires distinct { IsDistinct same_name (peers_of links.old) }
+    requires none { blocked.old.items ≡ [] }
+    requires room { vec_len blocked.old + vec_len letters ≤ vec_capacity blocked.old }
+    ensures posted { Posted blocked.new.items letters.items links.old links.new }
+    ensures peers { peers_of links.new ≡ peers_of links.old }
+{
+    for letter in letters {
+        post_one(links, letter, blocked);
+    }
+}
+
+/// Puts the name of a link last, if it is blocked.
+fn add_blocked<A: Allocator>(full: &mut Vec<NodeName, A>, blocked: &[NodeName], peer: NodeName)
+    requires { vec_len full.old < vec_capacity full.old }
+    ensures full { full.new.items ≡ full.old.items ++ filter (has_name blocked.now) (peer ∷ []) }
+    ensures room { (vec_len full.new ≤ vec_len full.old + 1) × (vec_capacity full.old ≤ vec_capacity full.new) }
+{
+    if has_name(blocked, &peer) {
+        full.push(peer).unwrap();
+    }
+}
+
+/// The names of the links that are blocked, in the order of the links.
+fn names_in_order<A: Allocator>(
+    links: &[Link<A>],
+    blocked: &[NodeName],
+    full: &mut Vec<NodeName, A>,
+)
+    requires { vec_len full.old + length links.now ≤ vec_capacity full.old }
+    ensures { full.new.items ≡ full.old.items ++ filter (has_name blocked.now) (peers_of links.now) }
+{
+    for link in links {
+        add_blocked(full, blocked, link.peer());
+    }
+}
+
+/// Closes the links to these names, and answers their names in the order of the links.
+fn close_blocked<A: Allocator>(
+    links: &mut Vec<Link<A>, A>,
+    names: &mut NameSet<A>,
+    blocked: &[NodeName],
+    full: &mut Vec<NodeName, A>,
+)
+    requires { vec_len full.old + vec_len links.old ≤ vec_capacity full.old }
+    ensures full { full.new.items ≡ full.old.items ++ filter (has_name blocked.now) (peers_of links.old.items) }
+    ensures links { links.new.items ≡ left_open blocked.now links.old.items }
+    ensures names { names.new.keys ≡ still_named blocked.now names.old.keys }
+{
+    names_in_order(links, blocked, full);
+    links.retain(
+        |link: &Link<A>| -> bool
+            ensures { result ≡ not (has_name blocked.entry.now link.now.peer) }
+        { !has_name(blocked, &link.peer()) },
+    );
+    names.retain(
+        |name: &NodeName| -> bool
+            ensures { result ≡ not (has_name blocked.entry.now name.now) }
+        { !has_name(blocked, name) },
+    );
+}
+
+/// Closes the links that are blocked, if any are, and answers their names in the order of the links. `room` has room for
+/// the names of all links; it is given away where a link is closed.
+pub(crate) fn close_full<A: Allocator + Copy>(
+    links: &mut Vec<Link<A>, A>,
+    names: &mut NameSet<A>,
+    room: &mut Vec<NodeName, A>,
+    blocked: Vec<NodeName, A>,
+) -> Vec<NodeName, A>
+    requires empty { room.old.items ≡ [] }
+    requires room { vec_len room.old + vec_len links.old ≤ vec_capacity room.old }
+    ensures full { result.items ≡ filter (has_name blocked.items) (peers_of links.old.items) }
+    ensures links { links.new.items ≡ left_open blocked.items links.old.items }
+    ensures names { names.new.keys ≡ still_named blocked.items names.old.keys }
+    ensures room { room.new.items ≡ [] }
+{
+    if blocked.as_slice().is_empty() {
+        return blocked;
+    }
+    let alloc = *links.allocator();
+    let mut full = mem::replace(room, Vec::new(alloc));
+    close_blocked(links, names, blocked.as_slice(), &mut full);
+    full
 }
 
 /// All that a step needs besides the step itself, so that nothing after it can be refused.
 #[derive(Drop)]
 pub(crate) struct Posting<A: Allocator> {
-    /// What goes to each open link, in their order.
-    pub(crate) mails: VecDeque<Mail<A>, A>,
-    /// Room for the links that stay open.
-    pub(crate) live: Vec<Link<A>, A>,
-    /// Room for the names of those that do not.
-    pub(crate) full: Vec<NodeName, A>,
+    /// The frames for open links, in the order of the packets.
+    pub(crate) letters: Vec<Letter<A>, A>,
+    /// Room for the names of the links that turn out to be blocked.
+    pub(crate) blocked: Vec<NodeName, A>,
     /// The receivers that have no open link.
     pub(crate) unlinked: Vec<NodeName, A>,
     /// The deliveries, for the application.
     pub(crate) copies: Vec<Delivery<A>, A>,
 }
 
-/// What the step with this output needs.
+/// What the step with this output needs, where links to these names are open.
 pub(crate) fn posting_for<A: Allocator + Copy>(
     alloc: A,
-    links: &[Link<A>],
+    names: &NameSet<A>,
     out: &Out<Frame<A>, A>,
 ) -> Result<Posting<A>, AllocError>
-    ensures mails { IfOk result (λ p. p.mails.items ≡ map (mail_to out.now.sends) links.now) }
-    ensures live { IfOk result (λ p. (p.live.items ≡ []) × (vec_len p.live + length links.now ≤ vec_capacity p.live)) }
-    ensures full { IfOk result (λ p. (p.full.items ≡ []) × (vec_len p.full + length links.now ≤ vec_capacity p.full)) }
-    ensures unlinked { IfOk result (λ p. p.unlinked.items ≡ unlinked links.now out.now.sends) }
+    ensures mail { IfOk result (λ p. HaveMail names.now.keys out.now.sends p.letters.items) }
+    ensures addressed { IfOk result (λ p. All (IsAddressed names.now.keys) p.letters.items) }
+    ensures blocked { IfOk result (λ p. (p.blocked.items ≡ []) × (vec_len p.blocked + vec_len p.letters ≤ vec_capacity p.blocked)) }
+    ensures unlinked { IfOk result (λ p. p.unlinked.items ≡ lacking names.now.keys out.now.sends) }
     ensures copies { IfOk result (λ p. p.copies.items ≡ out.now.deliveries) }
 {
+    let (letters, unlinked) = letters_for(alloc, names, out.sends.as_slice())?;
+    let blocked = Vec::with_capacity(alloc, letters.len())?;
+    let copies = copy_deliveries(alloc, out.deliveries.as_slice())?;
     Ok(Posting {
-        mails: mails(alloc, links, out.sends.as_slice())?,
-        live: Vec::with_capacity(alloc, links.len())?,
-        full: Vec::with_capacity(alloc, links.len())?,
-        unlinked: unlinked(alloc, links, out.sends.as_slice())?,
-        copies: copy_deliveries(alloc, out.deliveries.as_slice())?,
+        letters,
+        blocked,
+        unlinked,
+        copies,
     })
-}
-
-/// Puts into a link what goes to it. It stays open if it has room for all, and else its name is put to the full ones.
-fn post_one<A: Allocator>(
-    mut link: Link<A>,
-    mail: Mail<A>,
-    live: &mut Vec<Link<A>, A>,
-    full: &mut Vec<NodeName, A>,
-)
-    requires room { vec_len live.old < vec_capacity live.old }
-    requires name_room { vec_len full.old < vec_capacity full.old }
-    ensures put { PutsOne mail link live.old.items full.old.items live.new.items full.new.items }
-    ensures live { (vec_len live.new ≤ vec_len live.old + 1) × (vec_capacity live.old ≤ vec_capacity live.new) }
-    ensures full { (vec_len full.new ≤ vec_len full.old + 1) × (vec_capacity full.old ≤ vec_capacity full.new) }
-{
-    let peer = link.peer();
-    if link.post(mail) {
-        live.push(link).unwrap();
-    } else {
-        full.push(peer).unwrap();
-    }
-}
-
-/// Puts into each link what goes to it. A link that has room for all stays open; the name of one that has not is put to
-/// the full ones, and the link is closed.
-pub(crate) fn post_all<A: Allocator>(
-    links: Vec<Link<A>, A>,
-    mut mails: VecDeque<Mail<A>, A>,
-    live: &mut Vec<Link<A>, A>,
-    full: &mut Vec<NodeName, A>,
-)
-    requires each { length mails.items ≡ length links.items }
-    requires room { vec_len live.old + vec_len links ≤ vec_capacity live.old }
-    requires name_room { vec_len full.old + vec_len links ≤ vec_capacity full.old }
-    requires none_live { live.old.items ≡ [] }
-    requires none_full { full.old.items ≡ [] }
-    ensures { Puts mails.items links.items live.new.items full.new.items }
-{
-    for link in links {
-        let Some(mail) = mails.pop_front() else {
-            unreachable!()
-        };
-        post_one(link, mail, live, full);
-    }
 }

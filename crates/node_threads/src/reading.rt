@@ -5,7 +5,7 @@ use crate::error::HostError;
 use crate::gate::Gate;
 use crate::host::Host;
 use crate::stepper::Stepper;
-use crate::worker::{Outlets, Worker, start};
+use crate::worker::{Worker, start};
 use frames::{Cutter, Frame};
 use links::{LinkEnd, MeteredRead, pump};
 use node_names::{Dice, NodeName};
@@ -33,13 +33,11 @@ fn take_frames<R: Wait, C: NodeCore<A> + Drop, A: Allocator + Copy, G: Gate + Dr
     frames: Vec<Frame<A>, A>,
     link: &mut Incoming<A>,
 ) -> Result<(), HostError> {
-    for note in frames {
-        let sender = note.sender();
-        link.sender = Some(sender.name);
-        let dice = Dice::draw(&mut link.generator);
-        steps.apply(rt, StimulusOf::Arrive { sender, note, dice })?;
-    }
-    Ok(())
+    let Some(last) = frames.last() else {
+        return Ok(());
+    };
+    link.sender = Some(last.sender().name);
+    steps.take_frames(rt, frames, &mut link.generator)
 }
 
 /// Tells the node that the link is down, if a frame came over it.
@@ -52,7 +50,8 @@ fn end_link<R: Wait, C: NodeCore<A> + Drop, A: Allocator + Copy, G: Gate + Drop>
         return Ok(());
     };
     let dice = Dice::draw(&mut link.generator);
-    steps.apply(rt, StimulusOf::Down { peer, dice })
+    let down = StimulusOf::Down { peer, dice };
+    steps.apply_drawing(rt, down, &mut link.generator)
 }
 
 /// Brings frames to the node until the link ends or a step is refused.
@@ -76,15 +75,16 @@ where
         if end != LinkEnd::TurnLimit {
             return end_link(rt, steps, &mut link);
         }
-        if steps.shared.is_stopped(rt) {
+        if steps.shared.is_stopped() {
             return Err(HostError::Closed);
         }
     }
     unreachable!()
 }
 
-/// Starts the worker that brings the frames of a link to the node. Bytes come from the reader, each frame is one step,
-/// and its dice are those of the generator that this seed starts.
+/// Starts the worker that brings the frames of a link to the node. Bytes come from the reader, and each frame is one
+/// step; those of one read are taken under one hold of the node's lock. Their dice, and those of the Downs that follow
+/// them, are drawn from the generator that this seed starts.
 ///
 /// It ends with the link, of which the core is told as a Down of whoever sent the last frame; with the node; and at the
 /// first refusal. Bytes that are no frame end the link. `Closed`: the node was stopped. `OutOfMemory`: an allocation is
@@ -104,15 +104,15 @@ where
     G: Gate + Drop + Send + 'static,
     D: MeteredRead + Drop + Send + 'static,
 {
-    let steps = host.stepper(&rt, gate, number)?;
+    let steps = host.stepper(gate, number)?;
     let link = Incoming {
         cutter: Cutter::new(steps.shared.alloc),
         sender: None,
         generator: Lcg128Xsl64::seed_from_u64(seed),
     };
-    let thread = start(&rt, move || {
+    let alloc = steps.shared.alloc;
+    let worker = start(&rt, alloc, move || {
         let _ = read_frames(&rt, &steps, reader, link);
-        Outlets::none(steps.shared.alloc)
     })?;
-    Ok(host.employ(thread))
+    Ok(host.employ(worker))
 }

@@ -5,23 +5,27 @@ ghost use Rattle.node_threads.specs.Applying.{mail_for};
 ghost use Rattle.node_threads.specs.LinkText.{link_text, spelling, text_of};
 ghost use Rattle.node_threads.specs.Report.{Leaves};
 
-use crate::spelled::spell;
-use bytes::Bytes;
-use frames::Frame;
+use crate::link_frame::LinkFrame;
+use frames::{Frame, encode};
 use node_names::NodeName;
 use std::alloc::{AllocError, Allocator};
 use world::Trace;
 
-/// Whether the bytes spell the frame. The spelling is freed again.
-fn spells<A: Allocator + Copy>(
+/// Whether what came out is the frame. Only where it is not are the bytes of both written, compared and freed again:
+/// frames that differ have other bytes, and to ask those spares the proof of it.
+fn is_frame<A: Allocator + Copy>(
     alloc: A,
     frame: &Frame<A>,
-    bytes: &Bytes<A>,
+    given: &LinkFrame<A>,
 ) -> Result<bool, AllocError>
-    ensures { IfOk result (λ same. same ≡ pointwise nat_eq bytes.now (spelling frame.now)) }
+    ensures { IfOk result (λ same. same ≡ pointwise nat_eq given.now (spelling frame.now)) }
 {
-    let spelled = spell(alloc, frame)?;
-    Ok(bytes.as_slice() == spelled.bytes().as_slice())
+    if given.is(frame) {
+        return Ok(true);
+    }
+    let bytes = encode(alloc, frame)?;
+    let others = given.encode(alloc)?;
+    Ok(others.as_slice() == bytes.as_slice())
 }
 
 /// What is left of these frames after a packet, which counts if it goes to the peer. None: it is another frame than the
@@ -30,8 +34,8 @@ fn strip_packet<'a, A: Allocator + Copy>(
     alloc: A,
     peer: &NodeName,
     send: &(NodeName, Frame<A>),
-    given: &'a [Bytes<A>],
-) -> Result<Option<&'a [Bytes<A>]>, AllocError>
+    given: &'a [LinkFrame<A>],
+) -> Result<Option<&'a [LinkFrame<A>]>, AllocError>
     ensures { IfOk result (λ left. Leaves given.now (mail_for (send.now ∷ []) peer.now) (option_copied left)) }
 {
     if send.0 != *peer {
@@ -40,7 +44,7 @@ fn strip_packet<'a, A: Allocator + Copy>(
     let Some((first, rest)) = given.split_first() else {
         return Ok(Some(given));
     };
-    if !spells(alloc, &send.1, first)? {
+    if !is_frame(alloc, &send.1, first)? {
         return Ok(None);
     }
     Ok(Some(rest))
@@ -52,8 +56,8 @@ fn strip<'a, A: Allocator + Copy>(
     alloc: A,
     peer: &NodeName,
     sends: &[(NodeName, Frame<A>)],
-    mut given: &'a [Bytes<A>],
-) -> Result<Option<&'a [Bytes<A>]>, AllocError>
+    mut given: &'a [LinkFrame<A>],
+) -> Result<Option<&'a [LinkFrame<A>]>, AllocError>
     ensures { IfOk result (λ left. Leaves given.now (mail_for sends.now peer.now) (option_copied left)) }
 {
     for send in sends {
@@ -75,8 +79,8 @@ fn strip_steps<'a, A: Allocator + Copy>(
     trace: &Trace<Frame<A>, A>,
     peer: &NodeName,
     opened: usize,
-    mut given: &'a [Bytes<A>],
-) -> Result<Option<&'a [Bytes<A>]>, AllocError>
+    mut given: &'a [LinkFrame<A>],
+) -> Result<Option<&'a [LinkFrame<A>]>, AllocError>
     ensures { IfOk result (λ left. Leaves given.now (map spelling (text_of peer.now (drop opened trace.now.steps))) (option_copied left)) }
 {
     for place in opened..trace.len() {
@@ -111,8 +115,8 @@ pub(crate) fn strip_text<'a, A: Allocator + Copy>(
     trace: &Trace<Frame<A>, A>,
     peer: &NodeName,
     opened: usize,
-    given: &'a [Bytes<A>],
-) -> Result<Option<&'a [Bytes<A>]>, AllocError>
+    given: &'a [LinkFrame<A>],
+) -> Result<Option<&'a [LinkFrame<A>]>, AllocError>
     ensures { IfOk result (λ left. Leaves given.now (map spelling (link_text trace.now peer.now opened)) (option_copied left)) }
 {
     let Some(rest) = strip(alloc, peer, opening_of(trace, opened), given)? else {

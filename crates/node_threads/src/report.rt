@@ -1,6 +1,6 @@
 //! What came out of a link is compared with the trace.
-ghost use Rattle.std.specs.Prelude.{◌≡◌, None, Ok, IfOk, IfErr, IfSome, length};
-ghost use Rattle.node_threads.specs.Report.{BeginsText};
+ghost use Rattle.std.specs.Prelude.{◌≡◌, None, Ok, IfOk, IfErr, IfSome};
+ghost use Rattle.node_threads.specs.Report.{BeginsText, report_of};
 
 use crate::cell::NodeCell;
 use crate::cores::NodeCore;
@@ -26,11 +26,11 @@ impl<C: NodeCore<A> + Drop, A: Allocator + Copy> NodeCell<C, A> {
     /// each as its bytes, in order, with none left out. None says that they did not, or that the link was opened after
     /// more steps than the trace has, so that the outlet is another node's.
     ///
-    /// It goes over the steps since the link was opened until the frames that came out are used up, and spells one
-    /// frame at a time. Its only refusal is `OutOfMemory`.
+    /// It goes over the steps since the link was opened until the frames that came out are used up, and writes the bytes
+    /// of a frame only where it finds one that differs. Its only refusal is `OutOfMemory`, which comes of that alone.
     pub fn report(&self, outlet: &Outlet<A>) -> Result<Option<LinkReport>, HostError>
         ensures begins { IfOk result (λ r. IfSome r (λ report. BeginsText self.now.trace outlet.now)) }
-        ensures report { IfOk result (λ r. IfSome r (λ report. report ≡ record { peer = outlet.now.peer; opened = outlet.now.opened; taken = length outlet.now.given })) }
+        ensures report { IfOk result (λ r. IfSome r (λ report. report ≡ report_of outlet.now)) }
         ensures none { result ≡ Ok None → BeginsText self.now.trace outlet.now → ⊥ }
         ensures refused { IfErr result (λ e. e ≡ HostError.OutOfMemory) }
     {

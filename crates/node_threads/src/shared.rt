@@ -1,5 +1,7 @@
 //! What the threads of a running node share: the cell under its lock, and who waits for it.
-ghost use Rattle.std.specs.Prelude.{◌≡◌, IfOk, IfSome, IsSome};
+ghost use Rattle.std.specs.Prelude.{◌≡◌, IfErr, IfOk, IfSome, IsSome};
+ghost use Rattle.node_threads.specs.Calls.{MayAnswer};
+ghost use Rattle.node_threads.specs.Refusal.{RefusesPayload};
 
 use crate::applied::Applied;
 use crate::cell::NodeCell;
@@ -8,13 +10,16 @@ use crate::error::HostError;
 use crate::outlet::Outlet;
 use crate::receipt::Receipt;
 use crate::sealing::Sealed;
+use crate::taking::take_frames;
 use crate::wakeups::{Moved, Wakeups};
+use crate::writer_place::WriterPlace;
 use bytes::Bytes;
 use crossbeam_utils::CachePadded;
 use frames::Frame;
 use node_names::{MsgId, NodeName};
+use rand_pcg::Lcg128Xsl64;
 use std::alloc::{AllocError, Allocator};
-use std::sync::atomic::{AtomicUsize, Ordering};
+use std::sync::atomic::{AtomicBool, AtomicUsize, Ordering};
 use std::sync::{Condvar, Mutex, Wait};
 use world::{Delivery, Stimulus, StimulusOf};
 
@@ -25,37 +30,13 @@ use world::{Delivery, Stimulus, StimulusOf};
 pub(crate) struct Shared<C: NodeCore<A> + Drop, A: Allocator> {
     cell: Held<NodeCell<C, A>>,
     wakeups: Wakeups<A>,
-    /// How many workers were started.
+    /// Whether the node was stopped, for threads that make no step.
+    is_stopped: AtomicBool,
+    /// How many workers were started and not joined yet.
     workers: AtomicUsize,
     /// How many frames a link's ring has room for.
     pub(crate) ring: usize,
     pub(crate) alloc: A,
-}
-
-/// What a worker that writes is to do next.
-pub(crate) enum Writing {
-    /// Its outlet has a frame.
-    Frames,
-    /// Its link is closed, and its outlet empty.
-    LinkClosed,
-    /// The node was stopped, and its outlet is empty.
-    Stopped,
-}
-
-/// What a worker that writes is to do next; none if it is to wait.
-fn next_writing<C: NodeCore<A> + Drop, A: Allocator + Copy>(
-    cell: &Option<NodeCell<C, A>>,
-    outlet: &mut Outlet<A>,
-) -> Option<Writing> {
-    if outlet.has_next() {
-        return Some(Writing::Frames);
-    }
-    match cell {
-        None => Some(Writing::Stopped),
-        Some(cell) if cell.is_shut() => Some(Writing::Stopped),
-        Some(cell) if !cell.link_is_open(&outlet.peer()) => Some(Writing::LinkClosed),
-        Some(_) => None,
-    }
 }
 
 /// Whether nothing waits for the application, and something may still come.
@@ -72,6 +53,7 @@ type Held<T> = CachePadded<Mutex<Option<T>>>;
 /// closure.
 fn with<T: Drop, Q, R: Wait, F: FnOnce(&mut T) -> Q>(rt: &R, lock: &Held<T>, call: F) -> Option<Q>
     requires { F.IsAlwaysCallable call }
+    ensures { IfSome result (MayAnswer F.FnOnce call) }
 {
     let mut guard = lock.lock(rt);
     match &mut *guard {
@@ -89,37 +71,78 @@ fn take_out<T: Drop, R: Wait>(rt: &R, lock: &Held<T>, told: &Condvar) -> T {
     held
 }
 
+/// What makes steps under a lock.
+trait Stepping<A: Allocator> {
+    /// How many steps it made.
+    fn steps(&self) -> usize;
+
+    /// For whom the steps from this place on did something.
+    fn moved_since(&self, wakeups: &Wakeups<A>, first: usize) -> Moved;
+}
+
+/// Calls with what makes steps, and answers for whom those that it made did something.
+fn step_held<T: Stepping<A>, A: Allocator, Q, F: FnOnce(&mut T) -> Q>(
+    held: &mut T,
+    wakeups: &Wakeups<A>,
+    call: F,
+) -> (Q, Moved)
+    requires { F.IsAlwaysCallable call }
+    ensures { MayAnswer F.FnOnce call result.0 }
+{
+    let first = held.steps();
+    let answer = call(held);
+    (answer, held.moved_since(wakeups, first))
+}
+
+/// Calls with what the lock holds under one hold of it, and tells those that wait for what its steps sent or delivered.
+/// None: the node is closed.
+fn step<T: Stepping<A> + Drop, A: Allocator + Copy, Q, R: Wait, F: FnOnce(&mut T) -> Q>(
+    rt: &R,
+    lock: &Held<T>,
+    wakeups: &Wakeups<A>,
+    call: F,
+) -> Option<Q>
+    requires { F.IsAlwaysCallable call }
+    ensures { IfSome result (MayAnswer F.FnOnce call) }
+{
+    let (answer, moved) = with(rt, lock, |held| step_held(held, wakeups, call))?;
+    wakeups.wake(rt, moved);
+    Some(answer)
+}
+
 /// For whom the steps from this place on did something.
 fn moved_since<C: NodeCore<A> + Drop, A: Allocator + Copy>(
     cell: &NodeCell<C, A>,
+    wakeups: &Wakeups<A>,
     first: usize,
 ) -> Moved {
     let trace = cell.trace();
     let mut moved = Moved::nothing();
     for place in first..trace.len() {
         if let Some(step) = trace.step(place) {
-            moved.add(&step.out);
+            wakeups.add(&mut moved, &step.out);
         }
     }
     moved
 }
 
-/// Applies the stimulus with its Downs. Answers what was applied, and for whom it did something.
-fn apply_moved<C: NodeCore<A> + Drop, A: Allocator + Copy>(
-    cell: &mut NodeCell<C, A>,
-    stimulus: Stimulus<Frame<A>, A>,
-) -> Result<(Applied<A>, Moved), HostError> {
-    let first = cell.trace().len();
-    let applied = cell.apply_with_downs(stimulus)?;
-    let moved = moved_since(cell, first);
-    Ok((applied, moved))
+impl<C: NodeCore<A> + Drop, A: Allocator + Copy> Stepping<A> for NodeCell<C, A> {
+    fn steps(&self) -> usize {
+        self.trace().len()
+    }
+
+    fn moved_since(&self, wakeups: &Wakeups<A>, first: usize) -> Moved {
+        moved_since(self, wakeups, first)
+    }
 }
 
-/// Broadcasts a payload. Answers what the port gets for it, and for whom the step and its Downs did something.
-fn broadcast_moved<C: NodeCore<A> + Drop, A: Allocator + Copy>(
+/// Broadcasts a payload with its Downs, and answers what the port gets for it.
+fn broadcast<C: NodeCore<A> + Drop, A: Allocator + Copy>(
     cell: &mut NodeCell<C, A>,
     payload: Bytes<A>,
-) -> Result<(Receipt, Moved), HostError> {
+) -> Result<Receipt, HostError>
+    ensures { IfErr result (RefusesPayload payload) }
+{
     let Applied {
         id,
         place,
@@ -127,49 +150,87 @@ fn broadcast_moved<C: NodeCore<A> + Drop, A: Allocator + Copy>(
         unlinked: _,
     } = cell.apply_with_downs(StimulusOf::Broadcast(payload))?;
     let Some(id) = id else { unreachable!() };
-    Ok((Receipt { id, place }, moved_since(cell, place)))
+    Ok(Receipt { id, place })
 }
 
 impl<C: NodeCore<A> + Drop, A: Allocator + Copy> Shared<C, A> {
-    /// A node whose links have rings for so many frames.
+    /// A node that has a link to each of these names, with rings for so many frames.
     pub(crate) fn new(
         alloc: A,
         cell: NodeCell<C, A>,
+        names: &[NodeName],
         ring: usize,
     ) -> Result<Shared<C, A>, AllocError> {
-        let wakeups = Wakeups::new(alloc)?;
+        let wakeups = Wakeups::new(alloc, names)?;
         Ok(Shared {
             cell: CachePadded::new(Mutex::new(Some(cell))),
             wakeups,
+            is_stopped: AtomicBool::new(false),
             workers: AtomicUsize::new(0),
             ring,
             alloc,
         })
     }
 
-    /// Applies the stimulus with its Downs under one hold of the lock, and tells those that wait for what was sent or
-    /// delivered.
+    /// Applies the stimulus with its Downs, whose dice are zeros.
     pub(crate) fn apply<R: Wait>(
         &self,
         rt: &R,
         stimulus: Stimulus<Frame<A>, A>,
     ) -> Result<Applied<A>, HostError> {
-        let answer = with(rt, &self.cell, |cell| apply_moved(cell, stimulus));
-        let (applied, moved) = answer.unwrap_or(Err(HostError::Closed))?;
-        self.wakeups.wake(moved);
-        Ok(applied)
+        step(
+            rt,
+            &self.cell,
+            &self.wakeups,
+            |cell| cell.apply_with_downs(stimulus),
+        )
+        .unwrap_or(Err(HostError::Closed))
+    }
+
+    /// Applies the stimulus with its Downs, whose dice are drawn.
+    pub(crate) fn apply_drawing<R: Wait>(
+        &self,
+        rt: &R,
+        stimulus: Stimulus<Frame<A>, A>,
+        generator: &mut Lcg128Xsl64,
+    ) -> Result<Applied<A>, HostError> {
+        step(
+            rt,
+            &self.cell,
+            &self.wakeups,
+            |cell| cell.apply_drawing(stimulus, generator),
+        )
+        .unwrap_or(Err(HostError::Closed))
+    }
+
+    /// Has the node take frames, one step each with its Downs, until one is refused; all dice are drawn. Answers how
+    /// many steps that were, and why the next one was refused.
+    pub(crate) fn take_frames<R: Wait>(
+        &self,
+        rt: &R,
+        frames: Vec<Frame<A>, A>,
+        generator: &mut Lcg128Xsl64,
+    ) -> (usize, Result<(), HostError>) {
+        step(
+            rt,
+            &self.cell,
+            &self.wakeups,
+            |cell| take_frames(cell, frames, generator),
+        )
+        .unwrap_or((0, Err(HostError::Closed)))
     }
 
     /// Broadcasts a payload.
-    pub(crate) fn broadcast<R: Wait>(
-        &self,
-        rt: &R,
-        payload: Bytes<A>,
-    ) -> Result<Receipt, HostError> {
-        let answer = with(rt, &self.cell, |cell| broadcast_moved(cell, payload));
-        let (receipt, moved) = answer.unwrap_or(Err(HostError::Closed))?;
-        self.wakeups.wake(moved);
-        Ok(receipt)
+    pub(crate) fn broadcast<R: Wait>(&self, rt: &R, payload: Bytes<A>) -> Result<Receipt, HostError>
+        ensures { IfErr result (RefusesPayload payload) }
+    {
+        step(
+            rt,
+            &self.cell,
+            &self.wakeups,
+            |cell| broadcast(cell, payload),
+        )
+        .unwrap_or(Err(HostError::Closed))
     }
 
     /// Opens a link to the outlet's peer in place of its own, and answers the outlet of the new one.
@@ -177,7 +238,9 @@ impl<C: NodeCore<A> + Drop, A: Allocator + Copy> Shared<C, A> {
         &self,
         rt: &R,
         outlet: &Outlet<A>,
-    ) -> Result<Outlet<A>, HostError> {
+    ) -> Result<Outlet<A>, HostError>
+        ensures { IfOk result (λ new. new.peer ≡ outlet.now.peer) }
+    {
         let (peer, ring) = (outlet.peer(), self.ring);
         with(rt, &self.cell, |cell| cell.open_link(peer, ring)).unwrap_or(Err(HostError::Closed))
     }
@@ -185,7 +248,8 @@ impl<C: NodeCore<A> + Drop, A: Allocator + Copy> Shared<C, A> {
     /// Ends the node: from now on no step is made, and nobody waits for one.
     pub(crate) fn stop<R: Wait>(&self, rt: &R) {
         let _ = with(rt, &self.cell, |cell| cell.shut());
-        self.wakeups.wake_all();
+        self.is_stopped.store(true, Ordering::SeqCst);
+        self.wakeups.wake_all(rt);
     }
 
     /// Hands out the steps since the last call.
@@ -199,25 +263,18 @@ impl<C: NodeCore<A> + Drop, A: Allocator + Copy> Shared<C, A> {
     }
 
     /// Whether the node was stopped.
-    pub(crate) fn is_stopped<R: Wait>(&self, rt: &R) -> bool {
-        with(rt, &self.cell, |cell| cell.is_shut()).unwrap_or(true)
+    pub(crate) fn is_stopped(&self) -> bool {
+        self.is_stopped.load(Ordering::SeqCst)
+    }
+
+    /// What tells the writer of a link to this name that there is something to do.
+    pub(crate) fn writer(&self, peer: &NodeName) -> Option<&WriterPlace> {
+        self.wakeups.writer(peer)
     }
 
     /// Takes the cell out of the lock. If it is not there it waits until it is.
     pub(crate) fn take<R: Wait>(&self, rt: &R) -> NodeCell<C, A> {
         take_out(rt, &self.cell, &self.wakeups.delivered)
-    }
-
-    /// Waits for what a worker that writes is to do next.
-    pub(crate) fn wait_for_writing<R: Wait>(&self, rt: &R, outlet: &mut Outlet<A>) -> Writing {
-        let mut guard = self.cell.lock(rt);
-        for _ in rt.forever() {
-            if let Some(writing) = next_writing(&guard, outlet) {
-                return writing;
-            }
-            guard = self.wakeups.writer(&outlet.peer()).wait(rt, guard);
-        }
-        unreachable!()
     }
 
     /// Waits for deliveries and hands them out; none when the node was stopped and all are handed out.
@@ -250,7 +307,12 @@ impl<C: NodeCore<A> + Drop, A: Allocator + Copy> Shared<C, A> {
         self.workers.fetch_add(1, Ordering::SeqCst);
     }
 
-    /// How many workers were started.
+    /// Counts a worker less, which has ended and was joined.
+    pub(crate) fn discount_worker(&self) {
+        self.workers.fetch_sub(1, Ordering::SeqCst);
+    }
+
+    /// How many workers were started and not joined yet.
     pub(crate) fn workers(&self) -> usize {
         self.workers.load(Ordering::SeqCst)
     }

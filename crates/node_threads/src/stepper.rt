@@ -1,12 +1,20 @@
 //! A worker's way to its node's steps.
 use crate::cores::NodeCore;
 use crate::error::HostError;
-use crate::gate::{Gate, passes};
+use crate::gate::{Gate, passes, passes_later};
 use crate::shared::Shared;
 use frames::Frame;
-use std::alloc::Allocator;
+use rand_pcg::Lcg128Xsl64;
+use std::alloc::{AllocError, Allocator};
+use std::mem;
 use std::sync::{Arc, Wait};
 use world::Stimulus;
+
+/// Puts a frame last.
+fn add<A: Allocator>(frames: &mut Vec<Frame<A>, A>, frame: Frame<A>) -> Result<(), AllocError> {
+    frames.push(frame)?;
+    Ok(())
+}
 
 /// The node that a worker makes steps of, and the gate that it asks before each.
 #[derive(Drop)]
@@ -27,7 +35,7 @@ impl<C: NodeCore<A> + Drop, A: Allocator + Copy, G: Gate + Drop> Stepper<C, A, G
         }
     }
 
-    /// Asks the gate, applies the stimulus with its Downs, and reports the step.
+    /// Asks the gate, applies the stimulus with its Downs, whose dice are zeros, and reports the step.
     ///
     /// `GateShut`: the gate let the worker through in none of its askings.
     pub(crate) fn apply<R: Wait>(
@@ -35,11 +43,70 @@ impl<C: NodeCore<A> + Drop, A: Allocator + Copy, G: Gate + Drop> Stepper<C, A, G
         rt: &R,
         stimulus: Stimulus<Frame<A>, A>,
     ) -> Result<(), HostError> {
-        if !passes(&self.gate, self.number) {
-            return Err(HostError::GateShut);
-        }
+        self.ask()?;
         self.shared.apply(rt, stimulus)?;
         self.gate.applied(self.number);
         Ok(())
+    }
+
+    /// As `apply`, with dice that are drawn.
+    pub(crate) fn apply_drawing<R: Wait>(
+        &self,
+        rt: &R,
+        stimulus: Stimulus<Frame<A>, A>,
+        generator: &mut Lcg128Xsl64,
+    ) -> Result<(), HostError> {
+        self.ask()?;
+        self.shared.apply_drawing(rt, stimulus, generator)?;
+        self.gate.applied(self.number);
+        Ok(())
+    }
+
+    /// Has the node take frames, one step each with its Downs, under one hold of the lock as long as the gate lets the
+    /// worker pass at once: where it does not, the frames before are taken first.
+    pub(crate) fn take_frames<R: Wait>(
+        &self,
+        rt: &R,
+        frames: Vec<Frame<A>, A>,
+        generator: &mut Lcg128Xsl64,
+    ) -> Result<(), HostError> {
+        let mut passed = Vec::with_capacity(self.shared.alloc, frames.len())?;
+        for frame in frames {
+            if !self.gate.pass(self.number) {
+                let before = mem::replace(&mut passed, Vec::new(self.shared.alloc));
+                self.take_passed(rt, before, generator)?;
+                Self::judge(passes_later(&self.gate, self.number))?;
+            }
+            add(&mut passed, frame)?;
+        }
+        self.take_passed(rt, passed, generator)
+    }
+
+    /// Has the node take frames for which the gate let the worker pass, and reports the steps.
+    fn take_passed<R: Wait>(
+        &self,
+        rt: &R,
+        frames: Vec<Frame<A>, A>,
+        generator: &mut Lcg128Xsl64,
+    ) -> Result<(), HostError> {
+        let (steps, ended) = self.shared.take_frames(rt, frames, generator);
+        for _ in 0..steps {
+            self.gate.applied(self.number);
+        }
+        ended
+    }
+
+    /// Asks the gate until it lets the worker pass.
+    fn ask(&self) -> Result<(), HostError> {
+        Self::judge(passes(&self.gate, self.number))
+    }
+
+    /// What it means whether the gate let the worker pass.
+    fn judge(is_passed: bool) -> Result<(), HostError> {
+        if is_passed {
+            Ok(())
+        } else {
+            Err(HostError::GateShut)
+        }
     }
 }

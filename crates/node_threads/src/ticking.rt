@@ -4,7 +4,7 @@ use crate::error::HostError;
 use crate::gate::Gate;
 use crate::host::Host;
 use crate::stepper::Stepper;
-use crate::worker::{Outlets, Worker, start};
+use crate::worker::{Worker, start};
 use node_names::Dice;
 use rand_core::SeedableRng;
 use rand_pcg::Lcg128Xsl64;
@@ -30,12 +30,13 @@ fn make_tick<R: Wait, C: NodeCore<A> + Drop, A: Allocator + Copy, G: Gate + Drop
     shuffles: bool,
     generator: &mut Lcg128Xsl64,
 ) -> Result<(), HostError> {
-    steps.apply(rt, StimulusOf::Flush)?;
+    steps.apply_drawing(rt, StimulusOf::Flush, generator)?;
     for id in steps.shared.timers(rt)? {
-        steps.apply(rt, StimulusOf::Fire(id))?;
+        steps.apply_drawing(rt, StimulusOf::Fire(id), generator)?;
     }
     if shuffles {
-        steps.apply(rt, StimulusOf::Shuffle(Dice::draw(generator)))?;
+        let dice = Dice::draw(generator);
+        steps.apply_drawing(rt, StimulusOf::Shuffle(dice), generator)?;
     }
     Ok(())
 }
@@ -62,7 +63,8 @@ fn make_ticks<
 }
 
 /// Starts the worker that keeps the node's time. At each tick it applies Flush, then Fire for each id whose timer is
-/// armed, and at every tenth tick Shuffle, with dice of the generator that this seed starts.
+/// armed, and at every tenth tick Shuffle. The dice of Shuffles, and of the Downs that follow any of these steps, are
+/// drawn from the generator that this seed starts.
 ///
 /// It ends when the ticker does, and at the first refusal. `Closed`: the node was stopped. `OutOfMemory`: an allocation
 /// is refused, or no thread can be made.
@@ -81,11 +83,11 @@ where
     G: Gate + Drop + Send + 'static,
     T: Ticker + Drop + Send + 'static,
 {
-    let steps = host.stepper(&rt, gate, number)?;
+    let steps = host.stepper(gate, number)?;
     let generator = Lcg128Xsl64::seed_from_u64(seed);
-    let thread = start(&rt, move || {
+    let alloc = steps.shared.alloc;
+    let worker = start(&rt, alloc, move || {
         make_ticks(&rt, &steps, ticker, generator);
-        Outlets::none(steps.shared.alloc)
     })?;
-    Ok(host.employ(thread))
+    Ok(host.employ(worker))
 }

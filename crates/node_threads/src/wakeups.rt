@@ -1,29 +1,17 @@
 //! Who waits for a node's steps, and who is told of which.
+use crate::writer_place::WriterPlace;
 use frames::Frame;
-use node_names::NodeName;
+use node_names::{NameSet, NodeName};
 use std::alloc::{AllocError, Allocator};
-use std::sync::Condvar;
+use std::sync::{Condvar, Wait};
 use world::Out;
-
-/// How many places the writers of a node's links wait at: one for each bit of `Moved::links`.
-const PLACES: usize = 64;
 
 /// For whom steps did something.
 #[derive(Clone, Copy)]
 pub(crate) struct Moved {
-    /// The places of the writers whose links had frames, a bit each.
+    /// The places of the links that had frames, a bit each: that of place 64 is the bit of place 0 again.
     links: u64,
     has_delivered: bool,
-}
-
-/// The bit of the place where the writer of a link to this name waits: the upper six bits of the name's FNV-1a hash,
-/// begun at 0. Two names may have one place.
-fn bit_of(peer: &NodeName) -> u64 {
-    let mut sum: u32 = 0;
-    for byte in peer.as_bytes() {
-        sum = (sum ^ u32::from(*byte)).wrapping_mul(16_777_619);
-    }
-    1_u64.rotate_left(sum >> 26)
 }
 
 impl Moved {
@@ -35,70 +23,98 @@ impl Moved {
         }
     }
 
-    /// Adds what a step did.
-    pub(crate) fn add<A: Allocator>(&mut self, out: &Out<Frame<A>, A>) {
-        for (to, _) in out.sends.as_slice() {
-            self.links |= bit_of(to);
-        }
-        if !out.deliveries.is_empty() {
-            self.has_delivered = true;
+    /// For all.
+    fn all() -> Moved {
+        Moved {
+            links: u64::MAX,
+            has_delivered: true,
         }
     }
 }
 
 /// Who waits for a node's steps.
 ///
-/// A step wakes the writers of the links that it sent frames over, and who hands deliveries out if it delivered. A node
-/// with many links would else wake all their writers at each step.
+/// The writer of each link has a place of its own, and is told only where its link had a frame. A node with many links
+/// would else wake all their writers at each step.
 #[derive(Drop)]
 pub(crate) struct Wakeups<A: Allocator> {
     /// For who hands deliveries out, and who closes the node.
     pub(crate) delivered: Condvar,
-    /// For the writers of links, by their places.
-    links: Vec<Condvar, A>,
+    /// The names that links were opened to at the start, by the places of their writers.
+    names: NameSet<A>,
+    writers: Vec<WriterPlace, A>,
 }
 
-impl<A: Allocator> Wakeups<A> {
-    /// Nobody waits yet.
-    pub(crate) fn new(alloc: A) -> Result<Wakeups<A>, AllocError> {
-        let mut links = Vec::new(alloc);
-        for _ in 0..PLACES {
-            links.push(Condvar::new())?;
+/// A place for each of the names, and one for the writers of links to others.
+fn places_for<A: Allocator + Copy>(
+    alloc: A,
+    names: &NameSet<A>,
+) -> Result<Vec<WriterPlace, A>, AllocError> {
+    let mut writers = Vec::new(alloc);
+    for _ in 0..=names.len() {
+        writers.push(WriterPlace::new())?;
+    }
+    Ok(writers)
+}
+
+impl<A: Allocator + Copy> Wakeups<A> {
+    /// Nobody waits yet. Links are open to these names.
+    pub(crate) fn new(alloc: A, links: &[NodeName]) -> Result<Wakeups<A>, AllocError> {
+        let mut names = NameSet::new(alloc);
+        for name in links {
+            names.insert(*name)?;
         }
+        let writers = places_for(alloc, &names)?;
         Ok(Wakeups {
             delivered: Condvar::new(),
-            links,
+            names,
+            writers,
         })
     }
 
+    /// The number of the place of the writer of a link to this name.
+    fn place_of(&self, peer: &NodeName) -> usize {
+        self.names.get_index_of(peer).unwrap_or(self.names.len())
+    }
+
     /// Where the writer of a link to this name waits.
-    pub(crate) fn writer(&self, peer: &NodeName) -> &Condvar {
-        let place = bit_of(peer).trailing_zeros() as usize;
-        match self.links.get(place) {
-            Some(writers) => writers,
-            None => &self.delivered,
+    pub(crate) fn writer(&self, peer: &NodeName) -> Option<&WriterPlace> {
+        self.writers.get(self.place_of(peer))
+    }
+
+    /// Adds what a step did.
+    pub(crate) fn add(&self, moved: &mut Moved, out: &Out<Frame<A>, A>) {
+        for (to, _) in out.sends.as_slice() {
+            moved.links |= 1_u64.rotate_left((self.place_of(to) % 64) as u32);
+        }
+        if !out.deliveries.is_empty() {
+            moved.has_delivered = true;
         }
     }
 
     /// Wakes those for whom something was done.
-    pub(crate) fn wake(&self, moved: Moved) {
-        let mut bits = moved.links;
-        for writers in self.links.iter() {
-            if bits % 2 == 1 {
-                writers.notify_all();
-            }
-            bits /= 2;
+    pub(crate) fn wake<R: Wait>(&self, rt: &R, moved: Moved) {
+        if moved.links != 0 {
+            self.tell_writers(rt, moved.links);
         }
         if moved.has_delivered {
             self.delivered.notify_all();
         }
     }
 
+    /// Tells the writers at the places of these bits.
+    fn tell_writers<R: Wait>(&self, rt: &R, links: u64) {
+        let mut bits = links;
+        for writer in self.writers.iter() {
+            if bits % 2 == 1 {
+                writer.tell(rt);
+            }
+            bits = bits.rotate_right(1);
+        }
+    }
+
     /// Wakes all.
-    pub(crate) fn wake_all(&self) {
-        self.wake(Moved {
-            links: u64::MAX,
-            has_delivered: true,
-        });
+    pub(crate) fn wake_all<R: Wait>(&self, rt: &R) {
+        self.wake(rt, Moved::all());
     }
 }

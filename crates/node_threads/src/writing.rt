@@ -1,13 +1,17 @@
 //! The worker that takes a link's frames to a peer.
+ghost use Rattle.std.specs.Prelude.{◌≡◌, ◌<◌, [], ◌∷◌, ◌++◌, Some, All, IfOk, vec_capacity, vec_len};
+ghost use Rattle.node_threads.specs.Leaving.{GoesTo, LeavesTo, outlets_in};
+
 use crate::cores::NodeCore;
 use crate::error::HostError;
 use crate::gate::Gate;
 use crate::host::Host;
 use crate::outlet::Outlet;
-use crate::shared::Writing;
+use crate::shared::Shared;
 use crate::stepper::Stepper;
-use crate::worker::{Outlets, Worker, start};
-use links::{LinkEnd, MeteredWrite, drain};
+use crate::worker::{LinksTo, Outlets, Worker, start_promised};
+use crate::writer_place::WriterPlace;
+use links::{LinkEnd, MeteredWrite};
 use node_names::Dice;
 use std::alloc::Allocator;
 use std::mem;
@@ -35,7 +39,10 @@ struct Outgoing<A: Allocator, D: Dialler + Drop> {
 
 impl<A: Allocator + Copy, D: Dialler + Drop> Outgoing<A, D> {
     /// A link without a connection.
-    fn new(alloc: A, outlet: Outlet<A>, dialler: D) -> Outgoing<A, D> {
+    fn new(alloc: A, outlet: Outlet<A>, dialler: D) -> Outgoing<A, D>
+        ensures outlet { result.outlet ≡ outlet }
+        ensures spent { result.spent.items ≡ [] }
+    {
         Outgoing {
             outlet,
             dialler,
@@ -45,18 +52,23 @@ impl<A: Allocator + Copy, D: Dialler + Drop> Outgoing<A, D> {
     }
 
     /// Writes all frames that the outlet has, over a connection that is made for the first of them.
-    fn write(&mut self) -> Result<(), LinkEnd> {
+    fn write(&mut self) -> Result<(), LinkEnd>
+        ensures outlet { self.new.outlet.peer ≡ self.old.outlet.peer }
+        ensures spent { self.new.spent.items ≡ self.old.spent.items }
+    {
         if self.writer.is_none() {
             self.writer = Some(self.dialler.dial()?);
         }
         if let Some(writer) = &mut self.writer {
-            drain(&mut self.outlet, writer, u32::MAX)?;
+            self.outlet.write_to(writer)?;
         }
         Ok(())
     }
 
     /// The outlets that it had.
-    fn into_outlets(self) -> Outlets<A> {
+    fn into_outlets(self) -> Outlets<A>
+        ensures { outlets_in result ≡ self.spent.items ++ self.outlet ∷ [] }
+    {
         let Outgoing {
             outlet,
             dialler: _,
@@ -70,12 +82,81 @@ impl<A: Allocator + Copy, D: Dialler + Drop> Outgoing<A, D> {
     }
 }
 
+/// What a worker that writes is to do next.
+enum Writing {
+    /// Its outlet has a frame.
+    Frames,
+    /// Its link is closed, and its outlet empty.
+    LinkClosed,
+    /// It was told to end, and its outlet is empty.
+    Retired,
+    /// The node was stopped, and its outlet is empty.
+    Stopped,
+}
+
+/// What a worker that writes is to do next; none if it is to wait. Whether the link is closed is asked before the outlet
+/// is looked at, since frames may have been put into the ring until then.
+fn next_writing<C: NodeCore<A> + Drop, A: Allocator + Copy>(
+    shared: &Shared<C, A>,
+    place: &WriterPlace,
+    outlet: &mut Outlet<A>,
+) -> Option<Writing>
+    ensures { outlet.new ≡ outlet.old }
+{
+    let is_stopped = shared.is_stopped();
+    let is_closed = outlet.is_closed();
+    if outlet.has_next() {
+        Some(Writing::Frames)
+    } else if is_stopped {
+        Some(Writing::Stopped)
+    } else if is_closed {
+        Some(Writing::LinkClosed)
+    } else if place.takes_retirement() {
+        Some(Writing::Retired)
+    } else {
+        None
+    }
+}
+
+/// Waits for what a worker that writes is to do next. It does not take the node's lock.
+fn wait_for_writing<R: Wait, C: NodeCore<A> + Drop, A: Allocator + Copy>(
+    rt: &R,
+    shared: &Shared<C, A>,
+    outlet: &mut Outlet<A>,
+) -> Writing
+    ensures { outlet.new ≡ outlet.old }
+{
+    let Some(place) = shared.writer(&outlet.peer()) else {
+        return Writing::Retired;
+    };
+    for _ in rt.forever() {
+        let times = place.times(rt);
+        if let Some(writing) = next_writing(shared, place, outlet) {
+            return writing;
+        }
+        place.wait(rt, times);
+    }
+    unreachable!()
+}
+
+/// Puts an outlet last, for which there is room.
+fn keep<A: Allocator>(spent: &mut Vec<Outlet<A>, A>, outlet: Outlet<A>)
+    requires { vec_len spent.old < vec_capacity spent.old }
+    ensures { spent.new.items ≡ spent.old.items ++ outlet ∷ [] }
+{
+    spent.push(outlet).unwrap();
+}
+
 /// Tells the node that the link is down, and goes on with a new one.
 fn renew<R: Wait, C: NodeCore<A> + Drop, A: Allocator + Copy, G: Gate + Drop, D: Dialler + Drop>(
     rt: &R,
     steps: &Stepper<C, A, G>,
     link: &mut Outgoing<A, D>,
-) -> Result<(), HostError> {
+) -> Result<(), HostError>
+    requires { All (GoesTo link.old.outlet.peer) link.old.spent.items }
+    ensures outlet { link.new.outlet.peer ≡ link.old.outlet.peer }
+    ensures spent { All (GoesTo link.old.outlet.peer) link.new.spent.items }
+{
     link.writer = None;
     link.spent.reserve(1)?;
     let peer = link.outlet.peer();
@@ -83,11 +164,11 @@ fn renew<R: Wait, C: NodeCore<A> + Drop, A: Allocator + Copy, G: Gate + Drop, D:
     steps.apply(rt, StimulusOf::Down { peer, dice })?;
     let outlet = steps.shared.open_again(rt, &link.outlet)?;
     let spent = mem::replace(&mut link.outlet, outlet);
-    link.spent.push(spent).unwrap();
+    keep(&mut link.spent, spent);
     Ok(())
 }
 
-/// Writes frames until the node ends and its frames are written, or a step is refused.
+/// Writes frames until the node ends or the worker is told to, and the frames are written, or a step is refused.
 fn write_frames<R, C, A, G, D>(
     rt: &R,
     steps: &Stepper<C, A, G>,
@@ -99,16 +180,19 @@ where
     A: Allocator + Copy,
     G: Gate + Drop,
     D: Dialler + Drop,
+    requires { All (GoesTo link.old.outlet.peer) link.old.spent.items }
+    ensures outlet { link.new.outlet.peer ≡ link.old.outlet.peer }
+    ensures spent { All (GoesTo link.old.outlet.peer) link.new.spent.items }
 {
     for _ in rt.forever() {
-        match steps.shared.wait_for_writing(rt, &mut link.outlet) {
+        match wait_for_writing(rt, &steps.shared, &mut link.outlet) {
             Writing::Frames => {
                 if link.write().is_err() {
                     renew(rt, steps, link)?;
                 }
             }
             Writing::LinkClosed => renew(rt, steps, link)?,
-            Writing::Stopped => return Ok(()),
+            Writing::Retired | Writing::Stopped => return Ok(()),
         }
     }
     unreachable!()
@@ -127,6 +211,7 @@ where
     A: Allocator + Copy,
     G: Gate + Drop,
     D: Dialler + Drop,
+    ensures { LeavesTo outlet.peer (outlets_in result) }
 {
     let mut link = Outgoing::new(steps.shared.alloc, outlet, dialler);
     let _ = write_frames(rt, steps, &mut link);
@@ -138,8 +223,8 @@ where
 ///
 /// When a connection can't be made, a write fails or the node closes the link, it tells the core by a Down of the
 /// link's peer, opens a new link to it and goes on with that: frames of the old one that were not written are not
-/// written any more. It ends when the node was stopped and all frames of its link are written, and at the first
-/// refusal. `Closed`: the node was stopped. `OutOfMemory`: an allocation is refused, or no thread can be made.
+/// written any more. It ends when the node was stopped or `Host::retire` was called, and all frames of its link are
+/// written, and at the first refusal. `Closed`: the node was stopped. `OutOfMemory`: an allocation is refused, or no thread can be made.
 pub fn write_link<R, C, A, G, D>(
     rt: R,
     host: &Host<C, A>,
@@ -154,8 +239,13 @@ where
     A: Allocator + Copy + Send + Sync + 'static,
     G: Gate + Drop + Send + 'static,
     D: Dialler + Drop + Send + 'static,
+    ensures { IfOk result (λ worker. worker ≡ Some outlet.peer) }
 {
-    let steps = host.stepper(&rt, gate, number)?;
-    let thread = start(&rt, move || write_to_end(&rt, &steps, outlet, dialler))?;
-    Ok(host.employ(thread))
+    let steps = host.stepper(gate, number)?;
+    let alloc = steps.shared.alloc;
+    let peer = outlet.peer();
+    let started = start_promised(&rt, alloc, LinksTo(Some(peer)), move || {
+        write_to_end(&rt, &steps, outlet, dialler)
+    })?;
+    Ok(host.employ(Worker::started(Some(peer), started)))
 }

@@ -141,11 +141,7 @@ fn each_allocation_of_each_row(rt: HostRuntime) -> Result<(), Fail> {
     let heap = RefusingAllocator::new(rt.alloc());
     for row in rows() {
         let most = sweep(|n| refuse_of_fresh(&rt, &heap, &heap, row, n))?;
-        assert!(rt;
-            most.is_some_and(|most| most >= row.allocations),
-            "at {}: {most:?}",
-            row.name
-        );
+        assert!(rt; most == Some(row.allocations), "at {}: {most:?}", row.name);
     }
     Ok(())
 }

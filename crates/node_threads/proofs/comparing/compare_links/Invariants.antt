@@ -1,7 +1,8 @@
-use Rattle.std.proofs.Common.{All}
-use Rattle.node_threads.specs.Closing.{IsWithin}
+use Rattle.std.proofs.Common.{[], take}
+use Rattle.node_threads.specs.Leaving.{outlets_of}
+use Rattle.node_threads.specs.Report.{AddsReports}
 use Rattle.node_threads.proofs.comparing.compare_links.Given as goal
 
--- the reports so far are within the trace
+-- the outlets of the workers so far are reported
 abbrev pub invariant-loop-outlets : goal.invariant-loop-outlets
-invariant-loop-outlets g l = All (IsWithin l.cell.trace) l.links.items
+invariant-loop-outlets g l = AddsReports l.cell.trace (outlets_of (take l.outlets-index l.workers)) [] l.links.items
