@@ -9,6 +9,7 @@ mod pumping;
 mod sink;
 mod tape_reader;
 mod tape_writer;
+mod tcp_closer;
 mod tcp_reader;
 mod tcp_writer;
 
@@ -20,5 +21,6 @@ pub use pumping::pump;
 pub use sink::{Sink, Source};
 pub use tape_reader::TapeReader;
 pub use tape_writer::TapeWriter;
+pub use tcp_closer::TcpCloser;
 pub use tcp_reader::TcpReader;
 pub use tcp_writer::TcpWriter;

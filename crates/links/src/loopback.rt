@@ -1,6 +1,7 @@
 //! TCP connections within this machine.
 use crate::tcp_reader::TcpReader;
 use crate::tcp_writer::TcpWriter;
+use std::alloc::Global;
 use std::io;
 use std::net::{Ipv4Addr, Net, SocketAddr, SocketAddrV4, TcpListener, TcpStream};
 
@@ -15,9 +16,9 @@ pub fn listen<R: Net>(rt: &R, port: u16) -> io::Result<R::Listener> {
 }
 
 /// Waits for the next connection to a listener, of which the bytes are read that the other end writes.
-pub fn accept(listener: &TcpListener) -> io::Result<TcpReader> {
+pub fn accept(alloc: Global, listener: &TcpListener) -> io::Result<TcpReader> {
     let (stream, _) = listener.accept()?;
-    TcpReader::new(stream)
+    TcpReader::new(alloc, stream)
 }
 
 /// Connects to a port of 127.0.0.1, to write to whoever listens there.

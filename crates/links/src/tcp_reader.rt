@@ -5,39 +5,54 @@ ghost use Rattle.std.specs.IoError.{error_kind};
 ghost use Rattle.links.specs.Counting.{counted, has_risen, moves_none};
 
 use crate::metered::MeteredRead;
+use crate::tcp_closer::TcpCloser;
+use std::alloc::{AllocError, Global};
 use std::io;
 use std::io::{ErrorKind, Read};
-use std::net::TcpStream;
-use std::time::Duration;
-
-/// How many milliseconds a read waits for bytes.
-const PATIENCE: u64 = 100;
+use std::net::{Shutdown, TcpStream};
+use std::sync::Arc;
 
 /// Reads what a peer writes to a connection.
 ///
-/// A read that finds no bytes for a tenth of a second answers `Interrupted`, so that whoever reads can look at
-/// something else in between; it does not count as failed.
-#[derive(Drop)]
+/// A read waits until bytes come or the connection ends, which its closer can do as well as the peer. One that a signal
+/// of the system breaks off answers `Interrupted`, and does not count as failed. Dropping the reader ends the
+/// connection; its descriptor is free once its closers are dropped too.
 pub struct TcpReader {
-    stream: TcpStream,
+    stream: Arc<TcpStream, Global>,
     reads: u64,
     failures: u64,
     gave_none: bool,
 }
 
+impl Drop for TcpReader {
+    fn drop(self) {
+        let TcpReader {
+            stream,
+            reads: _,
+            failures: _,
+            gave_none: _,
+        } = self;
+        let _ = stream.shutdown(Shutdown::Both);
+    }
+}
+
 impl TcpReader {
     /// The reader of a connection.
-    pub(crate) fn new(stream: TcpStream) -> io::Result<TcpReader> {
-        stream.set_read_timeout(Some(Duration::from_millis(PATIENCE)))?;
+    pub(crate) fn new(alloc: Global, stream: TcpStream) -> io::Result<TcpReader> {
         Ok(TcpReader {
-            stream,
+            stream: Arc::new(alloc, stream)?,
             reads: 0,
             failures: 0,
             gave_none: false,
         })
     }
 
-    /// Counts a failed call, unless it was interrupted or waited too long.
+    /// What can end the connection while another thread reads it.
+    pub fn closer(&self) -> Result<TcpCloser, AllocError> {
+        Ok(TcpCloser::new(Arc::try_clone(&self.stream)?))
+    }
+
+    /// Counts a failed call, unless it was interrupted.
     fn count(&mut self, error: io::Error) -> io::Error
         ensures failure { error_kind result ≢ ErrorKind.Interrupted → IsTrue (has_risen self.old.failures self.new.failures) }
         ensures more { self.old.failures ≤ self.new.failures }
@@ -46,7 +61,6 @@ impl TcpReader {
     {
         match error.kind() {
             ErrorKind::Interrupted => error,
-            ErrorKind::WouldBlock => io::Error::from(ErrorKind::Interrupted),
             _ => {
                 self.failures = self.failures.saturating_add(1);
                 error
@@ -68,7 +82,8 @@ impl Read for TcpReader {
     {
         self.reads = self.reads.saturating_add(1);
         self.gave_none = false;
-        match self.stream.read(buf) {
+        let mut stream: &TcpStream = &self.stream;
+        match stream.read(buf) {
             Ok(n) => {
                 self.gave_none = n == 0 && !buf.is_empty();
                 Ok(n)

@@ -1,16 +1,14 @@
 //! The thread of a node that takes connections.
 use crate::arrivals::{Arrivals, accept_all};
-use crate::fault::RunFault;
+use crate::shortage::Shortage;
+use crate::shortages::Shortages;
 use links::dial;
 use std::alloc::{AllocError, Global};
 use std::net::{Net, TcpListener, TcpStream};
 use std::sync::{Arc, Wait};
 use std::thread;
 use std::thread::{JoinHandle, Threads};
-use std::time::{Clock, Duration};
-
-/// How often a port is dialled until that succeeds.
-const DIALS: u32 = 400;
+use std::time::Clock;
 
 /// The thread of a node that takes connections, and what it took.
 #[derive(Drop)]
@@ -18,34 +16,27 @@ pub(crate) struct Acceptor {
     port: u16,
     pub(crate) arrivals: Arc<Arrivals, Global>,
     thread: Option<JoinHandle<()>>,
-}
-
-/// Connects to a port once, so that who waits there for a connection gets on. Whether it could.
-fn knock<R>(rt: &R, port: u16) -> bool
-where
-    R: Wait + Clock + Net<Listener = TcpListener, Stream = TcpStream>,
-{
-    for _ in 0..DIALS {
-        if dial(rt, port).is_ok() {
-            return true;
-        }
-        thread::sleep(rt, Duration::from_millis(5));
-    }
-    false
+    /// Whether the port was dialled since the arrivals were closed.
+    is_dialled: bool,
 }
 
 impl Acceptor {
     /// Of this port, without a thread yet.
-    pub(crate) fn new(alloc: Global, port: u16) -> Result<Acceptor, AllocError> {
+    pub(crate) fn new(
+        alloc: Global,
+        port: u16,
+        shortages: Arc<Shortages, Global>,
+    ) -> Result<Acceptor, AllocError> {
         Ok(Acceptor {
             port,
-            arrivals: Arc::new(alloc, Arrivals::new(alloc))?,
+            arrivals: Arc::new(alloc, Arrivals::new(alloc, shortages))?,
             thread: None,
+            is_dialled: false,
         })
     }
 
     /// Starts the thread.
-    pub(crate) fn start<R>(&mut self, rt: R, listener: TcpListener) -> Result<(), RunFault>
+    pub(crate) fn start<R>(&mut self, rt: R, listener: TcpListener) -> Result<(), Shortage>
     where
         R: Threads + Wait + Clock + Copy + Send + Drop + 'static,
     {
@@ -55,20 +46,27 @@ impl Acceptor {
                 self.thread = Some(thread);
                 Ok(())
             }
-            Err(_) => Err(RunFault::OutOfMemory),
+            Err(_) => Err(Shortage::Threads),
         }
     }
 
-    /// Waits until the thread ends.
-    pub(crate) fn stop<R>(&mut self, rt: &R)
+    /// Dials the port once the arrivals are closed, unless that was done, so that the thread, which waits there for a
+    /// connection, gets on. Answers whether the thread will end.
+    pub(crate) fn knock<R>(&mut self, rt: &R) -> bool
     where
-        R: Threads + Wait + Clock + Net<Listener = TcpListener, Stream = TcpStream>,
+        R: Net<Listener = TcpListener, Stream = TcpStream>,
     {
-        self.arrivals.close(rt);
+        if self.thread.is_none() || self.is_dialled || self.arrivals.is_over() {
+            return true;
+        }
+        self.is_dialled = dial(rt, self.port).is_ok();
+        self.is_dialled
+    }
+
+    /// Waits until the thread ends.
+    pub(crate) fn join<R: Threads>(&mut self, rt: &R) {
         if let Some(thread) = self.thread.take() {
-            if knock(rt, self.port) {
-                thread.join(rt);
-            }
+            thread.join(rt);
         }
     }
 }

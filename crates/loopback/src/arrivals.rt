@@ -1,14 +1,14 @@
 //! Connections that others made to a node and of which it does not read yet.
 use crate::list::keep;
+use crate::shortage::Shortage;
+use crate::shortages::{Failures, Shortages, pause};
 use links::{TcpReader, accept};
 use std::alloc::Global;
+use std::mem;
 use std::net::TcpListener;
-use std::sync::{Mutex, Wait};
-use std::time::{Clock, Duration};
-use std::{mem, thread};
-
-/// How often in a row the system may refuse a connection before no more are taken.
-const REFUSALS: u32 = 1_000;
+use std::sync::atomic::{AtomicBool, Ordering};
+use std::sync::{Arc, Mutex, Wait};
+use std::time::Clock;
 
 /// The connections, while they are taken.
 #[derive(Drop)]
@@ -21,27 +21,33 @@ struct Waiting {
 #[derive(Drop)]
 pub(crate) struct Arrivals {
     waiting: Mutex<Waiting>,
+    shortages: Arc<Shortages, Global>,
+    /// Whether the thread takes none any more.
+    is_over: AtomicBool,
     alloc: Global,
 }
 
 impl Arrivals {
     /// No connections yet.
-    pub(crate) fn new(alloc: Global) -> Arrivals {
+    pub(crate) fn new(alloc: Global, shortages: Arc<Shortages, Global>) -> Arrivals {
         let readers = Vec::new(alloc);
         Arrivals {
             waiting: Mutex::new(Waiting {
                 is_open: true,
                 readers,
             }),
+            shortages,
+            is_over: AtomicBool::new(false),
             alloc,
         }
     }
 
-    /// Puts a connection last, and answers whether more are taken. Where there is no memory for it, it is closed.
+    /// Puts a connection last, and answers whether more are taken. Where there is no memory for it, it is closed, which
+    /// is noted.
     fn put<R: Wait>(&self, rt: &R, reader: TcpReader) -> bool {
         let mut waiting = self.waiting.lock(rt);
-        if waiting.is_open {
-            let _ = keep(&mut waiting.readers, reader);
+        if waiting.is_open && keep(&mut waiting.readers, reader).is_err() {
+            self.shortages.note(Shortage::Memory);
         }
         waiting.is_open
     }
@@ -56,26 +62,40 @@ impl Arrivals {
         self.waiting.lock(rt).is_open = false;
         drop(self.take(rt));
     }
+
+    /// Whether the thread that takes connections comes to its end without another one.
+    pub(crate) fn is_over(&self) -> bool {
+        self.is_over.load(Ordering::SeqCst)
+    }
+
+    /// Waits for a connection and takes it. Answers whether more are taken.
+    fn take_next<R: Wait + Clock>(
+        &self,
+        rt: &R,
+        listener: &TcpListener,
+        failures: &mut Failures<'_>,
+    ) -> bool {
+        match accept(self.alloc, listener) {
+            Ok(reader) => {
+                failures.end();
+                self.put(rt, reader)
+            }
+            Err(error) => {
+                failures.add(&error);
+                pause(rt);
+                self.waiting.lock(rt).is_open
+            }
+        }
+    }
 }
 
-/// Takes connections until one comes after the arrivals were closed, or the system refuses many in a row.
+/// Takes connections until one comes, or is refused, after the arrivals were closed.
 pub(crate) fn accept_all<R: Wait + Clock>(rt: &R, listener: &TcpListener, arrivals: &Arrivals) {
-    let mut refused: u32 = 0;
+    let mut failures = Failures::new(&arrivals.shortages);
     for _ in rt.forever() {
-        match accept(listener) {
-            Ok(reader) => {
-                refused = 0;
-                if !arrivals.put(rt, reader) {
-                    return;
-                }
-            }
-            Err(_) => {
-                refused = refused.saturating_add(1);
-                if refused >= REFUSALS {
-                    return;
-                }
-                thread::sleep(rt, Duration::from_millis(5));
-            }
+        if !arrivals.take_next(rt, listener, &mut failures) {
+            arrivals.is_over.store(true, Ordering::SeqCst);
+            return;
         }
     }
 }

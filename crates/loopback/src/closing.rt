@@ -1,9 +1,11 @@
 //! The end of a run.
 use crate::fault::RunFault;
-use crate::inbox::Given;
+use crate::inbox::Inbox;
 use crate::list::keep;
 use crate::node::Node;
-use crate::speech::Stamp;
+use crate::shortage::Shortage;
+use crate::speech::{Speech, Stamp};
+use crate::stopping::stop_all;
 use frames::Frame;
 use node_threads::NodeCore;
 use std::alloc::{AllocError, Global};
@@ -37,8 +39,17 @@ impl Ran {
         }
     }
 
-    /// Puts what a node handed out last.
-    fn add(&mut self, mut given: Given) -> Result<(), AllocError> {
+    /// Puts what a node leaves last.
+    fn add<R: Wait>(
+        &mut self,
+        rt: &R,
+        trace: Trace<Frame>,
+        speech: &mut Speech,
+        inbox: &Inbox,
+    ) -> Result<(), AllocError> {
+        self.broadcasts.append(&mut speech.stamps)?;
+        keep(&mut self.traces, trace)?;
+        let mut given = inbox.take(rt)?;
         self.deliveries.append(&mut given.deliveries)?;
         self.times.append(&mut given.times)?;
         Ok(())
@@ -53,28 +64,20 @@ fn close_node<R: Threads + Wait, C: NodeCore<Global> + Drop>(
 ) -> Result<(), RunFault> {
     let Node {
         name,
-        running,
+        mut running,
+        links,
         inbox,
         mut speech,
         ..
     } = node;
-    ran.broadcasts.append(&mut speech.stamps)?;
+    let rested = running.rest(links.into_unwritten());
     let trace = running.close(rt, name)?;
-    keep(&mut ran.traces, trace)?;
-    Ok(ran.add(inbox.take(rt)?)?)
-}
-
-/// Stops all nodes: they make no step any more, and take no connections.
-fn stop_all<R, C>(rt: &R, nodes: &mut [Node<C>])
-where
-    R: Threads + Wait + Clock + Net<Listener = TcpListener, Stream = TcpStream>,
-    C: NodeCore<Global> + Drop,
-{
-    for node in nodes.iter() {
-        node.running.host.stop(rt);
-    }
-    for node in nodes.iter_mut() {
-        node.acceptor.stop(rt);
+    match (rested, ran.add(rt, trace, &mut speech, &inbox)) {
+        (Ok(()), Ok(())) => Ok(()),
+        _ => Err(RunFault::Short {
+            node: name,
+            of: Shortage::Memory,
+        }),
     }
 }
 
@@ -98,23 +101,24 @@ fn close_each<R: Threads + Wait, C: NodeCore<Global> + Drop>(
     first
 }
 
-/// Stops all nodes, and closes them in order. What they leave is answered, or the first fault of a broadcast, or else
-/// of a close, or else the one that ended the run.
+/// Stops all nodes, and closes them in order. What they leave is answered, or the fault that ended the run, or else the
+/// first of a broadcast, or else of a close.
 pub(crate) fn close_all<R, C>(
     rt: &R,
     alloc: Global,
     mut nodes: Vec<Node<C>>,
+    spare: Option<TcpListener>,
     ended: Option<RunFault>,
 ) -> Result<Ran, RunFault>
 where
     R: Threads + Wait + Clock + Net<Listener = TcpListener, Stream = TcpStream>,
     C: NodeCore<Global> + Drop,
 {
-    stop_all(rt, nodes.as_mut_slice());
+    stop_all(rt, nodes.as_mut_slice(), spare);
     let refused = first_refusal(nodes.as_slice());
     let mut ran = Ran::new(alloc);
     let unclosed = close_each(rt, nodes, &mut ran);
-    match refused.or(unclosed).or(ended) {
+    match ended.or(refused).or(unclosed) {
         Some(fault) => Err(fault),
         None => Ok(ran),
     }

@@ -1,5 +1,4 @@
 //! What the nodes of a group have in common.
-use crate::connection::Turns;
 use crate::member::Member;
 use crate::ticks::Ticking;
 use node_names::NodeName;
@@ -25,7 +24,6 @@ pub(crate) struct Common<R: Drop> {
     seed: u64,
     /// How many workers were started.
     workers: u64,
-    pub(crate) turns: Arc<Turns, Global>,
     pub(crate) ticking: Arc<Ticking, Global>,
     addresses: Vec<Address>,
 }
@@ -65,7 +63,6 @@ impl<R: Drop> Common<R> {
             start,
             seed,
             workers: 0,
-            turns: Arc::new(alloc, Turns::new())?,
             ticking: Arc::new(alloc, Ticking::new())?,
             addresses: addresses(alloc, members)?,
         })

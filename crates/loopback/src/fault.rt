@@ -1,4 +1,5 @@
 //! Why a group did not run to its end.
+use crate::shortage::Shortage;
 use node_names::NodeName;
 use node_threads::HostError;
 use std::alloc::{AllocError, AllocFailed};
@@ -13,6 +14,9 @@ pub enum RunFault {
     /// The node can't start with its peers and its contact.
     #[error("node {node}: it can't start with these peers and this contact")]
     BadPeers { node: NodeName },
+    /// The node had too little of something, and the run ended with that.
+    #[error("node {node}: {of}")]
+    Short { node: NodeName, of: Shortage },
     /// The node refused a broadcast.
     #[error("node {node}: {why}")]
     Refused { node: NodeName, why: HostError },
@@ -25,7 +29,7 @@ pub enum RunFault {
     /// What came out of one of the node's links is not what the node sent.
     #[error("node {node}: what came out of a link is not what was sent")]
     Torn { node: NodeName },
-    /// An allocation is refused, or no thread can be made.
+    /// An allocation is refused that is of no node alone.
     #[error("out of memory")]
     OutOfMemory,
 }
@@ -39,15 +43,5 @@ impl From<AllocError> for RunFault {
 impl<T: Drop> From<AllocFailed<T>> for RunFault {
     fn from(_error: AllocFailed<T>) -> RunFault {
         RunFault::OutOfMemory
-    }
-}
-
-impl RunFault {
-    /// The fault of a node that refused a broadcast for this reason.
-    pub(crate) fn of_broadcast(node: NodeName, why: HostError) -> RunFault {
-        match why {
-            HostError::OutOfMemory => RunFault::OutOfMemory,
-            why => RunFault::Refused { node, why },
-        }
     }
 }

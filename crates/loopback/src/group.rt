@@ -5,7 +5,7 @@ use crate::fault::RunFault;
 use crate::machine::Machine;
 use crate::member::Member;
 use crate::node::Node;
-use crate::starting::{listen_all, start_nodes};
+use crate::starting::{listen_all, listen_spare, start_nodes};
 use crate::watch::Watch;
 use node_names::Limits;
 use node_threads::NodeCore;
@@ -13,21 +13,24 @@ use std::alloc::Global;
 use std::net::TcpListener;
 use std::sync::Wait;
 use std::thread;
-use std::thread::Threads;
-use std::time::{Clock, Duration, Instant};
+use std::time::{Duration, Instant};
 
 /// How long a turn takes at least, in milliseconds.
 const TURN: u64 = 5;
 
-/// How many turns a tick has.
-const TURNS_OF_TICK: u64 = 4;
-
 /// After how many ticks at most the nodes begin to broadcast.
 const MOST_QUIET: u32 = 10;
 
-/// From how many open connections on those are closed that nobody uses: each takes two descriptors, of the 1,024 that a
-/// process usually has, and the 64 nodes of a large group may each open one more in a turn.
-const MANY_CONNECTIONS: usize = 400;
+/// How many links may have a writer before those that nobody uses lose it soon: each takes two descriptors, of the 1,024
+/// that a process usually has, and the 64 nodes of a large group may each open one more in a turn.
+const MANY_LINKS: usize = 330;
+
+/// For how many ticks a link keeps its writer that nobody uses and that goes to no neighbour: who asked to become one may
+/// be waiting for the answer, and the end of the connection would take the question back.
+const LONG_IDLE: u64 = 25;
+
+/// The same where there are many.
+const SHORT_IDLE: u64 = 5;
 
 /// How a group is to run.
 #[derive(Clone, Copy, Debug)]
@@ -48,7 +51,7 @@ fn start_threads<R, C>(
     ticks: u32,
 ) -> Result<(), RunFault>
 where
-    R: Threads + Wait + Clock + Copy + Send + Drop + 'static,
+    R: Machine,
     C: NodeCore<Global> + Drop + Send + 'static,
 {
     for (node, listener) in nodes.iter_mut().zip(listeners) {
@@ -57,22 +60,45 @@ where
     Ok(())
 }
 
-/// One turn of each node.
-fn turn<R, C>(common: &mut Common<R>, nodes: &mut [Node<C>], is_quiet: bool) -> Result<(), RunFault>
+/// One turn of each node, in which it broadcasts so many messages at most.
+fn turn<R, C>(common: &mut Common<R>, nodes: &mut [Node<C>], most: usize) -> Result<(), RunFault>
 where
     R: Machine,
     C: NodeCore<Global> + Drop + Send + 'static,
 {
     for node in nodes.iter_mut() {
-        node.turn(common, is_quiet)?;
+        node.turn(common, most)?;
     }
-    if connections(nodes) > MANY_CONNECTIONS {
-        for node in nodes.iter() {
-            node.close_idle(&common.rt);
-        }
-    }
-    common.turns.advance();
     Ok(())
+}
+
+/// Has the writers of links end that nobody uses.
+fn retire_idle<R: Wait, C: NodeCore<Global> + Drop>(rt: &R, nodes: &mut [Node<C>], now: u64) {
+    let ticks = if written(nodes) > MANY_LINKS {
+        SHORT_IDLE
+    } else {
+        LONG_IDLE
+    };
+    for node in nodes.iter_mut() {
+        node.retire_idle(rt, now, ticks);
+    }
+}
+
+/// Answers what the first of the nodes that had too little of something had too little of.
+fn check<C: NodeCore<Global> + Drop>(nodes: &[Node<C>], is_last: bool) -> Result<(), RunFault> {
+    for node in nodes {
+        node.check(is_last)?;
+    }
+    Ok(())
+}
+
+/// How many links have a writer.
+fn written<C: NodeCore<Global> + Drop>(nodes: &[Node<C>]) -> usize {
+    let mut count: usize = 0;
+    for node in nodes {
+        count = count.saturating_add(node.links.written());
+    }
+    count
 }
 
 /// How many messages were delivered.
@@ -87,16 +113,12 @@ fn delivered<R: Wait, C: NodeCore<Global> + Drop + Send + 'static>(
     count
 }
 
-/// How many connections are open.
-fn connections<C: NodeCore<Global> + Drop + Send + 'static>(nodes: &[Node<C>]) -> usize {
-    let mut count: usize = 0;
-    for node in nodes {
-        count = count.saturating_add(node.links.connections());
-    }
-    count
+/// How many messages each node may broadcast in this turn. `None`: the run is to end.
+fn allowed<V: Watch>(watch: &mut V, now: u64, quiet: u64) -> Option<usize> {
+    if now < quiet { Some(0) } else { watch.allow() }
 }
 
-/// Makes turns until the ticks are over and all is broadcast.
+/// Makes turns until the ticks are over and all is broadcast, or the watch ends the run.
 fn make_turns<R, C, V>(
     common: &mut Common<R>,
     nodes: &mut [Node<C>],
@@ -109,12 +131,22 @@ where
     V: Watch,
 {
     let rt = common.rt;
-    let quiet = u64::from(MOST_QUIET.min(ticks / 10)).saturating_mul(TURNS_OF_TICK);
+    let quiet = u64::from(MOST_QUIET.min(ticks / 10));
+    let mut looked: u64 = 0;
     for _ in rt.forever() {
-        let turns = common.turns.now();
-        turn(common, nodes, turns <= quiet)?;
-        watch.look(turns / TURNS_OF_TICK, ticks, delivered(&rt, nodes));
-        if common.ticking.is_over() && nodes.iter().all(|node| node.is_said()) {
+        let now = common.ticking.now();
+        match allowed(watch, now, quiet) {
+            Some(most) => turn(common, nodes, most)?,
+            None => return Ok(()),
+        }
+        if now != looked {
+            retire_idle(&rt, nodes, now);
+            looked = now;
+        }
+        watch.look(now, ticks, delivered(&rt, nodes));
+        let is_over = common.ticking.is_over() && nodes.iter().all(|node| node.is_said());
+        check(nodes, is_over)?;
+        if is_over {
             return Ok(());
         }
         thread::sleep(&rt, Duration::from_millis(TURN));
@@ -122,7 +154,7 @@ where
     unreachable!()
 }
 
-/// Has the nodes run until the ticks are over and all is broadcast.
+/// Has the nodes run until the ticks are over and all is broadcast, or the watch ends the run.
 fn work<R, C, V>(
     common: &mut Common<R>,
     nodes: &mut [Node<C>],
@@ -153,21 +185,23 @@ where
     let rt = common.rt;
     let alloc = common.alloc;
     let listeners = listen_all(&rt, alloc, members.as_slice())?;
+    let spare = listen_spare(&rt, members.as_slice())?;
     let mut nodes = start_nodes(alloc, plan.limits, common.addresses(), members)?;
     let ended = work(common, nodes.as_mut_slice(), listeners, plan.ticks, watch);
-    close_all(&rt, alloc, nodes, ended.err())
+    close_all(&rt, alloc, nodes, spare, ended.err())
 }
 
 /// Runs a group of nodes over connections within this machine, each of which has a link to each other.
 ///
 /// It listens on all ports, in the order of the members, and starts the nodes. Once a tenth of the ticks is over, and
 /// ten ticks at most, each node broadcasts its texts, in order: by then nodes that have a contact have joined. When the
-/// ticks are over and all is broadcast, all nodes are stopped and closed.
+/// ticks are over and all is broadcast, or the watch ends the run, all nodes are stopped and closed.
 ///
-/// `CannotListen` comes before any node starts, and so does `BadPeers`. Else the nodes run to the end, and the first
-/// node that refused a broadcast is answered, or else the first whose close is no success. The names of the members are
-/// to be distinct: else frames go to the first of a name. Where the clock can't be read the times of what is answered
-/// are 0.
+/// `CannotListen` comes before any node starts, and so does `BadPeers`. `Short` may come at any time, and ends the run;
+/// the node is the first in order of those that had too little of something in that turn. Else the nodes run to the
+/// end, and the first node that refused a broadcast is answered, or else the first whose close is no success. The names
+/// of the members are to be distinct: else frames go to the first of a name. Where the clock can't be read the times of
+/// what is answered are 0.
 pub fn run<R, V>(
     rt: R,
     alloc: Global,

@@ -1,38 +1,51 @@
 //! The links of a node to the others.
 use crate::common::Common;
-use crate::connection::Connection;
-use crate::fault::RunFault;
+use crate::last_use::LastUse;
 use crate::link_writer::LinkDialler;
 use crate::list::keep;
+use crate::machine::Machine;
 use crate::running::Running;
+use crate::shortage::Shortage;
+use crate::shortages::Shortages;
 use node_names::NodeName;
 use node_threads::{Host, NodeCore, Outlet};
 use std::alloc::{AllocError, Global};
 use std::mem;
-use std::net::{Net, TcpListener, TcpStream};
 use std::sync::{Arc, Wait};
-use std::thread::Threads;
 
-/// For how many turns a connection is kept that nobody writes to, once there are many.
-const IDLE_TURNS: u64 = 20;
-
-/// A link that is written: whom it goes to, and its connection.
+/// A link that has a writer.
 #[derive(Drop)]
 struct WrittenLink {
     peer: NodeName,
-    connection: Arc<Connection, Global>,
+    used: Arc<LastUse, Global>,
+    /// The tick in which it began or was last looked at for being idle.
+    looked_at: u64,
+}
+
+impl WrittenLink {
+    /// Whether it was neither used nor looked at in so many ticks.
+    fn is_due(&self, now: u64, ticks: u64) -> bool {
+        self.used.is_over(ticks) && self.looked_at.saturating_add(ticks) < now
+    }
+}
+
+/// Has the writer of a link end, unless the name is in the node's active view.
+fn retire_stranger<R: Wait, C: NodeCore<Global> + Drop>(rt: &R, host: &Host<C>, peer: &NodeName) {
+    if !host.is_neighbour(rt, peer) {
+        host.retire(rt, peer);
+    }
 }
 
 /// The links of a node to the others.
 #[derive(Drop)]
 pub(crate) struct LinkTable {
-    /// The outlets whose links had no frame yet.
+    /// The outlets whose links have no writer.
     unwritten: Vec<Outlet>,
     written: Vec<WrittenLink>,
 }
 
 impl LinkTable {
-    /// The links of these outlets, of which none had a frame yet.
+    /// The links of these outlets, of which none has a writer.
     pub(crate) fn new(alloc: Global, outlets: Vec<Outlet>) -> LinkTable {
         LinkTable {
             unwritten: outlets,
@@ -40,43 +53,46 @@ impl LinkTable {
         }
     }
 
-    /// Starts a writer for each link that had its first frame since the last turn.
-    pub(crate) fn write_all<R, C>(
-        &mut self,
-        common: &Common<R>,
-        running: &mut Running<C>,
-    ) -> Result<(), RunFault>
-    where
-        R: Threads
-            + Wait
-            + Net<Listener = TcpListener, Stream = TcpStream>
-            + Copy
-            + Send
-            + Drop
-            + 'static,
-        C: NodeCore<Global> + Drop + Send + 'static,
-    {
-        for outlet in mem::replace(&mut self.unwritten, Vec::new(common.alloc)) {
-            self.look_at(common, running, outlet)?;
+    /// Takes the outlets of writers that have ended.
+    pub(crate) fn take_back(&mut self, outlets: Vec<Outlet>) -> Result<(), AllocError> {
+        for outlet in outlets {
+            let peer = outlet.peer();
+            self.written.retain(|link| link.peer != peer);
+            keep(&mut self.unwritten, outlet)?;
         }
         Ok(())
     }
 
-    /// Starts the writer of a link if it had a frame.
+    /// Starts a writer for each link that has none and has a frame. The writers note what they have too little of.
+    pub(crate) fn write_all<R, C>(
+        &mut self,
+        common: &Common<R>,
+        running: &mut Running<C>,
+        shortages: &Arc<Shortages, Global>,
+    ) -> Result<(), Shortage>
+    where
+        R: Machine,
+        C: NodeCore<Global> + Drop + Send + 'static,
+    {
+        if !self.unwritten.iter_mut().any(|outlet| outlet.has_next()) {
+            return Ok(());
+        }
+        for outlet in mem::replace(&mut self.unwritten, Vec::new(common.alloc)) {
+            self.look_at(common, running, shortages, outlet)?;
+        }
+        Ok(())
+    }
+
+    /// Starts the writer of a link if it has a frame.
     fn look_at<R, C>(
         &mut self,
         common: &Common<R>,
         running: &mut Running<C>,
+        shortages: &Arc<Shortages, Global>,
         mut outlet: Outlet,
-    ) -> Result<(), RunFault>
+    ) -> Result<(), Shortage>
     where
-        R: Threads
-            + Wait
-            + Net<Listener = TcpListener, Stream = TcpStream>
-            + Copy
-            + Send
-            + Drop
-            + 'static,
+        R: Machine,
         C: NodeCore<Global> + Drop + Send + 'static,
     {
         if !outlet.has_next() {
@@ -85,7 +101,7 @@ impl LinkTable {
         let peer = outlet.peer();
         match common.port_of(&peer) {
             Some(port) => {
-                let dialler = self.connect(common, peer, port)?;
+                let dialler = self.connect(common, shortages, peer, port)?;
                 running.write(common.rt, outlet, dialler)
             }
             None => Ok(()),
@@ -93,39 +109,59 @@ impl LinkTable {
     }
 
     /// The dialler of a link that is to be written.
-    fn connect<R>(
+    fn connect<R: Machine>(
         &mut self,
         common: &Common<R>,
+        shortages: &Arc<Shortages, Global>,
         peer: NodeName,
         port: u16,
-    ) -> Result<LinkDialler<R>, AllocError>
-    where
-        R: Wait + Net<Listener = TcpListener, Stream = TcpStream> + Copy + Drop,
-    {
-        let turns = Arc::try_clone(&common.turns)?;
-        let connection = Arc::new(common.alloc, Connection::new(port, turns))?;
+    ) -> Result<LinkDialler<R>, AllocError> {
+        let ticking = Arc::try_clone(&common.ticking)?;
+        let looked_at = ticking.now();
+        let used = Arc::new(common.alloc, LastUse::new(ticking))?;
         let dialler = LinkDialler {
             rt: common.rt,
-            connection: Arc::try_clone(&connection)?,
+            port,
+            used: Arc::try_clone(&used)?,
+            shortages: Arc::try_clone(shortages)?,
         };
-        keep(&mut self.written, WrittenLink { peer, connection })?;
+        let link = WrittenLink {
+            peer,
+            used,
+            looked_at,
+        };
+        keep(&mut self.written, link)?;
         Ok(dialler)
     }
 
-    /// How many connections are open.
-    pub(crate) fn connections(&self) -> usize {
-        self.written
-            .iter()
-            .filter(|link| link.connection.is_open())
-            .count()
+    /// How many links have a writer.
+    pub(crate) fn written(&self) -> usize {
+        self.written.len()
     }
 
-    /// Closes connections that were not used for a while, to names that are not in the node's active view.
-    pub(crate) fn close_idle<R: Wait, C: NodeCore<Global> + Drop>(&self, rt: &R, host: &Host<C>) {
-        for link in self.written.iter() {
-            if link.connection.is_idle(IDLE_TURNS) && !host.is_neighbour(rt, &link.peer) {
-                link.connection.close_idle(rt, IDLE_TURNS);
+    /// Has the writers end of links that were used in none of so many ticks, to names that are not in the node's active
+    /// view. Since that takes the node's lock, each link is looked at once in as many ticks.
+    pub(crate) fn retire_idle<R: Wait, C: NodeCore<Global> + Drop>(
+        &mut self,
+        rt: &R,
+        host: &Host<C>,
+        now: u64,
+        ticks: u64,
+    ) {
+        for link in self.written.iter_mut() {
+            if link.is_due(now, ticks) {
+                link.looked_at = now;
+                retire_stranger(rt, host, &link.peer);
             }
         }
+    }
+
+    /// The outlets of the links that have no writer.
+    pub(crate) fn into_unwritten(self) -> Vec<Outlet> {
+        let LinkTable {
+            unwritten,
+            written: _,
+        } = self;
+        unwritten
     }
 }

@@ -3,36 +3,28 @@ ghost use Rattle.std.specs.Prelude.{◌≡◌, None, IsTrue, OnOk, OnErr};
 ghost use Rattle.std.specs.Io.{WritesAtMost};
 ghost use Rattle.links.specs.Counting.{has_risen, moves_none};
 
-use crate::connection::Connection;
-use links::{LinkEnd, MeteredWrite};
+use crate::last_use::LastUse;
+use crate::shortage::Shortage;
+use crate::shortages::{Failures, PATIENCE, Shortages, pause};
+use links::{LinkEnd, MeteredWrite, TcpWriter, dial};
 use node_threads::Dialler;
 use std::alloc::Global;
 use std::io;
 use std::io::Write;
 use std::net::{Net, TcpListener, TcpStream};
-use std::sync::{Arc, Wait};
+use std::sync::Arc;
+use std::time::Clock;
 
-/// Writes to a link's connection, and closes it when it is dropped.
-pub(crate) struct LinkWriter<R: Wait + Net<Listener = TcpListener, Stream = TcpStream> + Drop> {
-    rt: R,
-    connection: Arc<Connection, Global>,
+/// Writes to a link's connection, and notes when.
+#[derive(Drop)]
+pub(crate) struct LinkWriter {
+    connection: TcpWriter,
+    used: Arc<LastUse, Global>,
     failures: u64,
     took_none: bool,
 }
 
-impl<R: Wait + Net<Listener = TcpListener, Stream = TcpStream> + Drop> Drop for LinkWriter<R> {
-    fn drop(self) {
-        let LinkWriter {
-            rt,
-            connection,
-            failures: _,
-            took_none: _,
-        } = self;
-        connection.close(&rt);
-    }
-}
-
-impl<R: Wait + Net<Listener = TcpListener, Stream = TcpStream> + Drop> Write for LinkWriter<R> {
+impl Write for LinkWriter {
     ghost contents = { λ _. None };
 
     fn write(&mut self, buf: &[u8]) -> io::Result<usize>
@@ -42,8 +34,9 @@ impl<R: Wait + Net<Listener = TcpListener, Stream = TcpStream> + Drop> Write for
         ensures err { OnErr result (IsTrue (has_risen self.old.failures self.new.failures)) }
     {
         self.took_none = false;
-        match self.connection.write(&self.rt, buf) {
+        match self.connection.write(buf) {
             Ok(n) => {
+                self.used.renew();
                 self.took_none = n == 0 && !buf.is_empty();
                 Ok(n)
             }
@@ -59,8 +52,7 @@ impl<R: Wait + Net<Listener = TcpListener, Stream = TcpStream> + Drop> Write for
     }
 }
 
-impl<R: Wait + Net<Listener = TcpListener, Stream = TcpStream> + Drop> MeteredWrite
-    for LinkWriter<R> {
+impl MeteredWrite for LinkWriter {
     ghost failed = { λ w. w.failures };
 
     ghost took_none = { λ w. w.took_none };
@@ -74,29 +66,59 @@ impl<R: Wait + Net<Listener = TcpListener, Stream = TcpStream> + Drop> MeteredWr
     }
 }
 
-/// Makes the connections of a link.
-#[derive(Drop)]
-pub(crate) struct LinkDialler<R: Wait + Net<Listener = TcpListener, Stream = TcpStream> + Drop> {
-    pub(crate) rt: R,
-    pub(crate) connection: Arc<Connection, Global>,
+/// Connects to a port. Where there are too few descriptors it tries again for a while, and notes it then.
+fn dial_on<R: Clock + Net<Listener = TcpListener, Stream = TcpStream>>(
+    rt: &R,
+    port: u16,
+    shortages: &Shortages,
+) -> Option<TcpWriter> {
+    let mut failures = Failures::new(shortages);
+    for _ in 0..PATIENCE {
+        match dial(rt, port) {
+            Ok(connection) => {
+                failures.end();
+                return Some(connection);
+            }
+            Err(error) => {
+                if !failures.add(&error) {
+                    break;
+                }
+                pause(rt);
+            }
+        }
+    }
+    failures.end();
+    None
 }
 
-impl<R: Wait + Net<Listener = TcpListener, Stream = TcpStream> + Copy + Send + Drop> Dialler
-    for LinkDialler<R> {
-    type Writer = LinkWriter<R>;
+/// Makes the connections of a link, and notes what there was too little of where one can't be made.
+#[derive(Drop)]
+pub(crate) struct LinkDialler<R: Clock + Net<Listener = TcpListener, Stream = TcpStream> + Drop> {
+    pub(crate) rt: R,
+    pub(crate) port: u16,
+    pub(crate) used: Arc<LastUse, Global>,
+    pub(crate) shortages: Arc<Shortages, Global>,
+}
 
-    fn dial(&mut self) -> Result<LinkWriter<R>, LinkEnd> {
-        if self.connection.open(&self.rt).is_err() {
+impl<R: Clock + Net<Listener = TcpListener, Stream = TcpStream> + Send + Drop> Dialler
+    for LinkDialler<R> {
+    type Writer = LinkWriter;
+
+    fn dial(&mut self) -> Result<LinkWriter, LinkEnd> {
+        let Some(connection) = dial_on(&self.rt, self.port, &self.shortages) else {
             return Err(LinkEnd::WriteFault { bytes: 0 });
-        }
-        match Arc::try_clone(&self.connection) {
-            Ok(connection) => Ok(LinkWriter {
-                rt: self.rt,
+        };
+        match Arc::try_clone(&self.used) {
+            Ok(used) => Ok(LinkWriter {
                 connection,
+                used,
                 failures: 0,
                 took_none: false,
             }),
-            Err(_) => Err(LinkEnd::OutOfMemory),
+            Err(_) => {
+                self.shortages.note(Shortage::Memory);
+                Err(LinkEnd::OutOfMemory)
+            }
         }
     }
 }

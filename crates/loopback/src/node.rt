@@ -6,6 +6,8 @@ use crate::inbox::{Inbox, ToInbox};
 use crate::link_table::LinkTable;
 use crate::machine::Machine;
 use crate::running::Running;
+use crate::shortage::Shortage;
+use crate::shortages::Shortages;
 use crate::speech::Speech;
 use crate::ticks::Ticks;
 use node_names::NodeName;
@@ -13,8 +15,6 @@ use node_threads::NodeCore;
 use std::alloc::Global;
 use std::net::TcpListener;
 use std::sync::{Arc, Wait};
-use std::thread::Threads;
-use std::time::Clock;
 
 /// A node that runs, and all that belongs to it.
 #[derive(Drop)]
@@ -25,6 +25,7 @@ pub(crate) struct Node<C: NodeCore<Global> + Drop> {
     pub(crate) acceptor: Acceptor,
     pub(crate) speech: Speech,
     pub(crate) inbox: Arc<Inbox, Global>,
+    pub(crate) shortages: Arc<Shortages, Global>,
 }
 
 impl<C: NodeCore<Global> + Drop + Send + 'static> Node<C> {
@@ -36,7 +37,21 @@ impl<C: NodeCore<Global> + Drop + Send + 'static> Node<C> {
         ticks: u32,
     ) -> Result<(), RunFault>
     where
-        R: Threads + Wait + Clock + Copy + Send + Drop + 'static,
+        R: Machine,
+    {
+        let started = self.employ_all(common, listener, ticks);
+        self.judge(started)
+    }
+
+    /// Starts the threads.
+    fn employ_all<R>(
+        &mut self,
+        common: &mut Common<R>,
+        listener: TcpListener,
+        ticks: u32,
+    ) -> Result<(), Shortage>
+    where
+        R: Machine,
     {
         self.acceptor.start(common.rt, listener)?;
         self.start_handing(common)?;
@@ -44,9 +59,9 @@ impl<C: NodeCore<Global> + Drop + Send + 'static> Node<C> {
     }
 
     /// Starts the worker that hands deliveries out.
-    fn start_handing<R>(&mut self, common: &Common<R>) -> Result<(), RunFault>
+    fn start_handing<R>(&mut self, common: &Common<R>) -> Result<(), Shortage>
     where
-        R: Threads + Wait + Clock + Copy + Send + Drop + 'static,
+        R: Machine,
     {
         let to = ToInbox {
             rt: common.rt,
@@ -57,31 +72,44 @@ impl<C: NodeCore<Global> + Drop + Send + 'static> Node<C> {
     }
 
     /// Starts the worker that keeps the time, for so many ticks.
-    fn start_ticking<R>(&mut self, common: &mut Common<R>, ticks: u32) -> Result<(), RunFault>
+    fn start_ticking<R>(&mut self, common: &mut Common<R>, ticks: u32) -> Result<(), Shortage>
     where
-        R: Threads + Wait + Clock + Copy + Send + Drop + 'static,
+        R: Machine,
     {
         let ticker = Ticks::new(common.rt, ticks, Arc::try_clone(&common.ticking)?);
         let seed = common.next_seed();
         self.running.start_ticking(common.rt, ticker, seed)
     }
 
-    /// One turn: it broadcasts, unless it is quiet, and its new connections and links get threads.
-    pub(crate) fn turn<R>(&mut self, common: &mut Common<R>, is_quiet: bool) -> Result<(), RunFault>
+    /// One turn: threads that have ended are joined, it broadcasts so many messages at most, and its new connections and
+    /// links get threads.
+    pub(crate) fn turn<R>(&mut self, common: &mut Common<R>, most: usize) -> Result<(), RunFault>
     where
         R: Machine,
     {
+        let done = self.do_turn(common, most);
+        self.judge(done)
+    }
+
+    /// Does a turn.
+    fn do_turn<R>(&mut self, common: &mut Common<R>, most: usize) -> Result<(), Shortage>
+    where
+        R: Machine,
+    {
+        let mut outlets = Vec::new(common.alloc);
+        self.running.join_ended(&common.rt, &mut outlets)?;
+        self.links.take_back(outlets)?;
         self.read_arrivals(common)?;
-        if !is_quiet {
-            self.speech.go_on(common, self.name, &mut self.running);
-        }
-        self.links.write_all(common, &mut self.running)
+        self.speech
+            .go_on(common, self.name, &mut self.running, most)?;
+        self.links
+            .write_all(common, &mut self.running, &self.shortages)
     }
 
     /// Starts a reader of each connection that came since the last turn.
-    fn read_arrivals<R>(&mut self, common: &mut Common<R>) -> Result<(), RunFault>
+    fn read_arrivals<R>(&mut self, common: &mut Common<R>) -> Result<(), Shortage>
     where
-        R: Threads + Wait + Copy + Send + Drop + 'static,
+        R: Machine,
     {
         for reader in self.acceptor.arrivals.take(&common.rt) {
             let seed = common.next_seed();
@@ -92,14 +120,41 @@ impl<C: NodeCore<Global> + Drop + Send + 'static> Node<C> {
 }
 
 impl<C: NodeCore<Global> + Drop> Node<C> {
+    /// The fault of a call that had too little of something.
+    fn judge(&self, done: Result<(), Shortage>) -> Result<(), RunFault> {
+        match done {
+            Ok(()) => Ok(()),
+            Err(of) => Err(RunFault::Short {
+                node: self.name,
+                of,
+            }),
+        }
+    }
+
+    /// Answers what its threads had too little of, if they had, or at the end of the run still have.
+    pub(crate) fn check(&self, is_last: bool) -> Result<(), RunFault> {
+        if is_last {
+            self.judge(self.shortages.check_last())
+        } else {
+            self.judge(self.shortages.check())
+        }
+    }
+
     /// Whether it has nothing to broadcast any more.
     pub(crate) fn is_said(&self) -> bool {
         self.speech.is_over()
     }
 
-    /// Closes connections that were not used for a while, to names that are not in the node's active view.
-    pub(crate) fn close_idle<R: Wait>(&self, rt: &R) {
-        self.links.close_idle(rt, &self.running.host);
+    /// Has the writers end of links that were used in none of so many ticks, to names that are not in the node's active
+    /// view.
+    pub(crate) fn retire_idle<R: Wait>(&mut self, rt: &R, now: u64, ticks: u64) {
+        self.links.retire_idle(rt, &self.running.host, now, ticks);
+    }
+
+    /// Takes no more connections, and ends those that there are. The node is stopped before.
+    pub(crate) fn close_connections<R: Wait>(&mut self, rt: &R) {
+        self.acceptor.arrivals.close(rt);
+        self.running.close_connections();
     }
 
     /// How many messages it delivered.

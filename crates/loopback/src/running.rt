@@ -3,16 +3,17 @@ use crate::fault::RunFault;
 use crate::inbox::ToInbox;
 use crate::link_writer::LinkDialler;
 use crate::list::keep;
+use crate::shortage::Shortage;
 use crate::ticks::Ticks;
 use bytes::Bytes;
 use frames::Frame;
-use links::TcpReader;
+use links::{TcpCloser, TcpReader};
 use node_names::{MsgId, NodeName};
 use node_threads::{
     CloseError, Closed, Host, HostError, NodeCore, OpenGate, Outlet, Port, Worker, hand_out,
     read_link, tick, write_link,
 };
-use std::alloc::Global;
+use std::alloc::{AllocError, Global};
 use std::net::{Net, TcpListener, TcpStream};
 use std::sync::Wait;
 use std::thread::Threads;
@@ -25,20 +26,22 @@ pub(crate) struct Running<C: NodeCore<Global> + Drop> {
     pub(crate) host: Host<C>,
     pub(crate) ports: Vec<Port<C>>,
     pub(crate) workers: Vec<Worker>,
+    /// What ends the connections that are read.
+    pub(crate) closers: Vec<TcpCloser>,
 }
 
 /// Puts a worker that was started last. A host that was stopped needs none.
-fn employ(workers: &mut Vec<Worker>, started: Result<Worker, HostError>) -> Result<(), RunFault> {
+fn employ(workers: &mut Vec<Worker>, started: Result<Worker, HostError>) -> Result<(), Shortage> {
     match started {
         Ok(worker) => Ok(keep(workers, worker)?),
         Err(HostError::Closed) => Ok(()),
-        Err(_) => Err(RunFault::OutOfMemory),
+        Err(_) => Err(Shortage::Threads),
     }
 }
 
 impl<C: NodeCore<Global> + Drop + Send + 'static> Running<C> {
     /// Starts the worker that hands deliveries out.
-    pub(crate) fn start_handing<R>(&mut self, to: ToInbox<R>) -> Result<(), RunFault>
+    pub(crate) fn start_handing<R>(&mut self, to: ToInbox<R>) -> Result<(), Shortage>
     where
         R: Threads + Wait + Clock + Copy + Send + Drop + 'static,
     {
@@ -55,7 +58,7 @@ impl<C: NodeCore<Global> + Drop + Send + 'static> Running<C> {
         rt: R,
         ticker: Ticks<R>,
         seed: u64,
-    ) -> Result<(), RunFault>
+    ) -> Result<(), Shortage>
     where
         R: Threads + Wait + Clock + Copy + Send + Drop + 'static,
     {
@@ -66,16 +69,17 @@ impl<C: NodeCore<Global> + Drop + Send + 'static> Running<C> {
         )
     }
 
-    /// Starts a reader of a connection. One that can't be read is closed.
-    pub(crate) fn read<R>(&mut self, rt: R, reader: TcpReader, seed: u64) -> Result<(), RunFault>
+    /// Starts a reader of a connection.
+    pub(crate) fn read<R>(&mut self, rt: R, reader: TcpReader, seed: u64) -> Result<(), Shortage>
     where
         R: Threads + Wait + Copy + Send + Drop + 'static,
     {
         self.workers.reserve(1)?;
-        match read_link(rt, &self.host, OpenGate, 0, reader, seed) {
-            Ok(worker) => Ok(keep(&mut self.workers, worker)?),
-            Err(_) => Ok(()),
-        }
+        keep(&mut self.closers, reader.closer()?)?;
+        employ(
+            &mut self.workers,
+            read_link(rt, &self.host, OpenGate, 0, reader, seed),
+        )
     }
 
     /// Starts the writer of a link.
@@ -84,10 +88,11 @@ impl<C: NodeCore<Global> + Drop + Send + 'static> Running<C> {
         rt: R,
         outlet: Outlet,
         dialler: LinkDialler<R>,
-    ) -> Result<(), RunFault>
+    ) -> Result<(), Shortage>
     where
         R: Threads
             + Wait
+            + Clock
             + Net<Listener = TcpListener, Stream = TcpStream>
             + Copy
             + Send
@@ -111,6 +116,38 @@ impl<C: NodeCore<Global> + Drop> Running<C> {
         }
     }
 
+    /// Joins the workers that have ended, closes the connections that nobody reads any more, and puts the outlets of the
+    /// links that nobody writes any more last.
+    pub(crate) fn join_ended<R: Threads>(
+        &mut self,
+        rt: &R,
+        outlets: &mut Vec<Outlet>,
+    ) -> Result<(), Shortage> {
+        self.closers.retain(|closer| !closer.is_last());
+        match self.host.join_ended(rt, &mut self.workers, outlets) {
+            Ok(()) => Ok(()),
+            Err(_) => Err(Shortage::Memory),
+        }
+    }
+
+    /// Has outlets of links that nobody writes count among the workers, so that the close looks at what came out of
+    /// them.
+    pub(crate) fn rest(&mut self, outlets: Vec<Outlet>) -> Result<(), AllocError> {
+        self.workers.reserve(outlets.len())?;
+        for outlet in outlets {
+            keep(&mut self.workers, self.host.rest(outlet))?;
+        }
+        Ok(())
+    }
+
+    /// Ends all connections that are read.
+    pub(crate) fn close_connections(&mut self) {
+        for closer in self.closers.iter() {
+            closer.close();
+        }
+        self.closers.clear();
+    }
+
     /// Closes the node, which is stopped, and answers its history.
     pub(crate) fn close<R: Threads + Wait>(
         self,
@@ -121,6 +158,7 @@ impl<C: NodeCore<Global> + Drop> Running<C> {
             host,
             ports,
             workers,
+            closers: _,
         } = self;
         judge(node, host.close(rt, ports, workers))
     }
@@ -136,6 +174,9 @@ fn judge<C: NodeCore<Global> + Drop>(
         Err(CloseError::PortMissing { .. }) => Err(RunFault::WorkerMissing { node }),
         Err(CloseError::Unlike { .. }) => Err(RunFault::Unlike { node }),
         Err(CloseError::Torn { .. }) => Err(RunFault::Torn { node }),
-        Err(CloseError::OutOfMemory { .. }) => Err(RunFault::OutOfMemory),
+        Err(CloseError::OutOfMemory { .. }) => Err(RunFault::Short {
+            node,
+            of: Shortage::Memory,
+        }),
     }
 }

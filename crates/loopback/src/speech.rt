@@ -1,10 +1,12 @@
 //! What a node is to broadcast, and what it did.
 use crate::common::{Common, since};
 use crate::fault::RunFault;
+use crate::list::keep;
 use crate::running::Running;
+use crate::shortage::Shortage;
 use bytes::Bytes;
 use node_names::{MsgId, NodeName};
-use node_threads::NodeCore;
+use node_threads::{HostError, NodeCore};
 use std::alloc::{AllocError, Global};
 use std::sync::Wait;
 use std::time::{Clock, Duration};
@@ -59,26 +61,28 @@ impl Speech {
         self.left.is_empty() || self.refused.is_some()
     }
 
-    /// Has the node broadcast the next texts, until one is refused.
+    /// Has the node broadcast the next texts, so many at most, until one is refused.
     pub(crate) fn go_on<R, C>(
         &mut self,
         common: &Common<R>,
         node: NodeName,
         running: &mut Running<C>,
-    )
+        most: usize,
+    ) -> Result<(), Shortage>
     where
         R: Wait + Clock + Drop,
         C: NodeCore<Global> + Drop,
     {
-        for _ in 0..TEXTS {
+        for _ in 0..TEXTS.min(most) {
             if self.refused.is_some() {
-                return;
+                return Ok(());
             }
             match self.left.pop() {
-                Some(text) => self.say(common, node, running, text),
-                None => return,
+                Some(text) => self.say(common, node, running, text)?,
+                None => return Ok(()),
             }
         }
+        Ok(())
     }
 
     /// Has the node broadcast a text.
@@ -88,22 +92,19 @@ impl Speech {
         node: NodeName,
         running: &mut Running<C>,
         text: Bytes,
-    )
+    ) -> Result<(), Shortage>
     where
         R: Wait + Clock + Drop,
         C: NodeCore<Global> + Drop,
     {
         let at = since(&common.rt, &common.start);
         match running.broadcast(&common.rt, text) {
-            Ok(id) => self.stamp(Stamp { id, at }),
-            Err(why) => self.refused = Some(RunFault::of_broadcast(node, why)),
-        }
-    }
-
-    /// Notes a broadcast.
-    fn stamp(&mut self, stamp: Stamp) {
-        if self.stamps.push(stamp).is_err() {
-            self.refused = Some(RunFault::OutOfMemory);
+            Ok(id) => Ok(keep(&mut self.stamps, Stamp { id, at })?),
+            Err(HostError::OutOfMemory) => Err(Shortage::Memory),
+            Err(why) => {
+                self.refused = Some(RunFault::Refused { node, why });
+                Ok(())
+            }
         }
     }
 }

@@ -8,6 +8,8 @@ use crate::list::keep;
 use crate::member::{Member, may_start};
 use crate::node::Node;
 use crate::running::Running;
+use crate::shortage::Shortage;
+use crate::shortages::Shortages;
 use crate::speech::Speech;
 use links::listen;
 use node_core::PlumCore;
@@ -35,16 +37,36 @@ pub(crate) fn listen_all<R: Net<Listener = TcpListener, Stream = TcpStream>>(
 ) -> Result<Vec<TcpListener>, RunFault> {
     let mut listeners = Vec::new(alloc);
     for member in members {
-        match listen(rt, member.port) {
-            Ok(listener) => listeners.push(listener)?,
-            Err(_) => {
-                return Err(RunFault::CannotListen {
-                    node: member.me.name,
-                });
-            }
-        }
+        listeners.push(listen_at(rt, member.port, member.me.name)?)?;
     }
     Ok(listeners)
+}
+
+/// Listens on a port for a node.
+fn listen_at<R: Net<Listener = TcpListener, Stream = TcpStream>>(
+    rt: &R,
+    port: u16,
+    node: NodeName,
+) -> Result<TcpListener, RunFault> {
+    match listen(rt, port) {
+        Ok(listener) => Ok(listener),
+        Err(error) => match Shortage::of(&error) {
+            Some(of) => Err(RunFault::Short { node, of }),
+            None => Err(RunFault::CannotListen { node }),
+        },
+    }
+}
+
+/// Listens on a port that is free, for the descriptor that this takes and which the stop of the nodes may need. Where
+/// it can't be had, the last of the members is short of it.
+pub(crate) fn listen_spare<R: Net<Listener = TcpListener, Stream = TcpStream>>(
+    rt: &R,
+    members: &[Member],
+) -> Result<Option<TcpListener>, RunFault> {
+    match members.last() {
+        Some(member) => Ok(Some(listen_at(rt, 0, member.me.name)?)),
+        None => Ok(None),
+    }
 }
 
 /// The names of a group but for one, in order.
@@ -60,6 +82,18 @@ fn others(
         }
     }
     Ok(names)
+}
+
+/// The names that the node of this name has links to.
+fn names_for(
+    alloc: Global,
+    addresses: &[Address],
+    me: &NodeName,
+) -> Result<Vec<NodeName>, RunFault> {
+    match others(alloc, addresses, me) {
+        Ok(names) => Ok(names),
+        Err(_) => Err(no_memory(*me)),
+    }
 }
 
 /// Starts a member's core and its host, with a link to each of the names.
@@ -78,9 +112,17 @@ fn start_host(
     match PlumCore::start(alloc, me, limits, peers, member.contact, &mut opening) {
         Ok(core) => match Host::start(alloc, core, opening, names, 1, RING, STEPS) {
             Ok(started) => Ok(started),
-            Err(_) => Err(RunFault::OutOfMemory),
+            Err(_) => Err(no_memory(me.name)),
         },
-        Err(_) => Err(RunFault::OutOfMemory),
+        Err(_) => Err(no_memory(me.name)),
+    }
+}
+
+/// The fault of a node that was refused an allocation.
+fn no_memory(node: NodeName) -> RunFault {
+    RunFault::Short {
+        node,
+        of: Shortage::Memory,
     }
 }
 
@@ -91,15 +133,18 @@ struct Surroundings {
     acceptor: Acceptor,
     speech: Speech,
     inbox: Arc<Inbox, Global>,
+    shortages: Arc<Shortages, Global>,
 }
 
 /// What the node of a member has beside its host and links.
 fn surround(alloc: Global, member: Member) -> Result<Surroundings, AllocError> {
+    let shortages = Arc::new(alloc, Shortages::new())?;
     Ok(Surroundings {
         name: member.me.name,
-        acceptor: Acceptor::new(alloc, member.port)?,
+        acceptor: Acceptor::new(alloc, member.port, Arc::try_clone(&shortages)?)?,
         inbox: Arc::new(alloc, Inbox::new(alloc))?,
         speech: Speech::new(alloc, member.texts)?,
+        shortages,
     })
 }
 
@@ -111,6 +156,7 @@ fn assemble(alloc: Global, started: Started, around: Surroundings) -> Node<PlumC
         acceptor,
         speech,
         inbox,
+        shortages,
     } = around;
     Node {
         name,
@@ -118,12 +164,19 @@ fn assemble(alloc: Global, started: Started, around: Surroundings) -> Node<PlumC
             host,
             ports,
             workers: Vec::new(alloc),
+            closers: Vec::new(alloc),
         },
         links: LinkTable::new(alloc, outlets),
         acceptor,
         speech,
         inbox,
+        shortages,
     }
+}
+
+/// The name of a member.
+fn name_of(member: &Member) -> NodeName {
+    member.me.name
 }
 
 /// A member as a node that has started and has no threads yet.
@@ -133,11 +186,12 @@ fn start_node(
     addresses: &[Address],
     member: Member,
 ) -> Result<Node<PlumCore>, RunFault> {
-    let names = others(alloc, addresses, &member.me.name)?;
+    let me = name_of(&member);
+    let names = names_for(alloc, addresses, &me)?;
     let started = start_host(alloc, limits, &member, names.as_slice())?;
     match surround(alloc, member) {
         Ok(around) => Ok(assemble(alloc, started, around)),
-        Err(_) => Err(RunFault::OutOfMemory),
+        Err(_) => Err(no_memory(me)),
     }
 }
 

@@ -2,17 +2,18 @@
 use node_threads::Ticker;
 use std::alloc::Global;
 use std::sync::Arc;
-use std::sync::atomic::{AtomicUsize, Ordering};
+use std::sync::atomic::{AtomicU64, AtomicUsize, Ordering};
 use std::thread;
 use std::time::{Clock, Duration};
 
 /// How long a tick takes, in milliseconds.
 const TICK: u64 = 20;
 
-/// How many nodes have ticks left.
+/// How far the ticks are, and how many nodes have ticks left.
 #[derive(Drop)]
 pub(crate) struct Ticking {
     nodes: AtomicUsize,
+    ticks: AtomicU64,
 }
 
 impl Ticking {
@@ -20,6 +21,7 @@ impl Ticking {
     pub(crate) fn new() -> Ticking {
         Ticking {
             nodes: AtomicUsize::new(0),
+            ticks: AtomicU64::new(0),
         }
     }
 
@@ -27,11 +29,24 @@ impl Ticking {
     pub(crate) fn is_over(&self) -> bool {
         self.nodes.load(Ordering::SeqCst) == 0
     }
+
+    /// How many ticks are over, at the node that is about the furthest.
+    pub(crate) fn now(&self) -> u64 {
+        self.ticks.load(Ordering::SeqCst)
+    }
+
+    /// Notes that so many ticks are over at a node.
+    fn advance(&self, ticks: u64) {
+        if self.now() < ticks {
+            self.ticks.store(ticks, Ordering::SeqCst);
+        }
+    }
 }
 
 /// The ticks of one node. It counts among those that have ticks left until it is dropped.
 pub(crate) struct Ticks<R: Clock + Drop> {
     rt: R,
+    made: u64,
     left: u32,
     ticking: Arc<Ticking, Global>,
 }
@@ -40,6 +55,7 @@ impl<R: Clock + Drop> Drop for Ticks<R> {
     fn drop(self) {
         let Ticks {
             rt: _,
+            made: _,
             left: _,
             ticking,
         } = self;
@@ -51,7 +67,12 @@ impl<R: Clock + Drop> Ticks<R> {
     /// So many ticks.
     pub(crate) fn new(rt: R, left: u32, ticking: Arc<Ticking, Global>) -> Ticks<R> {
         ticking.nodes.fetch_add(1, Ordering::SeqCst);
-        Ticks { rt, left, ticking }
+        Ticks {
+            rt,
+            made: 0,
+            left,
+            ticking,
+        }
     }
 }
 
@@ -62,6 +83,8 @@ impl<R: Clock + Drop> Ticker for Ticks<R> {
         }
         self.left -= 1;
         thread::sleep(&self.rt, Duration::from_millis(TICK));
+        self.made = self.made.saturating_add(1);
+        self.ticking.advance(self.made);
         true
     }
 }

@@ -12,6 +12,7 @@ impl fmt::Display for RunCode {
         match self.0 {
             RunFault::CannotListen { node } => write!(f, "node {node}: cannot listen"),
             RunFault::BadPeers { node } => write!(f, "node {node}: W4"),
+            RunFault::Short { node, of } => write!(f, "node {node}: {of}"),
             RunFault::Refused { node, why } => {
                 let code = host_code(why);
                 write!(f, "node {node}: {code}")

@@ -1,0 +1,74 @@
+//! How the nodes of a group are stopped.
+use crate::node::Node;
+use node_threads::NodeCore;
+use std::alloc::Global;
+use std::net::{Net, TcpListener, TcpStream};
+use std::sync::Wait;
+use std::thread;
+use std::thread::Threads;
+use std::time::{Clock, Duration};
+
+/// How many milliseconds pass before ports are dialled again that could not be dialled.
+const PAUSE: u64 = 5;
+
+/// Stops the hosts of all nodes: they make no step any more.
+fn stop_hosts<R: Wait, C: NodeCore<Global> + Drop>(rt: &R, nodes: &[Node<C>]) {
+    for node in nodes {
+        node.running.host.stop(rt);
+    }
+}
+
+/// Ends the connections of all nodes.
+fn close_connections<R: Wait, C: NodeCore<Global> + Drop>(rt: &R, nodes: &mut [Node<C>]) {
+    for node in nodes.iter_mut() {
+        node.close_connections(rt);
+    }
+}
+
+/// Dials the ports of all nodes once. Whether all threads that take connections will end.
+fn knock<R, C>(rt: &R, nodes: &mut [Node<C>]) -> bool
+where
+    R: Net<Listener = TcpListener, Stream = TcpStream>,
+    C: NodeCore<Global> + Drop,
+{
+    let mut are_ending = true;
+    for node in nodes.iter_mut() {
+        are_ending &= node.acceptor.knock(rt);
+    }
+    are_ending
+}
+
+/// Dials the ports of all nodes until all threads that take connections will end.
+fn knock_on<R, C>(rt: &R, nodes: &mut [Node<C>])
+where
+    R: Wait + Clock + Net<Listener = TcpListener, Stream = TcpStream>,
+    C: NodeCore<Global> + Drop,
+{
+    for _ in rt.forever() {
+        if knock(rt, nodes) {
+            return;
+        }
+        thread::sleep(rt, Duration::from_millis(PAUSE));
+    }
+}
+
+/// Waits for the threads that take connections.
+fn join_acceptors<R: Threads, C: NodeCore<Global> + Drop>(rt: &R, nodes: &mut [Node<C>]) {
+    for node in nodes.iter_mut() {
+        node.acceptor.join(rt);
+    }
+}
+
+/// Stops all nodes: they make no step any more, their connections end, and they take no others. To dial their ports
+/// takes a descriptor, and where there is no other left it is the one of the spare listener.
+pub(crate) fn stop_all<R, C>(rt: &R, nodes: &mut [Node<C>], spare: Option<TcpListener>)
+where
+    R: Threads + Wait + Clock + Net<Listener = TcpListener, Stream = TcpStream>,
+    C: NodeCore<Global> + Drop,
+{
+    stop_hosts(rt, nodes);
+    close_connections(rt, nodes);
+    drop(spare);
+    knock_on(rt, nodes);
+    join_acceptors(rt, nodes);
+}
