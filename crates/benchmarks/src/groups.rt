@@ -1,16 +1,21 @@
 //! A group of nodes that runs over TCP connections within this machine: how many messages a small one delivers, and how
-//! fast they are delivered.
+//! fast they are delivered and at what cost, once one message before has made the tree.
 mod figures;
 mod overlay;
+mod phase;
 mod running;
+mod usage;
 
 use crate::groups::figures::{Figures, measured, repeated};
 pub(crate) use crate::groups::overlay::Group;
+use crate::groups::phase::Phase;
 use crate::groups::running::run_somewhere;
-use anyhow::Result;
-use loopback::{Machine, Ran};
+use crate::groups::usage::Usage;
+use anyhow::{Result, bail};
+use loopback::{Machine, Ran, Unwatched};
 use std::alloc::Global;
 use std::io::Print;
+use std::rt::Files;
 
 /// What runs where nothing is measured.
 const SMALL: Group = Group {
@@ -28,34 +33,46 @@ fn tell_ran(rt: &impl Print, ran: &Ran) -> Result<()> {
     Ok(())
 }
 
-/// Prints how fast messages were delivered.
-fn tell_figures(rt: &impl Print, group: &Group, figures: &Figures) -> Result<()> {
+/// Prints on one line how fast messages were delivered, and what the process used for it.
+fn tell_figures(rt: &impl Print, group: &Group, figures: &Figures, used: &Usage) -> Result<()> {
     let Figures {
         deliveries,
-        median,
-        last_hundredth,
+        micros,
+        each,
+        last,
+        greatest,
         ..
     } = *figures;
-    let wanted = group.nodes.saturating_mul(group.messages);
-    let rate = (figures.broadcasts as u64).saturating_mul(1_000_000) / figures.micros.max(1);
-    println!(rt; "broadcasts a second: {rate}")?;
-    println!(rt; "deliveries: {deliveries} of {wanted}")?;
-    println!(rt; "latency, median: {median} us")?;
-    println!(rt; "latency, 99th: {last_hundredth} us")?;
+    let Usage {
+        processor,
+        memory,
+        peak,
+        threads,
+    } = *used;
+    let wanted = group.nodes.saturating_mul(figures.broadcasts);
+    let rate = (figures.broadcasts as u64).saturating_mul(1_000_000) / micros.max(1);
+    print!(rt; "broadcasts/s={rate} deliveries={deliveries} wanted={wanted} span-us={micros} ")?;
+    print!(rt; "each-us={each} last-us={last} greatest-us={greatest} ")?;
+    print!(rt; "processor-ms={processor} memory-KiB={memory} peak-KiB={peak} ")?;
+    println!(rt; "threads={threads}")?;
     Ok(())
-}
-
-/// Prints what is measured of a run.
-fn tell_measured(rt: &impl Print, alloc: Global, group: &Group, ran: &Ran) -> Result<()> {
-    tell_figures(rt, group, &measured(alloc, ran)?)
 }
 
 /// Prints how many messages a small group delivers.
 pub(crate) fn tell<R: Print + Machine>(rt: R, alloc: Global) -> Result<()> {
-    tell_ran(&rt, &run_somewhere(rt, alloc, &SMALL)?)
+    tell_ran(&rt, &run_somewhere(rt, alloc, &SMALL, &mut Unwatched)?)
 }
 
-/// Prints how fast the messages of this group are delivered.
-pub(crate) fn measure<R: Print + Machine>(rt: R, alloc: Global, group: &Group) -> Result<()> {
-    tell_measured(&rt, alloc, group, &run_somewhere(rt, alloc, group)?)
+/// Prints how fast the messages of this group are delivered but for the first, which is delivered before, and at what
+/// cost.
+pub(crate) fn measure<R>(rt: R, alloc: Global, group: &Group) -> Result<()>
+where
+    R: AllocGlobal + Print + Files + Machine,
+{
+    let mut phase = Phase::new(rt, group);
+    let ran = run_somewhere(rt, alloc, group, &mut phase)?;
+    match phase.used() {
+        Some(used) => tell_figures(&rt, group, &measured(alloc, &ran)?, &used),
+        None => bail!("{} deliveries came before the end", ran.deliveries.len()),
+    }
 }

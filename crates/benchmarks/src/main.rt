@@ -18,16 +18,17 @@ use std::alloc::Global;
 use std::env;
 use std::io::Print;
 use std::net::{Net, TcpListener, TcpStream};
+use std::rt::Files;
 use std::sync::Wait;
 use std::thread::Threads;
 use std::time::Clock;
 
-/// The group that words describe: how many nodes, messages and bytes, and after how many ticks the nodes are stopped,
-/// which is to be long after the last delivery.
+/// The group that words describe: how many nodes, messages beside the one that makes the tree, and bytes, and after how
+/// many ticks the nodes are stopped if not all is delivered before.
 fn group(words: &[String]) -> Result<Group> {
     Ok(Group {
         nodes: size(words, 2, 8)?,
-        messages: size(words, 3, 1_000)?,
+        messages: size(words, 3, 1_000)?.saturating_add(1),
         bytes: size(words, 4, 100)?,
         ticks: small(words, 5, 1_000)?,
     })
@@ -44,7 +45,10 @@ fn tell<R: Print + Machine>(rt: R, alloc: Global) -> Result<()> {
 }
 
 /// Measures what the word names, with the numbers that follow.
-fn measure<R: Print + Machine>(rt: R, alloc: Global, what: &str, words: &[String]) -> Result<()> {
+fn measure<R>(rt: R, alloc: Global, what: &str, words: &[String]) -> Result<()>
+where
+    R: AllocGlobal + Print + Files + Machine,
+{
     match what {
         "broadcasts" => broadcasts::measure(&rt, alloc, size(words, 2, 500)?),
         "hops" => broadcasts::measure_hops(&rt, alloc, small(words, 2, 0)?),
@@ -66,7 +70,9 @@ fn measure<R: Print + Machine>(rt: R, alloc: Global, what: &str, words: &[String
 /// host's runtime as one.
 fn obey<R>(rt: R, alloc: Global, words: &[String]) -> Result<()>
 where
-    R: Print
+    R: AllocGlobal
+        + Print
+        + Files
         + Threads
         + Wait
         + Clock

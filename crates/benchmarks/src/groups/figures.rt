@@ -6,16 +6,28 @@ use std::alloc::{AllocError, Global};
 use std::time::Duration;
 use world::Delivery;
 
-/// What is measured of a run.
+/// What is measured of a run, whose first message makes the tree and is not counted. Times are in microseconds.
 #[derive(Clone, Copy)]
 pub(crate) struct Figures {
     pub(crate) broadcasts: usize,
     pub(crate) deliveries: usize,
-    /// From the first broadcast to the last delivery, in microseconds.
+    /// From the first broadcast to the last delivery.
     pub(crate) micros: u64,
-    /// From a message's broadcast to a delivery of it, in microseconds, the origin's own among them.
-    pub(crate) median: u64,
-    pub(crate) last_hundredth: u64,
+    /// From a message's broadcast to a delivery of it, the origin's own among them: the middle one.
+    pub(crate) each: u64,
+    /// From a message's broadcast to the last delivery of it: the middle one.
+    pub(crate) last: u64,
+    /// The longest of both.
+    pub(crate) greatest: u64,
+}
+
+/// How long messages took, in microseconds.
+#[derive(Drop)]
+struct Latencies {
+    /// To each node that delivered one.
+    each: Vec<u64>,
+    /// To the last node, of each message, in order.
+    last: Vec<u64>,
 }
 
 /// A time in microseconds.
@@ -23,9 +35,14 @@ fn micros_of(time: Duration) -> u64 {
     u64::try_from(time.as_micros()).unwrap_or(u64::MAX)
 }
 
-/// When a message was broadcast, in microseconds. All are of one node, which numbers them from 1 in their order.
-fn start_of(broadcasts: &[Stamp], id: &MsgId) -> Option<u64> {
-    let place = usize::try_from(id.seq.saturating_sub(1)).unwrap_or(usize::MAX);
+/// The place of a message among those that are counted. All are of one node, which numbers them from 1 in their order,
+/// and the first is not counted.
+fn place_of(id: &MsgId) -> Option<usize> {
+    usize::try_from(id.seq.checked_sub(2)?).ok()
+}
+
+/// When a message was broadcast, in microseconds.
+fn start_of(broadcasts: &[Stamp], id: &MsgId, place: usize) -> Option<u64> {
     let stamp = broadcasts.get(place)?;
     if stamp.id == *id {
         Some(micros_of(stamp.at))
@@ -34,30 +51,52 @@ fn start_of(broadcasts: &[Stamp], id: &MsgId) -> Option<u64> {
     }
 }
 
-/// Puts how long each message took to each node last.
-fn push_latencies(
-    latencies: &mut Vec<u64>,
-    broadcasts: &[Stamp],
-    deliveries: &[Delivery],
-    times: &[Duration],
-) -> Result<(), AllocError> {
-    for (delivery, time) in deliveries.iter().zip(times) {
-        if let Some(start) = start_of(broadcasts, &delivery.id) {
-            latencies.push(micros_of(*time).saturating_sub(start))?;
-        }
+/// The stamps of the messages that are counted.
+fn counted(ran: &Ran) -> &[Stamp] {
+    match ran.broadcasts.as_slice() {
+        [_, counted @ ..] => counted,
+        _ => &[],
     }
-    Ok(())
 }
 
-/// How long each message took to each node, the shortest first.
-fn latencies(alloc: Global, ran: &Ran) -> Result<Vec<u64>, AllocError> {
-    let mut latencies = Vec::new(alloc);
-    push_latencies(
-        &mut latencies,
-        ran.broadcasts.as_slice(),
-        ran.deliveries.as_slice(),
-        ran.times.as_slice(),
-    )?;
+impl Latencies {
+    /// No message took any time.
+    fn new(alloc: Global, messages: usize) -> Result<Latencies, AllocError> {
+        Ok(Latencies {
+            each: Vec::new(alloc),
+            last: vec![in alloc; 0; messages]?,
+        })
+    }
+
+    /// Adds a delivery at this time.
+    fn add(&mut self, broadcasts: &[Stamp], id: &MsgId, time: Duration) -> Result<(), AllocError> {
+        let Some(place) = place_of(id) else {
+            return Ok(());
+        };
+        let Some(start) = start_of(broadcasts, id, place) else {
+            return Ok(());
+        };
+        let latency = micros_of(time).saturating_sub(start);
+        if let Some(last) = self.last.get_mut(place) {
+            *last = latency.max(*last);
+        }
+        Ok(self.each.push(latency)?)
+    }
+
+    /// Puts the shortest first.
+    fn sort(&mut self) -> Result<(), AllocError> {
+        self.each.sort()?;
+        self.last.sort()
+    }
+}
+
+/// How long each message took to each node and to the last, the shortest first.
+fn take_latencies(alloc: Global, ran: &Ran) -> Result<Latencies, AllocError> {
+    let broadcasts = counted(ran);
+    let mut latencies = Latencies::new(alloc, broadcasts.len())?;
+    for (delivery, time) in ran.deliveries.as_slice().iter().zip(ran.times.as_slice()) {
+        latencies.add(broadcasts, &delivery.id, *time)?;
+    }
     latencies.sort()?;
     Ok(latencies)
 }
@@ -66,7 +105,7 @@ fn latencies(alloc: Global, ran: &Ran) -> Result<Vec<u64>, AllocError> {
 fn span(broadcasts: &[Stamp], times: &[Duration]) -> u64 {
     let start = match broadcasts.first() {
         Some(stamp) => micros_of(stamp.at),
-        None => 0,
+        None => return 0,
     };
     let mut end = start;
     for time in times {
@@ -78,7 +117,7 @@ fn span(broadcasts: &[Stamp], times: &[Duration]) -> u64 {
 /// The one of these, of which the least is first, that so many of a hundred are below or at.
 fn percentile(sorted: &[u64], percent: usize) -> u64 {
     let place = sorted.len().saturating_mul(percent) / 100;
-    match sorted.get(place) {
+    match sorted.get(place.min(sorted.len().saturating_sub(1))) {
         Some(value) => *value,
         None => 0,
     }
@@ -86,13 +125,15 @@ fn percentile(sorted: &[u64], percent: usize) -> u64 {
 
 /// What is measured of a run.
 pub(crate) fn measured(alloc: Global, ran: &Ran) -> Result<Figures> {
-    let latencies = latencies(alloc, ran)?;
+    let latencies = take_latencies(alloc, ran)?;
+    let broadcasts = counted(ran);
     Ok(Figures {
-        broadcasts: ran.broadcasts.len(),
-        deliveries: ran.deliveries.len(),
-        micros: span(ran.broadcasts.as_slice(), ran.times.as_slice()),
-        median: percentile(latencies.as_slice(), 50),
-        last_hundredth: percentile(latencies.as_slice(), 99),
+        broadcasts: broadcasts.len(),
+        deliveries: latencies.each.len(),
+        micros: span(broadcasts, ran.times.as_slice()),
+        each: percentile(latencies.each.as_slice(), 50),
+        last: percentile(latencies.last.as_slice(), 50),
+        greatest: percentile(latencies.last.as_slice(), 100),
     })
 }
 

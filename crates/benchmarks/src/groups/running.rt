@@ -1,7 +1,7 @@
 //! A group that runs where ports are free.
 use crate::groups::overlay::{Group, members};
 use anyhow::{Result, bail};
-use loopback::{Machine, Plan, Ran, RunFault, Unwatched, run};
+use loopback::{Machine, Plan, Ran, RunFault, Watch, run};
 use node_names::Limits;
 use std::alloc::Global;
 
@@ -15,14 +15,24 @@ const APART: u16 = 100;
 const ATTEMPTS: u16 = 100;
 
 /// Runs a group with ports from this one on. There is none where one of them is taken.
-fn run_at<R: Machine>(rt: R, alloc: Global, group: &Group, first_port: u16) -> Result<Option<Ran>> {
+fn run_at<R, V>(
+    rt: R,
+    alloc: Global,
+    group: &Group,
+    first_port: u16,
+    watch: &mut V,
+) -> Result<Option<Ran>>
+where
+    R: Machine,
+    V: Watch,
+{
     let plan = Plan {
         limits: Limits::STANDARD,
         seed: 1,
         ticks: group.ticks,
     };
     let members = members(alloc, group, first_port)?;
-    match run(rt, alloc, &plan, members, &mut Unwatched) {
+    match run(rt, alloc, &plan, members, watch) {
         Ok(ran) => Ok(Some(ran)),
         Err(RunFault::CannotListen { .. }) => Ok(None),
         Err(fault) => Err(fault.into()),
@@ -30,10 +40,14 @@ fn run_at<R: Machine>(rt: R, alloc: Global, group: &Group, first_port: u16) -> R
 }
 
 /// Runs a group at the first ports that are free.
-pub(crate) fn run_somewhere<R: Machine>(rt: R, alloc: Global, group: &Group) -> Result<Ran> {
+pub(crate) fn run_somewhere<R, V>(rt: R, alloc: Global, group: &Group, watch: &mut V) -> Result<Ran>
+where
+    R: Machine,
+    V: Watch,
+{
     for attempt in 0..ATTEMPTS {
         let first_port = FIRST_PORT.saturating_add(APART.saturating_mul(attempt));
-        if let Some(ran) = run_at(rt, alloc, group, first_port)? {
+        if let Some(ran) = run_at(rt, alloc, group, first_port, watch)? {
             return Ok(ran);
         }
     }
