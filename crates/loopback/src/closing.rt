@@ -1,4 +1,7 @@
 //! The end of a run.
+ghost use Rattle.std.specs.Prelude.{◌≡◌, ◌+◌, [], ◌∷◌, ◌++◌, None, All, IfOk, OnOk, length};
+ghost use Rattle.node_threads.specs.History.{IsHistory};
+
 use crate::fault::RunFault;
 use crate::inbox::Inbox;
 use crate::list::keep;
@@ -30,7 +33,9 @@ pub struct Ran {
 
 impl Ran {
     /// Nothing yet.
-    fn new(alloc: Global) -> Ran {
+    fn new(alloc: Global) -> Ran
+        ensures { result.traces.items ≡ [] }
+    {
         Ran {
             deliveries: Vec::new(alloc),
             times: Vec::new(alloc),
@@ -46,7 +51,9 @@ impl Ran {
         trace: Trace<Frame>,
         speech: &mut Speech,
         inbox: &Inbox,
-    ) -> Result<(), AllocError> {
+    ) -> Result<(), AllocError>
+        ensures { OnOk result (self.new.traces.items ≡ self.old.traces.items ++ trace ∷ []) }
+    {
         self.broadcasts.append(&mut speech.stamps)?;
         keep(&mut self.traces, trace)?;
         let mut given = inbox.take(rt)?;
@@ -61,7 +68,10 @@ fn close_node<R: Threads + Wait, C: NodeCore<Global> + Drop>(
     rt: &R,
     node: Node<C>,
     ran: &mut Ran,
-) -> Result<(), RunFault> {
+) -> Result<(), RunFault>
+    ensures histories { OnOk result (All (IsHistory C.starts C.steps) ran.old.traces.items → All (IsHistory C.starts C.steps) ran.new.traces.items) }
+    ensures one { OnOk result (length ran.new.traces.items ≡ length ran.old.traces.items + 1) }
+{
     let Node {
         name,
         mut running,
@@ -91,7 +101,10 @@ fn close_each<R: Threads + Wait, C: NodeCore<Global> + Drop>(
     rt: &R,
     nodes: Vec<Node<C>>,
     ran: &mut Ran,
-) -> Option<RunFault> {
+) -> Option<RunFault>
+    ensures histories { result ≡ None → All (IsHistory C.starts C.steps) ran.old.traces.items → All (IsHistory C.starts C.steps) ran.new.traces.items }
+    ensures each { result ≡ None → length ran.new.traces.items ≡ length ran.old.traces.items + length nodes.items }
+{
     let mut first = None;
     for node in nodes {
         if let Err(fault) = close_node(rt, node, ran) {
@@ -113,6 +126,8 @@ pub(crate) fn close_all<R, C>(
 where
     R: Threads + Wait + Clock + Net<Listener = TcpListener, Stream = TcpStream>,
     C: NodeCore<Global> + Drop,
+    ensures histories { IfOk result (λ ran. All (IsHistory C.starts C.steps) ran.traces.items) }
+    ensures each { IfOk result (λ ran. length ran.traces.items ≡ length nodes.items) }
 {
     stop_all(rt, nodes.as_mut_slice(), spare);
     let refused = first_refusal(nodes.as_slice());

@@ -8,9 +8,12 @@ use thiserror::Error;
 /// Why a group did not run, or what its nodes leave is not as it should be.
 #[derive(Clone, Copy, Debug, PartialEq, Eq, Error)]
 pub enum RunFault {
-    /// The node's port can't be listened on: it is in use, or two nodes have it.
-    #[error("node {node}: cannot listen")]
+    /// The node's port can't be listened on: another program has it.
+    #[error("node {node}: cannot listen: the port is in use")]
     CannotListen { node: NodeName },
+    /// The node's port is that of another node, which stands before it.
+    #[error("node {node}: cannot listen: node {other} has the port")]
+    SamePort { node: NodeName, other: NodeName },
     /// The node can't start with its peers and its contact.
     #[error("node {node}: it can't start with these peers and this contact")]
     BadPeers { node: NodeName },

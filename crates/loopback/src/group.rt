@@ -1,4 +1,8 @@
 //! A group that runs.
+ghost use Rattle.std.specs.Prelude.{◌≡◌, All, IfOk, length};
+ghost use Rattle.node_core.specs.Steps.{PlumStarts, PlumSteps};
+ghost use Rattle.node_threads.specs.History.{IsHistory};
+
 use crate::closing::{Ran, close_all};
 use crate::common::Common;
 use crate::fault::RunFault;
@@ -6,6 +10,7 @@ use crate::machine::Machine;
 use crate::member::Member;
 use crate::node::Node;
 use crate::starting::{listen_all, listen_spare, start_nodes};
+use crate::ticks::TICK;
 use crate::watch::Watch;
 use node_names::Limits;
 use node_threads::NodeCore;
@@ -15,7 +20,7 @@ use std::sync::Wait;
 use std::thread;
 use std::time::{Duration, Instant};
 
-/// How long a turn takes at least, in milliseconds.
+/// How many milliseconds pass between two turns while there is something to do.
 const TURN: u64 = 5;
 
 /// After how many ticks at most the nodes begin to broadcast.
@@ -60,16 +65,23 @@ where
     Ok(())
 }
 
-/// One turn of each node, in which it broadcasts so many messages at most.
-fn turn<R, C>(common: &mut Common<R>, nodes: &mut [Node<C>], most: usize) -> Result<(), RunFault>
+/// One turn of each node, in which it broadcasts so many messages at most. Answers whether one of them had anything to
+/// do, so that another one may have soon.
+fn turn<R, C>(common: &mut Common<R>, nodes: &mut [Node<C>], most: usize) -> Result<bool, RunFault>
 where
     R: Machine,
     C: NodeCore<Global> + Drop + Send + 'static,
 {
+    let mut is_busy = false;
     for node in nodes.iter_mut() {
-        node.turn(common, most)?;
+        is_busy |= node.turn(common, most)?;
     }
-    Ok(())
+    Ok(is_busy)
+}
+
+/// How many milliseconds pass before the next turn: those of a tick where there was nothing to do.
+fn pause_after(is_busy: bool) -> u64 {
+    if is_busy { TURN } else { TICK }
 }
 
 /// Has the writers of links end that nobody uses.
@@ -135,10 +147,10 @@ where
     let mut looked: u64 = 0;
     for _ in rt.forever() {
         let now = common.ticking.now();
-        match allowed(watch, now, quiet) {
-            Some(most) => turn(common, nodes, most)?,
-            None => return Ok(()),
-        }
+        let Some(most) = allowed(watch, now, quiet) else {
+            return Ok(());
+        };
+        let is_busy = turn(common, nodes, most)?;
         if now != looked {
             retire_idle(&rt, nodes, now);
             looked = now;
@@ -149,7 +161,7 @@ where
         if is_over {
             return Ok(());
         }
-        thread::sleep(&rt, Duration::from_millis(TURN));
+        thread::sleep(&rt, Duration::from_millis(pause_after(is_busy)));
     }
     unreachable!()
 }
@@ -181,6 +193,8 @@ fn run_members<R, V>(
 where
     R: Machine,
     V: Watch,
+    ensures histories { IfOk result (λ ran. All (IsHistory PlumStarts PlumSteps) ran.traces.items) }
+    ensures each { IfOk result (λ ran. length ran.traces.items ≡ length members.items) }
 {
     let rt = common.rt;
     let alloc = common.alloc;
@@ -197,7 +211,7 @@ where
 /// ten ticks at most, each node broadcasts its texts, in order: by then nodes that have a contact have joined. When the
 /// ticks are over and all is broadcast, or the watch ends the run, all nodes are stopped and closed.
 ///
-/// `CannotListen` comes before any node starts, and so does `BadPeers`. `Short` may come at any time, and ends the run;
+/// `CannotListen` and `SamePort` come before any node starts, and so does `BadPeers`. `Short` may come at any time, and ends the run;
 /// the node is the first in order of those that had too little of something in that turn. Else the nodes run to the
 /// end, and the first node that refused a broadcast is answered, or else the first whose close is no success. The names
 /// of the members are to be distinct: else frames go to the first of a name. Where the clock can't be read the times of
@@ -212,6 +226,8 @@ pub fn run<R, V>(
 where
     R: Machine,
     V: Watch,
+    ensures histories { IfOk result (λ ran. All (IsHistory PlumStarts PlumSteps) ran.traces.items) }
+    ensures each { IfOk result (λ ran. length ran.traces.items ≡ length members.items) }
 {
     let start = Instant::now(&rt).ok();
     let mut common = Common::new(rt, alloc, start, plan.seed, members.as_slice())?;

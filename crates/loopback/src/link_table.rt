@@ -63,24 +63,25 @@ impl LinkTable {
         Ok(())
     }
 
-    /// Starts a writer for each link that has none and has a frame. The writers note what they have too little of.
+    /// Starts a writer for each link that has none and has a frame, and answers whether there is one. The writers note
+    /// what they have too little of.
     pub(crate) fn write_all<R, C>(
         &mut self,
         common: &Common<R>,
         running: &mut Running<C>,
         shortages: &Arc<Shortages, Global>,
-    ) -> Result<(), Shortage>
+    ) -> Result<bool, Shortage>
     where
         R: Machine,
         C: NodeCore<Global> + Drop + Send + 'static,
     {
         if !self.unwritten.iter_mut().any(|outlet| outlet.has_next()) {
-            return Ok(());
+            return Ok(false);
         }
         for outlet in mem::replace(&mut self.unwritten, Vec::new(common.alloc)) {
             self.look_at(common, running, shortages, outlet)?;
         }
-        Ok(())
+        Ok(true)
     }
 
     /// Starts the writer of a link if it has a frame.

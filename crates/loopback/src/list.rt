@@ -1,8 +1,12 @@
 //! Lists that an item is put into.
+ghost use Rattle.std.specs.Prelude.{◌≡◌, [], ◌∷◌, ◌++◌, OnOk};
+
 use std::alloc::AllocError;
 
 /// Puts an item last.
-pub(crate) fn keep<T: Drop>(list: &mut Vec<T>, item: T) -> Result<(), AllocError> {
+pub(crate) fn keep<T: Drop>(list: &mut Vec<T>, item: T) -> Result<(), AllocError>
+    ensures { OnOk result (list.new.items ≡ list.old.items ++ item ∷ []) }
+{
     list.push(item)?;
     Ok(())
 }

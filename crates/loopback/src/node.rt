@@ -82,48 +82,54 @@ impl<C: NodeCore<Global> + Drop + Send + 'static> Node<C> {
     }
 
     /// One turn: threads that have ended are joined, it broadcasts so many messages at most, and its new connections and
-    /// links get threads.
-    pub(crate) fn turn<R>(&mut self, common: &mut Common<R>, most: usize) -> Result<(), RunFault>
+    /// links get threads. Answers whether there was anything to do but to join.
+    pub(crate) fn turn<R>(&mut self, common: &mut Common<R>, most: usize) -> Result<bool, RunFault>
     where
         R: Machine,
     {
         let done = self.do_turn(common, most);
-        self.judge(done)
+        let has_more = !self.is_said();
+        let is_busy = self.judge(done)?;
+        Ok(is_busy || has_more)
     }
 
-    /// Does a turn.
-    fn do_turn<R>(&mut self, common: &mut Common<R>, most: usize) -> Result<(), Shortage>
+    /// Does a turn, and answers whether a connection or a link got a thread.
+    fn do_turn<R>(&mut self, common: &mut Common<R>, most: usize) -> Result<bool, Shortage>
     where
         R: Machine,
     {
         let mut outlets = Vec::new(common.alloc);
         self.running.join_ended(&common.rt, &mut outlets)?;
         self.links.take_back(outlets)?;
-        self.read_arrivals(common)?;
+        let are_read = self.read_arrivals(common)?;
         self.speech
             .go_on(common, self.name, &mut self.running, most)?;
-        self.links
-            .write_all(common, &mut self.running, &self.shortages)
+        let are_written = self
+            .links
+            .write_all(common, &mut self.running, &self.shortages)?;
+        Ok(are_read || are_written)
     }
 
-    /// Starts a reader of each connection that came since the last turn.
-    fn read_arrivals<R>(&mut self, common: &mut Common<R>) -> Result<(), Shortage>
+    /// Starts a reader of each connection that came since the last turn. Answers whether one came.
+    fn read_arrivals<R>(&mut self, common: &mut Common<R>) -> Result<bool, Shortage>
     where
         R: Machine,
     {
+        let mut has_come = false;
         for reader in self.acceptor.arrivals.take(&common.rt) {
             let seed = common.next_seed();
             self.running.read(common.rt, reader, seed)?;
+            has_come = true;
         }
-        Ok(())
+        Ok(has_come)
     }
 }
 
 impl<C: NodeCore<Global> + Drop> Node<C> {
-    /// The fault of a call that had too little of something.
-    fn judge(&self, done: Result<(), Shortage>) -> Result<(), RunFault> {
+    /// What a call answered, or the fault that it had too little of something.
+    fn judge<T: Drop>(&self, done: Result<T, Shortage>) -> Result<T, RunFault> {
         match done {
-            Ok(()) => Ok(()),
+            Ok(answer) => Ok(answer),
             Err(of) => Err(RunFault::Short {
                 node: self.name,
                 of,

@@ -1,4 +1,7 @@
 //! A node's host, and the workers that it employs.
+ghost use Rattle.std.specs.Prelude.{IfOk};
+ghost use Rattle.node_threads.specs.History.{IsHistory};
+
 use crate::fault::RunFault;
 use crate::inbox::ToInbox;
 use crate::link_writer::LinkDialler;
@@ -153,7 +156,9 @@ impl<C: NodeCore<Global> + Drop> Running<C> {
         self,
         rt: &R,
         node: NodeName,
-    ) -> Result<Trace<Frame>, RunFault> {
+    ) -> Result<Trace<Frame>, RunFault>
+        ensures { IfOk result (IsHistory C.starts C.steps) }
+    {
         let Running {
             host,
             ports,
@@ -168,7 +173,10 @@ impl<C: NodeCore<Global> + Drop> Running<C> {
 fn judge<C: NodeCore<Global> + Drop>(
     node: NodeName,
     closed: Result<Closed, CloseError<C>>,
-) -> Result<Trace<Frame>, RunFault> {
+) -> Result<Trace<Frame>, RunFault>
+    requires { IfOk closed (λ closed. IsHistory C.starts C.steps closed.trace) }
+    ensures { IfOk result (IsHistory C.starts C.steps) }
+{
     match closed {
         Ok(Closed { trace, .. }) => Ok(trace),
         Err(CloseError::PortMissing { .. }) => Err(RunFault::WorkerMissing { node }),

@@ -1,4 +1,6 @@
 //! The start of a group's nodes.
+ghost use Rattle.std.specs.Prelude.{◌≡◌, IfOk, length};
+
 use crate::acceptor::Acceptor;
 use crate::common::Address;
 use crate::fault::RunFault;
@@ -29,6 +31,27 @@ const STEPS: usize = 1_048_576;
 /// A host that has just started, its ports, and its links.
 type Started = (Host<PlumCore>, Vec<Port<PlumCore>>, Vec<Outlet>);
 
+/// The name of the first member that has this port.
+fn owner_of(members: &[Member], port: u16) -> Option<NodeName> {
+    members
+        .iter()
+        .find(|member| member.port == port)
+        .map(|member| member.me.name)
+}
+
+/// Listens on the port of a member, unless one before it has the port.
+fn listen_for<R: Net<Listener = TcpListener, Stream = TcpStream>>(
+    rt: &R,
+    members: &[Member],
+    member: &Member,
+) -> Result<TcpListener, RunFault> {
+    let node = member.me.name;
+    match owner_of(members, member.port) {
+        Some(other) if other != node => Err(RunFault::SamePort { node, other }),
+        _ => listen_at(rt, member.port, node),
+    }
+}
+
 /// Listens on the ports of all members, in order.
 pub(crate) fn listen_all<R: Net<Listener = TcpListener, Stream = TcpStream>>(
     rt: &R,
@@ -37,7 +60,7 @@ pub(crate) fn listen_all<R: Net<Listener = TcpListener, Stream = TcpStream>>(
 ) -> Result<Vec<TcpListener>, RunFault> {
     let mut listeners = Vec::new(alloc);
     for member in members {
-        listeners.push(listen_at(rt, member.port, member.me.name)?)?;
+        listeners.push(listen_for(rt, members, member)?)?;
     }
     Ok(listeners)
 }
@@ -201,7 +224,9 @@ pub(crate) fn start_nodes(
     limits: Limits,
     addresses: &[Address],
     members: Vec<Member>,
-) -> Result<Vec<Node<PlumCore>>, RunFault> {
+) -> Result<Vec<Node<PlumCore>>, RunFault>
+    ensures { IfOk result (λ nodes. length nodes.items ≡ length members.items) }
+{
     let mut nodes = Vec::new(alloc);
     for member in members {
         let node = start_node(alloc, limits, addresses, member)?;

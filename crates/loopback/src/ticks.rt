@@ -7,7 +7,7 @@ use std::thread;
 use std::time::{Clock, Duration};
 
 /// How long a tick takes, in milliseconds.
-const TICK: u64 = 20;
+pub(crate) const TICK: u64 = 20;
 
 /// How far the ticks are, and how many nodes have ticks left.
 #[derive(Drop)]
