@@ -16,7 +16,7 @@ WHERE = r"top|limits|event \d+|node \d+"
 # What stands on standard error, by the status.
 FAULTS = {
     0: r"",
-    1: r"plumtree: (event \d+: (W[124567]|W3 highest \d+|S[12]|no end after 10000 arrivals)|node [a-z0-9-]{1,32}: (cannot listen|H2))\n",
+    1: r"plumtree: (event \d+: (W[124567]|W3 highest \d+|S[12]|no end after 10000 arrivals)|node [a-z0-9-]{1,32}: (cannot listen: (the port is in use|node [a-z0-9-]{1,32} has the port)|H2))\n",
     2: rf"plumtree: (scenario too long|scenario is not TOML|scenario: ({WHERE}): \w+)\n",
 }
 NODE = r"[a-z0-9-]{1,32}/\d+"

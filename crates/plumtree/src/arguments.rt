@@ -100,7 +100,7 @@ fn requested<'a>(alloc: Global, task: Task, words: &ArgMatches<'a>) -> Result<Re
 {
     match asked_message(words) {
         Ok(only) => Ok(request_of(task, words, only)),
-        Err(NoMessage) => Err(no_message(alloc)),
+        Err(NoMessage) => Err(no_message(alloc, task)),
     }
 }
 
@@ -149,6 +149,14 @@ fn form_of(is_traced: bool, is_drawn: bool, only: Option<MsgId>) -> Form
     }
 }
 
+/// The number that a text of digits alone is.
+fn number_of(text: &str) -> Option<u64> {
+    if text.starts_with('+') {
+        return None;
+    }
+    text.parse().ok()
+}
+
 /// The message of a text `NAME/INCARNATION/NUMBER`.
 fn message_of(text: &str) -> Option<MsgId> {
     let mut parts = text.split('/');
@@ -158,25 +166,29 @@ fn message_of(text: &str) -> Option<MsgId> {
     }
     let origin = Origin {
         name: NodeName::parse(name.as_bytes()).ok()?,
-        incarnation: Incarnation(incarnation.parse().ok()?),
+        incarnation: Incarnation(number_of(incarnation)?),
     };
     Some(MsgId {
         origin,
-        seq: seq.parse().ok()?,
+        seq: number_of(seq)?,
     })
 }
 
 /// The error for a text that names no message.
-fn no_message(alloc: Global) -> Error {
-    match no_message_error(alloc) {
+fn no_message(alloc: Global, task: Task) -> Error {
+    match no_message_error(alloc, task) {
         Ok(error) => error,
         Err(error) => Error::from(error),
     }
 }
 
-fn no_message_error(alloc: Global) -> Result<Error, AllocError> {
+fn no_message_error(alloc: Global, task: Task) -> Result<Error, AllocError> {
     let message = "a message is written NODE/INCARNATION/NUMBER, as a/1/2";
-    command(alloc)?.error(ErrorKind::ValueValidation, message)
+    let mut command = match task {
+        Task::Play => sim(alloc)?.bin_name("plumtree sim")?,
+        Task::Run => run(alloc)?.bin_name("plumtree run")?,
+    };
+    command.error(ErrorKind::ValueValidation, message)
 }
 
 /// The error for words that are no text.
@@ -238,23 +250,31 @@ fn flag<'a>(alloc: Global, name: &'a str, help: &'a str) -> Arg<'a> {
         .help(help)
 }
 
-fn command<'a>(alloc: Global) -> Result<Command<'a>, AllocError> {
-    let sim = subcommand(
+/// The subcommand that plays a scenario.
+fn sim<'a>(alloc: Global) -> Result<Command<'a>, AllocError> {
+    subcommand(
         alloc,
         "sim",
         "Plays a scenario in a simulated group and prints its deliveries and trees",
         "Example: plumtree sim scenarios/hello.toml",
-    )?;
-    let run = subcommand(
+    )
+}
+
+/// The subcommand that runs a scenario's nodes.
+fn run<'a>(alloc: Global) -> Result<Command<'a>, AllocError> {
+    subcommand(
         alloc,
         "run",
         "Runs a scenario's nodes over TCP within this machine and prints the same",
         "Example: plumtree run scenarios/run/hello.toml",
-    )?;
+    )
+}
+
+fn command<'a>(alloc: Global) -> Result<Command<'a>, AllocError> {
     Command::new(alloc, "plumtree")
         .about("Plumtree broadcast over HyParView membership; with no words as `sim`")
         .version(VERSION)
         .after_help(AFTER_HELP)
-        .subcommand(sim)?
-        .subcommand(run)
+        .subcommand(sim(alloc)?)?
+        .subcommand(run(alloc)?)
 }

@@ -10,7 +10,12 @@ pub struct RunCode(pub RunFault);
 impl fmt::Display for RunCode {
     fn fmt<W: fmt::Write>(&self, f: &mut fmt::Formatter<W>) -> fmt::Result {
         match self.0 {
-            RunFault::CannotListen { node } => write!(f, "node {node}: cannot listen"),
+            RunFault::CannotListen { node } => {
+                write!(f, "node {node}: cannot listen: the port is in use")
+            }
+            RunFault::SamePort { node, other } => {
+                write!(f, "node {node}: cannot listen: node {other} has the port")
+            }
             RunFault::BadPeers { node } => write!(f, "node {node}: W4"),
             RunFault::Short { node, of } => write!(f, "node {node}: {of}"),
             RunFault::Refused { node, why } => {
