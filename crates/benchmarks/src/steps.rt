@@ -18,6 +18,9 @@ use std::time::Clock;
 /// So many messages come where nothing is measured: a hundred of each origin.
 const TOLD: u64 = 6_400;
 
+/// How many links a wide cell has beside those to its four peers.
+const IDLE: u64 = 60;
+
 /// How many payloads a core holds that does not hold all.
 const KEPT: u32 = 1_000;
 
@@ -42,7 +45,8 @@ fn step<R: Print + Clock>(
 ) -> Result<()> {
     let taken = match word {
         "core" => step_core(rt, alloc, count)?,
-        "cell" => step_cell(rt, alloc, count)?,
+        "cell" => step_cell(rt, alloc, count, 0)?,
+        "wide" => step_cell(rt, alloc, count, IDLE)?,
         "ids" => know_all(rt, alloc, count, 0)?,
         "gaps" => know_all(rt, alloc, count, 100)?,
         "seen" => see_all(rt, alloc, count, 0)?,
@@ -50,7 +54,7 @@ fn step<R: Print + Clock>(
         "seal" => seal(rt, alloc, count, false)?,
         "copy" => seal(rt, alloc, count, true)?,
         _ => bail!(
-            "broadcasts, hops, settle, frames, merge, node, groups, core, cell, ids, gaps, seen, kept, seal or copy"
+            "broadcasts, hops, settle, frames, merge, node, groups, core, cell, wide, ids, gaps, seen, kept, seal or copy"
         ),
     };
     tell_taken(rt, word, taken, is_timed)
@@ -59,7 +63,7 @@ fn step<R: Print + Clock>(
 /// Prints what comes of a few messages, for each part.
 pub(crate) fn tell<R: Print + Clock>(rt: &R, alloc: Global) -> Result<()> {
     for word in [
-        "core", "cell", "ids", "gaps", "seen", "kept", "seal", "copy",
+        "core", "cell", "wide", "ids", "gaps", "seen", "kept", "seal", "copy",
     ] {
         step(rt, alloc, word, TOLD, false)?;
     }

@@ -1,6 +1,6 @@
 -- Bodies are equal where their fields are.
-use Rattle.std.proofs.Common.{◌≡◌, ◌∙◌, ℕ, Bool, Bor, Iter, List, [], ◌∷◌, ap, length, refl, subst, sym, true≢false}
-use Rattle.std.specs.Prelude.{Option, Some, None, ◌==◌, ◌&&◌, map, nat_eq, if◌then◌else◌}
+use Rattle.std.proofs.Common.{◌≡◌, ◌∙◌, ℕ, Bool, List, [], ap, refl, sym, true≢false}
+use Rattle.std.specs.Prelude.{Option, Some, None, ◌==◌, ◌&&◌, nat_eq, if◌then◌else◌}
 use Rattle.std.specs.Bool.{Decides}
 use Rattle.std.specs.Cmp.{unsigned_Decides}
 use Rattle.std.specs.Cmp.Lexicographic.{pointwise, pointwise_decides}

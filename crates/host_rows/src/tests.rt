@@ -6,6 +6,7 @@ mod failing_writers;
 mod gates;
 mod group;
 mod inbox;
+mod lacking;
 mod node;
 mod refused_calls;
 mod refused_closes;

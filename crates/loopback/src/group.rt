@@ -211,11 +211,11 @@ where
 /// ten ticks at most, each node broadcasts its texts, in order: by then nodes that have a contact have joined. When the
 /// ticks are over and all is broadcast, or the watch ends the run, all nodes are stopped and closed.
 ///
-/// `CannotListen` and `SamePort` come before any node starts, and so does `BadPeers`. `Short` may come at any time, and ends the run;
-/// the node is the first in order of those that had too little of something in that turn. Else the nodes run to the
-/// end, and the first node that refused a broadcast is answered, or else the first whose close is no success. The names
-/// of the members are to be distinct: else frames go to the first of a name. Where the clock can't be read the times of
-/// what is answered are 0.
+/// `CannotListen` and `SamePort` come before any node starts, and so does `BadPeers`. `Short` may come at any time, and
+/// ends the run; the node is the first in order of those that had too little of something in that turn. Else the nodes
+/// run to the end, and the first node that refused a broadcast is answered, or else the first whose close is no success.
+/// The names of the members are to be distinct: else frames go to the first of a name. Where the clock can't be read the
+/// times of what is answered are 0.
 pub fn run<R, V>(
     rt: R,
     alloc: Global,

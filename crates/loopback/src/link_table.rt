@@ -122,6 +122,7 @@ impl LinkTable {
         let used = Arc::new(common.alloc, LastUse::new(ticking))?;
         let dialler = LinkDialler {
             rt: common.rt,
+            alloc: common.alloc,
             port,
             used: Arc::try_clone(&used)?,
             shortages: Arc::try_clone(shortages)?,

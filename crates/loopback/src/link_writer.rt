@@ -10,15 +10,19 @@ use links::{LinkEnd, MeteredWrite, TcpWriter, dial};
 use node_threads::Dialler;
 use std::alloc::Global;
 use std::io;
-use std::io::Write;
+use std::io::{BufWriter, Write};
 use std::net::{Net, TcpListener, TcpStream};
 use std::sync::Arc;
 use std::time::Clock;
 
-/// Writes to a link's connection, and notes when.
+/// How many bytes are gathered before they are sent: a link often has several frames at once, and a call of the system
+/// costs as much for one of them as for all.
+const GATHERED: usize = 16 * 1_024;
+
+/// Writes to a link's connection, and notes when. What is written is sent when it is flushed, or when there is much of it.
 #[derive(Drop)]
 pub(crate) struct LinkWriter {
-    connection: TcpWriter,
+    connection: BufWriter<TcpWriter>,
     used: Arc<LastUse, Global>,
     failures: u64,
     took_none: bool,
@@ -48,7 +52,7 @@ impl Write for LinkWriter {
     }
 
     fn flush(&mut self) -> io::Result<()> {
-        Ok(())
+        self.connection.flush()
     }
 }
 
@@ -91,10 +95,25 @@ fn dial_on<R: Clock + Net<Listener = TcpListener, Stream = TcpStream>>(
     None
 }
 
+/// The writer of a connection. `OutOfMemory` is its only error.
+fn gather(
+    alloc: Global,
+    connection: TcpWriter,
+    used: &Arc<LastUse, Global>,
+) -> io::Result<LinkWriter> {
+    Ok(LinkWriter {
+        connection: BufWriter::with_capacity(alloc, GATHERED, connection)?,
+        used: Arc::try_clone(used)?,
+        failures: 0,
+        took_none: false,
+    })
+}
+
 /// Makes the connections of a link, and notes what there was too little of where one can't be made.
 #[derive(Drop)]
 pub(crate) struct LinkDialler<R: Clock + Net<Listener = TcpListener, Stream = TcpStream> + Drop> {
     pub(crate) rt: R,
+    pub(crate) alloc: Global,
     pub(crate) port: u16,
     pub(crate) used: Arc<LastUse, Global>,
     pub(crate) shortages: Arc<Shortages, Global>,
@@ -108,13 +127,8 @@ impl<R: Clock + Net<Listener = TcpListener, Stream = TcpStream> + Send + Drop> D
         let Some(connection) = dial_on(&self.rt, self.port, &self.shortages) else {
             return Err(LinkEnd::WriteFault { bytes: 0 });
         };
-        match Arc::try_clone(&self.used) {
-            Ok(used) => Ok(LinkWriter {
-                connection,
-                used,
-                failures: 0,
-                took_none: false,
-            }),
+        match gather(self.alloc, connection, &self.used) {
+            Ok(writer) => Ok(writer),
             Err(_) => {
                 self.shortages.note(Shortage::Memory);
                 Err(LinkEnd::OutOfMemory)

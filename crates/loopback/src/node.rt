@@ -139,6 +139,9 @@ impl<C: NodeCore<Global> + Drop> Node<C> {
 
     /// Answers what its threads had too little of, if they had, or at the end of the run still have.
     pub(crate) fn check(&self, is_last: bool) -> Result<(), RunFault> {
+        if self.running.host.lacks_memory() {
+            self.shortages.note(Shortage::Memory);
+        }
         if is_last {
             self.judge(self.shortages.check_last())
         } else {

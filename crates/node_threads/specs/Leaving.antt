@@ -22,11 +22,10 @@ GoesTo peer outlet = outlet.peer ≡ peer
 abbrev pub LeavesTo : Name → List Outlet → Type 0
 LeavesTo peer outlets = (0 < length outlets) × All (GoesTo peer) outlets
 
--- A worker that writes no link leaves no outlets. Of one that does nothing is told here: what it leaves comes out of its
--- thread.
+-- A worker that writes no link leaves no outlets, and one that does leaves those of links to its peer.
 abbrev pub HasLeft : Option Name → List Outlet → Type 0
 HasLeft None outlets = outlets ≡ []
-HasLeft (Some peer) outlets = Unit {0}
+HasLeft (Some peer) outlets = LeavesTo peer outlets
 
 -- These are the outlets that there were before, and then what each of these workers left, in order.
 pub record AreLeft (before : List Outlet) (workers : List (Option Name)) (outlets : List Outlet) : Type 0 where

@@ -1,5 +1,5 @@
 //! What the lock of a running node keeps.
-ghost use Rattle.std.specs.Prelude.{◌≡◌, ◌↔◌, ◌≤◌, ◌<◌, ◌+◌, [], ◌∷◌, ◌++◌, true, false, IfOk, IfErr, OnOk, OnErr, length, vec_len, vec_capacity};
+ghost use Rattle.std.specs.Prelude.{◌≡◌, ◌<◌, ◌+◌, [], true, false, IfOk, IfErr, OnOk, OnErr, length};
 ghost use Rattle.world.specs.IdentityLaw.{IsTooLong};
 ghost use Rattle.node_threads.specs.Applying.{Applies, id_given};
 ghost use Rattle.node_threads.specs.History.{IsHistory};

@@ -1,10 +1,10 @@
 //! What a closed node left is compared with its trace.
-ghost use Rattle.std.specs.Prelude.{◌≡◌, List, [], ◌∷◌, ◌++◌, IfOk, IfErr, IfSome, OnOk};
+ghost use Rattle.std.specs.Prelude.{◌≡◌, List, [], ◌∷◌, ◌++◌, IfOk, IfErr, OnOk};
 ghost use Rattle.std.specs.Option.{option_to_list};
 ghost use Rattle.node_threads.specs.Closing.{Matches, Mismatches, Tears};
 ghost use Rattle.node_threads.specs.Leaving.{outlets_in, outlets_of};
 ghost use Rattle.node_threads.specs.Outlet.{Outlet as Seen};
-ghost use Rattle.node_threads.specs.Receipts.{AllAlike, IsFirstUnlike};
+ghost use Rattle.node_threads.specs.Receipts.{AllAlike};
 ghost use Rattle.node_threads.specs.Report.{AddsReports};
 
 use crate::cell::NodeCell;

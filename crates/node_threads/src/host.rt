@@ -1,5 +1,5 @@
 //! A node that runs: how it starts and how it stops.
-ghost use Rattle.std.specs.Prelude.{◌≡◌, [], ◌∷◌, ◌++◌, IfOk, IfErr, OnOk, map, vec_len, replicate};
+ghost use Rattle.std.specs.Prelude.{◌≡◌, [], ◌∷◌, ◌++◌, IfOk, IfErr, OnOk, map, replicate};
 ghost use Rattle.node_threads.specs.Opening.{IsFresh};
 ghost use Rattle.node_threads.specs.Outlet.{fresh_outlet};
 
@@ -140,6 +140,11 @@ impl<C: NodeCore<A> + Drop, A: Allocator + Copy> Host<C, A> {
     /// meanwhile.
     pub fn seal<R: Wait>(&self, rt: &R) -> Result<Sealed<C, A>, HostError> {
         self.shared.seal(rt)
+    }
+
+    /// Whether one of its workers was refused memory, so that it ended before its time or gave a link up.
+    pub fn lacks_memory(&self) -> bool {
+        self.shared.lacks_memory()
     }
 
     /// Whether the name is in the core's active view now.

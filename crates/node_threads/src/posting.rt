@@ -1,5 +1,5 @@
 //! From the packets of a step to the rings of the open links.
-ghost use Rattle.std.specs.Prelude.{◌≡◌, ◌≤◌, ◌<◌, ◌+◌, ◌∷◌, ◌++◌, [], true, not, filter, if◌then◌else◌, IfOk, OnOk, All, List, length, vec_len, vec_capacity};
+ghost use Rattle.std.specs.Prelude.{◌≡◌, ◌≤◌, ◌<◌, ◌+◌, ◌∷◌, ◌++◌, [], true, not, filter, IfOk, OnOk, All, List, length, vec_len, vec_capacity};
 ghost use Rattle.std.specs.List.{IsDistinct};
 ghost use Rattle.node_names.specs.NodeName.{Name};
 ghost use Rattle.node_names.specs.Same.{has_name, same_name};

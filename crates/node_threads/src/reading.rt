@@ -40,6 +40,14 @@ fn take_frames<R: Wait, C: NodeCore<A> + Drop, A: Allocator + Copy, G: Gate + Dr
     steps.take_frames(rt, frames, &mut link.generator)
 }
 
+/// Why a reader ends with its link: it was refused memory, or for no fault of the node.
+fn judge(end: LinkEnd) -> Result<(), HostError> {
+    if end == LinkEnd::OutOfMemory {
+        return Err(HostError::OutOfMemory);
+    }
+    Ok(())
+}
+
 /// Tells the node that the link is down, if a frame came over it.
 fn end_link<R: Wait, C: NodeCore<A> + Drop, A: Allocator + Copy, G: Gate + Drop>(
     rt: &R,
@@ -73,7 +81,8 @@ where
         let end = pump(&mut reader, &mut link.cutter, &mut basket, 1);
         take_frames(rt, steps, basket.into_frames(), &mut link)?;
         if end != LinkEnd::TurnLimit {
-            return end_link(rt, steps, &mut link);
+            end_link(rt, steps, &mut link)?;
+            return judge(end);
         }
         if steps.shared.is_stopped() {
             return Err(HostError::Closed);
@@ -87,8 +96,8 @@ where
 /// them, are drawn from the generator that this seed starts.
 ///
 /// It ends with the link, of which the core is told as a Down of whoever sent the last frame; with the node; and at the
-/// first refusal. Bytes that are no frame end the link. `Closed`: the node was stopped. `OutOfMemory`: an allocation is
-/// refused, or no thread can be made.
+/// first refusal, which `Host::lacks_memory` tells where it is of memory. Bytes that are no frame end the link. `Closed`:
+/// the node was stopped. `OutOfMemory`: an allocation is refused, or no thread can be made.
 pub fn read_link<R, C, A, G, D>(
     rt: R,
     host: &Host<C, A>,
@@ -112,7 +121,8 @@ where
     };
     let alloc = steps.shared.alloc;
     let worker = start(&rt, alloc, move || {
-        let _ = read_frames(&rt, &steps, reader, link);
+        let ended = read_frames(&rt, &steps, reader, link);
+        steps.shared.note_end(ended);
     })?;
     Ok(host.employ(worker))
 }

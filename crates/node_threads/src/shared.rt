@@ -1,5 +1,5 @@
 //! What the threads of a running node share: the cell under its lock, and who waits for it.
-ghost use Rattle.std.specs.Prelude.{◌≡◌, IfErr, IfOk, IfSome, IsSome};
+ghost use Rattle.std.specs.Prelude.{◌≡◌, IfErr, IfOk, IfSome};
 ghost use Rattle.node_threads.specs.Calls.{MayAnswer};
 ghost use Rattle.node_threads.specs.Refusal.{RefusesPayload};
 
@@ -32,6 +32,8 @@ pub(crate) struct Shared<C: NodeCore<A> + Drop, A: Allocator> {
     wakeups: Wakeups<A>,
     /// Whether the node was stopped, for threads that make no step.
     is_stopped: AtomicBool,
+    /// Whether a worker was refused memory.
+    lacks_memory: AtomicBool,
     /// How many workers were started and not joined yet.
     workers: AtomicUsize,
     /// How many frames a link's ring has room for.
@@ -166,6 +168,7 @@ impl<C: NodeCore<A> + Drop, A: Allocator + Copy> Shared<C, A> {
             cell: CachePadded::new(Mutex::new(Some(cell))),
             wakeups,
             is_stopped: AtomicBool::new(false),
+            lacks_memory: AtomicBool::new(false),
             workers: AtomicUsize::new(0),
             ring,
             alloc,
@@ -300,6 +303,23 @@ impl<C: NodeCore<A> + Drop, A: Allocator + Copy> Shared<C, A> {
             Some(timers) => Ok(timers?),
             None => Err(HostError::Closed),
         }
+    }
+
+    /// Notes that a worker was refused memory.
+    pub(crate) fn note_lack(&self) {
+        self.lacks_memory.store(true, Ordering::SeqCst);
+    }
+
+    /// Notes it, if that is how a worker ended.
+    pub(crate) fn note_end(&self, ended: Result<(), HostError>) {
+        if ended == Err(HostError::OutOfMemory) {
+            self.note_lack();
+        }
+    }
+
+    /// Whether a worker was refused memory.
+    pub(crate) fn lacks_memory(&self) -> bool {
+        self.lacks_memory.load(Ordering::SeqCst)
     }
 
     /// Counts a worker that was started.

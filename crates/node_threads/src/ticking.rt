@@ -41,33 +41,38 @@ fn make_tick<R: Wait, C: NodeCore<A> + Drop, A: Allocator + Copy, G: Gate + Drop
     Ok(())
 }
 
-/// Makes ticks until the ticker or the node ends.
-fn make_ticks<
+/// Makes ticks until the ticker ends or a step is refused.
+fn make_ticks<R, C, A, G, T>(
+    rt: &R,
+    steps: &Stepper<C, A, G>,
+    mut ticker: T,
+    mut generator: Lcg128Xsl64,
+) -> Result<(), HostError>
+where
     R: Wait,
     C: NodeCore<A> + Drop,
     A: Allocator + Copy,
     G: Gate + Drop,
     T: Ticker + Drop,
->(rt: &R, steps: &Stepper<C, A, G>, mut ticker: T, mut generator: Lcg128Xsl64) {
+{
     let mut ticks: u64 = 0;
     for _ in rt.forever() {
         if !ticker.next() {
-            return;
+            return Ok(());
         }
         ticks = ticks.wrapping_add(1);
         let shuffles = ticks % SHUFFLE_EVERY == 0;
-        if make_tick(rt, steps, shuffles, &mut generator).is_err() {
-            return;
-        }
+        make_tick(rt, steps, shuffles, &mut generator)?;
     }
+    unreachable!()
 }
 
 /// Starts the worker that keeps the node's time. At each tick it applies Flush, then Fire for each id whose timer is
 /// armed, and at every tenth tick Shuffle. The dice of Shuffles, and of the Downs that follow any of these steps, are
 /// drawn from the generator that this seed starts.
 ///
-/// It ends when the ticker does, and at the first refusal. `Closed`: the node was stopped. `OutOfMemory`: an allocation
-/// is refused, or no thread can be made.
+/// It ends when the ticker does, and at the first refusal, which `Host::lacks_memory` tells where it is of memory.
+/// `Closed`: the node was stopped. `OutOfMemory`: an allocation is refused, or no thread can be made.
 pub fn tick<R, C, A, G, T>(
     rt: R,
     host: &Host<C, A>,
@@ -87,7 +92,8 @@ where
     let generator = Lcg128Xsl64::seed_from_u64(seed);
     let alloc = steps.shared.alloc;
     let worker = start(&rt, alloc, move || {
-        make_ticks(&rt, &steps, ticker, generator);
+        let ended = make_ticks(&rt, &steps, ticker, generator);
+        steps.shared.note_end(ended);
     })?;
     Ok(host.employ(worker))
 }

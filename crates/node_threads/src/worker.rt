@@ -33,8 +33,8 @@ impl<A: Allocator> Outlets<A> {
     }
 }
 
-/// What a worker's thread promises where there is no name: that it leaves no outlets. With a name it writes the links to
-/// that, and promises nothing.
+/// What a worker's thread promises: to leave the outlets of the links to this name, and one at least. Where there is no
+/// name, it leaves none.
 #[derive(Drop)]
 pub(crate) struct LinksTo(pub(crate) Option<NodeName>);
 

@@ -21,11 +21,20 @@ use world::StimulusOf;
 
 /// What makes the connections of one link.
 pub trait Dialler {
-    /// A connection, to which frames are written.
+    /// A connection, to which frames are written. It is flushed when the link has no more of them, so it may gather those
+    /// that come at once.
     type Writer: MeteredWrite + Drop + Send;
 
     /// Makes a connection to the link's peer.
     fn dial(&mut self) -> Result<Self::Writer, LinkEnd>;
+}
+
+/// Has a writer send what it gathered. How much of that went out before a failure is not known.
+fn flush<W: MeteredWrite>(writer: &mut W) -> Result<(), LinkEnd> {
+    match writer.flush() {
+        Ok(()) => Ok(()),
+        Err(_) => Err(LinkEnd::WriteFault { bytes: 0 }),
+    }
 }
 
 /// A link's outlet and its connection, if there is one, and the outlets that it had before.
@@ -51,7 +60,7 @@ impl<A: Allocator + Copy, D: Dialler + Drop> Outgoing<A, D> {
         }
     }
 
-    /// Writes all frames that the outlet has, over a connection that is made for the first of them.
+    /// Writes all frames that the outlet has, over a connection that is made for the first of them, and flushes it.
     fn write(&mut self) -> Result<(), LinkEnd>
         ensures outlet { self.new.outlet.peer ≡ self.old.outlet.peer }
         ensures spent { self.new.spent.items ≡ self.old.spent.items }
@@ -61,6 +70,7 @@ impl<A: Allocator + Copy, D: Dialler + Drop> Outgoing<A, D> {
         }
         if let Some(writer) = &mut self.writer {
             self.outlet.write_to(writer)?;
+            flush(writer)?;
         }
         Ok(())
     }
@@ -168,6 +178,13 @@ fn renew<R: Wait, C: NodeCore<A> + Drop, A: Allocator + Copy, G: Gate + Drop, D:
     Ok(())
 }
 
+/// Notes that a writer was refused memory, if that is how its connection ended.
+fn note_end<C: NodeCore<A> + Drop, A: Allocator + Copy>(shared: &Shared<C, A>, end: LinkEnd) {
+    if end == LinkEnd::OutOfMemory {
+        shared.note_lack();
+    }
+}
+
 /// Writes frames until the node ends or the worker is told to, and the frames are written, or a step is refused.
 fn write_frames<R, C, A, G, D>(
     rt: &R,
@@ -187,7 +204,8 @@ where
     for _ in rt.forever() {
         match wait_for_writing(rt, &steps.shared, &mut link.outlet) {
             Writing::Frames => {
-                if link.write().is_err() {
+                if let Err(end) = link.write() {
+                    note_end(&steps.shared, end);
                     renew(rt, steps, link)?;
                 }
             }
@@ -214,17 +232,20 @@ where
     ensures { LeavesTo outlet.peer (outlets_in result) }
 {
     let mut link = Outgoing::new(steps.shared.alloc, outlet, dialler);
-    let _ = write_frames(rt, steps, &mut link);
+    let ended = write_frames(rt, steps, &mut link);
+    steps.shared.note_end(ended);
     link.into_outlets()
 }
 
 /// Starts the worker that writes a link's frames. It makes a connection by the dialler when the outlet has its first
-/// frame, and writes frames to it, whole and in order, as long as they go out.
+/// frame, and writes frames to it, whole and in order, as long as they go out. It flushes the connection when the outlet
+/// is empty.
 ///
 /// When a connection can't be made, a write fails or the node closes the link, it tells the core by a Down of the
 /// link's peer, opens a new link to it and goes on with that: frames of the old one that were not written are not
 /// written any more. It ends when the node was stopped or `Host::retire` was called, and all frames of its link are
-/// written, and at the first refusal. `Closed`: the node was stopped. `OutOfMemory`: an allocation is refused, or no thread can be made.
+/// written, and at the first refusal. Where it is refused memory, `Host::lacks_memory` tells. `Closed`: the node was
+/// stopped. `OutOfMemory`: an allocation is refused, or no thread can be made.
 pub fn write_link<R, C, A, G, D>(
     rt: R,
     host: &Host<C, A>,

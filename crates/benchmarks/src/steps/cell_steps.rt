@@ -1,5 +1,5 @@
 //! Steps of a running node's cell.
-use crate::steps::messages::{PEERS, Taken, arrivals, first_run};
+use crate::steps::messages::{PEERS, Taken, arrivals, first_run, origin};
 use anyhow::Result;
 use frames::Frame;
 use node_core::PlumCore;
@@ -7,11 +7,15 @@ use node_names::Limits;
 use node_threads::{NodeCell, Outlet};
 use std::alloc::Global;
 use std::time::{Clock, Instant};
+use std::vec::IntoIter;
 use test_support::lend;
 use world::{Core, Out, Stimulus};
 
 /// How many frames a link has room for.
 const RING: usize = 1 << 10;
+
+/// How many steps are timed together: no more than a link has room for.
+const BATCH: usize = 1_000;
 
 /// How many steps the node makes at most.
 const STEPS: usize = 1 << 24;
@@ -28,6 +32,14 @@ pub(crate) fn start(alloc: Global) -> Result<NodeCell<PlumCore>> {
 fn open_links(cell: &mut NodeCell<PlumCore>, outlets: &mut Vec<Outlet>) -> Result<()> {
     for peer in PEERS {
         outlets.push(cell.open_link(first_run(peer.as_bytes())?.name, RING)?)?;
+    }
+    Ok(())
+}
+
+/// Opens so many links to others, which send nothing and get nothing.
+fn open_idle(cell: &mut NodeCell<PlumCore>, outlets: &mut Vec<Outlet>, count: u64) -> Result<()> {
+    for number in 0..count {
+        outlets.push(cell.open_link(origin(number)?.name, RING)?)?;
     }
     Ok(())
 }
@@ -83,35 +95,64 @@ pub(crate) fn fill(
     apply_all(cell, &mut outlets, stimuli)
 }
 
-/// Times how a cell takes stimuli.
+/// Lets a cell take the next stimuli, a thousand at most. How many nanoseconds that took.
+fn time_batch<R: Clock>(
+    rt: &R,
+    cell: &mut NodeCell<PlumCore>,
+    stimuli: &mut IntoIter<Stimulus<Frame>>,
+) -> Result<u64> {
+    let start = Instant::now(rt)?;
+    for _ in 0..BATCH {
+        match stimuli.next() {
+            Some(stimulus) => {
+                cell.apply(stimulus)?;
+            }
+            None => break,
+        }
+    }
+    Ok(u64::try_from(start.elapsed(rt)?.as_nanos()).unwrap_or(u64::MAX))
+}
+
+/// Times how a cell takes stimuli. The links are emptied between, which is not timed.
 fn time_steps<R: Clock>(
     rt: &R,
     cell: &mut NodeCell<PlumCore>,
     outlets: &mut Vec<Outlet>,
     stimuli: Vec<Stimulus<Frame>>,
 ) -> Result<Taken> {
-    let came = stimuli.len() as u64;
-    let start = Instant::now(rt)?;
-    apply_all(cell, outlets, stimuli)?;
-    let nanos = u64::try_from(start.elapsed(rt)?.as_nanos()).unwrap_or(u64::MAX);
-    let sent = taken(outlets.as_slice());
-    Ok(Taken { came, sent, nanos })
+    let came = stimuli.len();
+    let mut left = stimuli.into_iter();
+    let mut nanos: u64 = 0;
+    for _ in 0..=came / BATCH {
+        nanos = nanos.saturating_add(time_batch(rt, cell, &mut left)?);
+        empty_all(outlets)?;
+    }
+    Ok(Taken {
+        came: came as u64,
+        sent: taken(outlets.as_slice()),
+        nanos,
+    })
 }
 
-/// Opens the links of a cell, and times how it takes stimuli.
+/// Opens the links of a cell, so many of them beside those to its peers, and times how it takes stimuli.
 fn time_linked<R: Clock>(
     rt: &R,
     alloc: Global,
     cell: &mut NodeCell<PlumCore>,
     stimuli: Vec<Stimulus<Frame>>,
+    idle: u64,
 ) -> Result<Taken> {
     let mut outlets = Vec::new(alloc);
     open_links(cell, &mut outlets)?;
+    open_idle(cell, &mut outlets, idle)?;
     time_steps(rt, cell, &mut outlets, stimuli)
 }
 
-/// Lets a cell with four links take so many messages of one of the peers.
-pub(crate) fn step_cell<R: Clock>(rt: &R, alloc: Global, count: u64) -> Result<Taken> {
+/// Lets a cell with links to four peers, and so many to others, take so many messages of one of the peers.
+pub(crate) fn step_cell<R: Clock>(rt: &R, alloc: Global, count: u64, idle: u64) -> Result<Taken> {
     let stimuli = arrivals(alloc, count)?;
-    lend(start(alloc)?, |cell| time_linked(rt, alloc, cell, stimuli))
+    lend(
+        start(alloc)?,
+        |cell| time_linked(rt, alloc, cell, stimuli, idle),
+    )
 }

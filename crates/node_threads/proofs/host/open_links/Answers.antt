@@ -1,4 +1,4 @@
-use Rattle.std.proofs.Common.{◌≡◌, ◌∙◌, ◌++◌, ◌∷◌, [], List, ap, length, map, rules, sym, take}
+use Rattle.std.proofs.Common.{◌≡◌, ◌∙◌, ◌++◌, ◌∷◌, [], List, ap, length, map, sym, take}
 use Rattle.node_threads.specs.Outlet.{Outlet, fresh_outlet}
 use Rattle.node_threads.proofs.Lettering.{outlets_on}
 use Rattle.node_threads.proofs.host.open_links.Goals as goal

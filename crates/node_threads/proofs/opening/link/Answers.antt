@@ -1,7 +1,6 @@
-use Rattle.std.proofs.Common.{◌≡◌, ◌∙◌, ◌++◌, ◌∷◌, [], List, false, ap, length, nat_le, refl, rules, sym, tests, if◌then◌else◌}
+use Rattle.std.proofs.Common.{◌≡◌, ◌∙◌, ◌++◌, ◌∷◌, [], false, ap, length, nat_le, refl, rules, sym, tests, if◌then◌else◌}
 use Rattle.std.proofs.lemmas.List.{append-nil}
-use Rattle.node_names.specs.Same.{has_name}
-use Rattle.node_threads.specs.Cell.{IsListed, Link, peers_of}
+use Rattle.node_threads.specs.Cell.{Link, peers_of}
 use Rattle.node_threads.specs.Opened.{others, without}
 use Rattle.node_threads.proofs.Lettering.{gone, named_more, other_names}
 use Rattle.node_threads.proofs.opening.link.Goals as goal
