@@ -12,7 +12,7 @@ use crate::groups::phase::Phase;
 use crate::groups::running::run_somewhere;
 use crate::groups::usage::Usage;
 use anyhow::{Result, bail};
-use loopback::{Machine, Ran, Unwatched};
+use loopback::{Machine, RunReport, Unwatched};
 use std::alloc::Global;
 use std::io::Print;
 use std::rt::Files;
@@ -26,7 +26,7 @@ const SMALL: Group = Group {
 };
 
 /// Prints how many messages were delivered, and how many of them twice.
-fn tell_ran(rt: &impl Print, ran: &Ran) -> Result<()> {
+fn tell_ran(rt: &impl Print, ran: &RunReport) -> Result<()> {
     let count = ran.deliveries.len();
     let again = repeated(ran.deliveries.as_slice());
     println!(rt; "{count} deliveries, {again} of them again")?;

@@ -2,7 +2,7 @@
 ghost use Rattle.std.specs.Prelude.{◌≡◌, ◌+◌, [], ◌∷◌, ◌++◌, None, All, IfOk, OnOk, length};
 ghost use Rattle.node_threads.specs.History.{IsHistory};
 
-use crate::fault::RunFault;
+use crate::error::RunError;
 use crate::inbox::Inbox;
 use crate::list::keep;
 use crate::node::Node;
@@ -20,7 +20,7 @@ use world::{Delivery, Trace};
 
 /// What the nodes of a group leave, in the order of the members.
 #[derive(Drop)]
-pub struct Ran {
+pub struct RunReport {
     /// What the nodes handed out: those of each node in the order in which it delivered them.
     pub deliveries: Vec<Delivery>,
     /// When each of the deliveries was handed out, since the run began.
@@ -31,12 +31,12 @@ pub struct Ran {
     pub traces: Vec<Trace<Frame>>,
 }
 
-impl Ran {
+impl RunReport {
     /// Nothing yet.
-    fn new(alloc: Global) -> Ran
+    fn new(alloc: Global) -> RunReport
         ensures { result.traces.items ≡ [] }
     {
-        Ran {
+        RunReport {
             deliveries: Vec::new(alloc),
             times: Vec::new(alloc),
             broadcasts: Vec::new(alloc),
@@ -67,8 +67,8 @@ impl Ran {
 fn close_node<R: Threads + Wait, C: NodeCore<Global> + Drop>(
     rt: &R,
     node: Node<C>,
-    ran: &mut Ran,
-) -> Result<(), RunFault>
+    ran: &mut RunReport,
+) -> Result<(), RunError>
     ensures histories { OnOk result (All (IsHistory C.starts C.steps) ran.old.traces.items → All (IsHistory C.starts C.steps) ran.new.traces.items) }
     ensures one { OnOk result (length ran.new.traces.items ≡ length ran.old.traces.items + 1) }
 {
@@ -84,7 +84,7 @@ fn close_node<R: Threads + Wait, C: NodeCore<Global> + Drop>(
     let trace = running.close(rt, name)?;
     match (rested, ran.add(rt, trace, &mut speech, &inbox)) {
         (Ok(()), Ok(())) => Ok(()),
-        _ => Err(RunFault::Short {
+        _ => Err(RunError::Short {
             node: name,
             of: Shortage::Memory,
         }),
@@ -92,7 +92,7 @@ fn close_node<R: Threads + Wait, C: NodeCore<Global> + Drop>(
 }
 
 /// Why the first of the nodes that refused a broadcast did so, if one did.
-fn first_refusal<C: NodeCore<Global> + Drop>(nodes: &[Node<C>]) -> Option<RunFault> {
+fn first_refusal<C: NodeCore<Global> + Drop>(nodes: &[Node<C>]) -> Option<RunError> {
     nodes.iter().find_map(|node| node.speech.refused)
 }
 
@@ -100,8 +100,8 @@ fn first_refusal<C: NodeCore<Global> + Drop>(nodes: &[Node<C>]) -> Option<RunFau
 fn close_each<R: Threads + Wait, C: NodeCore<Global> + Drop>(
     rt: &R,
     nodes: Vec<Node<C>>,
-    ran: &mut Ran,
-) -> Option<RunFault>
+    ran: &mut RunReport,
+) -> Option<RunError>
     ensures histories { result ≡ None → All (IsHistory C.starts C.steps) ran.old.traces.items → All (IsHistory C.starts C.steps) ran.new.traces.items }
     ensures each { result ≡ None → length ran.new.traces.items ≡ length ran.old.traces.items + length nodes.items }
 {
@@ -121,8 +121,8 @@ pub(crate) fn close_all<R, C>(
     alloc: Global,
     mut nodes: Vec<Node<C>>,
     spare: Option<TcpListener>,
-    ended: Option<RunFault>,
-) -> Result<Ran, RunFault>
+    ended: Option<RunError>,
+) -> Result<RunReport, RunError>
 where
     R: Threads + Wait + Clock + Net<Listener = TcpListener, Stream = TcpStream>,
     C: NodeCore<Global> + Drop,
@@ -131,7 +131,7 @@ where
 {
     stop_all(rt, nodes.as_mut_slice(), spare);
     let refused = first_refusal(nodes.as_slice());
-    let mut ran = Ran::new(alloc);
+    let mut ran = RunReport::new(alloc);
     let unclosed = close_each(rt, nodes, &mut ran);
     match ended.or(refused).or(unclosed) {
         Some(fault) => Err(fault),

@@ -3,9 +3,9 @@ ghost use Rattle.std.specs.Prelude.{◌≡◌, All, IfOk, length};
 ghost use Rattle.node_core.specs.Steps.{PlumStarts, PlumSteps};
 ghost use Rattle.node_threads.specs.History.{IsHistory};
 
-use crate::closing::{Ran, close_all};
+use crate::closing::{RunReport, close_all};
 use crate::common::Common;
-use crate::fault::RunFault;
+use crate::error::RunError;
 use crate::machine::Machine;
 use crate::member::Member;
 use crate::node::Node;
@@ -54,7 +54,7 @@ fn start_threads<R, C>(
     nodes: &mut [Node<C>],
     listeners: Vec<TcpListener>,
     ticks: u32,
-) -> Result<(), RunFault>
+) -> Result<(), RunError>
 where
     R: Machine,
     C: NodeCore<Global> + Drop + Send + 'static,
@@ -67,7 +67,7 @@ where
 
 /// One turn of each node, in which it broadcasts so many messages at most. Answers whether one of them had anything to
 /// do, so that another one may have soon.
-fn turn<R, C>(common: &mut Common<R>, nodes: &mut [Node<C>], most: usize) -> Result<bool, RunFault>
+fn turn<R, C>(common: &mut Common<R>, nodes: &mut [Node<C>], most: usize) -> Result<bool, RunError>
 where
     R: Machine,
     C: NodeCore<Global> + Drop + Send + 'static,
@@ -97,7 +97,7 @@ fn retire_idle<R: Wait, C: NodeCore<Global> + Drop>(rt: &R, nodes: &mut [Node<C>
 }
 
 /// Answers what the first of the nodes that had too little of something had too little of.
-fn check<C: NodeCore<Global> + Drop>(nodes: &[Node<C>], is_last: bool) -> Result<(), RunFault> {
+fn check<C: NodeCore<Global> + Drop>(nodes: &[Node<C>], is_last: bool) -> Result<(), RunError> {
     for node in nodes {
         node.check(is_last)?;
     }
@@ -136,7 +136,7 @@ fn make_turns<R, C, V>(
     nodes: &mut [Node<C>],
     ticks: u32,
     watch: &mut V,
-) -> Result<(), RunFault>
+) -> Result<(), RunError>
 where
     R: Machine,
     C: NodeCore<Global> + Drop + Send + 'static,
@@ -173,7 +173,7 @@ fn work<R, C, V>(
     listeners: Vec<TcpListener>,
     ticks: u32,
     watch: &mut V,
-) -> Result<(), RunFault>
+) -> Result<(), RunError>
 where
     R: Machine,
     C: NodeCore<Global> + Drop + Send + 'static,
@@ -189,7 +189,7 @@ fn run_members<R, V>(
     plan: &Plan,
     members: Vec<Member>,
     watch: &mut V,
-) -> Result<Ran, RunFault>
+) -> Result<RunReport, RunError>
 where
     R: Machine,
     V: Watch,
@@ -222,7 +222,7 @@ pub fn run<R, V>(
     plan: &Plan,
     members: Vec<Member>,
     watch: &mut V,
-) -> Result<Ran, RunFault>
+) -> Result<RunReport, RunError>
 where
     R: Machine,
     V: Watch,

@@ -1,7 +1,7 @@
 //! A node of a group that runs.
 use crate::acceptor::Acceptor;
 use crate::common::Common;
-use crate::fault::RunFault;
+use crate::error::RunError;
 use crate::inbox::{Inbox, ToInbox};
 use crate::link_table::LinkTable;
 use crate::machine::Machine;
@@ -35,7 +35,7 @@ impl<C: NodeCore<Global> + Drop + Send + 'static> Node<C> {
         common: &mut Common<R>,
         listener: TcpListener,
         ticks: u32,
-    ) -> Result<(), RunFault>
+    ) -> Result<(), RunError>
     where
         R: Machine,
     {
@@ -83,7 +83,7 @@ impl<C: NodeCore<Global> + Drop + Send + 'static> Node<C> {
 
     /// One turn: threads that have ended are joined, it broadcasts so many messages at most, and its new connections and
     /// links get threads. Answers whether there was anything to do but to join.
-    pub(crate) fn turn<R>(&mut self, common: &mut Common<R>, most: usize) -> Result<bool, RunFault>
+    pub(crate) fn turn<R>(&mut self, common: &mut Common<R>, most: usize) -> Result<bool, RunError>
     where
         R: Machine,
     {
@@ -127,10 +127,10 @@ impl<C: NodeCore<Global> + Drop + Send + 'static> Node<C> {
 
 impl<C: NodeCore<Global> + Drop> Node<C> {
     /// What a call answered, or the fault that it had too little of something.
-    fn judge<T: Drop>(&self, done: Result<T, Shortage>) -> Result<T, RunFault> {
+    fn judge<T: Drop>(&self, done: Result<T, Shortage>) -> Result<T, RunError> {
         match done {
             Ok(answer) => Ok(answer),
-            Err(of) => Err(RunFault::Short {
+            Err(of) => Err(RunError::Short {
                 node: self.name,
                 of,
             }),
@@ -138,7 +138,7 @@ impl<C: NodeCore<Global> + Drop> Node<C> {
     }
 
     /// Answers what its threads had too little of, if they had, or at the end of the run still have.
-    pub(crate) fn check(&self, is_last: bool) -> Result<(), RunFault> {
+    pub(crate) fn check(&self, is_last: bool) -> Result<(), RunError> {
         if self.running.host.lacks_memory() {
             self.shortages.note(Shortage::Memory);
         }

@@ -2,7 +2,7 @@
 ghost use Rattle.std.specs.Prelude.{IfOk};
 ghost use Rattle.node_threads.specs.History.{IsHistory};
 
-use crate::fault::RunFault;
+use crate::error::RunError;
 use crate::inbox::ToInbox;
 use crate::link_writer::LinkDialler;
 use crate::list::keep;
@@ -156,7 +156,7 @@ impl<C: NodeCore<Global> + Drop> Running<C> {
         self,
         rt: &R,
         node: NodeName,
-    ) -> Result<Trace<Frame>, RunFault>
+    ) -> Result<Trace<Frame>, RunError>
         ensures { IfOk result (IsHistory C.starts C.steps) }
     {
         let Running {
@@ -173,16 +173,16 @@ impl<C: NodeCore<Global> + Drop> Running<C> {
 fn judge<C: NodeCore<Global> + Drop>(
     node: NodeName,
     closed: Result<Closed, CloseError<C>>,
-) -> Result<Trace<Frame>, RunFault>
+) -> Result<Trace<Frame>, RunError>
     requires { IfOk closed (λ closed. IsHistory C.starts C.steps closed.trace) }
     ensures { IfOk result (IsHistory C.starts C.steps) }
 {
     match closed {
         Ok(Closed { trace, .. }) => Ok(trace),
-        Err(CloseError::PortMissing { .. }) => Err(RunFault::WorkerMissing { node }),
-        Err(CloseError::Unlike { .. }) => Err(RunFault::Unlike { node }),
-        Err(CloseError::Torn { .. }) => Err(RunFault::Torn { node }),
-        Err(CloseError::OutOfMemory { .. }) => Err(RunFault::Short {
+        Err(CloseError::PortMissing { .. }) => Err(RunError::WorkerMissing { node }),
+        Err(CloseError::Unlike { .. }) => Err(RunError::Unlike { node }),
+        Err(CloseError::Torn { .. }) => Err(RunError::Torn { node }),
+        Err(CloseError::OutOfMemory { .. }) => Err(RunError::Short {
             node,
             of: Shortage::Memory,
         }),

@@ -1,6 +1,6 @@
 //! What a node is to broadcast, and what it did.
 use crate::common::{Common, since};
-use crate::fault::RunFault;
+use crate::error::RunError;
 use crate::list::keep;
 use crate::running::Running;
 use crate::shortage::Shortage;
@@ -31,7 +31,7 @@ pub(crate) struct Speech {
     /// The broadcasts so far, in order.
     pub(crate) stamps: Vec<Stamp>,
     /// Why a broadcast was refused, if one was.
-    pub(crate) refused: Option<RunFault>,
+    pub(crate) refused: Option<RunError>,
 }
 
 /// Moves the texts into another list, the last first.
@@ -102,7 +102,7 @@ impl Speech {
             Ok(id) => Ok(keep(&mut self.stamps, Stamp { id, at })?),
             Err(HostError::OutOfMemory) => Err(Shortage::Memory),
             Err(why) => {
-                self.refused = Some(RunFault::Refused { node, why });
+                self.refused = Some(RunError::Refused { node, why });
                 Ok(())
             }
         }

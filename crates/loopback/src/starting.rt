@@ -3,7 +3,7 @@ ghost use Rattle.std.specs.Prelude.{◌≡◌, IfOk, length};
 
 use crate::acceptor::Acceptor;
 use crate::common::Address;
-use crate::fault::RunFault;
+use crate::error::RunError;
 use crate::inbox::Inbox;
 use crate::link_table::LinkTable;
 use crate::list::keep;
@@ -44,10 +44,10 @@ fn listen_for<R: Net<Listener = TcpListener, Stream = TcpStream>>(
     rt: &R,
     members: &[Member],
     member: &Member,
-) -> Result<TcpListener, RunFault> {
+) -> Result<TcpListener, RunError> {
     let node = member.me.name;
     match owner_of(members, member.port) {
-        Some(other) if other != node => Err(RunFault::SamePort { node, other }),
+        Some(other) if other != node => Err(RunError::SamePort { node, other }),
         _ => listen_at(rt, member.port, node),
     }
 }
@@ -57,7 +57,7 @@ pub(crate) fn listen_all<R: Net<Listener = TcpListener, Stream = TcpStream>>(
     rt: &R,
     alloc: Global,
     members: &[Member],
-) -> Result<Vec<TcpListener>, RunFault> {
+) -> Result<Vec<TcpListener>, RunError> {
     let mut listeners = Vec::new(alloc);
     for member in members {
         listeners.push(listen_for(rt, members, member)?)?;
@@ -70,12 +70,12 @@ fn listen_at<R: Net<Listener = TcpListener, Stream = TcpStream>>(
     rt: &R,
     port: u16,
     node: NodeName,
-) -> Result<TcpListener, RunFault> {
+) -> Result<TcpListener, RunError> {
     match listen(rt, port) {
         Ok(listener) => Ok(listener),
         Err(error) => match Shortage::of(&error) {
-            Some(of) => Err(RunFault::Short { node, of }),
-            None => Err(RunFault::CannotListen { node }),
+            Some(of) => Err(RunError::Short { node, of }),
+            None => Err(RunError::CannotListen { node }),
         },
     }
 }
@@ -85,7 +85,7 @@ fn listen_at<R: Net<Listener = TcpListener, Stream = TcpStream>>(
 pub(crate) fn listen_spare<R: Net<Listener = TcpListener, Stream = TcpStream>>(
     rt: &R,
     members: &[Member],
-) -> Result<Option<TcpListener>, RunFault> {
+) -> Result<Option<TcpListener>, RunError> {
     match members.last() {
         Some(member) => Ok(Some(listen_at(rt, 0, member.me.name)?)),
         None => Ok(None),
@@ -112,7 +112,7 @@ fn names_for(
     alloc: Global,
     addresses: &[Address],
     me: &NodeName,
-) -> Result<Vec<NodeName>, RunFault> {
+) -> Result<Vec<NodeName>, RunError> {
     match others(alloc, addresses, me) {
         Ok(names) => Ok(names),
         Err(_) => Err(no_memory(*me)),
@@ -125,10 +125,10 @@ fn start_host(
     limits: Limits,
     member: &Member,
     names: &[NodeName],
-) -> Result<Started, RunFault> {
+) -> Result<Started, RunError> {
     let me = member.me;
     if !may_start(&limits, &me.name, member.peers.as_slice(), &member.contact) {
-        return Err(RunFault::BadPeers { node: me.name });
+        return Err(RunError::BadPeers { node: me.name });
     }
     let mut opening = Out::new(alloc);
     let peers = member.peers.as_slice();
@@ -142,8 +142,8 @@ fn start_host(
 }
 
 /// The fault of a node that was refused an allocation.
-fn no_memory(node: NodeName) -> RunFault {
-    RunFault::Short {
+fn no_memory(node: NodeName) -> RunError {
+    RunError::Short {
         node,
         of: Shortage::Memory,
     }
@@ -208,7 +208,7 @@ fn start_node(
     limits: Limits,
     addresses: &[Address],
     member: Member,
-) -> Result<Node<PlumCore>, RunFault> {
+) -> Result<Node<PlumCore>, RunError> {
     let me = name_of(&member);
     let names = names_for(alloc, addresses, &me)?;
     let started = start_host(alloc, limits, &member, names.as_slice())?;
@@ -224,7 +224,7 @@ pub(crate) fn start_nodes(
     limits: Limits,
     addresses: &[Address],
     members: Vec<Member>,
-) -> Result<Vec<Node<PlumCore>>, RunFault>
+) -> Result<Vec<Node<PlumCore>>, RunError>
     ensures { IfOk result (λ nodes. length nodes.items ≡ length members.items) }
 {
     let mut nodes = Vec::new(alloc);

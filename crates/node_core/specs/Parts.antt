@@ -62,24 +62,24 @@ part_of me (Down peer dice) = Membership (on.Down peer) dice
 part_of me (Shuffle dice) = Membership on.Tick dice
 
 -- What the membership will be, and which links went down and came up.
-pub record Moved : Type 0 where
+pub record ViewChange : Type 0 where
   pub membership : Member
   pub downs : List Name
   pub ups : List Name
 
 -- what stands in a box, if there is one
-abbrev pub unboxed : {A : Type 0} → Option (Box Moved A) → Option Moved
+abbrev pub unboxed : {A : Type 0} → Option (Box ViewChange A) → Option ViewChange
 unboxed None = None
 unboxed (Some boxed) = Some boxed.value
 
 -- what the membership's turn moved
-abbrev pub moved_by : MemberTurn → Moved
+abbrev pub moved_by : MemberTurn → ViewChange
 moved_by done = record { membership = ended done; downs = done.downs; ups = done.ups }
 
 -- What is kept between the halves of a step: what the membership's event moved, if it is one, and the last frame
 -- number.
-pub record Turn : Type 0 where
-  pub moved : Option Moved
+pub record PreparedStep : Type 0 where
+  pub moved : Option ViewChange
   pub framed : ℕ
 
 -- what the part does
@@ -89,7 +89,7 @@ by_part m g (Gossip called) = by_gossip m g called
 by_part m g Nobody = idle m g
 
 -- What was moved is what the part takes to go on.
-abbrev pub Takes : Member → GossipState → Part → Option Moved → Type 0
+abbrev pub Takes : Member → GossipState → Part → Option ViewChange → Type 0
 Takes m g (Membership event dice) moved = moved ≡ Some (moved_by (table event dice (still m)))
 Takes m g (Gossip called) moved = CanTake g called
 Takes m g Nobody moved = Unit {0}
@@ -107,7 +107,7 @@ IsSpentPart g (Gossip called) = IsSpent g called
 IsSpentPart g Nobody = ⊥
 
 -- The turn is what the core keeps of the stimulus, which it does not refuse.
-pub record IsTurn (core : Plum) (stimulus : Stimulus Frame) (turn : Turn) : Type 0 where
+pub record IsTurn (core : Plum) (stimulus : Stimulus Frame) (turn : PreparedStep) : Type 0 where
   pub allowed : IsAllowed stimulus
   pub takes : Takes core.membership core.gossip (part_of core.me stimulus) turn.moved
   pub framed : turn.framed ≡ core.framed + length (turned core.me core.membership core.gossip stimulus).sends

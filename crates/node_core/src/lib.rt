@@ -8,8 +8,8 @@ mod numbering;
 mod output;
 mod parts;
 mod plum_core;
-mod turn;
+mod prepared_step;
 
 pub use laws::{core_is_lawful, packets_fit_frames};
 pub use plum_core::PlumCore;
-pub use turn::Turn;
+pub use prepared_step::PreparedStep;

@@ -10,7 +10,7 @@ ghost use Rattle.node_core.specs.Parts.{IsSpentPart, IsTooLongPart, Takes, by_pa
 
 use crate::dispatch::{Part, PartOf};
 use crate::names::are_same;
-use crate::turn::{BoxedMoved, Moved};
+use crate::prepared_step::{BoxedViewChange, ViewChange};
 use gossip_core::{Call, Effects, Gossip, GossipFault};
 use membership::{Event, Membership, Moves};
 use node_names::Dice;
@@ -22,7 +22,7 @@ use world::CoreError;
 #[derive(Drop)]
 pub(crate) struct Worked<A: Allocator> {
     /// What its membership will be, where that takes the stimulus.
-    pub(crate) moved: Option<BoxedMoved<A>>,
+    pub(crate) moved: Option<BoxedViewChange<A>>,
     /// Whether the active view will be another set.
     pub(crate) is_moved: bool,
     /// What it sends and delivers.
@@ -30,7 +30,7 @@ pub(crate) struct Worked<A: Allocator> {
 }
 
 /// What was moved, in a box.
-fn boxed<A: Allocator>(alloc: A, moved: Moved<A>) -> Result<BoxedMoved<A>, AllocError>
+fn boxed<A: Allocator>(alloc: A, moved: ViewChange<A>) -> Result<BoxedViewChange<A>, AllocError>
     ensures { IfOk result (λ boxed. boxed.value ≡ moved) }
 {
     Ok(Box::new(alloc, moved)?)
@@ -50,7 +50,7 @@ fn work_out_event<A: Allocator + Copy>(
     let (next, moves) = membership.prepare(event, dice)?;
     let is_moved = !are_same(membership.views().active(), next.views().active());
     let Moves { sends, downs, ups } = moves;
-    let moved = Moved {
+    let moved = ViewChange {
         membership: next,
         downs,
         ups,
@@ -118,7 +118,7 @@ pub(crate) fn go_on<A: Allocator + Copy>(
     membership: &mut Membership<A>,
     gossip: &mut Gossip<A>,
     part: &Part<'_, A>,
-    moved: Option<BoxedMoved<A>>,
+    moved: Option<BoxedViewChange<A>>,
 ) -> Result<(), AllocError>
     requires { Takes membership.old gossip.old (lent part.now) (unboxed moved) }
     ensures membership { OnOk result (membership.new ≡ (by_part membership.old gossip.old (lent part.now)).membership) }

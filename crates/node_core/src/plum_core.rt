@@ -15,7 +15,7 @@ ghost use Rattle.node_core.specs.Steps.{IsAllowed, PlumStartsCounted, opening, t
 use crate::dispatch::part_of;
 use crate::output::append_numbered;
 use crate::parts::{Worked, go_on, work_out};
-use crate::turn::Turn;
+use crate::prepared_step::PreparedStep;
 use bytes::Bytes;
 use frames::Frame;
 use gossip_core::{Effects, Gossip};
@@ -156,7 +156,7 @@ impl<A: Allocator + Copy> Core<A> for PlumCore<A> {
 
     type Note = Frame<A>;
 
-    type Turn = Turn<A>;
+    type Turn = PreparedStep<A>;
 
     ghost state = { plum_state };
 
@@ -191,11 +191,11 @@ impl<A: Allocator + Copy> Core<A> for PlumCore<A> {
         &self,
         stimulus: &StimulusRef<'_, Frame<A>, A>,
         out: &mut Out<Frame<A>, A>,
-    ) -> Result<Prepared<Turn<A>>, CoreError> {
+    ) -> Result<Prepared<PreparedStep<A>>, CoreError> {
         let worked = self.work_out(*out.sends.allocator(), stimulus)?;
         let framed = append_numbered(&self.me, self.framed, worked.effects, out)?;
         Ok(Prepared {
-            turn: Turn {
+            turn: PreparedStep {
                 moved: worked.moved,
                 framed,
             },
@@ -206,12 +206,12 @@ impl<A: Allocator + Copy> Core<A> for PlumCore<A> {
     fn advance(
         &mut self,
         stimulus: &StimulusRef<'_, Frame<A>, A>,
-        turn: Turn<A>,
+        turn: PreparedStep<A>,
     ) -> Result<(), AllocError> {
         let _sound = self.membership.views().limits();
         heed(stimulus);
         let part = part_of(&self.me, stimulus);
-        let Turn { moved, framed } = turn;
+        let PreparedStep { moved, framed } = turn;
         go_on(&mut self.membership, &mut self.gossip, &part, moved)?;
         self.framed = framed;
         Ok(())

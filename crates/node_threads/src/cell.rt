@@ -13,7 +13,7 @@ use crate::link::Link;
 use crate::posting::{Posting, close_full, post_all, posting_for};
 use crate::recording::record;
 use frames::Frame;
-use node_core::Turn;
+use node_core::PreparedStep;
 use node_names::{Listed, MsgId, NameSet, NodeName};
 use std::alloc::{AllocError, Allocator, Global};
 use std::marker::Model;
@@ -67,7 +67,7 @@ fn prepare<C: NodeCore<A>, A: Allocator + Copy>(
     alloc: A,
     core: &C,
     stimulus: &Stimulus<Frame<A>, A>,
-) -> Result<(Turn<A>, Out<Frame<A>, A>), HostError>
+) -> Result<(PreparedStep<A>, Out<Frame<A>, A>), HostError>
     ensures turn { IfOk result (λ r. C.is_turn core.now stimulus.now r.0) }
     ensures stepped { IfOk result (λ r. C.steps core.now stimulus.now r.1.sends r.1.deliveries (C.after core.now stimulus.now)) }
     ensures accepted { OnOk result (IsTooLong stimulus.now → ⊥) }

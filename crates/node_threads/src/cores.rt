@@ -10,11 +10,11 @@ ghost use Rattle.world.specs.OneDelivery.{OneDelivery};
 ghost use Rattle.world.specs.Output.{Stepped};
 ghost use Rattle.world.specs.Stimulus.{Stimulus, lent};
 ghost use Rattle.frames.specs.Frame.{Frame as Sent};
-ghost use Rattle.node_core.specs.Parts.{Turn as Kept};
+ghost use Rattle.node_core.specs.Parts.{PreparedStep as Kept};
 ghost use Rattle.node_threads.specs.Opening.{TellsItsStart};
 
 use frames::Frame;
-use node_core::{PlumCore, Turn};
+use node_core::{PlumCore, PreparedStep};
 use node_names::{MsgId, NameSet, Origin};
 use std::alloc::{AllocError, Allocator};
 use world::{Core, CoreError, Out, Prepared, StimulusRef};
@@ -44,7 +44,7 @@ pub trait NodeCore<A: Allocator>: Sized {
         &self,
         stimulus: &StimulusRef<'_, Frame<A>, A>,
         out: &mut Out<Frame<A>, A>,
-    ) -> Result<Prepared<Turn<A>>, CoreError>
+    ) -> Result<Prepared<PreparedStep<A>>, CoreError>
         ensures turn { IfOk result (λ prepared. is_turn self.now (lent stimulus.now) prepared.turn) }
         ensures stepped { OnOk result (Stepped steps self.now (lent stimulus.now) out.old (after self.now (lent stimulus.now)) out.new) }
         ensures too_long { IsErrOf result CoreError.PayloadTooLong ↔ IsTooLong (lent stimulus.now) }
@@ -54,7 +54,7 @@ pub trait NodeCore<A: Allocator>: Sized {
     fn advance(
         &mut self,
         stimulus: &StimulusRef<'_, Frame<A>, A>,
-        turn: &mut Option<Turn<A>>,
+        turn: &mut Option<PreparedStep<A>>,
     ) -> Result<(), AllocError>
         requires some { IsSome turn.old }
         requires turn { IfSome turn.old (λ turn. is_turn self.old (lent stimulus.now) turn) }
@@ -111,14 +111,14 @@ impl<A: Allocator + Copy> NodeCore<A> for PlumCore<A> {
         &self,
         stimulus: &StimulusRef<'_, Frame<A>, A>,
         out: &mut Out<Frame<A>, A>,
-    ) -> Result<Prepared<Turn<A>>, CoreError> {
+    ) -> Result<Prepared<PreparedStep<A>>, CoreError> {
         Core::prepare(self, stimulus, out)
     }
 
     fn advance(
         &mut self,
         stimulus: &StimulusRef<'_, Frame<A>, A>,
-        turn: &mut Option<Turn<A>>,
+        turn: &mut Option<PreparedStep<A>>,
     ) -> Result<(), AllocError> {
         let Some(turn) = turn.take() else {
             unreachable!()

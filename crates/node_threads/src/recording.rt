@@ -3,7 +3,7 @@ ghost use Rattle.std.specs.Prelude.{◌≡◌, ◌∷◌, [], ◌++◌, OnOk, On
 
 use crate::cores::NodeCore;
 use frames::Frame;
-use node_core::Turn;
+use node_core::PreparedStep;
 use node_names::Listed;
 use std::alloc::{AllocError, Allocator};
 use world::{Delivery, Step, Trace};
@@ -13,7 +13,7 @@ fn make<C: NodeCore<A>, A: Allocator>(
     core: &mut C,
     trace: &mut Trace<Frame<A>, A>,
     step: Step<Frame<A>, A>,
-    turn: Turn<A>,
+    turn: PreparedStep<A>,
 ) -> Result<(), AllocError>
     requires { C.is_turn core.old step.stimulus turn }
     ensures core { OnOk result (core.new ≡ C.after core.old step.stimulus) }
@@ -42,7 +42,7 @@ pub(crate) fn record<C: NodeCore<A>, A: Allocator>(
     pending: &mut Listed<Delivery<A>, A>,
     copies: Vec<Delivery<A>, A>,
     step: Step<Frame<A>, A>,
-    turn: Turn<A>,
+    turn: PreparedStep<A>,
 ) -> Result<(), AllocError>
     requires { C.is_turn core.old step.stimulus turn }
     ensures core { OnOk result (core.new ≡ C.after core.old step.stimulus) }

@@ -11,7 +11,7 @@ use crate::outlet::Outlet;
 use crate::receipt::Receipt;
 use crate::sealing::Sealed;
 use crate::taking::take_frames;
-use crate::wakeups::{Moved, Wakeups};
+use crate::wakeups::{WakeSet, Wakeups};
 use crate::writer_place::WriterPlace;
 use bytes::Bytes;
 use crossbeam_utils::CachePadded;
@@ -79,7 +79,7 @@ trait Stepping<A: Allocator> {
     fn steps(&self) -> usize;
 
     /// For whom the steps from this place on did something.
-    fn moved_since(&self, wakeups: &Wakeups<A>, first: usize) -> Moved;
+    fn moved_since(&self, wakeups: &Wakeups<A>, first: usize) -> WakeSet;
 }
 
 /// Calls with what makes steps, and answers for whom those that it made did something.
@@ -87,7 +87,7 @@ fn step_held<T: Stepping<A>, A: Allocator, Q, F: FnOnce(&mut T) -> Q>(
     held: &mut T,
     wakeups: &Wakeups<A>,
     call: F,
-) -> (Q, Moved)
+) -> (Q, WakeSet)
     requires { F.IsAlwaysCallable call }
     ensures { MayAnswer F.FnOnce call result.0 }
 {
@@ -117,9 +117,9 @@ fn moved_since<C: NodeCore<A> + Drop, A: Allocator + Copy>(
     cell: &NodeCell<C, A>,
     wakeups: &Wakeups<A>,
     first: usize,
-) -> Moved {
+) -> WakeSet {
     let trace = cell.trace();
-    let mut moved = Moved::nothing();
+    let mut moved = WakeSet::nothing();
     for place in first..trace.len() {
         if let Some(step) = trace.step(place) {
             wakeups.add(&mut moved, &step.out);
@@ -133,7 +133,7 @@ impl<C: NodeCore<A> + Drop, A: Allocator + Copy> Stepping<A> for NodeCell<C, A> 
         self.trace().len()
     }
 
-    fn moved_since(&self, wakeups: &Wakeups<A>, first: usize) -> Moved {
+    fn moved_since(&self, wakeups: &Wakeups<A>, first: usize) -> WakeSet {
         moved_since(self, wakeups, first)
     }
 }

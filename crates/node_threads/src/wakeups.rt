@@ -8,24 +8,24 @@ use world::Out;
 
 /// For whom steps did something.
 #[derive(Clone, Copy)]
-pub(crate) struct Moved {
+pub(crate) struct WakeSet {
     /// The places of the links that had frames, a bit each: that of place 64 is the bit of place 0 again.
     links: u64,
     has_delivered: bool,
 }
 
-impl Moved {
+impl WakeSet {
     /// For nobody.
-    pub(crate) fn nothing() -> Moved {
-        Moved {
+    pub(crate) fn nothing() -> WakeSet {
+        WakeSet {
             links: 0,
             has_delivered: false,
         }
     }
 
     /// For all.
-    fn all() -> Moved {
-        Moved {
+    fn all() -> WakeSet {
+        WakeSet {
             links: u64::MAX,
             has_delivered: true,
         }
@@ -83,7 +83,7 @@ impl<A: Allocator + Copy> Wakeups<A> {
     }
 
     /// Adds what a step did.
-    pub(crate) fn add(&self, moved: &mut Moved, out: &Out<Frame<A>, A>) {
+    pub(crate) fn add(&self, moved: &mut WakeSet, out: &Out<Frame<A>, A>) {
         for (to, _) in out.sends.as_slice() {
             moved.links |= 1_u64.rotate_left((self.place_of(to) % 64) as u32);
         }
@@ -93,7 +93,7 @@ impl<A: Allocator + Copy> Wakeups<A> {
     }
 
     /// Wakes those for whom something was done.
-    pub(crate) fn wake<R: Wait>(&self, rt: &R, moved: Moved) {
+    pub(crate) fn wake<R: Wait>(&self, rt: &R, moved: WakeSet) {
         if moved.links != 0 {
             self.tell_writers(rt, moved.links);
         }
@@ -115,6 +115,6 @@ impl<A: Allocator + Copy> Wakeups<A> {
 
     /// Wakes all.
     pub(crate) fn wake_all<R: Wait>(&self, rt: &R) {
-        self.wake(rt, Moved::all());
+        self.wake(rt, WakeSet::all());
     }
 }

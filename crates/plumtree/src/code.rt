@@ -1,31 +1,31 @@
 //! The codes under which the refusals of running nodes are printed.
-use loopback::RunFault;
+use loopback::RunError;
 use node_threads::HostError;
 use std::fmt;
 
 /// Why a group did not run to its end, which prints with the refusal's code.
 #[derive(Clone, Copy, Debug, PartialEq, Eq)]
-pub struct RunCode(pub RunFault);
+pub struct RunCode(pub RunError);
 
 impl fmt::Display for RunCode {
     fn fmt<W: fmt::Write>(&self, f: &mut fmt::Formatter<W>) -> fmt::Result {
         match self.0 {
-            RunFault::CannotListen { node } => {
+            RunError::CannotListen { node } => {
                 write!(f, "node {node}: cannot listen: the port is in use")
             }
-            RunFault::SamePort { node, other } => {
+            RunError::SamePort { node, other } => {
                 write!(f, "node {node}: cannot listen: node {other} has the port")
             }
-            RunFault::BadPeers { node } => write!(f, "node {node}: W4"),
-            RunFault::Short { node, of } => write!(f, "node {node}: {of}"),
-            RunFault::Refused { node, why } => {
+            RunError::BadPeers { node } => write!(f, "node {node}: W4"),
+            RunError::Short { node, of } => write!(f, "node {node}: {of}"),
+            RunError::Refused { node, why } => {
                 let code = host_code(why);
                 write!(f, "node {node}: {code}")
             }
-            RunFault::Unlike { node } => write!(f, "node {node}: C1"),
-            RunFault::WorkerMissing { node } => write!(f, "node {node}: C2"),
-            RunFault::Torn { node } => write!(f, "node {node}: C4"),
-            RunFault::OutOfMemory => f.write_str("out of memory"),
+            RunError::Unlike { node } => write!(f, "node {node}: C1"),
+            RunError::WorkerMissing { node } => write!(f, "node {node}: C2"),
+            RunError::Torn { node } => write!(f, "node {node}: C4"),
+            RunError::OutOfMemory => f.write_str("out of memory"),
         }
     }
 }

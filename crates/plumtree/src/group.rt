@@ -2,7 +2,7 @@
 use crate::member::member;
 use loopback::{Member, Plan};
 use node_names::{Limits, NodeName};
-use simulation::{Key, Place, ScenarioFault, Section, limits_of};
+use simulation::{Key, Place, ScenarioError, Section, limits_of};
 use std::alloc::{AllocError, Global};
 use toml::{Table, Value};
 
@@ -26,7 +26,7 @@ pub struct GroupScenario {
 
 impl GroupScenario {
     /// Reads a document as the scenario of a group: what stands at its top first, then the limits, then each node.
-    pub fn from_document(alloc: Global, document: &Table) -> Result<GroupScenario, ScenarioFault> {
+    pub fn from_document(alloc: Global, document: &Table) -> Result<GroupScenario, ScenarioError> {
         let top = Section {
             place: Place::Top,
             table: document,
@@ -46,13 +46,13 @@ impl GroupScenario {
 }
 
 /// The section of the node with this number. A node is a table, or the list of nodes is refused.
-fn section_of(number: usize, node: &Value) -> Result<Section<'_>, ScenarioFault> {
+fn section_of(number: usize, node: &Value) -> Result<Section<'_>, ScenarioError> {
     match node.as_table() {
         Some(table) => Ok(Section {
             place: Place::Node(number),
             table,
         }),
-        None => Err(ScenarioFault::Refused {
+        None => Err(ScenarioError::Refused {
             place: Place::Top,
             key: Key::Node,
         }),
@@ -73,7 +73,7 @@ fn names(alloc: Global, nodes: &[Value]) -> Result<Vec<NodeName>, AllocError> {
 }
 
 /// The nodes of a list of tables.
-fn members(alloc: Global, limits: &Limits, nodes: &[Value]) -> Result<Vec<Member>, ScenarioFault> {
+fn members(alloc: Global, limits: &Limits, nodes: &[Value]) -> Result<Vec<Member>, ScenarioError> {
     let names = names(alloc, nodes)?;
     let mut members = Vec::new(alloc);
     for (number, node) in nodes.iter().enumerate() {

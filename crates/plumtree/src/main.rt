@@ -10,7 +10,7 @@ mod progress;
 mod run_group;
 mod version;
 
-use simulation::{ScenarioFault, report};
+use simulation::{ScenarioError, report};
 use std::io::BufWriter;
 use std::process::ExitCode;
 
@@ -21,7 +21,7 @@ fn main(rt: HostRuntime) -> ExitCode {
     let mut faults = rt.stderr();
     let status = match BufWriter::with_capacity(rt.alloc(), OUTPUT_ROOM, rt.stdout()) {
         Ok(mut out) => program::run(&rt, &mut out, &mut faults),
-        Err(_) => report(&mut faults, ScenarioFault::OutOfMemory, 1),
+        Err(_) => report(&mut faults, ScenarioError::OutOfMemory, 1),
     };
     ExitCode::from(status)
 }

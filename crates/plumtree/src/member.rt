@@ -1,7 +1,7 @@
 //! One node of a scenario of a group that is to run.
 use loopback::{Member, may_start};
 use node_names::{Incarnation, Limits, NodeName, Origin};
-use simulation::{Key, ScenarioFault, Section};
+use simulation::{Key, ScenarioError, Section};
 use std::alloc::Global;
 
 /// The least port that a node may have: those below are the system's.
@@ -17,7 +17,7 @@ pub fn member(
     names: &[NodeName],
     earlier: &[Member],
     section: &Section<'_>,
-) -> Result<Member, ScenarioFault> {
+) -> Result<Member, ScenarioError> {
     let name = name(earlier, section)?;
     let port = port(section)?;
     let incarnation = section.optional_number(Key::Incarnation, u64::MAX)?;
@@ -37,7 +37,7 @@ pub fn member(
 }
 
 /// A node's name, which no earlier one has.
-fn name(earlier: &[Member], section: &Section<'_>) -> Result<NodeName, ScenarioFault> {
+fn name(earlier: &[Member], section: &Section<'_>) -> Result<NodeName, ScenarioError> {
     let name = section.name(Key::Name)?;
     if earlier.iter().any(|member| member.me.name == name) {
         return Err(section.refused(Key::Name));
@@ -46,7 +46,7 @@ fn name(earlier: &[Member], section: &Section<'_>) -> Result<NodeName, ScenarioF
 }
 
 /// The port where a node takes connections.
-fn port(section: &Section<'_>) -> Result<u16, ScenarioFault> {
+fn port(section: &Section<'_>) -> Result<u16, ScenarioError> {
     let port = section.optional_number_between(Key::Port, LEAST_PORT, GREATEST_PORT)?;
     match port.and_then(|port| u16::try_from(port).ok()) {
         Some(port) => Ok(port),
@@ -61,7 +61,7 @@ fn peers(
     me: &NodeName,
     names: &[NodeName],
     section: &Section<'_>,
-) -> Result<Vec<NodeName>, ScenarioFault> {
+) -> Result<Vec<NodeName>, ScenarioError> {
     let peers = section.names(alloc, Key::Peers)?.into_vec();
     let are_known = peers.iter().all(|peer| names.contains(peer));
     if !are_known || !may_start(limits, me, peers.as_slice(), &None) {
@@ -75,7 +75,7 @@ fn contact(
     me: &NodeName,
     names: &[NodeName],
     section: &Section<'_>,
-) -> Result<Option<NodeName>, ScenarioFault> {
+) -> Result<Option<NodeName>, ScenarioError> {
     let contact = section.optional_name(Key::Contact)?;
     match contact {
         Some(contact) if contact == *me || !names.contains(&contact) => {

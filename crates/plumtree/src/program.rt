@@ -5,11 +5,11 @@ use crate::arguments;
 use crate::arguments::{Request, Task};
 use crate::code::RunCode;
 use crate::progress::{Progress, is_terminal};
-use crate::run_group::{RunFailure, run_group};
+use crate::run_group::{GroupError, run_group};
 use clap::error::ErrorKind;
 use loopback::Machine;
 use simulation::{
-    Form, ScenarioFault, play_input, read_text, report, report_unknown, report_unread, status_after,
+    Form, ScenarioError, play_input, read_text, report, report_unknown, report_unread, status_after,
 };
 use std::env::Env;
 use std::io::{Input, Read, Write};
@@ -45,7 +45,7 @@ where
         Ok(words) => obey(rt, words.as_slice(), out, faults),
         Err(error) => {
             if error.kind() == io::ErrorKind::OutOfMemory {
-                report(faults, ScenarioFault::OutOfMemory, 1)
+                report(faults, ScenarioError::OutOfMemory, 1)
             } else {
                 explain(arguments::not_text(rt.alloc()), out, faults)
             }
@@ -173,19 +173,19 @@ where
 
 /// Writes why a group did not run and was not written to its end, if it was not. The number is the status that the
 /// program ends with. A fault of merging stands among the lines already, where these are printed.
-fn conclude_run<F: Write>(is_plain: bool, ended: Result<(), RunFailure>, faults: &mut F) -> u8
+fn conclude_run<F: Write>(is_plain: bool, ended: Result<(), GroupError>, faults: &mut F) -> u8
     ensures { result ≤ 2 }
 {
     match ended {
         Ok(()) => 0,
-        Err(RunFailure::Refused(ScenarioFault::OutOfMemory)) | Err(RunFailure::OutOfMemory) => {
-            report(faults, ScenarioFault::OutOfMemory, 1)
+        Err(GroupError::Refused(ScenarioError::OutOfMemory)) | Err(GroupError::OutOfMemory) => {
+            report(faults, ScenarioError::OutOfMemory, 1)
         }
-        Err(RunFailure::Refused(fault)) => report(faults, fault, 2),
-        Err(RunFailure::Stopped(fault)) => report(faults, RunCode(fault), 1),
-        Err(RunFailure::Unmerged(_)) if is_plain => 1,
-        Err(RunFailure::Unmerged(fault)) => report(faults, fault, 1),
-        Err(RunFailure::Unwritten) => 1,
+        Err(GroupError::Refused(fault)) => report(faults, fault, 2),
+        Err(GroupError::Stopped(fault)) => report(faults, RunCode(fault), 1),
+        Err(GroupError::Unmerged(_)) if is_plain => 1,
+        Err(GroupError::Unmerged(fault)) => report(faults, fault, 1),
+        Err(GroupError::Unwritten) => 1,
     }
 }
 
@@ -196,7 +196,7 @@ pub fn explain<W: Write, F: Write>(error: clap::Error, out: &mut W, faults: &mut
     ensures mistake { result ≡ 2 → out.new ≡ out.old }
 {
     if error.kind() == ErrorKind::OutOfMemory {
-        return report(faults, ScenarioFault::OutOfMemory, 1);
+        return report(faults, ScenarioError::OutOfMemory, 1);
     }
     if error.use_stderr() {
         status_after(write_text(faults, &error), 2)

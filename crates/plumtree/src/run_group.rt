@@ -1,10 +1,10 @@
 //! A group that runs, and what is written of it.
 use crate::group::GroupScenario;
-use loopback::{Machine, Ran, RunFault, Watch, run};
+use loopback::{Machine, RunError, RunReport, Watch, run};
 use node_core::PlumCore;
 use node_names::{Limits, MsgId};
 use simulation::{
-    Form, OutputFault, ScenarioFault, Stop, broadcasts, deliveries, read_document, shown, sort,
+    Form, OutputError, ScenarioError, Stop, broadcasts, deliveries, read_document, shown, sort,
     write_graph, write_lines, write_trace, write_trees,
 };
 use std::alloc::{AllocError, Global};
@@ -17,11 +17,11 @@ const LINE_ROOM: usize = 66_000;
 
 /// Why a group did not run and was not written to its end.
 #[derive(Clone, Copy, Debug, PartialEq, Eq)]
-pub enum RunFailure {
+pub enum GroupError {
     /// No scenario was read.
-    Refused(ScenarioFault),
+    Refused(ScenarioError),
     /// The group did not run to its end.
-    Stopped(RunFault),
+    Stopped(RunError),
     /// The histories of the nodes are not those of one run of a group. What was delivered is written.
     Unmerged(MergeFault),
     /// A write failed.
@@ -30,30 +30,30 @@ pub enum RunFailure {
     OutOfMemory,
 }
 
-impl From<ScenarioFault> for RunFailure {
-    fn from(fault: ScenarioFault) -> RunFailure {
-        RunFailure::Refused(fault)
+impl From<ScenarioError> for GroupError {
+    fn from(fault: ScenarioError) -> GroupError {
+        GroupError::Refused(fault)
     }
 }
 
-impl From<RunFault> for RunFailure {
-    fn from(fault: RunFault) -> RunFailure {
-        RunFailure::Stopped(fault)
+impl From<RunError> for GroupError {
+    fn from(fault: RunError) -> GroupError {
+        GroupError::Stopped(fault)
     }
 }
 
-impl From<OutputFault> for RunFailure {
-    fn from(fault: OutputFault) -> RunFailure {
+impl From<OutputError> for GroupError {
+    fn from(fault: OutputError) -> GroupError {
         match fault {
-            OutputFault::OutOfMemory => RunFailure::OutOfMemory,
-            OutputFault::Unwritten => RunFailure::Unwritten,
+            OutputError::OutOfMemory => GroupError::OutOfMemory,
+            OutputError::Unwritten => GroupError::Unwritten,
         }
     }
 }
 
-impl From<AllocError> for RunFailure {
-    fn from(_error: AllocError) -> RunFailure {
-        RunFailure::OutOfMemory
+impl From<AllocError> for GroupError {
+    fn from(_error: AllocError) -> GroupError {
+        GroupError::OutOfMemory
     }
 }
 
@@ -66,7 +66,7 @@ pub fn run_group<R, W, V>(
     text: &[u8],
     out: &mut W,
     watch: &mut V,
-) -> Result<(), RunFailure>
+) -> Result<(), GroupError>
 where
     R: Machine,
     W: Write,
@@ -78,7 +78,7 @@ where
 }
 
 /// Reads a text as the scenario of a group.
-fn read_group(alloc: Global, text: &[u8]) -> Result<GroupScenario, ScenarioFault> {
+fn read_group(alloc: Global, text: &[u8]) -> Result<GroupScenario, ScenarioError> {
     let document = read_document(alloc, text)?;
     GroupScenario::from_document(alloc, &document)
 }
@@ -88,9 +88,9 @@ fn write_run<W: Write>(
     alloc: Global,
     form: Form,
     limits: Limits,
-    ran: &Ran,
+    ran: &RunReport,
     out: &mut W,
-) -> Result<(), RunFailure> {
+) -> Result<(), GroupError> {
     let merged = merge(alloc, limits, ran.traces.as_slice());
     match form {
         Form::Lines => {
@@ -128,7 +128,7 @@ fn write_deliveries<W: Write>(
     text: &mut String,
     deliveries: &[Delivery],
     out: &mut W,
-) -> Result<(), OutputFault> {
+) -> Result<(), OutputError> {
     let mut sorted = references(alloc, deliveries)?;
     sort(&mut sorted)?;
     write_lines(text, sorted.as_slice(), out)
@@ -139,11 +139,11 @@ fn write_verdict<W: Write>(
     text: &mut String,
     merged: &Result<Vec<Event>, MergeFault>,
     out: &mut W,
-) -> Result<(), OutputFault> {
+) -> Result<(), OutputError> {
     text.clear();
     match merged {
         Ok(_) => text.push_str("merge ok\n")?,
-        Err(MergeFault::OutOfMemory) => return Err(OutputFault::OutOfMemory),
+        Err(MergeFault::OutOfMemory) => return Err(OutputError::OutOfMemory),
         Err(fault) => write!(text, "merge {fault}\n")?,
     }
     out.write_all(text.as_bytes())?;
@@ -155,16 +155,16 @@ fn group_of(
     alloc: Global,
     limits: Limits,
     merged: Result<Vec<Event>, MergeFault>,
-) -> Result<World<PlumCore>, RunFailure> {
+) -> Result<World<PlumCore>, GroupError> {
     let events = match merged {
         Ok(events) => events,
-        Err(MergeFault::OutOfMemory) => return Err(RunFailure::OutOfMemory),
-        Err(fault) => return Err(RunFailure::Unmerged(fault)),
+        Err(MergeFault::OutOfMemory) => return Err(GroupError::OutOfMemory),
+        Err(fault) => return Err(GroupError::Unmerged(fault)),
     };
     let mut group = World::new(alloc, limits);
     match play_all(&mut group, events.as_slice()) {
         Ok(()) => Ok(group),
-        Err(_) => Err(RunFailure::OutOfMemory),
+        Err(_) => Err(GroupError::OutOfMemory),
     }
 }
 
@@ -182,7 +182,7 @@ fn write_group<W: Write>(
     text: &mut String,
     group: &World<PlumCore>,
     out: &mut W,
-) -> Result<(), RunFailure> {
+) -> Result<(), GroupError> {
     let given = deliveries(alloc, group.log())?;
     let messages = broadcasts(alloc, given.as_slice())?;
     Ok(write_trees(alloc, text, group, messages.as_slice(), out)?)
@@ -194,7 +194,7 @@ fn draw_group<W: Write>(
     group: &World<PlumCore>,
     only: &Option<MsgId>,
     out: &mut W,
-) -> Result<(), RunFailure> {
+) -> Result<(), GroupError> {
     let given = deliveries(alloc, group.log())?;
     let messages = broadcasts(alloc, given.as_slice())?;
     let shown = shown(alloc, messages.as_slice(), only)?;

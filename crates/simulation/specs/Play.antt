@@ -31,12 +31,12 @@ use Rattle.simulation.specs.Lines.{line_cmp, lines_of}
 use Rattle.simulation.specs.Trees.{broadcasts_of, TellsTrees}
 use Rattle.simulation.specs.declared.scenario.action.Action.{Action}
 use Rattle.simulation.specs.declared.scenario.action.Action.TheVariants.{Start, Broadcast, Arrive, Lose, Again, Fire, Flush, Shuffle, Down, Stop, ArriveAll, Settle}
-use Rattle.simulation.specs.declared.play.Halt.{Halt}
-use Rattle.simulation.specs.declared.play.Halt.TheVariants as halt
+use Rattle.simulation.specs.declared.play.ActionError.{ActionError}
+use Rattle.simulation.specs.declared.play.ActionError.TheVariants as halt
 use Rattle.simulation.specs.declared.play.Idle.{Idle}
 use Rattle.simulation.specs.declared.play.Idle.TheVariants as idle
-use Rattle.simulation.specs.declared.play.PlayFault.{PlayFault}
-use Rattle.simulation.specs.declared.play.PlayFault.TheVariants as fault
+use Rattle.simulation.specs.declared.play.PlayError.{PlayError}
+use Rattle.simulation.specs.declared.play.PlayError.TheVariants as fault
 
 -- the arrival of the oldest packet in flight
 abbrev pub oldest : Dice → Event
@@ -74,7 +74,7 @@ rolls_after ArriveAll rolls = rolls
 rolls_after Settle rolls = rolls
 
 -- the fault of a halt at this event; a refused allocation is no matter of the event
-abbrev pub fault_of : ℕ → Halt → PlayFault
+abbrev pub fault_of : ℕ → ActionError → PlayError
 fault_of number (halt.Refused world.OutOfMemory) = fault.OutOfMemory
 fault_of number (halt.Refused why) = fault.Refused number (record { 0 = why })
 fault_of number halt.NoEnd = fault.NoEnd number
@@ -157,7 +157,7 @@ module _
 
       -- The playing of an action halts: its event, or an arrival after some others, is refused, or something is still
       -- in flight after the most arrivals, or settling ends early; or it does nothing.
-      abbrev pub HaltsIn : ℕ → Action → Halt → Standing C N → Logged C N → Type 0
+      abbrev pub HaltsIn : ℕ → Action → ActionError → Standing C N → Logged C N → Type 0
       HaltsIn most action (halt.Refused why) old new = MatchOption (event_of (rolled old.rolls) action)
           ((n : ℕ) × (n < most) × (between : Standing C N) × Drains n old between × (new ≡ between.group) × Refuses (oldest (rolled between.rolls)) why new)
           (λ e. (new ≡ old.group) × Refuses e why new)
@@ -166,7 +166,7 @@ module _
       HaltsIn most action halt.NoEnd old new = (event_of (rolled old.rolls) action ≡ None) × (n : ℕ) × (n ≡ most) × (between : Standing C N) × Drains n old between × (new ≡ between.group) × (new.group.flight ≢ [])
 
       -- The playing halts at the action with this number, after all those before it.
-      pub record HaltsAt (most : ℕ) (actions : List Action) (number : ℕ) (stop : Halt) (old : Standing C N) (new : Logged C N) : Type 0 where
+      pub record HaltsAt (most : ℕ) (actions : List Action) (number : ℕ) (stop : ActionError) (old : Standing C N) (new : Logged C N) : Type 0 where
         pub action : Action
         pub before : Standing C N
         pub listed : slice_get actions number ≡ Some action
@@ -174,8 +174,8 @@ module _
         pub halted : HaltsIn most action stop before new
 
       -- The fault is that of a halt.
-      abbrev pub IsHalted : ℕ → List Action → PlayFault → Standing C N → Logged C N → Type 0
-      IsHalted most actions stopped old new = (number : ℕ) × (stop : Halt) × (stopped ≡ fault_of number stop) × HaltsAt most actions number stop old new
+      abbrev pub IsHalted : ℕ → List Action → PlayError → Standing C N → Logged C N → Type 0
+      IsHalted most actions stopped old new = (number : ℕ) × (stop : ActionError) × (stopped ≡ fault_of number stop) × HaltsAt most actions number stop old new
 
 -- What the output gains is what is printed of a group and its deliveries: the lines of these, sorted, and then those of
 -- each message that was broadcast, in the order of their ids.
@@ -221,7 +221,7 @@ pub record PrintsHalted
     (seed : Option ℕ)
     (limits : Limits)
     (actions : List Action)
-    (stopped : PlayFault)
+    (stopped : PlayError)
     (before after : Option (List ℕ))
     : Type 0 where
   pub group : Logged C N

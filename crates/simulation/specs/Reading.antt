@@ -3,8 +3,8 @@ use Rattle.std.specs.Prelude.{◌≡◌, ◌≢◌, ℕ, ◌≤◌, List, [], �
 use Rattle.toml.specs.Data.{Data, Members, Items, no_items, item, string, integer, array, table, get_member}
 use Rattle.node_names.specs.NodeName.{IsNodeName, Name}
 use Rattle.simulation.specs.Key.{word_of}
-use Rattle.simulation.specs.declared.scenario.fault.Key.{Key}
-use Rattle.simulation.specs.declared.scenario.fault.ScenarioFault.{ScenarioFault}
+use Rattle.simulation.specs.declared.scenario.error.Key.{Key}
+use Rattle.simulation.specs.declared.scenario.error.ScenarioError.{ScenarioError}
 
 -- what a table has at a key
 abbrev pub at_key : Key → Members → Option Data
@@ -15,19 +15,19 @@ abbrev pub IsOptional : {T : Type 0} → (Option Data → T → Type 0) → Opti
 IsOptional Means found value = MatchOption value (found ≡ None) (Means found)
 
 -- Such a key is refused where it is there and means nothing. `seen` is what is seen of the value that is read.
-abbrev pub ReadsOptionalAs : {T V : Type 0} → (T → V) → (Option Data → V → Type 0) → Option Data → ScenarioFault → Result (Option T) ScenarioFault → Type 0
+abbrev pub ReadsOptionalAs : {T V : Type 0} → (T → V) → (Option Data → V → Type 0) → Option Data → ScenarioError → Result (Option T) ScenarioError → Type 0
 ReadsOptionalAs seen Means found fault result = MatchResult result
     (λ value. IsOptional Means found (option_map seen value))
     (λ e. (e ≡ fault) × (found ≢ None) × ((v : _) → ¬ Means found v))
 
-abbrev pub ReadsOptional : {T : Type 0} → (Option Data → T → Type 0) → Option Data → ScenarioFault → Result (Option T) ScenarioFault → Type 0
+abbrev pub ReadsOptional : {T : Type 0} → (Option Data → T → Type 0) → Option Data → ScenarioError → Result (Option T) ScenarioError → Type 0
 ReadsOptional Means found fault result = MatchResult result (IsOptional Means found) (λ e. (e ≡ fault) × (found ≢ None) × ((x : _) → ¬ Means found x))
 
 -- A key that must be there gives what it means, and is refused where it means nothing.
-abbrev pub ReadsRequiredAs : {T V : Type 0} → (T → V) → (Option Data → V → Type 0) → Option Data → ScenarioFault → Result T ScenarioFault → Type 0
+abbrev pub ReadsRequiredAs : {T V : Type 0} → (T → V) → (Option Data → V → Type 0) → Option Data → ScenarioError → Result T ScenarioError → Type 0
 ReadsRequiredAs seen Means found fault result = MatchResult result (λ x. Means found (seen x)) (λ e. (e ≡ fault) × ((v : _) → ¬ Means found v))
 
-abbrev pub ReadsRequired : {T : Type 0} → (Option Data → T → Type 0) → Option Data → ScenarioFault → Result T ScenarioFault → Type 0
+abbrev pub ReadsRequired : {T : Type 0} → (Option Data → T → Type 0) → Option Data → ScenarioError → Result T ScenarioError → Type 0
 ReadsRequired Means found fault result = ReadsRequiredAs (λ x. x) Means found fault result
 
 -- a whole number, which is at most `most`

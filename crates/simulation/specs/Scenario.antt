@@ -5,7 +5,7 @@ use Rattle.toml.specs.Parse.{parse_document}
 use Rattle.toml.specs.Data.{Data, Members, no_members, table}
 use Rattle.node_names.specs.Limits.{Limits as Sizes, IsAllowed}
 use Rattle.simulation.specs.Reading.{at_key, IsOptional, IsNumber, IsNumberFromOne, IsText, IsName, IsNames, IsTables}
-use Rattle.simulation.specs.declared.scenario.fault.Key.TheVariants.{Seed, Limits, Event, Active, Passive, Arwl, Prwl, Ka, Kp, Threshold, Keep, Do, Node, Incarnation, Peers, Contact, Text, Place, Number, Origin, Seq, Peer}
+use Rattle.simulation.specs.declared.scenario.error.Key.TheVariants.{Seed, Limits, Event, Active, Passive, Arwl, Prwl, Ka, Kp, Threshold, Keep, Do, Node, Incarnation, Peers, Contact, Text, Place, Number, Origin, Seq, Peer}
 use Rattle.simulation.specs.declared.scenario.action.Action.{Action}
 use Rattle.simulation.specs.declared.scenario.action.Action.TheVariants.{Start, Broadcast, Arrive, Lose, Again, Fire, Flush, Shuffle, Down, Stop, ArriveAll, Settle}
 

@@ -8,7 +8,7 @@ mod overlay;
 mod parts;
 mod runs;
 
-use crate::output::OutputFault;
+use crate::output::OutputError;
 use node_core::PlumCore;
 use node_names::MsgId;
 use std::alloc::{AllocError, Allocator};
@@ -23,7 +23,7 @@ pub fn write_graph<A: Allocator + Copy, W: Write>(
     group: &World<PlumCore<A>, A>,
     messages: &[MsgId],
     out: &mut W,
-) -> Result<(), OutputFault>
+) -> Result<(), OutputError>
     ensures { OnOk result ((text : List ℕ) × DrawsGroup group.now messages.now text × Appends (W.contents out.old) (W.contents out.new) text) }
 {
     let mut text = String::new(alloc);

@@ -2,7 +2,7 @@
 #![tactic(auto)]
 
 mod code;
-mod failure;
+mod error;
 mod form;
 mod graph;
 mod outcome;
@@ -18,15 +18,15 @@ mod tracing;
 mod trees;
 
 pub use code::{Code, SettleCode};
-pub use failure::Failure;
+pub use error::SimulationError;
 pub use form::Form;
 pub use graph::write_graph;
 pub use outcome::{draw, play_and_print, play_and_trace, shown, simulate, trace};
-pub use output::{OutputFault, deliveries, sort, write_lines};
-pub use play::{Idle, MOST_ARRIVALS, PlayFault};
+pub use output::{OutputError, deliveries, sort, write_lines};
+pub use play::{Idle, MOST_ARRIVALS, PlayError};
 pub use program::{conclude, play_input, report, report_unread, status_after};
-pub use read::{LONGEST, read_document, read_text};
-pub use scenario::{Action, Key, MOST_EVENTS, Place, Scenario, ScenarioFault, Section, limits_of};
+pub use read::{MAX_SCENARIO_BYTES, read_document, read_text};
+pub use scenario::{Action, Key, MOST_EVENTS, Place, Scenario, ScenarioError, Section, limits_of};
 pub use strict::report_unknown;
 pub use tracing::{Stop, write_trace};
 pub use trees::{broadcasts, write_trees};

@@ -1,9 +1,9 @@
 //! What comes of a scenario, over its text and any writer.
 ghost use Rattle.std.specs.Prelude.{◌≡◌, ◌≢◌, ◌<◌, ℕ, List, Option, Err, IfOk, IfErr, OnOk, [], ◌∷◌, ◌++◌};
 ghost use Rattle.node_names.specs.Limits.{Limits as Sizes};
-ghost use Rattle.simulation.specs.declared.play.PlayFault.{PlayFault};
+ghost use Rattle.simulation.specs.declared.play.PlayError.{PlayError};
 ghost use Rattle.simulation.specs.declared.scenario.action.Action.{Action};
-ghost use Rattle.simulation.specs.declared.scenario.fault.ScenarioFault.{ScenarioFault};
+ghost use Rattle.simulation.specs.declared.scenario.error.ScenarioError.{ScenarioError};
 ghost use Rattle.simulation.specs.Scenario.{IsScenario};
 ghost use Rattle.simulation.specs.Drawn.{is_shown, shown_of, Draws, DrawsShown};
 ghost use Rattle.simulation.specs.Play.{delivered, Prints, PrintsGroup, PrintsHalted};
@@ -12,11 +12,11 @@ ghost use Rattle.frames.specs.Content.{frame_content};
 ghost use Rattle.node_core.specs.Plum.{plum_state};
 ghost use Rattle.node_core.specs.Steps.{PlumIsSpent, PlumStarts, PlumSteps};
 
-use crate::failure::{Failure, ended};
-use crate::output::OutputFault;
-use crate::play::{MOST_ARRIVALS, PlayFault, Player};
-use crate::read::{LONGEST, read_document};
-use crate::scenario::{MOST_EVENTS, Scenario, ScenarioFault};
+use crate::error::{SimulationError, ended};
+use crate::output::OutputError;
+use crate::play::{MOST_ARRIVALS, PlayError, Player};
+use crate::read::{MAX_SCENARIO_BYTES, read_document};
+use crate::scenario::{MOST_EVENTS, Scenario, ScenarioError};
 use crate::tracing::{Stop, write_trace};
 use crate::{graph, output, trees};
 use node_core::PlumCore;
@@ -37,16 +37,16 @@ pub fn simulate<W: Write>(
     text: &[u8],
     is_strict: bool,
     out: &mut W,
-) -> Result<(), Failure>
+) -> Result<(), SimulationError>
     ensures printed { OnOk result ((seed : Option ℕ) × (sizes : Sizes) × (actions : List Action)
-        × IsScenario LONGEST MOST_EVENTS text.now seed sizes actions
+        × IsScenario MAX_SCENARIO_BYTES MOST_EVENTS text.now seed sizes actions
         × Prints plum_state frame_content PlumStarts PlumSteps MOST_ARRIVALS seed sizes actions (W.contents out.old) (W.contents out.new)) }
-    ensures stopped { (fault : PlayFault) → result ≡ Err (Failure.Stopped fault) → fault ≢ PlayFault.OutOfMemory → (seed : Option ℕ) × (sizes : Sizes) × (actions : List Action)
-        × IsScenario LONGEST MOST_EVENTS text.now seed sizes actions
+    ensures stopped { (fault : PlayError) → result ≡ Err (SimulationError.Stopped fault) → fault ≢ PlayError.OutOfMemory → (seed : Option ℕ) × (sizes : Sizes) × (actions : List Action)
+        × IsScenario MAX_SCENARIO_BYTES MOST_EVENTS text.now seed sizes actions
         × PrintsHalted plum_state frame_content PlumStarts PlumSteps PlumIsSpent MOST_ARRIVALS seed sizes actions fault (W.contents out.old) (W.contents out.new) }
-    ensures refused { (fault : ScenarioFault) → result ≡ Err (Failure.Refused fault) → fault ≢ ScenarioFault.OutOfMemory → (seed : Option ℕ) (sizes : Sizes) (actions : List Action)
-        → ¬ IsScenario LONGEST MOST_EVENTS text.now seed sizes actions }
-    ensures unplayed { (fault : ScenarioFault) → result ≡ Err (Failure.Refused fault) → out.new ≡ out.old }
+    ensures refused { (fault : ScenarioError) → result ≡ Err (SimulationError.Refused fault) → fault ≢ ScenarioError.OutOfMemory → (seed : Option ℕ) (sizes : Sizes) (actions : List Action)
+        → ¬ IsScenario MAX_SCENARIO_BYTES MOST_EVENTS text.now seed sizes actions }
+    ensures unplayed { (fault : ScenarioError) → result ≡ Err (SimulationError.Refused fault) → out.new ≡ out.old }
 {
     let scenario = read_scenario(alloc, text)?;
     play_and_print::<Global, W>(alloc, &scenario, is_strict, out)
@@ -60,13 +60,13 @@ pub fn draw<W: Write>(
     only: &Option<MsgId>,
     is_strict: bool,
     out: &mut W,
-) -> Result<(), Failure>
+) -> Result<(), SimulationError>
     ensures drawn { OnOk result ((seed : Option ℕ) × (sizes : Sizes) × (actions : List Action)
-        × IsScenario LONGEST MOST_EVENTS text.now seed sizes actions
+        × IsScenario MAX_SCENARIO_BYTES MOST_EVENTS text.now seed sizes actions
         × Draws MOST_ARRIVALS only.now seed sizes actions (W.contents out.old) (W.contents out.new)) }
-    ensures refused { (fault : ScenarioFault) → result ≡ Err (Failure.Refused fault) → fault ≢ ScenarioFault.OutOfMemory → (seed : Option ℕ) (sizes : Sizes) (actions : List Action)
-        → ¬ IsScenario LONGEST MOST_EVENTS text.now seed sizes actions }
-    ensures unplayed { (fault : ScenarioFault) → result ≡ Err (Failure.Refused fault) → out.new ≡ out.old }
+    ensures refused { (fault : ScenarioError) → result ≡ Err (SimulationError.Refused fault) → fault ≢ ScenarioError.OutOfMemory → (seed : Option ℕ) (sizes : Sizes) (actions : List Action)
+        → ¬ IsScenario MAX_SCENARIO_BYTES MOST_EVENTS text.now seed sizes actions }
+    ensures unplayed { (fault : ScenarioError) → result ≡ Err (SimulationError.Refused fault) → out.new ≡ out.old }
 {
     let scenario = read_scenario(alloc, text)?;
     play_and_draw(alloc, &scenario, only, is_strict, out)
@@ -81,23 +81,23 @@ pub fn trace<W: Write>(
     text: &[u8],
     is_strict: bool,
     out: &mut W,
-) -> Result<(), Failure>
+) -> Result<(), SimulationError>
     ensures traced { OnOk result ((seed : Option ℕ) × (sizes : Sizes) × (actions : List Action)
-        × IsScenario LONGEST MOST_EVENTS text.now seed sizes actions
+        × IsScenario MAX_SCENARIO_BYTES MOST_EVENTS text.now seed sizes actions
         × Traces MOST_ARRIVALS seed sizes actions (W.contents out.old) (W.contents out.new)) }
-    ensures refused { (fault : ScenarioFault) → result ≡ Err (Failure.Refused fault) → fault ≢ ScenarioFault.OutOfMemory → (seed : Option ℕ) (sizes : Sizes) (actions : List Action)
-        → ¬ IsScenario LONGEST MOST_EVENTS text.now seed sizes actions }
-    ensures unplayed { (fault : ScenarioFault) → result ≡ Err (Failure.Refused fault) → out.new ≡ out.old }
+    ensures refused { (fault : ScenarioError) → result ≡ Err (SimulationError.Refused fault) → fault ≢ ScenarioError.OutOfMemory → (seed : Option ℕ) (sizes : Sizes) (actions : List Action)
+        → ¬ IsScenario MAX_SCENARIO_BYTES MOST_EVENTS text.now seed sizes actions }
+    ensures unplayed { (fault : ScenarioError) → result ≡ Err (SimulationError.Refused fault) → out.new ≡ out.old }
 {
     let scenario = read_scenario(alloc, text)?;
     play_and_trace(alloc, &scenario, text, is_strict, out)
 }
 
 /// Reads a text as a scenario.
-fn read_scenario(alloc: Global, text: &[u8]) -> Result<Scenario, ScenarioFault>
-    ensures ok { IfOk result (λ scenario. IsScenario LONGEST MOST_EVENTS text.now scenario.seed scenario.limits scenario.actions.items) }
-    ensures refused { IfErr result (λ fault. fault ≢ ScenarioFault.OutOfMemory → (seed : Option ℕ) (sizes : Sizes) (actions : List Action)
-        → ¬ IsScenario LONGEST MOST_EVENTS text.now seed sizes actions) }
+fn read_scenario(alloc: Global, text: &[u8]) -> Result<Scenario, ScenarioError>
+    ensures ok { IfOk result (λ scenario. IsScenario MAX_SCENARIO_BYTES MOST_EVENTS text.now scenario.seed scenario.limits scenario.actions.items) }
+    ensures refused { IfErr result (λ fault. fault ≢ ScenarioError.OutOfMemory → (seed : Option ℕ) (sizes : Sizes) (actions : List Action)
+        → ¬ IsScenario MAX_SCENARIO_BYTES MOST_EVENTS text.now seed sizes actions) }
 {
     let document = read_document(alloc, text)?;
     Scenario::from_document(alloc, &document)
@@ -109,13 +109,13 @@ pub fn play_and_print<A: Allocator + Copy, W: Write>(
     scenario: &Scenario,
     is_strict: bool,
     out: &mut W,
-) -> Result<(), Failure>
+) -> Result<(), SimulationError>
     ensures printed { OnOk result (Prints plum_state frame_content PlumStarts PlumSteps MOST_ARRIVALS scenario.now.seed scenario.now.limits scenario.now.actions.items (W.contents out.old) (W.contents out.new)) }
-    ensures stopped { (fault : PlayFault) → result ≡ Err (Failure.Stopped fault) → fault ≢ PlayFault.OutOfMemory → PrintsHalted plum_state frame_content PlumStarts PlumSteps PlumIsSpent MOST_ARRIVALS scenario.now.seed scenario.now.limits scenario.now.actions.items fault (W.contents out.old) (W.contents out.new) }
-    ensures read { (fault : ScenarioFault) → result ≢ Err (Failure.Refused fault) }
+    ensures stopped { (fault : PlayError) → result ≡ Err (SimulationError.Stopped fault) → fault ≢ PlayError.OutOfMemory → PrintsHalted plum_state frame_content PlumStarts PlumSteps PlumIsSpent MOST_ARRIVALS scenario.now.seed scenario.now.limits scenario.now.actions.items fault (W.contents out.old) (W.contents out.new) }
+    ensures read { (fault : ScenarioError) → result ≢ Err (SimulationError.Refused fault) }
 {
     let Ok(mut text) = String::with_capacity(alloc, LINE_ROOM) else {
-        return Err(Failure::Stopped(PlayFault::OutOfMemory));
+        return Err(SimulationError::Stopped(PlayError::OutOfMemory));
     };
     let mut player = Player::<PlumCore<A>, A>::new(alloc, scenario.seed, scenario.limits);
     let played = player.play(alloc, scenario.actions.as_slice(), is_strict);
@@ -131,9 +131,9 @@ fn play_and_draw<A: Allocator + Copy, W: Write>(
     only: &Option<MsgId>,
     is_strict: bool,
     out: &mut W,
-) -> Result<(), Failure>
+) -> Result<(), SimulationError>
     ensures drawn { OnOk result (Draws MOST_ARRIVALS only.now scenario.now.seed scenario.now.limits scenario.now.actions.items (W.contents out.old) (W.contents out.new)) }
-    ensures read { (fault : ScenarioFault) → result ≢ Err (Failure.Refused fault) }
+    ensures read { (fault : ScenarioError) → result ≢ Err (SimulationError.Refused fault) }
 {
     let mut player = Player::<PlumCore<A>, A>::new(alloc, scenario.seed, scenario.limits);
     let played = player.play(alloc, scenario.actions.as_slice(), is_strict);
@@ -149,9 +149,9 @@ pub fn play_and_trace<A: Allocator + Copy, W: Write>(
     source: &[u8],
     is_strict: bool,
     out: &mut W,
-) -> Result<(), Failure>
+) -> Result<(), SimulationError>
     ensures traced { OnOk result (Traces MOST_ARRIVALS scenario.now.seed scenario.now.limits scenario.now.actions.items (W.contents out.old) (W.contents out.new)) }
-    ensures read { (fault : ScenarioFault) → result ≢ Err (Failure.Refused fault) }
+    ensures read { (fault : ScenarioError) → result ≢ Err (SimulationError.Refused fault) }
 {
     let mut player = Player::<PlumCore<A>, A>::new(alloc, scenario.seed, scenario.limits);
     let played = player.play(alloc, scenario.actions.as_slice(), is_strict);
@@ -176,7 +176,7 @@ fn draw_group<A: Allocator + Copy, W: Write>(
     group: &World<PlumCore<A>, A>,
     only: &Option<MsgId>,
     out: &mut W,
-) -> Result<(), OutputFault>
+) -> Result<(), OutputError>
     ensures { OnOk result (DrawsShown only.now group.now (W.contents out.old) (W.contents out.new)) }
 {
     let deliveries = output::deliveries(alloc, group.log())?;
@@ -230,7 +230,7 @@ fn print<C: Core<A>, A: Allocator + Copy, W: Write>(
     text: &mut String<A>,
     group: &World<C, A>,
     out: &mut W,
-) -> Result<(), OutputFault>
+) -> Result<(), OutputError>
     ensures { OnOk result (PrintsGroup C.state C.Note.content group.now (delivered group.now) (W.contents out.old) (W.contents out.new)) }
 {
     let mut deliveries = output::deliveries(alloc, group.log())?;

@@ -14,7 +14,7 @@ use world::{Delivery, Entry};
 
 /// Why lines were not all written.
 #[derive(Clone, Copy, Debug, PartialEq, Eq, Error)]
-pub enum OutputFault {
+pub enum OutputError {
     /// There was no memory left for a line.
     #[error("out of memory")]
     OutOfMemory,
@@ -23,15 +23,15 @@ pub enum OutputFault {
     Unwritten,
 }
 
-impl From<AllocError> for OutputFault {
-    fn from(_error: AllocError) -> OutputFault {
-        OutputFault::OutOfMemory
+impl From<AllocError> for OutputError {
+    fn from(_error: AllocError) -> OutputError {
+        OutputError::OutOfMemory
     }
 }
 
-impl From<io::Error> for OutputFault {
-    fn from(_error: io::Error) -> OutputFault {
-        OutputFault::Unwritten
+impl From<io::Error> for OutputError {
+    fn from(_error: io::Error) -> OutputError {
+        OutputError::Unwritten
     }
 }
 
@@ -81,7 +81,7 @@ pub fn write_lines<A: Allocator, W: Write>(
     text: &mut String<A>,
     deliveries: &[&Delivery<A>],
     out: &mut W,
-) -> Result<(), OutputFault>
+) -> Result<(), OutputError>
     ensures { OnOk result (Appends (W.contents out.old) (W.contents out.new) (lines_of (map (λ d. d.now) deliveries.now))) }
 {
     for delivery in deliveries {

@@ -24,7 +24,7 @@ pub const MOST_ARRIVALS: usize = 10_000;
 
 /// Why a run ended before its scenario did. Events are counted from 0.
 #[derive(Clone, Copy, Debug, PartialEq, Eq, Error)]
-pub enum PlayFault {
+pub enum PlayError {
     /// The group refused an event.
     #[error("event {event}: {code}")]
     Refused { event: usize, code: Code },
@@ -69,7 +69,7 @@ impl fmt::Display for Idle {
 
 /// Why an action was not played to its end.
 #[derive(Clone, Copy, Debug, PartialEq, Eq)]
-pub enum Halt {
+pub enum ActionError {
     /// The group refused its event, or one of its arrivals.
     Refused(WorldError),
     /// Packets were still in flight after the most arrivals.
@@ -80,24 +80,24 @@ pub enum Halt {
     Idle(Idle),
 }
 
-impl Halt {
+impl ActionError {
     /// The fault of a run that halts so at this event.
-    fn at(self, event: usize) -> PlayFault
+    fn at(self, event: usize) -> PlayError
         ensures { result ≡ fault_of event self }
     {
         match self {
-            Halt::Refused(WorldError::OutOfMemory) => PlayFault::OutOfMemory,
-            Halt::Refused(why) => PlayFault::Refused {
+            ActionError::Refused(WorldError::OutOfMemory) => PlayError::OutOfMemory,
+            ActionError::Refused(why) => PlayError::Refused {
                 event,
                 code: Code(why),
             },
-            Halt::NoEnd => PlayFault::NoEnd { event },
-            Halt::Unsettled(SettleError::OutOfMemory) => PlayFault::OutOfMemory,
-            Halt::Unsettled(why) => PlayFault::Unsettled {
+            ActionError::NoEnd => PlayError::NoEnd { event },
+            ActionError::Unsettled(SettleError::OutOfMemory) => PlayError::OutOfMemory,
+            ActionError::Unsettled(why) => PlayError::Unsettled {
                 event,
                 code: SettleCode(why),
             },
-            Halt::Idle(why) => PlayFault::Idle { event, why },
+            ActionError::Idle(why) => PlayError::Idle { event, why },
         }
     }
 }
@@ -137,9 +137,9 @@ impl<C: Core<A>, A: Allocator + Copy> Player<C, A> {
     }
 
     /// Lets the oldest packet arrive until none is in flight.
-    fn arrive_all(&mut self) -> Result<(), Halt>
+    fn arrive_all(&mut self) -> Result<(), ActionError>
         ensures ok { OnOk result (PlaysAction C.state C.starts C.steps MOST_ARRIVALS Action.ArriveAll (record { rolls = rolls_in self.old.rolls; group = self.old.group }) (record { rolls = rolls_in self.new.rolls; group = self.new.group })) }
-        ensures halted { IfErr result (λ halt. halt ≢ Halt.Refused WorldError.OutOfMemory → HaltsIn C.state C.starts C.steps C.Note.content C.is_spent MOST_ARRIVALS Action.ArriveAll halt (record { rolls = rolls_in self.old.rolls; group = self.old.group }) self.new.group) }
+        ensures halted { IfErr result (λ halt. halt ≢ ActionError.Refused WorldError.OutOfMemory → HaltsIn C.state C.starts C.steps C.Note.content C.is_spent MOST_ARRIVALS Action.ArriveAll halt (record { rolls = rolls_in self.old.rolls; group = self.old.group }) self.new.group) }
     {
         for _ in 0..MOST_ARRIVALS {
             if self.group.flight().is_empty() {
@@ -150,13 +150,13 @@ impl<C: Core<A>, A: Allocator + Copy> Player<C, A> {
                 dice: self.rolls.roll(),
             };
             if let Err(why) = self.step(oldest) {
-                return Err(Halt::Refused(why));
+                return Err(ActionError::Refused(why));
             }
         }
         if self.group.flight().is_empty() {
             Ok(())
         } else {
-            Err(Halt::NoEnd)
+            Err(ActionError::NoEnd)
         }
     }
 
@@ -173,14 +173,14 @@ impl<C: Core<A>, A: Allocator + Copy> Player<C, A> {
 
 impl<A: Allocator + Copy> Player<PlumCore<A>, A> {
     /// Plays actions in order: strictly, if so, which refuses one that does nothing.
-    pub fn play(&mut self, alloc: A, actions: &[Action], is_strict: bool) -> Result<(), PlayFault>
+    pub fn play(&mut self, alloc: A, actions: &[Action], is_strict: bool) -> Result<(), PlayError>
         ensures ok { OnOk result (PlaysActions plum_state PlumStarts PlumSteps MOST_ARRIVALS actions.now (record { rolls = rolls_in self.old.rolls; group = self.old.group }) (record { rolls = rolls_in self.new.rolls; group = self.new.group })) }
-        ensures stopped { IfErr result (λ fault. fault ≢ PlayFault.OutOfMemory → IsHalted plum_state PlumStarts PlumSteps frame_content PlumIsSpent MOST_ARRIVALS actions.now fault (record { rolls = rolls_in self.old.rolls; group = self.old.group }) self.new.group) }
+        ensures stopped { IfErr result (λ fault. fault ≢ PlayError.OutOfMemory → IsHalted plum_state PlumStarts PlumSteps frame_content PlumIsSpent MOST_ARRIVALS actions.now fault (record { rolls = rolls_in self.old.rolls; group = self.old.group }) self.new.group) }
     {
         for (number, action) in actions.iter().enumerate() {
             let taken = self.group.log().len();
             if self.begun.push(taken).is_err() {
-                return Err(PlayFault::OutOfMemory);
+                return Err(PlayError::OutOfMemory);
             }
             if let Err(halt) = self.play_action(alloc, action, is_strict) {
                 return Err(halt.at(number));
@@ -190,12 +190,12 @@ impl<A: Allocator + Copy> Player<PlumCore<A>, A> {
     }
 
     /// Plays one action.
-    fn play_action(&mut self, alloc: A, action: &Action, is_strict: bool) -> Result<(), Halt>
+    fn play_action(&mut self, alloc: A, action: &Action, is_strict: bool) -> Result<(), ActionError>
         ensures ok { OnOk result (PlaysAction plum_state PlumStarts PlumSteps MOST_ARRIVALS action.now (record { rolls = rolls_in self.old.rolls; group = self.old.group }) (record { rolls = rolls_in self.new.rolls; group = self.new.group })) }
-        ensures halted { IfErr result (λ halt. halt ≢ Halt.Refused WorldError.OutOfMemory → HaltsIn plum_state PlumStarts PlumSteps frame_content PlumIsSpent MOST_ARRIVALS action.now halt (record { rolls = rolls_in self.old.rolls; group = self.old.group }) self.new.group) }
+        ensures halted { IfErr result (λ halt. halt ≢ ActionError.Refused WorldError.OutOfMemory → HaltsIn plum_state PlumStarts PlumSteps frame_content PlumIsSpent MOST_ARRIVALS action.now halt (record { rolls = rolls_in self.old.rolls; group = self.old.group }) self.new.group) }
     {
         if is_strict && let Some(why) = self.idle(action) {
-            return Err(Halt::Idle(why));
+            return Err(ActionError::Idle(why));
         }
         self.take_action(alloc, action)
     }
@@ -213,25 +213,25 @@ impl<A: Allocator + Copy> Player<PlumCore<A>, A> {
     }
 
     /// Plays one action, whatever it does.
-    fn take_action(&mut self, alloc: A, action: &Action) -> Result<(), Halt>
+    fn take_action(&mut self, alloc: A, action: &Action) -> Result<(), ActionError>
         ensures ok { OnOk result (PlaysAction plum_state PlumStarts PlumSteps MOST_ARRIVALS action.now (record { rolls = rolls_in self.old.rolls; group = self.old.group }) (record { rolls = rolls_in self.new.rolls; group = self.new.group })) }
-        ensures halted { IfErr result (λ halt. halt ≢ Halt.Refused WorldError.OutOfMemory → HaltsIn plum_state PlumStarts PlumSteps frame_content PlumIsSpent MOST_ARRIVALS action.now halt (record { rolls = rolls_in self.old.rolls; group = self.old.group }) self.new.group) }
+        ensures halted { IfErr result (λ halt. halt ≢ ActionError.Refused WorldError.OutOfMemory → HaltsIn plum_state PlumStarts PlumSteps frame_content PlumIsSpent MOST_ARRIVALS action.now halt (record { rolls = rolls_in self.old.rolls; group = self.old.group }) self.new.group) }
     {
         match event_of(alloc, &mut self.rolls, action) {
             Ok(Some(event)) => match self.step(event) {
                 Ok(()) => Ok(()),
-                Err(why) => Err(Halt::Refused(why)),
+                Err(why) => Err(ActionError::Refused(why)),
             },
             Ok(None) => self.play_many(alloc, action),
-            Err(_) => Err(Halt::Refused(WorldError::OutOfMemory)),
+            Err(_) => Err(ActionError::Refused(WorldError::OutOfMemory)),
         }
     }
 
     /// Plays an action of many events.
-    fn play_many(&mut self, alloc: A, action: &Action) -> Result<(), Halt>
+    fn play_many(&mut self, alloc: A, action: &Action) -> Result<(), ActionError>
         requires { event_of (rolled (rolls_in self.old.rolls)) action.now ≡ None }
         ensures ok { OnOk result (PlaysAction plum_state PlumStarts PlumSteps MOST_ARRIVALS action.now (record { rolls = rolls_in self.old.rolls; group = self.old.group }) (record { rolls = rolls_in self.new.rolls; group = self.new.group })) }
-        ensures halted { IfErr result (λ halt. halt ≢ Halt.Refused WorldError.OutOfMemory → HaltsIn plum_state PlumStarts PlumSteps frame_content PlumIsSpent MOST_ARRIVALS action.now halt (record { rolls = rolls_in self.old.rolls; group = self.old.group }) self.new.group) }
+        ensures halted { IfErr result (λ halt. halt ≢ ActionError.Refused WorldError.OutOfMemory → HaltsIn plum_state PlumStarts PlumSteps frame_content PlumIsSpent MOST_ARRIVALS action.now halt (record { rolls = rolls_in self.old.rolls; group = self.old.group }) self.new.group) }
     {
         match action {
             Action::ArriveAll => self.arrive_all(),
@@ -241,13 +241,13 @@ impl<A: Allocator + Copy> Player<PlumCore<A>, A> {
     }
 
     /// Brings the group to rest.
-    fn settle(&mut self, alloc: A) -> Result<(), Halt>
+    fn settle(&mut self, alloc: A) -> Result<(), ActionError>
         ensures ok { OnOk result (PlaysAction plum_state PlumStarts PlumSteps MOST_ARRIVALS Action.Settle (record { rolls = rolls_in self.old.rolls; group = self.old.group }) (record { rolls = rolls_in self.new.rolls; group = self.new.group })) }
         ensures halted { IfErr result (λ halt. HaltsIn plum_state PlumStarts PlumSteps frame_content PlumIsSpent MOST_ARRIVALS Action.Settle halt (record { rolls = rolls_in self.old.rolls; group = self.old.group }) self.new.group) }
     {
         match at_rest::settle(alloc, &mut self.group) {
             Ok(_) => Ok(()),
-            Err(why) => Err(Halt::Unsettled(why)),
+            Err(why) => Err(ActionError::Unsettled(why)),
         }
     }
 }

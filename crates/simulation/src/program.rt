@@ -2,19 +2,19 @@
 ghost use Rattle.std.specs.Prelude.{◌≡◌, ◌≢◌, ◌⊎◌, false, ◌≤◌, ◌<◌, ℕ, List, Option, Err, IfSome, IsOk, OnOk};
 ghost use Rattle.node_names.specs.Limits.{Limits as Sizes};
 ghost use Rattle.simulation.specs.declared.play.TheConstants.{MOST_ARRIVALS};
-ghost use Rattle.simulation.specs.declared.read.TheConstants.{LONGEST};
+ghost use Rattle.simulation.specs.declared.read.TheConstants.{MAX_SCENARIO_BYTES};
 ghost use Rattle.simulation.specs.declared.scenario.TheConstants.{MOST_EVENTS};
 ghost use Rattle.simulation.specs.declared.scenario.action.Action.{Action};
-ghost use Rattle.simulation.specs.declared.scenario.fault.ScenarioFault.{ScenarioFault};
+ghost use Rattle.simulation.specs.declared.scenario.error.ScenarioError.{ScenarioError};
 ghost use Rattle.simulation.specs.Form.{IsWritten};
 ghost use Rattle.simulation.specs.Scenario.{IsScenario};
 
-use crate::failure::Failure;
+use crate::error::SimulationError;
 use crate::form::Form;
 use crate::outcome::{draw, simulate, trace};
-use crate::play::PlayFault;
+use crate::play::PlayError;
 use crate::read::read_text;
-use crate::scenario::ScenarioFault;
+use crate::scenario::ScenarioError;
 use crate::strict::{report_idle, report_unknown};
 use std::alloc::Global;
 use std::fmt::Display;
@@ -35,7 +35,7 @@ pub fn play_input<R: Read, W: Write, F: Write>(
     ensures quiet { result ≡ 0 → faults.new ≡ faults.old }
     ensures unplayed { result ≡ 2 → out.new ≡ out.old }
     ensures played { result ≡ 0 → IfSome (R.remaining input.old) (λ text. (seed : Option ℕ) × (sizes : Sizes) × (actions : List Action)
-        × IsScenario LONGEST MOST_EVENTS text seed sizes actions
+        × IsScenario MAX_SCENARIO_BYTES MOST_EVENTS text seed sizes actions
         × IsWritten MOST_ARRIVALS form seed sizes actions (W.contents out.old) (W.contents out.new)) }
 {
     match read_text(alloc, input) {
@@ -57,9 +57,9 @@ fn play<W: Write, F: Write>(
     ensures quiet { result ≡ 0 → faults.new ≡ faults.old }
     ensures unplayed { result ≡ 2 → out.new ≡ out.old }
     ensures played { result ≡ 0 → (seed : Option ℕ) × (sizes : Sizes) × (actions : List Action)
-        × IsScenario LONGEST MOST_EVENTS text.now seed sizes actions
+        × IsScenario MAX_SCENARIO_BYTES MOST_EVENTS text.now seed sizes actions
         × IsWritten MOST_ARRIVALS form seed sizes actions (W.contents out.old) (W.contents out.new) }
-    ensures refused { result ≡ 2 → is_strict ≡ false → (seed : Option ℕ) (sizes : Sizes) (actions : List Action) → ¬ IsScenario LONGEST MOST_EVENTS text.now seed sizes actions }
+    ensures refused { result ≡ 2 → is_strict ≡ false → (seed : Option ℕ) (sizes : Sizes) (actions : List Action) → ¬ IsScenario MAX_SCENARIO_BYTES MOST_EVENTS text.now seed sizes actions }
 {
     if is_strict && let Some(status) = report_unknown(alloc, text, faults) {
         return status;
@@ -80,12 +80,12 @@ fn play_known<W: Write, F: Write>(
     ensures quiet { result ≡ 0 → faults.new ≡ faults.old }
     ensures unplayed { result ≡ 2 → out.new ≡ out.old }
     ensures played { result ≡ 0 → (seed : Option ℕ) × (sizes : Sizes) × (actions : List Action)
-        × IsScenario LONGEST MOST_EVENTS text.now seed sizes actions
+        × IsScenario MAX_SCENARIO_BYTES MOST_EVENTS text.now seed sizes actions
         × IsWritten MOST_ARRIVALS form seed sizes actions (W.contents out.old) (W.contents out.new) }
-    ensures refused { result ≡ 2 → (seed : Option ℕ) (sizes : Sizes) (actions : List Action) → ¬ IsScenario LONGEST MOST_EVENTS text.now seed sizes actions }
+    ensures refused { result ≡ 2 → (seed : Option ℕ) (sizes : Sizes) (actions : List Action) → ¬ IsScenario MAX_SCENARIO_BYTES MOST_EVENTS text.now seed sizes actions }
 {
     let ended = write_outcome(alloc, form, is_strict, text, out);
-    if let Err(Failure::Stopped(PlayFault::Idle { event, why })) = ended {
+    if let Err(SimulationError::Stopped(PlayError::Idle { event, why })) = ended {
         return report_idle(alloc, text, event, why, faults);
     }
     conclude(ended, faults)
@@ -98,13 +98,13 @@ fn write_outcome<W: Write>(
     is_strict: bool,
     text: &[u8],
     out: &mut W,
-) -> Result<(), Failure>
+) -> Result<(), SimulationError>
     ensures played { OnOk result ((seed : Option ℕ) × (sizes : Sizes) × (actions : List Action)
-        × IsScenario LONGEST MOST_EVENTS text.now seed sizes actions
+        × IsScenario MAX_SCENARIO_BYTES MOST_EVENTS text.now seed sizes actions
         × IsWritten MOST_ARRIVALS form seed sizes actions (W.contents out.old) (W.contents out.new)) }
-    ensures refused { (fault : ScenarioFault) → result ≡ Err (Failure.Refused fault) → fault ≢ ScenarioFault.OutOfMemory → (seed : Option ℕ) (sizes : Sizes) (actions : List Action)
-        → ¬ IsScenario LONGEST MOST_EVENTS text.now seed sizes actions }
-    ensures unplayed { (fault : ScenarioFault) → result ≡ Err (Failure.Refused fault) → out.new ≡ out.old }
+    ensures refused { (fault : ScenarioError) → result ≡ Err (SimulationError.Refused fault) → fault ≢ ScenarioError.OutOfMemory → (seed : Option ℕ) (sizes : Sizes) (actions : List Action)
+        → ¬ IsScenario MAX_SCENARIO_BYTES MOST_EVENTS text.now seed sizes actions }
+    ensures unplayed { (fault : ScenarioError) → result ≡ Err (SimulationError.Refused fault) → out.new ≡ out.old }
 {
     match form {
         Form::Lines => simulate(alloc, text, is_strict, out),
@@ -118,27 +118,27 @@ pub fn report_unread<F: Write>(error: &io::Error, faults: &mut F) -> u8
     ensures { (result ≡ 1) ⊎ (result ≡ 2) }
 {
     if error.kind() == io::ErrorKind::OutOfMemory {
-        report(faults, ScenarioFault::OutOfMemory, 1)
+        report(faults, ScenarioError::OutOfMemory, 1)
     } else {
-        report(faults, ScenarioFault::Unreadable, 2)
+        report(faults, ScenarioError::Unreadable, 2)
     }
 }
 
 /// Writes why a run ended early, if it did. The number is the status that the program ends with.
-pub fn conclude<F: Write>(ended: Result<(), Failure>, faults: &mut F) -> u8
+pub fn conclude<F: Write>(ended: Result<(), SimulationError>, faults: &mut F) -> u8
     ensures status { result ≤ 2 }
     ensures quiet { result ≡ 0 → (faults.new ≡ faults.old) × IsOk ended }
-    ensures refused { result ≡ 2 → (fault : ScenarioFault) × (ended ≡ Err (Failure.Refused fault)) × (fault ≢ ScenarioFault.OutOfMemory) }
+    ensures refused { result ≡ 2 → (fault : ScenarioError) × (ended ≡ Err (SimulationError.Refused fault)) × (fault ≢ ScenarioError.OutOfMemory) }
 {
     match ended {
         Ok(()) => 0,
-        Err(Failure::Refused(ScenarioFault::OutOfMemory)) => {
-            report(faults, ScenarioFault::OutOfMemory, 1)
+        Err(SimulationError::Refused(ScenarioError::OutOfMemory)) => {
+            report(faults, ScenarioError::OutOfMemory, 1)
         }
-        Err(Failure::Refused(fault)) => report(faults, fault, 2),
-        Err(Failure::Stopped(fault)) => report(faults, fault, 1),
-        Err(Failure::Unwritten(Some(fault))) => report(faults, fault, 1),
-        Err(Failure::Unwritten(None)) => 1,
+        Err(SimulationError::Refused(fault)) => report(faults, fault, 2),
+        Err(SimulationError::Stopped(fault)) => report(faults, fault, 1),
+        Err(SimulationError::Unwritten(Some(fault))) => report(faults, fault, 1),
+        Err(SimulationError::Unwritten(None)) => 1,
     }
 }
 

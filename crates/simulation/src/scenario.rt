@@ -7,13 +7,13 @@ ghost use Rattle.simulation.specs.Reading.{tables};
 ghost use Rattle.simulation.specs.Scenario.{AreActions, Describes, IsAction};
 
 mod action;
-mod fault;
+mod error;
 mod limits;
 mod position;
 mod section;
 
 pub use action::Action;
-pub use fault::{Key, Place, ScenarioFault};
+pub use error::{Key, Place, ScenarioError};
 pub use limits::limits_of;
 use node_names::Limits;
 pub use position::{event_line, key_line};
@@ -37,9 +37,9 @@ pub struct Scenario {
 
 impl Scenario {
     /// Reads a document as a scenario: what stands at its top first, then the limits, then each event.
-    pub fn from_document(alloc: Global, document: &Table) -> Result<Scenario, ScenarioFault>
+    pub fn from_document(alloc: Global, document: &Table) -> Result<Scenario, ScenarioError>
         ensures ok { IfOk result (λ scenario. Describes MOST_EVENTS (table_view document.now) scenario.seed scenario.limits scenario.actions.items) }
-        ensures refused { IfErr result (λ e. e ≢ ScenarioFault.OutOfMemory → (seed : Option ℕ) (sizes : Sizes) (actions : List Action) → ¬ Describes MOST_EVENTS (table_view document.now) seed sizes actions) }
+        ensures refused { IfErr result (λ e. e ≢ ScenarioError.OutOfMemory → (seed : Option ℕ) (sizes : Sizes) (actions : List Action) → ¬ Describes MOST_EVENTS (table_view document.now) seed sizes actions) }
     {
         let top = Section {
             place: Place::Top,
@@ -65,9 +65,9 @@ impl Scenario {
 }
 
 /// The actions of a list of tables.
-fn actions(alloc: Global, events: &[Value]) -> Result<Vec<Action>, ScenarioFault>
+fn actions(alloc: Global, events: &[Value]) -> Result<Vec<Action>, ScenarioError>
     ensures ok { IfOk result (λ actions. (members : List Members) → items_view events.now ≡ tables members → AreActions members actions.items) }
-    ensures refused { IfErr result (λ e. e ≢ ScenarioFault.OutOfMemory → (members : List Members) → items_view events.now ≡ tables members → (actions : List Action) → ¬ AreActions members actions) }
+    ensures refused { IfErr result (λ e. e ≢ ScenarioError.OutOfMemory → (members : List Members) → items_view events.now ≡ tables members → (actions : List Action) → ¬ AreActions members actions) }
 {
     let mut actions = Vec::new(alloc);
     for (number, event) in events.iter().enumerate() {
@@ -77,16 +77,16 @@ fn actions(alloc: Global, events: &[Value]) -> Result<Vec<Action>, ScenarioFault
 }
 
 /// The action of the table with this number.
-fn numbered_action(alloc: Global, number: usize, event: &Value) -> Result<Action, ScenarioFault>
+fn numbered_action(alloc: Global, number: usize, event: &Value) -> Result<Action, ScenarioError>
     ensures ok { IfOk result (λ action. (members : Members) → view event.now ≡ table members → IsAction members action) }
-    ensures refused { IfErr result (λ e. e ≢ ScenarioFault.OutOfMemory → (members : Members) → view event.now ≡ table members → (action : Action) → ¬ IsAction members action) }
+    ensures refused { IfErr result (λ e. e ≢ ScenarioError.OutOfMemory → (members : Members) → view event.now ≡ table members → (action : Action) → ¬ IsAction members action) }
 {
     match event.as_table() {
         Some(table) => {
             let place = Place::Event(number);
             Action::from_section(alloc, &Section { place, table })
         }
-        None => Err(ScenarioFault::Refused {
+        None => Err(ScenarioError::Refused {
             place: Place::Top,
             key: Key::Event,
         }),

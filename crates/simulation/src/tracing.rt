@@ -7,7 +7,7 @@ mod ending;
 mod step;
 mod stop;
 
-use crate::output::OutputFault;
+use crate::output::OutputError;
 use ending::write_ending;
 use node_core::PlumCore;
 use std::alloc::Allocator;
@@ -27,7 +27,7 @@ pub fn write_trace<A: Allocator + Copy, W: Write>(
     begun: &[usize],
     stop: &Stop<'_>,
     out: &mut W,
-) -> Result<(), OutputFault>
+) -> Result<(), OutputError>
     ensures { OnOk result (TellsGroup group.now (W.contents out.old) (W.contents out.new)) }
 {
     let mut text = String::with_capacity(alloc, STEP_ROOM)?;
@@ -43,7 +43,7 @@ fn write_steps<A: Allocator + Copy, W: Write>(
     group: &World<PlumCore<A>, A>,
     begun: &[usize],
     out: &mut W,
-) -> Result<World<PlumCore<A>, A>, OutputFault>
+) -> Result<World<PlumCore<A>, A>, OutputError>
     ensures { IfOk result (λ run. (steps : List ℕ) × TellsSteps group.now.limits group.now.log (length group.now.log) run steps × Appends (W.contents out.old) (W.contents out.new) steps) }
 {
     let mut run = World::new(alloc, group.limits());

@@ -4,7 +4,7 @@ ghost use Rattle.std.specs.Io.KnownBytes.{Appends};
 ghost use Rattle.node_names.specs.Order.{id_cmp};
 ghost use Rattle.simulation.specs.Trees.{branch_line, branch_lines, broadcasts_of, rest_word, tree_lines, TellsTrees};
 
-use crate::output::OutputFault;
+use crate::output::OutputError;
 use at_rest::{Branch, Forest, Unrest};
 use node_names::MsgId;
 use std::alloc::{AllocError, Allocator};
@@ -59,7 +59,7 @@ pub fn write_trees<C: Core<A>, A: Allocator + Copy, W: Write>(
     group: &World<C, A>,
     ids: &[MsgId],
     out: &mut W,
-) -> Result<(), OutputFault>
+) -> Result<(), OutputError>
     ensures { OnOk result ((written : List ℕ) × TellsTrees C.state C.Note.content group.now ids.now written × Appends (W.contents out.old) (W.contents out.new) written) }
 {
     let forest = Forest::new(alloc, group)?;
@@ -77,7 +77,7 @@ fn write_tree<A: Allocator, W: Write>(
     is_resting: bool,
     branches: &[Branch],
     out: &mut W,
-) -> Result<(), OutputFault>
+) -> Result<(), OutputError>
     ensures { OnOk result (Appends (W.contents out.old) (W.contents out.new) (tree_lines id.now is_resting branches.now)) }
 {
     text.clear();

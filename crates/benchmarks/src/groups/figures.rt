@@ -1,6 +1,6 @@
 //! What is measured of a run.
 use anyhow::Result;
-use loopback::{Ran, Stamp};
+use loopback::{RunReport, Stamp};
 use node_names::MsgId;
 use std::alloc::{AllocError, Global};
 use std::time::Duration;
@@ -52,7 +52,7 @@ fn start_of(broadcasts: &[Stamp], id: &MsgId, place: usize) -> Option<u64> {
 }
 
 /// The stamps of the messages that are counted.
-fn counted(ran: &Ran) -> &[Stamp] {
+fn counted(ran: &RunReport) -> &[Stamp] {
     match ran.broadcasts.as_slice() {
         [_, counted @ ..] => counted,
         _ => &[],
@@ -91,7 +91,7 @@ impl Latencies {
 }
 
 /// How long each message took to each node and to the last, the shortest first.
-fn take_latencies(alloc: Global, ran: &Ran) -> Result<Latencies, AllocError> {
+fn take_latencies(alloc: Global, ran: &RunReport) -> Result<Latencies, AllocError> {
     let broadcasts = counted(ran);
     let mut latencies = Latencies::new(alloc, broadcasts.len())?;
     for (delivery, time) in ran.deliveries.as_slice().iter().zip(ran.times.as_slice()) {
@@ -124,7 +124,7 @@ fn percentile(sorted: &[u64], percent: usize) -> u64 {
 }
 
 /// What is measured of a run.
-pub(crate) fn measured(alloc: Global, ran: &Ran) -> Result<Figures> {
+pub(crate) fn measured(alloc: Global, ran: &RunReport) -> Result<Figures> {
     let latencies = take_latencies(alloc, ran)?;
     let broadcasts = counted(ran);
     Ok(Figures {

@@ -1,7 +1,7 @@
 //! A group that runs where ports are free.
 use crate::groups::overlay::{Group, members};
 use anyhow::{Result, bail};
-use loopback::{Machine, Plan, Ran, RunFault, Watch, run};
+use loopback::{Machine, Plan, RunError, RunReport, Watch, run};
 use node_names::Limits;
 use std::alloc::Global;
 
@@ -21,7 +21,7 @@ fn run_at<R, V>(
     group: &Group,
     first_port: u16,
     watch: &mut V,
-) -> Result<Option<Ran>>
+) -> Result<Option<RunReport>>
 where
     R: Machine,
     V: Watch,
@@ -34,13 +34,18 @@ where
     let members = members(alloc, group, first_port)?;
     match run(rt, alloc, &plan, members, watch) {
         Ok(ran) => Ok(Some(ran)),
-        Err(RunFault::CannotListen { .. }) => Ok(None),
+        Err(RunError::CannotListen { .. }) => Ok(None),
         Err(fault) => Err(fault.into()),
     }
 }
 
 /// Runs a group at the first ports that are free.
-pub(crate) fn run_somewhere<R, V>(rt: R, alloc: Global, group: &Group, watch: &mut V) -> Result<Ran>
+pub(crate) fn run_somewhere<R, V>(
+    rt: R,
+    alloc: Global,
+    group: &Group,
+    watch: &mut V,
+) -> Result<RunReport>
 where
     R: Machine,
     V: Watch,

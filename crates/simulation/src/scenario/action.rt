@@ -4,7 +4,7 @@ ghost use Rattle.toml.specs.View.{table_view};
 ghost use Rattle.simulation.specs.Reading.{at_key, IsText};
 ghost use Rattle.simulation.specs.Scenario.{IsAction};
 
-use super::fault::{Key, ScenarioFault};
+use super::error::{Key, ScenarioError};
 use super::section::Section;
 use bytes::Bytes;
 use node_names::{Incarnation, Listed, MsgId, NodeName, Origin};
@@ -67,9 +67,9 @@ pub enum Action {
 
 impl Action {
     /// Reads the table of one event.
-    pub fn from_section(alloc: Global, section: &Section<'_>) -> Result<Action, ScenarioFault>
+    pub fn from_section(alloc: Global, section: &Section<'_>) -> Result<Action, ScenarioError>
         ensures ok { IfOk result (IsAction (table_view section.now.table.now)) }
-        ensures refused { IfErr result (λ e. e ≢ ScenarioFault.OutOfMemory → (action : Action) → ¬ IsAction (table_view section.now.table.now) action) }
+        ensures refused { IfErr result (λ e. e ≢ ScenarioError.OutOfMemory → (action : Action) → ¬ IsAction (table_view section.now.table.now) action) }
     {
         match section.text(Key::Do)? {
             "start" => start(alloc, section),
@@ -89,10 +89,10 @@ impl Action {
     }
 }
 
-fn start(alloc: Global, section: &Section<'_>) -> Result<Action, ScenarioFault>
+fn start(alloc: Global, section: &Section<'_>) -> Result<Action, ScenarioError>
     requires { IsText (at_key Key.Do (table_view section.now.table.now)) (codes "start") }
     ensures ok { IfOk result (IsAction (table_view section.now.table.now)) }
-    ensures refused { IfErr result (λ e. e ≢ ScenarioFault.OutOfMemory → (action : Action) → ¬ IsAction (table_view section.now.table.now) action) }
+    ensures refused { IfErr result (λ e. e ≢ ScenarioError.OutOfMemory → (action : Action) → ¬ IsAction (table_view section.now.table.now) action) }
 {
     let node = section.name(Key::Node)?;
     let incarnation = Incarnation(section.number(Key::Incarnation)?);
@@ -106,10 +106,10 @@ fn start(alloc: Global, section: &Section<'_>) -> Result<Action, ScenarioFault>
     })
 }
 
-fn broadcast(alloc: Global, section: &Section<'_>) -> Result<Action, ScenarioFault>
+fn broadcast(alloc: Global, section: &Section<'_>) -> Result<Action, ScenarioError>
     requires { IsText (at_key Key.Do (table_view section.now.table.now)) (codes "broadcast") }
     ensures ok { IfOk result (IsAction (table_view section.now.table.now)) }
-    ensures refused { IfErr result (λ e. e ≢ ScenarioFault.OutOfMemory → (action : Action) → ¬ IsAction (table_view section.now.table.now) action) }
+    ensures refused { IfErr result (λ e. e ≢ ScenarioError.OutOfMemory → (action : Action) → ¬ IsAction (table_view section.now.table.now) action) }
 {
     let node = section.name(Key::Node)?;
     let text = section.text(Key::Text)?;
@@ -117,7 +117,7 @@ fn broadcast(alloc: Global, section: &Section<'_>) -> Result<Action, ScenarioFau
     Ok(Action::Broadcast { node, text })
 }
 
-fn arrive(section: &Section<'_>) -> Result<Action, ScenarioFault>
+fn arrive(section: &Section<'_>) -> Result<Action, ScenarioError>
     requires { IsText (at_key Key.Do (table_view section.now.table.now)) (codes "arrive") }
     ensures ok { IfOk result (IsAction (table_view section.now.table.now)) }
     ensures refused { IfErr result (λ _. (action : Action) → ¬ IsAction (table_view section.now.table.now) action) }
@@ -126,7 +126,7 @@ fn arrive(section: &Section<'_>) -> Result<Action, ScenarioFault>
     Ok(Action::Arrive { place })
 }
 
-fn lose(section: &Section<'_>) -> Result<Action, ScenarioFault>
+fn lose(section: &Section<'_>) -> Result<Action, ScenarioError>
     requires { IsText (at_key Key.Do (table_view section.now.table.now)) (codes "lose") }
     ensures ok { IfOk result (IsAction (table_view section.now.table.now)) }
     ensures refused { IfErr result (λ _. (action : Action) → ¬ IsAction (table_view section.now.table.now) action) }
@@ -135,7 +135,7 @@ fn lose(section: &Section<'_>) -> Result<Action, ScenarioFault>
     Ok(Action::Lose { place })
 }
 
-fn again(section: &Section<'_>) -> Result<Action, ScenarioFault>
+fn again(section: &Section<'_>) -> Result<Action, ScenarioError>
     requires { IsText (at_key Key.Do (table_view section.now.table.now)) (codes "again") }
     ensures ok { IfOk result (IsAction (table_view section.now.table.now)) }
     ensures refused { IfErr result (λ _. (action : Action) → ¬ IsAction (table_view section.now.table.now) action) }
@@ -144,7 +144,7 @@ fn again(section: &Section<'_>) -> Result<Action, ScenarioFault>
     Ok(Action::Again { number })
 }
 
-fn fire(section: &Section<'_>) -> Result<Action, ScenarioFault>
+fn fire(section: &Section<'_>) -> Result<Action, ScenarioError>
     requires { IsText (at_key Key.Do (table_view section.now.table.now)) (codes "fire") }
     ensures ok { IfOk result (IsAction (table_view section.now.table.now)) }
     ensures refused { IfErr result (λ _. (action : Action) → ¬ IsAction (table_view section.now.table.now) action) }
@@ -160,7 +160,7 @@ fn fire(section: &Section<'_>) -> Result<Action, ScenarioFault>
     })
 }
 
-fn flush(section: &Section<'_>) -> Result<Action, ScenarioFault>
+fn flush(section: &Section<'_>) -> Result<Action, ScenarioError>
     requires { IsText (at_key Key.Do (table_view section.now.table.now)) (codes "flush") }
     ensures ok { IfOk result (IsAction (table_view section.now.table.now)) }
     ensures refused { IfErr result (λ _. (action : Action) → ¬ IsAction (table_view section.now.table.now) action) }
@@ -169,7 +169,7 @@ fn flush(section: &Section<'_>) -> Result<Action, ScenarioFault>
     Ok(Action::Flush { node })
 }
 
-fn shuffle(section: &Section<'_>) -> Result<Action, ScenarioFault>
+fn shuffle(section: &Section<'_>) -> Result<Action, ScenarioError>
     requires { IsText (at_key Key.Do (table_view section.now.table.now)) (codes "shuffle") }
     ensures ok { IfOk result (IsAction (table_view section.now.table.now)) }
     ensures refused { IfErr result (λ _. (action : Action) → ¬ IsAction (table_view section.now.table.now) action) }
@@ -178,7 +178,7 @@ fn shuffle(section: &Section<'_>) -> Result<Action, ScenarioFault>
     Ok(Action::Shuffle { node })
 }
 
-fn down(section: &Section<'_>) -> Result<Action, ScenarioFault>
+fn down(section: &Section<'_>) -> Result<Action, ScenarioError>
     requires { IsText (at_key Key.Do (table_view section.now.table.now)) (codes "down") }
     ensures ok { IfOk result (IsAction (table_view section.now.table.now)) }
     ensures refused { IfErr result (λ _. (action : Action) → ¬ IsAction (table_view section.now.table.now) action) }
@@ -188,7 +188,7 @@ fn down(section: &Section<'_>) -> Result<Action, ScenarioFault>
     Ok(Action::Down { node, peer })
 }
 
-fn stop(section: &Section<'_>) -> Result<Action, ScenarioFault>
+fn stop(section: &Section<'_>) -> Result<Action, ScenarioError>
     requires { IsText (at_key Key.Do (table_view section.now.table.now)) (codes "stop") }
     ensures ok { IfOk result (IsAction (table_view section.now.table.now)) }
     ensures refused { IfErr result (λ _. (action : Action) → ¬ IsAction (table_view section.now.table.now) action) }

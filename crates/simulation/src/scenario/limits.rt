@@ -6,13 +6,13 @@ ghost use Rattle.node_names.specs.Limits.{Limits as Sizes};
 ghost use Rattle.simulation.specs.Reading.{at_key, ReadsRequired};
 ghost use Rattle.simulation.specs.Scenario.{AreLimits, HasLimits, IsLimit};
 
-use super::fault::{Key, Place, ScenarioFault};
+use super::error::{Key, Place, ScenarioError};
 use super::section::Section;
 use node_names::Limits;
 use toml::Table;
 
 /// The limits of a table, or the standard ones where there is none.
-pub fn limits_of(table: Option<&Table>) -> Result<Limits, ScenarioFault>
+pub fn limits_of(table: Option<&Table>) -> Result<Limits, ScenarioError>
     ensures ok { IfOk result (HasLimits (option_map (λ found. as_data (table_view found.now)) table.entry)) }
     ensures refused { IfErr result (λ _. (sizes : Sizes) → ¬ HasLimits (option_map (λ found. as_data (table_view found.now)) table.entry) sizes) }
 {
@@ -26,7 +26,7 @@ pub fn limits_of(table: Option<&Table>) -> Result<Limits, ScenarioFault>
 }
 
 /// The limits, of which each that is left out is the standard one.
-pub fn limits(section: &Section<'_>) -> Result<Limits, ScenarioFault>
+pub fn limits(section: &Section<'_>) -> Result<Limits, ScenarioError>
     ensures ok { IfOk result (AreLimits (table_view section.now.table.now)) }
     ensures refused { IfErr result (λ _. (sizes : Sizes) → ¬ AreLimits (table_view section.now.table.now) sizes) }
 {
@@ -45,8 +45,8 @@ pub fn limits(section: &Section<'_>) -> Result<Limits, ScenarioFault>
     }
 }
 
-fn limit(section: &Section<'_>, key: Key, standard: u8) -> Result<u8, ScenarioFault>
-    ensures { ReadsRequired (IsLimit 255 standard) (at_key key (table_view section.now.table.now)) (ScenarioFault.Refused section.now.place key) result }
+fn limit(section: &Section<'_>, key: Key, standard: u8) -> Result<u8, ScenarioError>
+    ensures { ReadsRequired (IsLimit 255 standard) (at_key key (table_view section.now.table.now)) (ScenarioError.Refused section.now.place key) result }
 {
     match section.optional_number(key, 255)? {
         Some(number) => Ok(number as u8),
@@ -55,8 +55,8 @@ fn limit(section: &Section<'_>, key: Key, standard: u8) -> Result<u8, ScenarioFa
 }
 
 /// A number that is 0 where it is left out.
-fn number(section: &Section<'_>, key: Key) -> Result<u32, ScenarioFault>
-    ensures { ReadsRequired (IsLimit (2 ^ 32 - 1) 0) (at_key key (table_view section.now.table.now)) (ScenarioFault.Refused section.now.place key) result }
+fn number(section: &Section<'_>, key: Key) -> Result<u32, ScenarioError>
+    ensures { ReadsRequired (IsLimit (2 ^ 32 - 1) 0) (at_key key (table_view section.now.table.now)) (ScenarioError.Refused section.now.place key) result }
 {
     match section.optional_number(key, u64::from(u32::MAX))? {
         Some(number) => Ok(number as u32),

@@ -1,5 +1,5 @@
 //! Where the tables and keys of a scenario stand in its text, as far as that is plain to see.
-use super::fault::Place;
+use super::error::Place;
 use std::str;
 
 /// The line, from 1, where the event with this number begins, of so many. It is not known where events are written

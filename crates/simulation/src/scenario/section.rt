@@ -5,7 +5,7 @@ ghost use Rattle.toml.specs.View.{view, table_view, items_view};
 ghost use Rattle.toml.specs.Data.{Members, as_table};
 ghost use Rattle.simulation.specs.Reading.{at_key, ReadsOptional, ReadsOptionalAs, ReadsRequired, ReadsRequiredAs, IsNumber, IsNumberFromOne, IsText, IsName, IsTable, IsNames, IsList, IsTables, tables, texts};
 
-use super::fault::{Key, Place, ScenarioFault};
+use super::error::{Key, Place, ScenarioError};
 use bytes::Bytes;
 use node_names::{Listed, NodeName};
 use std::alloc::{AllocError, Global};
@@ -20,10 +20,10 @@ pub struct Section<'a> {
 
 impl<'a> Section<'a> {
     /// That what this key holds is not what it should be.
-    pub fn refused(&self, key: Key) -> ScenarioFault
-        ensures { result ≡ ScenarioFault.Refused self.now.place key }
+    pub fn refused(&self, key: Key) -> ScenarioError
+        ensures { result ≡ ScenarioError.Refused self.now.place key }
     {
-        ScenarioFault::Refused {
+        ScenarioError::Refused {
             place: self.place,
             key,
         }
@@ -37,8 +37,8 @@ impl<'a> Section<'a> {
     }
 
     /// The whole number at a key, from 0 to `most`, or `None` where the key is left out.
-    pub fn optional_number(&self, key: Key, most: u64) -> Result<Option<u64>, ScenarioFault>
-        ensures { ReadsOptional (IsNumber most) (at_key key (table_view self.now.table.now)) (ScenarioFault.Refused self.now.place key) result }
+    pub fn optional_number(&self, key: Key, most: u64) -> Result<Option<u64>, ScenarioError>
+        ensures { ReadsOptional (IsNumber most) (at_key key (table_view self.now.table.now)) (ScenarioError.Refused self.now.place key) result }
     {
         match self.get(key) {
             None => Ok(None),
@@ -55,7 +55,7 @@ impl<'a> Section<'a> {
         key: Key,
         least: u64,
         most: u64,
-    ) -> Result<Option<u64>, ScenarioFault> {
+    ) -> Result<Option<u64>, ScenarioError> {
         match self.optional_number(key, most)? {
             Some(number) if number < least => Err(self.refused(key)),
             number => Ok(number),
@@ -63,8 +63,8 @@ impl<'a> Section<'a> {
     }
 
     /// The whole number at a key, of any size.
-    pub fn number(&self, key: Key) -> Result<u64, ScenarioFault>
-        ensures { ReadsRequired (IsNumber u64.MAX) (at_key key (table_view self.now.table.now)) (ScenarioFault.Refused self.now.place key) result }
+    pub fn number(&self, key: Key) -> Result<u64, ScenarioError>
+        ensures { ReadsRequired (IsNumber u64.MAX) (at_key key (table_view self.now.table.now)) (ScenarioError.Refused self.now.place key) result }
     {
         match self.optional_number(key, u64::MAX)? {
             Some(number) => Ok(number),
@@ -73,8 +73,8 @@ impl<'a> Section<'a> {
     }
 
     /// The whole number at a key, from 1.
-    pub fn number_from_one(&self, key: Key) -> Result<u64, ScenarioFault>
-        ensures { ReadsRequired (IsNumberFromOne u64.MAX) (at_key key (table_view self.now.table.now)) (ScenarioFault.Refused self.now.place key) result }
+    pub fn number_from_one(&self, key: Key) -> Result<u64, ScenarioError>
+        ensures { ReadsRequired (IsNumberFromOne u64.MAX) (at_key key (table_view self.now.table.now)) (ScenarioError.Refused self.now.place key) result }
     {
         match self.number(key)? {
             0 => Err(self.refused(key)),
@@ -83,8 +83,8 @@ impl<'a> Section<'a> {
     }
 
     /// The text at a key.
-    pub fn text(&self, key: Key) -> Result<&'a str, ScenarioFault>
-        ensures { ReadsRequiredAs (λ text. text.now) IsText (at_key key (table_view self.now.table.now)) (ScenarioFault.Refused self.now.place key) result }
+    pub fn text(&self, key: Key) -> Result<&'a str, ScenarioError>
+        ensures { ReadsRequiredAs (λ text. text.now) IsText (at_key key (table_view self.now.table.now)) (ScenarioError.Refused self.now.place key) result }
     {
         match self.get(key).and_then(Value::as_str) {
             Some(text) => Ok(text),
@@ -93,8 +93,8 @@ impl<'a> Section<'a> {
     }
 
     /// The name at a key, or `None` where the key is left out.
-    pub fn optional_name(&self, key: Key) -> Result<Option<NodeName>, ScenarioFault>
-        ensures { ReadsOptional IsName (at_key key (table_view self.now.table.now)) (ScenarioFault.Refused self.now.place key) result }
+    pub fn optional_name(&self, key: Key) -> Result<Option<NodeName>, ScenarioError>
+        ensures { ReadsOptional IsName (at_key key (table_view self.now.table.now)) (ScenarioError.Refused self.now.place key) result }
     {
         match self.get(key) {
             None => Ok(None),
@@ -106,8 +106,8 @@ impl<'a> Section<'a> {
     }
 
     /// The name at a key.
-    pub fn name(&self, key: Key) -> Result<NodeName, ScenarioFault>
-        ensures { ReadsRequired IsName (at_key key (table_view self.now.table.now)) (ScenarioFault.Refused self.now.place key) result }
+    pub fn name(&self, key: Key) -> Result<NodeName, ScenarioError>
+        ensures { ReadsRequired IsName (at_key key (table_view self.now.table.now)) (ScenarioError.Refused self.now.place key) result }
     {
         match self.optional_name(key)? {
             Some(name) => Ok(name),
@@ -116,8 +116,8 @@ impl<'a> Section<'a> {
     }
 
     /// The table at a key, or `None` where the key is left out.
-    pub fn optional_table(&self, key: Key) -> Result<Option<&'a Table>, ScenarioFault>
-        ensures { ReadsOptionalAs (λ table. table_view table.now) IsTable (at_key key (table_view self.now.table.now)) (ScenarioFault.Refused self.now.place key) result }
+    pub fn optional_table(&self, key: Key) -> Result<Option<&'a Table>, ScenarioError>
+        ensures { ReadsOptionalAs (λ table. table_view table.now) IsTable (at_key key (table_view self.now.table.now)) (ScenarioError.Refused self.now.place key) result }
     {
         match self.get(key) {
             None => Ok(None),
@@ -129,8 +129,8 @@ impl<'a> Section<'a> {
     }
 
     /// The list at a key, or `None` where the key is left out.
-    fn optional_list(&self, key: Key) -> Result<Option<&'a [Value]>, ScenarioFault>
-        ensures { ReadsOptionalAs (λ values. items_view values.now) IsList (at_key key (table_view self.now.table.now)) (ScenarioFault.Refused self.now.place key) result }
+    fn optional_list(&self, key: Key) -> Result<Option<&'a [Value]>, ScenarioError>
+        ensures { ReadsOptionalAs (λ values. items_view values.now) IsList (at_key key (table_view self.now.table.now)) (ScenarioError.Refused self.now.place key) result }
     {
         match self.get(key) {
             None => Ok(None),
@@ -142,9 +142,9 @@ impl<'a> Section<'a> {
     }
 
     /// The list at a key, which has at most `most` items, all of them tables. A key that is left out is an empty list.
-    pub fn tables(&self, key: Key, most: usize) -> Result<&'a [Value], ScenarioFault>
+    pub fn tables(&self, key: Key, most: usize) -> Result<&'a [Value], ScenarioError>
         ensures ok { IfOk result (λ values. (members : List Members) × IsTables most (at_key key (table_view self.now.table.now)) members × (items_view values.now ≡ tables members)) }
-        ensures refused { IfErr result (λ e. (e ≡ ScenarioFault.Refused self.now.place key) × ((members : List Members) → ¬ IsTables most (at_key key (table_view self.now.table.now)) members)) }
+        ensures refused { IfErr result (λ e. (e ≡ ScenarioError.Refused self.now.place key) × ((members : List Members) → ¬ IsTables most (at_key key (table_view self.now.table.now)) members)) }
     {
         match self.optional_list(key)? {
             None => Ok(&[]),
@@ -159,9 +159,9 @@ impl<'a> Section<'a> {
     }
 
     /// The names at a key, in order, or none where the key is left out.
-    pub fn names(&self, alloc: Global, key: Key) -> Result<Listed<NodeName>, ScenarioFault>
+    pub fn names(&self, alloc: Global, key: Key) -> Result<Listed<NodeName>, ScenarioError>
         ensures ok { IfOk result (IsNames (at_key key (table_view self.now.table.now))) }
-        ensures refused { IfErr result (λ e. e ≢ ScenarioFault.OutOfMemory → (e ≡ ScenarioFault.Refused self.now.place key) × ((names : List Name) → ¬ IsNames (at_key key (table_view self.now.table.now)) names)) }
+        ensures refused { IfErr result (λ e. e ≢ ScenarioError.OutOfMemory → (e ≡ ScenarioError.Refused self.now.place key) × ((names : List Name) → ¬ IsNames (at_key key (table_view self.now.table.now)) names)) }
     {
         let Some(values) = self.optional_list(key)? else {
             return Ok(Listed::new(alloc));
@@ -173,7 +173,7 @@ impl<'a> Section<'a> {
     }
 
     /// The texts at a key, in order, or none where the key is left out.
-    pub fn texts(&self, alloc: Global, key: Key) -> Result<Vec<Bytes>, ScenarioFault> {
+    pub fn texts(&self, alloc: Global, key: Key) -> Result<Vec<Bytes>, ScenarioError> {
         let mut texts = Vec::new(alloc);
         for value in self.optional_list(key)?.unwrap_or(&[]) {
             match value.as_str() {

@@ -8,7 +8,7 @@ ghost use Rattle.simulation.specs.Traced.{TellsEnd, TellsMessage};
 ghost use Rattle.simulation.specs.Turns.{InTurn};
 
 use crate::output;
-use crate::output::OutputFault;
+use crate::output::OutputError;
 use crate::tracing::stop::{Stop, push_stop};
 use crate::trees::broadcasts;
 use at_rest::{Forest, Unrest};
@@ -27,7 +27,7 @@ pub fn write_ending<A: Allocator + Copy, W: Write>(
     run: &World<PlumCore<A>, A>,
     stop: &Stop<'_>,
     out: &mut W,
-) -> Result<(), OutputFault>
+) -> Result<(), OutputError>
     ensures { OnOk result ((told : List ℕ) × (end : List ℕ) × TellsEnd run.now end × Appends (W.contents out.old) (W.contents out.new) (told ++ end)) }
 {
     text.clear();

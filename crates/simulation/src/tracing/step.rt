@@ -9,7 +9,7 @@ ghost use Rattle.world.specs.Entry.{Entry};
 ghost use Rattle.world.specs.Run.{Applied};
 ghost use Rattle.simulation.specs.Traced.{label_text, TellsStep};
 
-use crate::output::OutputFault;
+use crate::output::OutputError;
 use node_core::PlumCore;
 use std::alloc::{AllocError, Allocator};
 use std::io::Write;
@@ -25,7 +25,7 @@ pub fn write_step<A: Allocator + Copy, W: Write>(
     number: Option<usize>,
     event: &KeptEvent<A>,
     out: &mut W,
-) -> Result<(), OutputFault>
+) -> Result<(), OutputError>
     ensures { OnOk result ((step : List ℕ) × TellsStep place event.now run.old run.new step × Appends (W.contents out.old) (W.contents out.new) step) }
 {
     text.clear();

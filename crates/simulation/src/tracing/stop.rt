@@ -1,7 +1,7 @@
 //! Why a run ended early, in words.
 ghost use Rattle.std.specs.Prelude.{◌≡◌, ◌++◌, ℕ, List, OnOk, string_bytes};
 
-use crate::play::{MOST_ARRIVALS, PlayFault};
+use crate::play::{MOST_ARRIVALS, PlayError};
 use crate::scenario::{Action, event_line};
 use node_core::PlumCore;
 use std::alloc::{AllocError, Allocator};
@@ -15,7 +15,7 @@ pub struct Stop<'a> {
     /// What was to happen.
     pub actions: &'a [Action],
     /// Why the run ended before that was done.
-    pub fault: Option<PlayFault>,
+    pub fault: Option<PlayError>,
 }
 
 impl Stop<'_> {
@@ -39,11 +39,11 @@ pub fn push_stop<A: Allocator + Copy>(
     ensures { OnOk result ((told : List ℕ) × (string_bytes text.new ≡ string_bytes text.old ++ told)) }
 {
     match stop.fault {
-        Some(PlayFault::Refused { event, code }) => {
+        Some(PlayError::Refused { event, code }) => {
             push_event(text, stop, event)?;
             push_refusal(text, group.flight().len(), group.sent().len(), code.0)
         }
-        Some(PlayFault::NoEnd { event }) => {
+        Some(PlayError::NoEnd { event }) => {
             let flying = group.flight().len();
             push_event(text, stop, event)?;
             write!(
@@ -51,17 +51,17 @@ pub fn push_stop<A: Allocator + Copy>(
                 "{flying} packets are in flight after {MOST_ARRIVALS} arrivals\n"
             )
         }
-        Some(PlayFault::Unsettled { event, code }) => {
+        Some(PlayError::Unsettled { event, code }) => {
             let why = code.0;
             push_event(text, stop, event)?;
             write!(text, "{why}\n")
         }
-        Some(PlayFault::Idle { event, why }) => {
+        Some(PlayError::Idle { event, why }) => {
             push_event(text, stop, event)?;
             text.push_str(why.words())?;
             text.push('\n')
         }
-        Some(PlayFault::OutOfMemory) | None => Ok(()),
+        Some(PlayError::OutOfMemory) | None => Ok(()),
     }
 }
 

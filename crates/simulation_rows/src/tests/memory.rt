@@ -4,7 +4,8 @@ use crate::tests::hello::{hello, is_told, is_traced};
 use links::TapeWriter;
 use refusing_allocator::RefusingAllocator;
 use simulation::{
-    Failure, Scenario, ScenarioFault, conclude, play_and_print, play_and_trace, read_document,
+    Scenario, ScenarioError, SimulationError, conclude, play_and_print, play_and_trace,
+    read_document,
 };
 use std::alloc::{Allocator, Global};
 use std::test::Fail;
@@ -58,7 +59,7 @@ fn play_as<A: Allocator + Copy>(
     alloc: A,
     scenario: &Scenario,
     out: &mut TapeWriter,
-) -> Result<(), Failure> {
+) -> Result<(), SimulationError> {
     match form {
         Written::Printed => play_and_print::<A, TapeWriter>(alloc, scenario, false, out),
         Written::Traced => play_and_trace::<A, TapeWriter>(alloc, scenario, hello(), false, out),
@@ -123,22 +124,22 @@ fn sweep_scenario<A: Allocator + Copy>(
     alloc: A,
     writers: Global,
     scenario: &Scenario,
-) -> Result<u64, ScenarioFault> {
+) -> Result<u64, ScenarioError> {
     let mut short = 0u64;
     let count = sweep(|n| {
-        Ok::<_, ScenarioFault>(count_short(heap, form, alloc, writers, scenario, &mut short, n))
+        Ok::<_, ScenarioError>(count_short(heap, form, alloc, writers, scenario, &mut short, n))
     })?;
     Ok(if count.is_some() { short } else { 0 })
 }
 
 /// Reads the scenario.
-fn read(alloc: Global) -> Result<Scenario, ScenarioFault> {
+fn read(alloc: Global) -> Result<Scenario, ScenarioError> {
     let document = read_document(alloc, hello())?;
     Scenario::from_document(alloc, &document)
 }
 
 /// How often memory was short for the scenario in this form, or 0 if an answer is wrong.
-fn shortages(alloc: Global, form: Written) -> Result<u64, ScenarioFault> {
+fn shortages(alloc: Global, form: Written) -> Result<u64, ScenarioError> {
     let heap = RefusingAllocator::new(alloc);
     lend(read(alloc)?, |scenario| {
         sweep_scenario(&heap, form, &heap, alloc, scenario)

@@ -3,7 +3,7 @@ use Rattle.std.proofs.Common.{◌≡◌, ◌+◌, length, sym, ◌∙◌, ap, su
 use Rattle.views.specs.Views.{AreSound}
 use Rattle.world.specs.Stimulus.{lent}
 use Rattle.node_core.specs.Fits.{FitsFrames}
-use Rattle.node_core.specs.Parts.{Turn, by_part, lent as lent_part}
+use Rattle.node_core.specs.Parts.{PreparedStep, by_part, lent as lent_part}
 use Rattle.node_core.specs.Plum.{Plum}
 use Rattle.node_core.specs.Steps.{Turned, plum_after, turned}
 use Rattle.node_core.proofs.Fitting.{turned_fits}
@@ -20,6 +20,6 @@ pub returns-clause-ok : goal.returns-clause-ok
 returns-clause-ok g c =
     let by : by_part c.self.inside.membership c.self.inside.gossip (lent_part c.part_of-part.result) ≡ turned c.self.inside.me c.self.inside.membership c.self.inside.gossip (lent c.args.stimulus.now) = ap (by_part c.self.inside.membership c.self.inside.gossip) c.part_of-part.ensures ∙ sym (turned_by c.self.inside.me c.self.inside.membership c.self.inside.gossip (lent c.args.stimulus.now)) in
     let framed : c.turn.inside.framed ≡ c.self.inside.framed + length (turned c.self.inside.me c.self.inside.membership c.self.inside.gossip (lent c.args.stimulus.now)).sends =
-    ap (λ (turn : Turn). turn.framed) c.turn.view_is ∙ c.requires.framed ∙ sym (ap (λ (core : Plum). core.framed + length (turned core.me core.membership core.gossip (lent c.args.stimulus.now)).sends) c.self.view_is) in
+    ap (λ (turn : PreparedStep). turn.framed) c.turn.view_is ∙ c.requires.framed ∙ sym (ap (λ (core : Plum). core.framed + length (turned core.me core.membership core.gossip (lent c.args.stimulus.now)).sends) c.self.view_is) in
     (λ i. record { me = c.self.inside.me; membership = (c.in_ok-go_on.ensures.membership ∙ ap (λ (t : Turned). t.membership) by) i; gossip = (c.in_ok-go_on.ensures.gossip ∙ ap (λ (t : Turned). t.gossip) by) i; framed = framed i })
     ∙ ap (λ (core : Plum). plum_after core (lent c.args.stimulus.now)) c.self.view_is

@@ -4,7 +4,7 @@ use Rattle.std.proofs.lemmas.Bool.Decides.{nat_tests}
 use Rattle.node_names.specs.declared.dice.Dice.{Dice}
 use Rattle.simulation.specs.Play.{Refuses, oldest}
 use Rattle.simulation.specs.Rolls.{rolls_in}
-use Rattle.simulation.specs.declared.play.Halt.TheVariants.{Refused}
+use Rattle.simulation.specs.declared.play.ActionError.TheVariants.{Refused}
 use Rattle.simulation.specs.declared.play.TheConstants.{MOST_ARRIVALS}
 use Rattle.simulation.proofs.play.Player.arrive_all.Goals as goal
 

@@ -7,7 +7,7 @@ use thiserror::Error;
 
 /// Why a group did not run, or what its nodes leave is not as it should be.
 #[derive(Clone, Copy, Debug, PartialEq, Eq, Error)]
-pub enum RunFault {
+pub enum RunError {
     /// The node's port can't be listened on: another program has it.
     #[error("node {node}: cannot listen: the port is in use")]
     CannotListen { node: NodeName },
@@ -37,14 +37,14 @@ pub enum RunFault {
     OutOfMemory,
 }
 
-impl From<AllocError> for RunFault {
-    fn from(_error: AllocError) -> RunFault {
-        RunFault::OutOfMemory
+impl From<AllocError> for RunError {
+    fn from(_error: AllocError) -> RunError {
+        RunError::OutOfMemory
     }
 }
 
-impl<T: Drop> From<AllocFailed<T>> for RunFault {
-    fn from(_error: AllocFailed<T>) -> RunFault {
-        RunFault::OutOfMemory
+impl<T: Drop> From<AllocFailed<T>> for RunError {
+    fn from(_error: AllocFailed<T>) -> RunError {
+        RunError::OutOfMemory
     }
 }

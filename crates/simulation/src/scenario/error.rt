@@ -8,7 +8,7 @@ use thiserror::Error;
 
 /// Why a scenario is not played.
 #[derive(Clone, Copy, Debug, PartialEq, Eq, Error)]
-pub enum ScenarioFault {
+pub enum ScenarioError {
     /// The input could not be read.
     #[error("cannot read scenario")]
     Unreadable,
@@ -26,23 +26,23 @@ pub enum ScenarioFault {
     OutOfMemory,
 }
 
-impl From<AllocError> for ScenarioFault {
-    ghost use Rattle.simulation.specs.declared.scenario.fault.ScenarioFault.TheVariants.{OutOfMemory};
+impl From<AllocError> for ScenarioError {
+    ghost use Rattle.simulation.specs.declared.scenario.error.ScenarioError.TheVariants.{OutOfMemory};
 
     ghost from_gives = { λ _ fault. fault ≡ OutOfMemory };
 
-    fn from(_error: AllocError) -> ScenarioFault {
-        ScenarioFault::OutOfMemory
+    fn from(_error: AllocError) -> ScenarioError {
+        ScenarioError::OutOfMemory
     }
 }
 
-impl<T: Drop> From<AllocFailed<T>> for ScenarioFault {
-    ghost use Rattle.simulation.specs.declared.scenario.fault.ScenarioFault.TheVariants.{OutOfMemory};
+impl<T: Drop> From<AllocFailed<T>> for ScenarioError {
+    ghost use Rattle.simulation.specs.declared.scenario.error.ScenarioError.TheVariants.{OutOfMemory};
 
     ghost from_gives = { λ _ fault. fault ≡ OutOfMemory };
 
-    fn from(_error: AllocFailed<T>) -> ScenarioFault {
-        ScenarioFault::OutOfMemory
+    fn from(_error: AllocFailed<T>) -> ScenarioError {
+        ScenarioError::OutOfMemory
     }
 }
 

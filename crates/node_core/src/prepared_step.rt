@@ -7,7 +7,7 @@ use std::marker::Model;
 
 /// What an event of the membership has moved.
 #[derive(Drop)]
-pub(crate) struct Moved<A: Allocator> {
+pub(crate) struct ViewChange<A: Allocator> {
     /// The membership that goes on.
     pub(crate) membership: Membership<A>,
     /// The links that went down.
@@ -16,9 +16,9 @@ pub(crate) struct Moved<A: Allocator> {
     pub(crate) ups: Listed<NodeName, A>,
 }
 
-impl<A: Allocator> Model for Moved<A> {
+impl<A: Allocator> Model for ViewChange<A> {
     ghost use Rattle.std.specs.Prelude.{refl};
-    ghost use Rattle.node_core.specs.Parts.{Moved as Plain};
+    ghost use Rattle.node_core.specs.Parts.{ViewChange as Plain};
 
     ghost Value = { Plain };
 
@@ -30,17 +30,17 @@ impl<A: Allocator> Model for Moved<A> {
 }
 
 /// What an event of the membership has moved, in a box: most steps move nothing, and a step is moved about.
-pub(crate) type BoxedMoved<A> = Box<Moved<A>, A>;
+pub(crate) type BoxedViewChange<A> = Box<ViewChange<A>, A>;
 
 /// A step of a core that was worked out: what its membership will be, and the last number of its frames.
 #[derive(Drop)]
-pub struct Turn<A: Allocator = Global> {
-    pub(crate) moved: Option<BoxedMoved<A>>,
+pub struct PreparedStep<A: Allocator = Global> {
+    pub(crate) moved: Option<BoxedViewChange<A>>,
     pub(crate) framed: u64,
 }
 
-impl<A: Allocator> Model for Turn<A> {
-    ghost use Rattle.node_core.specs.Parts.{Turn as Plain, unboxed};
+impl<A: Allocator> Model for PreparedStep<A> {
+    ghost use Rattle.node_core.specs.Parts.{PreparedStep as Plain, unboxed};
 
     ghost Value = { Plain };
 
