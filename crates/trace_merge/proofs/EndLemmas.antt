@@ -11,7 +11,7 @@ use Rattle.frames.specs.Content.{frame_content}
 use Rattle.frames.specs.Frame.{Frame}
 use Rattle.node_core.specs.Plum.{Plum, plum_state}
 use Rattle.trace_merge.specs.Held.{AreOut}
-use Rattle.trace_merge.specs.Merging.{IsMerged, IsMerging, IsOut, Merge, Stands, cut, place_at}
+use Rattle.trace_merge.specs.Merging.{AreDistinct, IsMerged, IsMerging, IsOut, Merge, Stands, cut, place_at}
 use Rattle.trace_merge.specs.Projection.{projection_in}
 
 -- no trace is started yet
@@ -51,8 +51,9 @@ each_at P [] h = tt
 each_at P (x ∷ xs) h = (h 0 x refl, each_at P xs (λ i y at. h (suc i) y at))
 
 -- all is played
-pub ends : (limits : Limits) (traces : List (Trace Frame)) (m : Merge) → IsMerging limits traces m → AreOut traces m.places → Headline plum_state frame_content m.world → IsMerged limits traces m.events
-ends limits traces m mm out headline = record {
+pub ends : (limits : Limits) (traces : List (Trace Frame)) (m : Merge) → AreDistinct traces → IsMerging limits traces m → AreOut traces m.places → Headline plum_state frame_content m.world → IsMerged limits traces m.events
+ends limits traces m distinct mm out headline = record {
+  distinct = distinct;
   world = m.world;
   same_limits = mm.same_limits;
   ran = mm.ran;

@@ -1,6 +1,6 @@
 -- What the group refuses, or does otherwise, is no history of a node.
 use Rattle.std.proofs.Common.{◌≡◌, ◌≢◌, ◌∙◌, ◌<◌, ℕ, suc, List, [], ap, drop, inl, inr, length, refl, subst, sym}
-use Rattle.std.specs.Prelude.{Option, Some, None, map, slice_get}
+use Rattle.std.specs.Prelude.{◌⊎◌, Option, Some, None, map, slice_get}
 use Rattle.std.proofs.Math.Seq.{drop-append_seam}
 use Rattle.std.proofs.lemmas.Bool.Decides.{Decides-ltb}
 use Rattle.node_names.specs.Limits.{Limits}
@@ -18,7 +18,7 @@ use Rattle.world.specs.declared.node_state.NodeState.{NodeState}
 use Rattle.frames.specs.Frame.{Frame}
 use Rattle.node_core.specs.Plum.{Plum, plum_state}
 use Rattle.node_core.specs.Steps.{PlumIsSpent, PlumStarts, PlumSteps}
-use Rattle.trace_merge.specs.Merging.{AreDistinct, IsMerging, IsNoRun, IsStarted, Merge, Refuses, cut, fault_of, place_at, start_of}
+use Rattle.trace_merge.specs.Merging.{AreDistinct, IsMerging, IsNoRun, IsStarted, Merge, Refuses, ReplaysBefore, cut, fault_of, place_at, start_of}
 use Rattle.trace_merge.specs.Projection.{said}
 use Rattle.trace_merge.proofs.Determined.{starts_same}
 use Rattle.trace_merge.proofs.ListLemmas.{found_name, one_of_place}
@@ -84,6 +84,6 @@ fault_is limits traces o place PayloadTooLong distinct none = (distinct, none (�
 fault_is limits traces o place SeqSpent distinct none = (distinct, none (λ same. let no : SeqSpent ≡ OutOfMemory = same in cc))
 fault_is limits traces o place OutOfMemory distinct none = tt
 
--- a trace of the list that does not replay so far
-pub no_run : (limits : Limits) (traces : List (Trace Frame)) (at place : ℕ) (t : Trace Frame) (o : Origin) → slice_get traces at ≡ Some t → o ≡ t.origin → ((core : Plum) → Replays PlumStarts PlumSteps limits (cut (suc place) t) core → ⊥) → IsNoRun limits traces o place
-no_run limits traces at place t o listed is fails = record { trace = t; listed = one_of_place traces at t listed; its = sym is; fails = fails }
+-- a trace of the list that replays before this place and not so far
+pub no_run : (limits : Limits) (traces : List (Trace Frame)) (at place : ℕ) (t : Trace Frame) (o : Origin) → slice_get traces at ≡ Some t → o ≡ t.origin → (place ≡ 0) ⊎ ReplaysBefore limits t place → ((core : Plum) → Replays PlumStarts PlumSteps limits (cut (suc place) t) core → ⊥) → IsNoRun limits traces o place
+no_run limits traces at place t o listed is first fails = record { trace = t; listed = one_of_place traces at t listed; its = sym is; first = first; fails = fails }

@@ -26,7 +26,7 @@ use Rattle.world.specs.declared.stimulus.StimulusOf.TheVariants as stimulus
 use Rattle.frames.specs.Frame.{Frame}
 use Rattle.node_core.specs.Plum.{Plum, plum_state}
 use Rattle.node_core.specs.Steps.{IsAllowed, PlumIsSpent, PlumStarts, PlumSteps}
-use Rattle.trace_merge.specs.Merging.{IsMerging, Merge, RunsTo, Stands, Tells, cut, number_in, place_at, sent_within}
+use Rattle.trace_merge.specs.Merging.{IsMerging, Merge, ReplaysBefore, RunsTo, Stands, Tells, cut, number_in, place_at, sent_within}
 use Rattle.trace_merge.specs.Numbers.{AreFew, AreShort}
 use Rattle.trace_merge.specs.Projection.{receiver, said, stepped_name}
 use Rattle.trace_merge.proofs.Determined.{replays_back, steps_same}
@@ -82,6 +82,10 @@ module _
   where
     abbrev runs : RunsTo limits m.world t k
     runs = (subst (Stands limits m.world t) placed (mm.stands at t listed)).2 (slice_get_within t.steps k s step)
+
+    -- the trace replays so far
+    pub replayed : ReplaysBefore limits t k
+    replayed = record { core = runs.core; replays = runs.replays }
 
     must : (last : Plum) → Replays PlumStarts PlumSteps limits (cut (suc k) t) last → PlumSteps runs.core s.stimulus s.out.sends s.out.deliveries last
     must last r = replays_back limits t k s runs.core last step runs.replays r

@@ -79,6 +79,7 @@ AreDistinct traces = (i j : ℕ) (s t : Trace Frame) → slice_get traces i ≡ 
 -- The events are a run of a group under these limits that starts exactly the runs of the traces, loses and stops
 -- nothing, and in which each of them did what its trace says. So all that holds of groups of such nodes holds of it.
 pub record IsMerged (limits : Limits) (traces : List (Trace Frame)) (events : List Event) : Type 0 where
+  pub distinct : AreDistinct traces
   pub world : Logged Plum Frame
   pub same_limits : world.limits ≡ limits
   pub ran : Run plum_state PlumStarts PlumSteps limits (reverse world.log) world.group
@@ -284,11 +285,17 @@ pub record IsUnlike (traces : List (Trace Frame)) (o : Origin) (place : ℕ) : T
   pub numbered : other.number ≡ note.number
   pub unlike : (to ≢ o.name) ⊎ (other ≢ note)
 
--- The trace's start is not one, or its steps up to this place are not those of a core.
+-- A core takes the trace's steps before this place.
+pub record ReplaysBefore (limits : Limits) (t : Trace Frame) (place : ℕ) : Type 0 where
+  pub core : Plum
+  pub replays : Replays PlumStarts PlumSteps limits (cut place t) core
+
+-- The trace's step at this place is its first that is not one of a core, or, at place 0, its start is not one.
 pub record IsNoRun (limits : Limits) (traces : List (Trace Frame)) (o : Origin) (place : ℕ) : Type 0 where
   pub trace : Trace Frame
   pub listed : IsOneOf trace traces
   pub its : trace.origin ≡ o
+  pub first : (place ≡ 0) ⊎ ReplaysBefore limits trace place
   pub fails : (core : Plum) → ¬ Replays PlumStarts PlumSteps limits (cut (suc place) trace) core
 
 -- Two traces are of this run.

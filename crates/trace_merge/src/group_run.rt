@@ -3,7 +3,7 @@ ghost use Rattle.std.specs.Prelude.{◌≡◌, List, None, IfErr, IfOk, length, 
 ghost use Rattle.world.specs.Trace.{Trace as Traced};
 ghost use Rattle.frames.specs.Frame.{Frame as Said};
 ghost use Rattle.trace_merge.specs.Held.{AreOut};
-ghost use Rattle.trace_merge.specs.Merging.{IsMerged, IsMerging, Refuses};
+ghost use Rattle.trace_merge.specs.Merging.{AreDistinct, IsMerged, IsMerging, Refuses};
 
 use crate::doubled::first_doubled;
 use crate::fault::MergeFault;
@@ -45,6 +45,7 @@ impl<A: Allocator + Copy> Merging<A> {
 
     /// The events of traces that are all played out.
     fn into_events(self, traces: &[Trace<Frame<A>, A>]) -> Vec<Event<A>, A>
+        requires distinct { AreDistinct traces.now }
         requires merging { IsMerging self.world.limits traces.now self }
         requires out { AreOut traces.now self.places }
         ensures { IsMerged self.world.limits traces.now result.items }

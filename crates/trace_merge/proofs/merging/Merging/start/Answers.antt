@@ -1,5 +1,5 @@
 -- A start that is refused or sends something else is none; any other is one.
-use Rattle.std.proofs.Common.{◌≡◌, ◌∙◌, ◌<◌, List, ap, inl, inr, length, set, subst, sym}
+use Rattle.std.proofs.Common.{◌≡◌, ◌∙◌, ◌<◌, List, ap, inl, inr, length, refl, set, subst, sym}
 use Rattle.std.proofs.lemmas.Bool.{false≢true}
 use Rattle.std.specs.Prelude.{◌⊎◌, Some, drop, map}
 use Rattle.std.proofs.lemmas.Option.{slice_get_within}
@@ -27,7 +27,7 @@ returns-in-Err g c =
       ok = tt;
       err = subst (λ f. Refuses limits c.args.traces.now f) (sym c.fault_of.ensures)
           (fault_is limits c.args.traces.now c.origin-origin.result 0 c.in-Err.error c.requires.distinct
-          (λ other. no_run limits c.args.traces.now c.args.at 0 c.args.trace.now c.origin-origin.result c.requires.listed c.origin-origin.ensures
+          (λ other. no_run limits c.args.traces.now c.args.at 0 c.args.trace.now c.origin-origin.result c.requires.listed c.origin-origin.ensures (inl refl)
           (start_refused limits c.args.traces.now c.args.self.now c.requires.merging c.args.at c.args.trace.now c.requires.listed c.requires.placed c.in-Err.error other
           (elim refused [ inl memory ↦ absurd (other memory) | inr is ↦ is ]))));
     }
@@ -45,7 +45,7 @@ returns-then-not-is_opening-clause-err g c =
     let first : c.sent-first.result.now ≡ before = c.sent-first.ensures ∙ ap (λ (m : Merge). m.world.group.sent) c.self.view_is in
     let since : c.sent_since.result.now ≡ drop (length before) after = c.sent_since.ensures ∙ ap (λ xs. drop (length xs) after) first in (
       c.requires.distinct,
-      no_run limits c.args.traces.now c.args.at 0 c.args.trace.now c.origin-origin.result c.requires.listed c.origin-origin.ensures
+      no_run limits c.args.traces.now c.args.at 0 c.args.trace.now c.origin-origin.result c.requires.listed c.origin-origin.ensures (inl refl)
           (start_differs limits c.args.traces.now c.args.self.now c.requires.merging c.args.at c.args.trace.now c.requires.listed c.requires.placed c.play.new.self.world plays.given plays.applied
           (λ both. false≢true (sym c.if-not-is_opening.true ∙ c.is_opening.ensures.1 (
             ap (map said) since ∙ both.0 ∙ ap (λ o. o.sends) (sym c.opening.ensures),

@@ -10,7 +10,7 @@ use Rattle.trace_merge.specs.Numbers.{AreShort}
 use Rattle.trace_merge.specs.Projection.{said}
 use Rattle.trace_merge.proofs.RefusalLemmas.{fault_is, no_run}
 use Rattle.trace_merge.proofs.StepLemmas.{steps_on}
-use Rattle.trace_merge.proofs.StepRefusals.{step_differs, step_refused, told_by}
+use Rattle.trace_merge.proofs.StepRefusals.{replayed, step_differs, step_refused, told_by}
 use Rattle.trace_merge.proofs.merging.Merging.take_step.Goals as goal
 
 pub after-next-requires : goal.after-next-requires
@@ -28,7 +28,7 @@ returns-in-Err-clause-err g c =
     let short : AreShort (sent_within (suc c.args.place) c.args.trace.now) = subst (λ n. AreShort (sent_within n c.args.trace.now)) c.after-next.ensures c.tell_all.ensures in
     subst (λ f. Refuses limits c.args.traces.now f) (sym c.fault_of.ensures)
     (fault_is limits c.args.traces.now c.origin-origin.result c.args.place c.in-Err.error c.requires.distinct
-    (λ other. no_run limits c.args.traces.now c.args.at c.args.place c.args.trace.now c.origin-origin.result c.requires.listed c.origin-origin.ensures
+    (λ other. no_run limits c.args.traces.now c.args.at c.args.place c.args.trace.now c.origin-origin.result c.requires.listed c.origin-origin.ensures (inr (replayed limits c.args.traces.now c.args.self.now c.requires.merging c.args.at c.args.place c.args.trace.now c.args.step.now c.requires.listed c.requires.placed c.requires.taken))
     (step_refused limits c.args.traces.now c.args.self.now c.requires.merging c.args.at c.args.place c.args.trace.now c.args.step.now c.requires.listed c.requires.placed c.requires.taken c.args.event c.in-Err.error other c.requires.tells
     (elim c.in-Err.ensures.refused [ inl memory ↦ absurd (other memory) | inr is ↦ is ]) short c.tell_delivered.ensures)))
 
@@ -42,7 +42,7 @@ returns-then-not-is_done-clause-err g c =
     let since : c.sent_since.result.now ≡ drop (length before) after = c.sent_since.ensures ∙ ap (λ xs. drop (length xs) after) first in
     let gave : c.last_given-given.result.now ≡ plays.applied.entry.given = c.last_given-given.ensures c.args.self.now.world.log plays.applied.entry (c.log.ensures ∙ ap (λ (m : Merge). m.world.log) c.self-2.view_is ∙ plays.applied.logged) in (
       c.requires.distinct,
-      no_run limits c.args.traces.now c.args.at c.args.place c.args.trace.now c.origin-origin.result c.requires.listed c.origin-origin.ensures
+      no_run limits c.args.traces.now c.args.at c.args.place c.args.trace.now c.origin-origin.result c.requires.listed c.origin-origin.ensures (inr (replayed limits c.args.traces.now c.args.self.now c.requires.merging c.args.at c.args.place c.args.trace.now c.args.step.now c.requires.listed c.requires.placed c.requires.taken))
           (step_differs limits c.args.traces.now c.args.self.now c.requires.merging c.args.at c.args.place c.args.trace.now c.args.step.now c.requires.listed c.requires.placed c.requires.taken c.args.event c.play.new.self.world plays.given plays.applied c.requires.tells
           (λ both. false≢true (sym c.if-not-is_done.true ∙ c.is_done.ensures.1 (ap (map said) since ∙ both.0, gave ∙ both.1)))),
     )
