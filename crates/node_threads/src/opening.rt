@@ -1,4 +1,4 @@
-//! Links are opened and closed.
+//! Opening and closing links.
 ghost use Rattle.std.specs.Prelude.{◌≡◌, ◌≤◌, ◌<◌, ◌+◌, ◌++◌, [], ◌∷◌, false, not, nat_le, if◌then◌else◌, IfOk, IfErr, OnOk, OnErr, length, vec_len, vec_capacity};
 ghost use Rattle.node_names.specs.Same.{has_name, same_name};
 ghost use Rattle.rtrb.specs.Ring.{sent, known_free};
@@ -48,7 +48,7 @@ fn close<A: Allocator>(links: &mut Vec<Link<A>, A>, names: &mut NameSet<A>, name
     );
 }
 
-/// Puts a name that is not there last, in the room that there is.
+/// Appends a name that is not in the set, which has room for it.
 fn put_last<A: Allocator>(names: &mut NameSet<A>, name: NodeName)
     requires room { 0 < spare names.old }
     requires absent { has_name names.old.keys name ≡ false }
@@ -57,8 +57,8 @@ fn put_last<A: Allocator>(names: &mut NameSet<A>, name: NodeName)
     let _ = names.insert(name).unwrap();
 }
 
-/// Puts a link to the name in place of the one that there is, if what it begins with fits its ring, which has room for
-/// `room` frames.
+/// Closes the link to the name, if one is open, and adds a new one if the frames that it begins with fit its ring,
+/// which has room for `room` frames.
 fn link<A: Allocator>(
     links: &mut Vec<Link<A>, A>,
     names: &mut NameSet<A>,
@@ -85,7 +85,8 @@ fn link<A: Allocator>(
 }
 
 impl<C: NodeCore<A> + Drop, A: Allocator + Copy> NodeCell<C, A> {
-    /// What a link to the name begins with: the frames of the opening to it, where the node has made no step.
+    /// The frames that a link to the name begins with: those of the opening to it if the node has made no step, and no
+    /// frames otherwise.
     fn first_mail(&self, alloc: A, name: &NodeName) -> Result<Mail<A>, AllocError>
         ensures { IfOk result (λ mail. mail ≡ first_mail self.now name.now) }
     {
@@ -95,12 +96,12 @@ impl<C: NodeCore<A> + Drop, A: Allocator + Copy> NodeCell<C, A> {
         mail_for(alloc, name, self.trace.opening().sends.as_slice())
     }
 
-    /// Opens a link to the name, whose ring has room for so many frames, and closes the one that there was.
+    /// Opens a link to the name, whose ring has room for `ring` frames, and closes the one that was open.
     ///
-    /// Where what the opening sent to the name does not fit the ring, the link is closed at once. Its only refusal is
+    /// If what the opening sent to the name does not fit the ring, the link is closed at once. The only error is
     /// `OutOfMemory`.
     pub fn open_link(&mut self, name: NodeName, ring: usize) -> Result<Outlet<A>, HostError>
-        ensures outlet { IfOk result (λ outlet. outlet ≡ record { peer = name; opened = length self.old.trace.steps; given = [] }) }
+        ensures outlet { IfOk result (λ outlet. outlet ≡ record { peer = name; opened = length self.old.trace.steps; given = []; seen = [] }) }
         ensures linked { OnOk result (self.new ≡ record self.old { links = linked_to self.old name ring }) }
         ensures refused { IfErr result (λ e. e ≡ HostError.OutOfMemory) }
         ensures err { OnErr result (self.new ≡ self.old) }
@@ -130,7 +131,7 @@ impl<C: NodeCore<A> + Drop, A: Allocator + Copy> NodeCell<C, A> {
         has_link(&self.links, name)
     }
 
-    /// Closes the link to the name: nothing more is put into its ring. Answers whether one was open.
+    /// Closes the link to the name: nothing more is put into its ring. Returns whether one was open.
     pub fn close_link(&mut self, name: &NodeName) -> bool
         ensures open { result ≡ is_linked self.old.links name.now }
         ensures closed { self.new ≡ record self.old { links = without name.now self.old.links } }

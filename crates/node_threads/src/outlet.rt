@@ -1,7 +1,9 @@
 //! The reading end of a link.
-ghost use Rattle.std.specs.Prelude.{◌≡◌, ◌≤◌, [], ◌∷◌, ◌++◌, ℕ, List, Some, None, Ok, OnErr, length};
+ghost use Rattle.std.specs.Prelude.{◌≡◌, ◌≢◌, ◌≤◌, [], ◌∷◌, ◌++◌, ℕ, List, Some, None, Ok, OnErr, length};
+ghost use Rattle.std.specs.Bool.{Decides};
 ghost use mathlib.Core.List.{IsPrefix};
-ghost use Rattle.rtrb.specs.Ring.{received};
+ghost use Rattle.rtrb.specs.Ring.{known_items, received};
+ghost use Rattle.node_threads.specs.Outlet.{Looks};
 
 use crate::link_frame::LinkFrame;
 use bytes::Bytes;
@@ -11,7 +13,7 @@ use rtrb::Consumer;
 use std::alloc::{AllocError, Allocator, Global};
 use std::marker::Model;
 
-/// The end of a ring where frames come out, and the frames that came out.
+/// The reading end of a ring, and the frames that came out of it.
 #[derive(Drop)]
 struct Tap<A: Allocator> {
     ring: Consumer<LinkFrame<A>, A>,
@@ -19,22 +21,24 @@ struct Tap<A: Allocator> {
 }
 
 impl<A: Allocator> Model for Tap<A> {
-    ghost use Rattle.std.specs.Prelude.{◌≡◌, ℕ, List};
-    ghost use Rattle.rtrb.specs.Ring.{received};
+    ghost use Rattle.std.specs.Prelude.{◌≡◌};
+    ghost use Rattle.rtrb.specs.Ring.{known_items, received};
+    ghost use Rattle.node_threads.specs.Outlet.{Tap as Seen};
 
-    ghost Value = { List (List ℕ) };
+    ghost Value = { Seen };
 
-    ghost view = { λ t. t.given.items };
+    ghost view = { λ t. record { given = t.given.items; seen = known_items t.ring } };
 
     ghost invariant = { λ t. received t.ring ≡ t.given.items };
 }
 
 impl<A: Allocator + Copy> Tap<A> {
-    /// The bytes of the next frame, or none while the ring is empty. A refusal takes nothing.
+    /// Returns the bytes of the next frame, or `None` while the ring is empty. A refusal takes nothing.
     fn pop(&mut self) -> Result<Option<Bytes<A>>, AllocError>
-        ensures some { (item : List ℕ) → result ≡ Ok (Some item) → (self.new ≡ self.old ++ item ∷ []) × (length item ≤ 32880) }
-        ensures none { result ≡ Ok None → self.new ≡ self.old }
-        ensures err { OnErr result (self.new ≡ self.old) }
+        ensures some { (item : List ℕ) → result ≡ Ok (Some item) → (self.new.given ≡ self.old.given ++ item ∷ []) × (length item ≤ 32880) }
+        ensures seen { (item : List ℕ) → result ≡ Ok (Some item) → IsPrefix self.old.seen (item ∷ self.new.seen) }
+        ensures none { result ≡ Ok None → (self.new.given ≡ self.old.given) × (self.new.seen ≡ []) × (self.old.seen ≡ []) }
+        ensures err { OnErr result ((self.new.given ≡ self.old.given) × IsPrefix self.old.seen self.new.seen) }
     {
         self.given.reserve(1)?;
         if self.ring.slots() == 0 {
@@ -49,7 +53,9 @@ impl<A: Allocator + Copy> Tap<A> {
 }
 
 impl<A: Allocator + Copy> Source<A> for Tap<A> {
-    ghost given = { λ t. t };
+    ghost given = { λ t. t.given };
+
+    ghost is_spent = { λ t. t.seen ≡ [] };
 
     fn next(&mut self) -> Result<Option<Bytes<A>>, AllocError> {
         self.pop()
@@ -72,7 +78,7 @@ impl<A: Allocator> Model for Outlet<A> {
 
     ghost Value = { Outlet };
 
-    ghost view = { λ o. record { peer = o.peer; opened = o.opened; given = o.tap } };
+    ghost view = { λ o. record { peer = o.peer; opened = o.opened; given = o.tap.given; seen = o.tap.seen } };
 }
 
 impl<A: Allocator + Copy> Outlet<A> {
@@ -83,8 +89,8 @@ impl<A: Allocator + Copy> Outlet<A> {
         opened: usize,
         ring: Consumer<LinkFrame<A>, A>,
     ) -> Outlet<A>
-        requires { received ring ≡ [] }
-        ensures { result ≡ record { peer = peer; opened = opened; given = [] } }
+        requires { (received ring ≡ []) × (known_items ring ≡ []) }
+        ensures { result ≡ record { peer = peer; opened = opened; given = []; seen = [] } }
     {
         let given = Vec::new(alloc);
         Outlet {
@@ -126,32 +132,35 @@ impl<A: Allocator> Outlet<A> {
 
     /// Whether a frame is there to be popped.
     pub fn has_next(&mut self) -> bool
-        ensures { self.new ≡ self.old }
+        ensures looks { Looks self.old self.new }
+        ensures next { Decides result (self.new.seen ≢ []) }
     {
         self.tap.ring.slots() > 0
     }
 
     /// Whether its link was closed. Frames that were put into the ring before may still be there.
     pub(crate) fn is_closed(&mut self) -> bool
-        ensures { self.new ≡ self.old }
+        ensures { Looks self.old self.new }
     {
         self.tap.ring.is_abandoned()
     }
 }
 
 impl<A: Allocator + Copy> Outlet<A> {
-    /// The bytes of the next frame, or none while the ring is empty. It waits for nobody, and a refusal takes nothing.
+    /// Returns the bytes of the next frame, or `None` while the ring is empty. It does not wait, and a refusal takes
+    /// nothing.
     pub fn pop(&mut self) -> Result<Option<Bytes<A>>, AllocError>
-        ensures some { (item : List ℕ) → result ≡ Ok (Some item) → (self.new ≡ record self.old { given = self.old.given ++ item ∷ [] }) × (length item ≤ 32880) }
-        ensures none { result ≡ Ok None → self.new ≡ self.old }
-        ensures err { OnErr result (self.new ≡ self.old) }
+        ensures some { (item : List ℕ) → result ≡ Ok (Some item) → (self.new ≡ record self.old { given = self.old.given ++ item ∷ []; seen = self.new.seen }) × (length item ≤ 32880) }
+        ensures seen { (item : List ℕ) → result ≡ Ok (Some item) → IsPrefix self.old.seen (item ∷ self.new.seen) }
+        ensures none { result ≡ Ok None → (self.new ≡ self.old) × (self.new.seen ≡ []) }
+        ensures err { OnErr result (Looks self.old self.new) }
     {
         self.tap.pop()
     }
 
     /// Writes all frames that it has.
     pub(crate) fn write_to<W: MeteredWrite>(&mut self, writer: &mut W) -> Result<(), LinkEnd>
-        ensures link { self.new ≡ record self.old { given = self.new.given } }
+        ensures link { self.new ≡ record self.old { given = self.new.given; seen = self.new.seen } }
         ensures more { IsPrefix self.old.given self.new.given }
     {
         drain(&mut self.tap, writer, u32::MAX)?;
@@ -161,6 +170,8 @@ impl<A: Allocator + Copy> Outlet<A> {
 
 impl<A: Allocator + Copy> Source<A> for Outlet<A> {
     ghost given = { λ o. o.given };
+
+    ghost is_spent = { λ o. o.seen ≡ [] };
 
     fn next(&mut self) -> Result<Option<Bytes<A>>, AllocError> {
         self.pop()

@@ -21,7 +21,7 @@ use world::StimulusOf;
 
 /// What makes the connections of one link.
 pub trait Dialler {
-    /// A connection, to which frames are written. It is flushed when the link has no more of them, so it may gather those
+    /// A connection that frames are written to. It is flushed when the link has no more frames, so it may buffer those
     /// that come at once.
     type Writer: MeteredWrite + Drop + Send;
 
@@ -29,7 +29,7 @@ pub trait Dialler {
     fn dial(&mut self) -> Result<Self::Writer, LinkEnd>;
 }
 
-/// Has a writer send what it gathered. How much of that went out before a failure is not known.
+/// Flushes a writer. How much of what it buffered went out before a failure is not known.
 fn flush<W: MeteredWrite>(writer: &mut W) -> Result<(), LinkEnd> {
     match writer.flush() {
         Ok(()) => Ok(()),
@@ -60,7 +60,7 @@ impl<A: Allocator + Copy, D: Dialler + Drop> Outgoing<A, D> {
         }
     }
 
-    /// Writes all frames that the outlet has, over a connection that is made for the first of them, and flushes it.
+    /// Writes all frames that the outlet has and flushes the connection, which is made for the first frame.
     fn write(&mut self) -> Result<(), LinkEnd>
         ensures outlet { self.new.outlet.peer ≡ self.old.outlet.peer }
         ensures spent { self.new.spent.items ≡ self.old.spent.items }
@@ -104,14 +104,15 @@ enum Writing {
     Stopped,
 }
 
-/// What a worker that writes is to do next; none if it is to wait. Whether the link is closed is asked before the outlet
-/// is looked at, since frames may have been put into the ring until then.
+/// What a worker that writes is to do next; `None` if it is to wait. It asks whether the link is closed before it looks
+/// at the outlet, since frames may be put into the ring until the link is closed.
 fn next_writing<C: NodeCore<A> + Drop, A: Allocator + Copy>(
     shared: &Shared<C, A>,
     place: &WriterPlace,
     outlet: &mut Outlet<A>,
 ) -> Option<Writing>
-    ensures { outlet.new ≡ outlet.old }
+    ensures peer { outlet.new.peer ≡ outlet.old.peer }
+    ensures given { outlet.new.given ≡ outlet.old.given }
 {
     let is_stopped = shared.is_stopped();
     let is_closed = outlet.is_closed();
@@ -128,13 +129,14 @@ fn next_writing<C: NodeCore<A> + Drop, A: Allocator + Copy>(
     }
 }
 
-/// Waits for what a worker that writes is to do next. It does not take the node's lock.
+/// Waits until there is something to do for a worker that writes. It does not take the node's lock.
 fn wait_for_writing<R: Wait, C: NodeCore<A> + Drop, A: Allocator + Copy>(
     rt: &R,
     shared: &Shared<C, A>,
     outlet: &mut Outlet<A>,
 ) -> Writing
-    ensures { outlet.new ≡ outlet.old }
+    ensures peer { outlet.new.peer ≡ outlet.old.peer }
+    ensures given { outlet.new.given ≡ outlet.old.given }
 {
     let Some(place) = shared.writer(&outlet.peer()) else {
         return Writing::Retired;
@@ -149,7 +151,7 @@ fn wait_for_writing<R: Wait, C: NodeCore<A> + Drop, A: Allocator + Copy>(
     unreachable!()
 }
 
-/// Puts an outlet last, for which there is room.
+/// Appends an outlet, for which there is room.
 fn keep<A: Allocator>(spent: &mut Vec<Outlet<A>, A>, outlet: Outlet<A>)
     requires { vec_len spent.old < vec_capacity spent.old }
     ensures { spent.new.items ≡ spent.old.items ++ outlet ∷ [] }
@@ -157,7 +159,7 @@ fn keep<A: Allocator>(spent: &mut Vec<Outlet<A>, A>, outlet: Outlet<A>)
     spent.push(outlet).unwrap();
 }
 
-/// Tells the node that the link is down, and goes on with a new one.
+/// Tells the node that the link is down, and goes on with a new link.
 fn renew<R: Wait, C: NodeCore<A> + Drop, A: Allocator + Copy, G: Gate + Drop, D: Dialler + Drop>(
     rt: &R,
     steps: &Stepper<C, A, G>,
@@ -185,7 +187,8 @@ fn note_end<C: NodeCore<A> + Drop, A: Allocator + Copy>(shared: &Shared<C, A>, e
     }
 }
 
-/// Writes frames until the node ends or the worker is told to, and the frames are written, or a step is refused.
+/// Writes frames until the node is stopped or the worker is told to end and the frames are written, or until a step is
+/// refused.
 fn write_frames<R, C, A, G, D>(
     rt: &R,
     steps: &Stepper<C, A, G>,
@@ -216,7 +219,7 @@ where
     unreachable!()
 }
 
-/// Writes frames as long as it can, and answers the outlets that the link had.
+/// Writes frames as long as it can. Returns the outlets that the link had.
 fn write_to_end<R, C, A, G, D>(
     rt: &R,
     steps: &Stepper<C, A, G>,
@@ -237,14 +240,14 @@ where
     link.into_outlets()
 }
 
-/// Starts the worker that writes a link's frames. It makes a connection by the dialler when the outlet has its first
-/// frame, and writes frames to it, whole and in order, as long as they go out. It flushes the connection when the outlet
-/// is empty.
+/// Starts the worker that writes a link's frames. The dialler makes a connection when the outlet has its first frame,
+/// and the worker writes frames to it, whole and in order, as long as they go out. It flushes the connection when the
+/// outlet is empty.
 ///
-/// When a connection can't be made, a write fails or the node closes the link, it tells the core by a Down of the
-/// link's peer, opens a new link to it and goes on with that: frames of the old one that were not written are not
-/// written any more. It ends when the node was stopped or `Host::retire` was called, and all frames of its link are
-/// written, and at the first refusal. Where it is refused memory, `Host::lacks_memory` tells. `Closed`: the node was
+/// When a connection can't be made, a write fails or the node closes the link, the worker tells the core by a Down of
+/// the link's peer, opens a new link to it and goes on with that: frames of the old link that were not written are
+/// never written. It ends when the node was stopped or `Host::retire` was called, and all frames of its link are
+/// written, or at the first refusal; `Host::lacks_memory` tells whether memory was refused. `Closed`: the node was
 /// stopped. `OutOfMemory`: an allocation is refused, or no thread can be made.
 pub fn write_link<R, C, A, G, D>(
     rt: R,

@@ -7,7 +7,7 @@ pub loop-name-preserved : goal.loop-name-preserved
 loop-name-preserved g c =
     let so_far : List Outlet = map fresh_outlet (take c.loop-name.name-index c.args.names.now) in
     let before : c.loop-name.cell.trace.steps ≡ [] = c.loop-name.invariant.0 in
-    let its : c.in_ok-outlet.outlet ≡ fresh_outlet c.name-item.result = c.in_ok-outlet.ensures.outlet ∙ ap (λ steps. record { peer = c.name-item.result; opened = length steps; given = [] }) before in (
+    let its : c.in_ok-outlet.outlet ≡ fresh_outlet c.name-item.result = c.in_ok-outlet.ensures.outlet ∙ ap (λ steps. record { peer = c.name-item.result; opened = length steps; given = []; seen = [] }) before in (
       ap (λ cell. cell.trace.steps) c.in_ok-outlet.ensures.linked ∙ before,
       c.in_ok-keep.ensures
           ∙ ap (λ outlets. outlets ++ c.in_ok-outlet.outlet ∷ []) c.loop-name.invariant.1
