@@ -5,14 +5,14 @@ use node_threads::Dialler;
 use std::alloc::{Allocator, Global};
 use std::sync::Wait;
 
-/// Makes the connection of a pipe the first time, and none after that.
+/// Makes the connection of a pipe the first time, and fails after that.
 #[derive(Drop)]
 pub struct PipeDialler<R: Wait + Drop, A: Allocator + Copy = Global> {
     writer: Option<PipeWriter<R, A>>,
 }
 
 impl<R: Wait + Drop, A: Allocator + Copy> PipeDialler<R, A> {
-    /// A dialler that makes a connection to the reader of this pipe.
+    /// Makes a dialler for a connection to the reader of this pipe.
     pub fn new(writer: PipeWriter<R, A>) -> PipeDialler<R, A> {
         PipeDialler {
             writer: Some(writer),

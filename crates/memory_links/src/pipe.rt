@@ -1,5 +1,5 @@
 //! What the two ends of a pipe share.
-ghost use Rattle.std.specs.Prelude.{◌≡◌, ◌≤◌, length};
+ghost use Rattle.std.specs.Prelude.{◌≡◌, ◌≤◌, ◌++◌, drop, length, min, take, OnErr, OnOk};
 
 use crate::reader::PipeReader;
 use crate::writer::PipeWriter;
@@ -21,9 +21,20 @@ pub(crate) struct Pipe<A: Allocator> {
     changed: Condvar,
 }
 
-/// Moves bytes to the front of the buffer, as many as there are and fit, and answers how many.
+/// Appends bytes: all of them, or none if an allocation is refused.
+fn append<A: Allocator + Copy>(bytes: &mut BytesMut<A>, more: &[u8]) -> Result<(), AllocError>
+    ensures ok { OnOk result (bytes.new.items ≡ bytes.old.items ++ more.now) }
+    ensures err { OnErr result (bytes.new.items ≡ bytes.old.items) }
+{
+    bytes.extend_from_slice(more)
+}
+
+/// Moves as many of the first bytes as fit to the front of the buffer, and returns their number.
 fn move_out<A: Allocator>(bytes: &mut BytesMut<A>, buf: &mut [u8]) -> usize
-    ensures { (result ≤ length buf.new) × (length buf.new ≡ length buf.old) }
+    ensures count { result ≡ min (length bytes.old.items) (length buf.old) }
+    ensures moved { buf.new ≡ take result bytes.old.items ++ drop result buf.old }
+    ensures left { bytes.new.items ≡ drop result bytes.old.items }
+    ensures bound { (result ≤ length buf.new) × (length buf.new ≡ length buf.old) }
 {
     let n = bytes.len().min(buf.len());
     buf[..n].copy_from_slice(&bytes.as_slice()[..n]);
@@ -43,17 +54,17 @@ impl<A: Allocator + Copy> Pipe<A> {
         }
     }
 
-    /// Puts the bytes last, all or none.
+    /// Appends the bytes: all of them, or none if an allocation is refused.
     pub(crate) fn write<R: Wait>(&self, rt: &R, bytes: &[u8]) -> Result<(), AllocError> {
         let mut content = self.content.lock(rt);
-        content.bytes.extend_from_slice(bytes)?;
+        append(&mut content.bytes, bytes)?;
         drop(content);
         self.changed.notify_all();
         Ok(())
     }
 
-    /// Waits for bytes or for the writer's end, and moves bytes to the front of the buffer. It answers how many: none
-    /// only at the end, or where the buffer has no room.
+    /// Waits for bytes or for the writer's end, and moves bytes to the front of the buffer. Returns their number, which
+    /// is 0 only at the end, or if the buffer has no room.
     pub(crate) fn read<R: Wait>(&self, rt: &R, buf: &mut [u8]) -> usize
         ensures { (result ≤ length buf.new) × (length buf.new ≡ length buf.old) }
     {
@@ -65,14 +76,14 @@ impl<A: Allocator + Copy> Pipe<A> {
         move_out(&mut content.bytes, buf)
     }
 
-    /// The writer has ended.
+    /// Notes that the writer has ended.
     pub(crate) fn end<R: Wait>(&self, rt: &R) {
         self.content.lock(rt).is_ended = true;
         self.changed.notify_all();
     }
 }
 
-/// A pipe without bytes. Its ends may be used in different threads; who waits does so by this handle.
+/// Makes a pipe without bytes. Its ends may be used in different threads; they wait by this handle.
 pub fn new_pipe<R: Wait + Copy + Drop, A: Allocator + Copy>(
     rt: R,
     alloc: A,

@@ -10,8 +10,8 @@ use std::io;
 use std::io::Read;
 use std::sync::{Arc, Wait};
 
-/// Reads the bytes of a pipe, and waits where there are none. It meets its end once the writer was dropped and all is
-/// read, and it never fails.
+/// Reads the bytes of a pipe, and waits while there are none. It reaches the end once the writer is dropped and all
+/// bytes are read. It never fails.
 #[derive(Drop)]
 pub struct PipeReader<R: Wait + Drop, A: Allocator = Global> {
     rt: R,

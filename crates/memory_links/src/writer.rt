@@ -10,8 +10,8 @@ use std::io;
 use std::io::{ErrorKind, Write};
 use std::sync::{Arc, Wait};
 
-/// Writes bytes into a pipe, which has room for as many as there is memory for. Where there is none, the write fails.
-/// The reader meets its end once the writer is dropped.
+/// Writes bytes into a pipe, whose size is limited only by memory. If an allocation is refused, the write fails. The
+/// reader reaches its end once the writer is dropped.
 pub struct PipeWriter<R: Wait + Drop, A: Allocator + Copy = Global> {
     rt: R,
     pipe: Arc<Pipe<A>, A>,
