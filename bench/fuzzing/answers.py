@@ -13,9 +13,10 @@ PATIENCE = 30
 # The program's reader of TOML goes no deeper.
 DEEPEST = 80
 WHERE = r"top|limits|event \d+|node \d+"
-# What stands on standard error, by the status.
+# What stands on standard error, by the status. Status 0 may come with a line that says what the scenario lacks for the command.
+FITTING = r"no \[\[event\]\] to play; `plumtree run` runs its nodes|no \[\[node\]\] to run; `plumtree sim` plays its events"
 FAULTS = {
-    0: r"",
+    0: rf"(plumtree: scenario: ({FITTING}|neither an \[\[event\]\] nor a \[\[node\]\])\n)?",
     1: r"plumtree: (event \d+: (W[124567]|W3 highest \d+|S[12]|no end after 10000 arrivals)|node [a-z0-9-]{1,32}: (cannot listen: (the port is in use|node [a-z0-9-]{1,32} has the port)|H2))\n",
     2: rf"plumtree: (scenario too long|scenario is not TOML|scenario: ({WHERE}): \w+)\n",
 }

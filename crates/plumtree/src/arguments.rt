@@ -1,4 +1,4 @@
-//! What the words of the command line ask for.
+//! What the arguments of the command line ask for.
 ghost use Rattle.std.specs.Prelude.{◌≡◌, true, false, Option, Some, IfOk, codes, option_map, if◌then◌else◌};
 ghost use Rattle.node_names.specs.declared.ids.MsgId.{MsgId};
 ghost use Rattle.clap.specs.Matches.{first_value, found_of, one_text};
@@ -10,13 +10,13 @@ use node_names::{Incarnation, MsgId, NodeName, Origin};
 use simulation::Form;
 use std::alloc::{AllocError, Global};
 
-/// What stands below the help of all.
+/// The text below the general help.
 const AFTER_HELP: &str = "Examples:
   plumtree sim scenarios/hello.toml
   plumtree sim --trace scenarios/triangle.toml
   plumtree run scenarios/run/hello.toml
 
-Status: 0 all was done, 1 an event was refused or writing failed, 2 the words or the scenario are wrong.
+Status: 0 success, 1 an event was refused or a write failed, 2 bad arguments or a bad scenario.
 docs/scenarios.md describes the format of scenarios and of what is printed.";
 
 /// What is to be done with a scenario.
@@ -28,7 +28,7 @@ pub enum Task {
     Run,
 }
 
-/// What the program is to do: to play or run a scenario and write what came of it.
+/// What the program is to do: play or run a scenario, and write the outcome.
 #[derive(Clone, Copy, Debug, PartialEq, Eq)]
 pub struct Request<'a> {
     /// What is to be done with the scenario.
@@ -37,13 +37,13 @@ pub struct Request<'a> {
     pub file: Option<&'a str>,
     /// The form in which the outcome is written.
     pub form: Form,
-    /// Whether what means nothing in the scenario is refused.
+    /// Whether unknown keys, unarmed timers and links that do not exist are refused.
     pub is_strict: bool,
 }
 
-/// Reads the words, of which the first is the program's own name.
+/// Reads the arguments, the first of which is the program's own name.
 ///
-/// An error is a mistake in the words or a wish for help, and prints itself.
+/// An error is a mistake in the arguments or a request for help, and displays the text to print.
 pub fn parse<'a>(alloc: Global, words: &'a [String]) -> Result<Request<'a>, Error> {
     let matches = match command(alloc)?.try_get_matches_from(words) {
         Ok(matches) => matches,
@@ -60,7 +60,7 @@ pub fn parse<'a>(alloc: Global, words: &'a [String]) -> Result<Request<'a>, Erro
     }
 }
 
-/// The error of words, with the tip that a file comes after `sim`, if the first word is no subcommand.
+/// Adds to an error the tip that a file comes after `sim`, if the first argument is not a subcommand.
 fn with_tip(alloc: Global, words: &[String], error: Error) -> Error {
     if error.kind() != ErrorKind::InvalidSubcommand {
         return error;
@@ -88,7 +88,7 @@ fn task_of(name: &str) -> Task {
     if name == "run" { Task::Run } else { Task::Play }
 }
 
-/// What the words after a subcommand ask for.
+/// What the arguments after a subcommand ask for.
 fn requested<'a>(alloc: Global, task: Task, words: &ArgMatches<'a>) -> Result<Request<'a>, Error>
     ensures task { IfOk result (λ request. request.task ≡ task) }
     ensures file { IfOk result (λ request. option_map (λ file. file.now) request.file ≡ first_value (found_of words.now) (codes "FILE")) }
@@ -104,7 +104,7 @@ fn requested<'a>(alloc: Global, task: Task, words: &ArgMatches<'a>) -> Result<Re
     }
 }
 
-/// The request of words that ask for this message, if for one.
+/// The request of arguments that ask for this message, if they ask for one.
 fn request_of<'a>(task: Task, words: &ArgMatches<'a>, only: Option<MsgId>) -> Request<'a>
     ensures task { result.task ≡ task }
     ensures file { option_map (λ file. file.now) result.file ≡ first_value (found_of words.now) (codes "FILE") }
@@ -122,10 +122,10 @@ fn request_of<'a>(task: Task, words: &ArgMatches<'a>, only: Option<MsgId>) -> Re
     }
 }
 
-/// A text that is no message's id.
+/// A text that is not the id of a message.
 struct NoMessage;
 
-/// The message that is asked for, if one is.
+/// The message that the arguments ask for, if they ask for one.
 fn asked_message(words: &ArgMatches<'_>) -> Result<Option<MsgId>, NoMessage> {
     match words.get_str("message") {
         Some(text) => match message_of(text) {
@@ -136,7 +136,7 @@ fn asked_message(words: &ArgMatches<'_>) -> Result<Option<MsgId>, NoMessage> {
     }
 }
 
-/// A trace or a drawing, if one is asked for.
+/// The form of the output: a trace or a drawing if one is asked for, and lines otherwise.
 fn form_of(is_traced: bool, is_drawn: bool, only: Option<MsgId>) -> Form
     ensures { result ≡ (if is_traced then Form.Trace else (if is_drawn then Form.Graph only else Form.Lines)) }
 {
@@ -149,7 +149,7 @@ fn form_of(is_traced: bool, is_drawn: bool, only: Option<MsgId>) -> Form
     }
 }
 
-/// The number that a text of digits alone is.
+/// Reads a number that is written in digits alone.
 fn number_of(text: &str) -> Option<u64> {
     if text.starts_with('+') {
         return None;
@@ -157,7 +157,7 @@ fn number_of(text: &str) -> Option<u64> {
     text.parse().ok()
 }
 
-/// The message of a text `NAME/INCARNATION/NUMBER`.
+/// Reads the id of a message, written `NAME/INCARNATION/NUMBER`.
 fn message_of(text: &str) -> Option<MsgId> {
     let mut parts = text.split('/');
     let (name, incarnation, seq) = (parts.next()?, parts.next()?, parts.next()?);
@@ -174,7 +174,7 @@ fn message_of(text: &str) -> Option<MsgId> {
     })
 }
 
-/// The error for a text that names no message.
+/// The error for a text that is not the id of a message.
 fn no_message(alloc: Global, task: Task) -> Error {
     match no_message_error(alloc, task) {
         Ok(error) => error,
@@ -191,7 +191,7 @@ fn no_message_error(alloc: Global, task: Task) -> Result<Error, AllocError> {
     command.error(ErrorKind::ValueValidation, message)
 }
 
-/// The error for words that are no text.
+/// The error for arguments that are not text.
 pub fn not_text(alloc: Global) -> Error {
     match not_text_error(alloc) {
         Ok(error) => error,
@@ -215,22 +215,22 @@ fn subcommand<'a>(
     let trace = flag(
         alloc,
         "trace",
-        "Tells what each step did and how the group stands at the end, in place of the lines",
+        "Prints each step and the group's last state instead of deliveries and trees",
     );
     let dot = flag(
         alloc,
         "dot",
-        "Draws the links and each message's tree, for Graphviz, in place of the lines",
+        "Prints the links and each message's tree as a Graphviz graph",
     );
     let message = Arg::new(alloc, "message")
         .long("message")
         .value_name("ID")
         .requires_arg("dot")?
-        .help("With --dot, draws this message alone, as a/1/2");
+        .help("With --dot, draws only this message, for instance a/1/2");
     let strict = flag(
         alloc,
         "strict",
-        "Refuses keys that mean nothing, timers that are not armed and links that are none",
+        "Rejects unknown keys, unarmed timers and links that do not exist",
     );
     Command::new(alloc, name)
         .about(about)
@@ -242,7 +242,7 @@ fn subcommand<'a>(
         .arg(file)
 }
 
-/// An argument that is there or is not.
+/// An argument without a value, which is given or not.
 fn flag<'a>(alloc: Global, name: &'a str, help: &'a str) -> Arg<'a> {
     Arg::new(alloc, name)
         .long(name)
@@ -265,14 +265,14 @@ fn run<'a>(alloc: Global) -> Result<Command<'a>, AllocError> {
     subcommand(
         alloc,
         "run",
-        "Runs a scenario's nodes over TCP within this machine and prints the same",
+        "Runs a scenario's nodes over TCP on localhost, with the same output",
         "Example: plumtree run scenarios/run/hello.toml",
     )
 }
 
 fn command<'a>(alloc: Global) -> Result<Command<'a>, AllocError> {
     Command::new(alloc, "plumtree")
-        .about("Plumtree broadcast over HyParView membership; with no words as `sim`")
+        .about("Plumtree broadcast over HyParView membership; without a command it is `sim`")
         .version(VERSION)
         .after_help(AFTER_HELP)
         .subcommand(sim(alloc)?)?

@@ -3,7 +3,7 @@ use loopback::RunError;
 use node_threads::HostError;
 use std::fmt;
 
-/// Why a group did not run to its end, which prints with the refusal's code.
+/// Why a group did not run to its end. It is printed with the code of the refusal.
 #[derive(Clone, Copy, Debug, PartialEq, Eq)]
 pub struct RunCode(pub RunError);
 

@@ -12,7 +12,7 @@ const MOST_NODES: usize = 64;
 /// The most ticks that a run may have.
 const MOST_TICKS: u64 = 10_000;
 
-/// How many ticks a run has where the scenario does not say.
+/// How many ticks a run has if the scenario does not say.
 const TICKS: u64 = 100;
 
 /// A group that is to run.
@@ -25,7 +25,7 @@ pub struct GroupScenario {
 }
 
 impl GroupScenario {
-    /// Reads a document as the scenario of a group: what stands at its top first, then the limits, then each node.
+    /// Reads a document as the scenario of a group: first its top level, then the limits, then each node.
     pub fn from_document(alloc: Global, document: &Table) -> Result<GroupScenario, ScenarioError> {
         let top = Section {
             place: Place::Top,
@@ -45,7 +45,7 @@ impl GroupScenario {
     }
 }
 
-/// The section of the node with this number. A node is a table, or the list of nodes is refused.
+/// The section of the node with this number. If the node is not a table, the list of nodes is refused.
 fn section_of(number: usize, node: &Value) -> Result<Section<'_>, ScenarioError> {
     match node.as_table() {
         Some(table) => Ok(Section {
@@ -59,7 +59,7 @@ fn section_of(number: usize, node: &Value) -> Result<Section<'_>, ScenarioError>
     }
 }
 
-/// The names of the nodes, in order, of which those that have no name are left out.
+/// The names of the nodes, in order. Nodes without a valid name are left out.
 fn names(alloc: Global, nodes: &[Value]) -> Result<Vec<NodeName>, AllocError> {
     let mut names = Vec::new(alloc);
     for (number, node) in nodes.iter().enumerate() {

@@ -5,21 +5,24 @@ mod arguments;
 mod code;
 mod group;
 mod member;
+mod output;
 mod program;
 mod progress;
 mod run_group;
+mod unfit;
 mod version;
 
+use output::Output;
 use simulation::{ScenarioError, report};
 use std::io::BufWriter;
 use std::process::ExitCode;
 
-/// How many bytes of output are gathered for one write.
+/// How many bytes of output are buffered for one write.
 const OUTPUT_ROOM: usize = 65_536;
 
 fn main(rt: HostRuntime) -> ExitCode {
     let mut faults = rt.stderr();
-    let status = match BufWriter::with_capacity(rt.alloc(), OUTPUT_ROOM, rt.stdout()) {
+    let status = match BufWriter::with_capacity(rt.alloc(), OUTPUT_ROOM, Output::new(rt.stdout())) {
         Ok(mut out) => program::run(&rt, &mut out, &mut faults),
         Err(_) => report(&mut faults, ScenarioError::OutOfMemory, 1),
     };

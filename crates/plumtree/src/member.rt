@@ -4,13 +4,13 @@ use node_names::{Incarnation, Limits, NodeName, Origin};
 use simulation::{Key, ScenarioError, Section};
 use std::alloc::Global;
 
-/// The least port that a node may have: those below are the system's.
+/// The least port that a node may have: those below are reserved for the system.
 const LEAST_PORT: u64 = 1_024;
 
 /// The greatest port that there is.
 const GREATEST_PORT: u64 = 65_535;
 
-/// Reads the table of one node, of a group with these names. No two nodes have one name.
+/// Reads the table of one node of a group with these names. No two nodes may have the same name.
 pub fn member(
     alloc: Global,
     limits: &Limits,
@@ -36,7 +36,7 @@ pub fn member(
     })
 }
 
-/// A node's name, which no earlier one has.
+/// Reads a node's name, which no earlier node may have.
 fn name(earlier: &[Member], section: &Section<'_>) -> Result<NodeName, ScenarioError> {
     let name = section.name(Key::Name)?;
     if earlier.iter().any(|member| member.me.name == name) {
@@ -54,7 +54,7 @@ fn port(section: &Section<'_>) -> Result<u16, ScenarioError> {
     }
 }
 
-/// A node's first active view: distinct other nodes, as many as it has room for.
+/// A node's first active view: distinct other nodes, at most as many as it has room for.
 fn peers(
     alloc: Global,
     limits: &Limits,

@@ -1,4 +1,4 @@
-//! The program over any system: its words, its scenario and its two streams.
+//! The program over any system: its arguments, its scenario and its two streams.
 ghost use Rattle.std.specs.Prelude.{◌≡◌, ◌≤◌};
 
 use crate::arguments;
@@ -6,6 +6,7 @@ use crate::arguments::{Request, Task};
 use crate::code::RunCode;
 use crate::progress::{Progress, is_terminal};
 use crate::run_group::{GroupError, run_group};
+use crate::unfit::{Unfit, unfit_for};
 use clap::error::ErrorKind;
 use loopback::Machine;
 use simulation::{
@@ -20,9 +21,10 @@ use std::thread::Threads;
 use std::time::Clock;
 use std::{env, fs, io};
 
-/// Does what the command line asks for. The number is the status that the program ends with.
+/// Does what the command line asks for. Returns the exit status.
 ///
-/// It names the parts of a `Machine`, since the prover does not cover a call that gives the host's runtime as one.
+/// It names the parts of a `Machine`, since the prover does not cover a call that passes the host's runtime as a
+/// `Machine`.
 pub fn run<R, W, F>(rt: &R, out: &mut W, faults: &mut F) -> u8
 where
     R: AllocGlobal
@@ -53,7 +55,7 @@ where
     }
 }
 
-/// The words of the command line, the program's own name first.
+/// The arguments of the command line, the program's own name first.
 fn words<R: AllocGlobal + Env>(rt: &R) -> io::Result<Vec<String>> {
     Ok(env::args(rt)?.collect(rt.alloc())?)
 }
@@ -106,31 +108,74 @@ where
     F: Write,
     ensures { result ≤ 2 }
 {
-    match task {
-        Task::Play => play_input(rt.alloc(), form, is_strict, input, out, faults),
-        Task::Run => run_input(rt, form, is_strict, input, out, faults),
+    match read_text(rt.alloc(), input) {
+        Ok(text) => perform_text(rt, task, form, is_strict, text.as_slice(), out, faults),
+        Err(error) => report_unread(&error, faults),
     }
 }
 
-/// Runs the nodes of an input's scenario, and writes what came of it in this form, and why it ended early to `faults`.
-fn run_input<R, I, W, F>(
+/// Plays or runs the scenario of a text. If `is_strict`, one that has nothing to do for the task is rejected; otherwise
+/// that is reported once the task is done.
+fn perform_text<R, W, F>(
     rt: &R,
+    task: Task,
     form: Form,
     is_strict: bool,
-    input: &mut I,
+    text: &[u8],
     out: &mut W,
     faults: &mut F,
 ) -> u8
 where
     R: AllocGlobal + Files + Machine,
-    I: Read,
     W: Write,
     F: Write,
     ensures { result ≤ 2 }
 {
-    match read_text(rt.alloc(), input) {
-        Ok(text) => run_text(rt, form, is_strict, text.as_slice(), out, faults),
-        Err(error) => report_unread(&error, faults),
+    let unfit = unfit_for(rt.alloc(), task, text);
+    if is_strict
+        && let Some(unfit) = unfit
+        && unfit != Unfit::Neither
+    {
+        return report(faults, unfit, 2);
+    }
+    let status = play_or_run(rt, task, form, is_strict, text, out, faults);
+    if status == 0 && !is_strict {
+        note_unfit(unfit, faults)
+    } else {
+        status
+    }
+}
+
+/// Writes what a scenario lacks, if it lacks something. Returns the exit status.
+fn note_unfit<F: Write>(unfit: Option<Unfit>, faults: &mut F) -> u8
+    ensures { result ≤ 2 }
+{
+    match unfit {
+        Some(unfit) => report(faults, unfit, 0),
+        None => 0,
+    }
+}
+
+/// Plays or runs the scenario of a text.
+fn play_or_run<R, W, F>(
+    rt: &R,
+    task: Task,
+    form: Form,
+    is_strict: bool,
+    text: &[u8],
+    out: &mut W,
+    faults: &mut F,
+) -> u8
+where
+    R: AllocGlobal + Files + Machine,
+    W: Write,
+    F: Write,
+    ensures { result ≤ 2 }
+{
+    let mut input = text;
+    match task {
+        Task::Play => play_input(rt.alloc(), form, is_strict, &mut input, out, faults),
+        Task::Run => run_text(rt, form, is_strict, text, out, faults),
     }
 }
 
@@ -155,7 +200,7 @@ where
     run_known(rt, form, text, out, faults)
 }
 
-/// Runs the nodes of a text's scenario, whatever keys it has that mean nothing.
+/// Runs the nodes of a text's scenario, and ignores keys that have no meaning.
 fn run_known<R, W, F>(rt: &R, form: Form, text: &[u8], out: &mut W, faults: &mut F) -> u8
 where
     R: AllocGlobal + Files + Machine,
@@ -167,12 +212,13 @@ where
     let is_plain = form == Form::Lines;
     let mut progress = Progress::new(faults, is_terminal(rt, alloc));
     let ended = run_group(*rt, alloc, form, text, out, &mut progress);
-    progress.end();
-    conclude_run(is_plain, ended, faults)
+    let is_told = progress.end();
+    let status = conclude_run(is_plain, ended, faults);
+    if status == 0 && !is_told { 1 } else { status }
 }
 
-/// Writes why a group did not run and was not written to its end, if it was not. The number is the status that the
-/// program ends with. A fault of merging stands among the lines already, where these are printed.
+/// Writes why a group was not run and written to its end, if it was not. Returns the exit status. If lines are printed,
+/// a merge fault stands among them already.
 fn conclude_run<F: Write>(is_plain: bool, ended: Result<(), GroupError>, faults: &mut F) -> u8
     ensures { result ≤ 2 }
 {
@@ -189,7 +235,7 @@ fn conclude_run<F: Write>(is_plain: bool, ended: Result<(), GroupError>, faults:
     }
 }
 
-/// Writes the help that was asked for, or what is wrong with the words.
+/// Writes the help that was asked for, or what is wrong with the arguments.
 pub fn explain<W: Write, F: Write>(error: clap::Error, out: &mut W, faults: &mut F) -> u8
     ensures status { result ≤ 2 }
     ensures help { result ≡ 0 → faults.new ≡ faults.old }

@@ -1,17 +1,17 @@
-//! The line that says on a terminal how far a run is.
+//! The line on a terminal that says how far a run is.
 use loopback::Watch;
 use std::alloc::Global;
 use std::io;
 use std::io::Write;
 use std::rt::Files;
 
-/// The line is written anew at each of so many looks.
+/// The line is written anew every `LOOKS` looks.
 const LOOKS: u64 = 20;
 
-/// Where the system tells what standard error is.
+/// Where the system says what standard error is.
 const STANDARD_ERROR: &str = "/proc/self/fd/2";
 
-/// Whether standard error is a terminal, as far as the system tells.
+/// Whether standard error is a terminal, as far as the system says.
 pub fn is_terminal<R: Files>(rt: &R, alloc: Global) -> bool {
     match rt.read_link(alloc, STANDARD_ERROR) {
         Ok(path) => {
@@ -26,30 +26,33 @@ pub fn is_terminal<R: Files>(rt: &R, alloc: Global) -> bool {
 #[derive(Drop)]
 pub struct Progress<'a, F: Write> {
     stream: &'a mut F,
-    /// Whether it writes: not any more once a write has failed.
+    /// Whether it still writes. It stops once a write has failed.
     is_shown: bool,
+    has_failed: bool,
     looks: u64,
 }
 
 impl<'a, F: Write> Progress<'a, F> {
-    /// Tells of a run, if that is to be shown at all.
+    /// Starts the line of a run, which is written only if `is_shown` is set.
     pub fn new(stream: &'a mut F, is_shown: bool) -> Progress<'a, F> {
         Progress {
             stream,
             is_shown,
+            has_failed: false,
             looks: 0,
         }
     }
 
-    /// Takes the line away.
-    pub fn end(self) {
+    /// Erases the line. Returns whether all of its writes succeeded.
+    pub fn end(self) -> bool {
         if self.is_shown && self.looks > 0 {
-            let _ = clear(self.stream);
+            return clear(self.stream).is_ok();
         }
+        !self.has_failed
     }
 }
 
-/// Takes the line away that the terminal's cursor is in.
+/// Erases the line that the terminal's cursor is in.
 fn clear<F: Write>(stream: &mut F) -> io::Result<()> {
     write!(stream, "\r\x1b[K")?;
     stream.flush()
@@ -66,8 +69,12 @@ fn show<F: Write>(stream: &mut F, ticks: u64, of: u32, deliveries: usize) -> io:
 
 impl<'a, F: Write> Watch for Progress<'a, F> {
     fn look(&mut self, ticks: u64, of: u32, deliveries: usize) {
-        if self.is_shown && self.looks % LOOKS == 0 {
-            self.is_shown = show(self.stream, ticks, of, deliveries).is_ok();
+        if self.is_shown
+            && self.looks % LOOKS == 0
+            && show(self.stream, ticks, of, deliveries).is_err()
+        {
+            self.is_shown = false;
+            self.has_failed = true;
         }
         self.looks = self.looks.wrapping_add(1);
     }

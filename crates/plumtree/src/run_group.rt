@@ -1,4 +1,4 @@
-//! A group that runs, and what is written of it.
+//! Runs a group, and writes the outcome.
 use crate::group::GroupScenario;
 use loopback::{Machine, RunError, RunReport, Watch, run};
 use node_core::PlumCore;
@@ -12,10 +12,10 @@ use std::io::Write;
 use trace_merge::{MergeFault, merge};
 use world::{Delivery, Event, World, WorldError};
 
-/// The room for a line: the longest payload in hexadecimal, and what stands before it.
+/// The room for a line: the longest payload in hexadecimal, and what comes before it.
 const LINE_ROOM: usize = 66_000;
 
-/// Why a group did not run and was not written to its end.
+/// Why a group was not run and written to its end.
 #[derive(Clone, Copy, Debug, PartialEq, Eq)]
 pub enum GroupError {
     /// No scenario was read.
@@ -57,8 +57,8 @@ impl From<AllocError> for GroupError {
     }
 }
 
-/// Reads a text as the scenario of a group, runs the group over connections within this machine, and writes what its
-/// nodes delivered, whether their histories are those of one run, and what that run is.
+/// Reads a text as the scenario of a group, runs the group over connections on localhost, and writes what its nodes
+/// delivered, whether their histories are those of one run, and what that run is.
 pub fn run_group<R, W, V>(
     rt: R,
     alloc: Global,
@@ -83,7 +83,7 @@ fn read_group(alloc: Global, text: &[u8]) -> Result<GroupScenario, ScenarioError
     GroupScenario::from_document(alloc, &document)
 }
 
-/// Writes what a group delivered and what its histories are as one run.
+/// Writes what a group delivered, and its histories as one run.
 fn write_run<W: Write>(
     alloc: Global,
     form: Form,
@@ -91,26 +91,34 @@ fn write_run<W: Write>(
     ran: &RunReport,
     out: &mut W,
 ) -> Result<(), GroupError> {
-    let merged = merge(alloc, limits, ran.traces.as_slice());
     match form {
-        Form::Lines => {
-            let mut text = String::with_capacity(alloc, LINE_ROOM)?;
-            write_deliveries(alloc, &mut text, ran.deliveries.as_slice(), out)?;
-            if !ran.traces.is_empty() {
-                write_verdict(&mut text, &merged, out)?;
-            }
-            let group = group_of(alloc, limits, merged)?;
-            write_group(alloc, &mut text, &group, out)
-        }
+        Form::Lines => write_as_lines(alloc, limits, ran, out),
         Form::Graph(only) => {
-            let group = group_of(alloc, limits, merged)?;
+            let group = group_of(alloc, limits, merge(alloc, limits, ran.traces.as_slice()))?;
             draw_group(alloc, &group, &only, out)
         }
         Form::Trace => {
-            let group = group_of(alloc, limits, merged)?;
+            let group = group_of(alloc, limits, merge(alloc, limits, ran.traces.as_slice()))?;
             Ok(write_trace(alloc, &group, &[], &Stop::none(), out)?)
         }
     }
+}
+
+/// Writes what a group delivered, and only then merges its histories, which may take long, and writes their run.
+fn write_as_lines<W: Write>(
+    alloc: Global,
+    limits: Limits,
+    ran: &RunReport,
+    out: &mut W,
+) -> Result<(), GroupError> {
+    let mut text = String::with_capacity(alloc, LINE_ROOM)?;
+    write_deliveries(alloc, &mut text, ran.deliveries.as_slice(), out)?;
+    let merged = merge(alloc, limits, ran.traces.as_slice());
+    if !ran.traces.is_empty() {
+        write_verdict(&mut text, &merged, out)?;
+    }
+    let group = group_of(alloc, limits, merged)?;
+    write_group(alloc, &mut text, &group, out)
 }
 
 /// References to deliveries, in their order.
@@ -150,7 +158,7 @@ fn write_verdict<W: Write>(
     Ok(out.flush()?)
 }
 
-/// The group of the merged run, as it stands at its end.
+/// The group at the end of the merged run.
 fn group_of(
     alloc: Global,
     limits: Limits,
@@ -168,7 +176,7 @@ fn group_of(
     }
 }
 
-/// Has a group take events. It takes all that `merge` answered, but where an allocation is refused.
+/// Has a group take events. It takes all that `merge` returned, unless an allocation is refused.
 fn play_all(group: &mut World<PlumCore>, events: &[Event]) -> Result<(), WorldError> {
     for event in events {
         group.play(event)?;
@@ -188,7 +196,7 @@ fn write_group<W: Write>(
     Ok(write_trees(alloc, text, group, messages.as_slice(), out)?)
 }
 
-/// Draws the group, with the tree of each message or of one alone.
+/// Draws the group, with the tree of each message or of only one.
 fn draw_group<W: Write>(
     alloc: Global,
     group: &World<PlumCore>,
