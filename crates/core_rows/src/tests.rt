@@ -1,4 +1,5 @@
-//! The tests by what they are of, and what they share.
+//! The tests, grouped by what they test, and what they share.
+mod first_left;
 mod halves;
 mod named;
 mod packets;

@@ -1,5 +1,4 @@
-//! Small groups of Plumtree nodes that are brought to rest, as tests, and a sweep in which each allocation is refused
-//! in turn.
+//! Tests of small groups of Plumtree nodes that are brought to rest, also with each allocation refused in turn.
 #![tactic(auto)]
 
 #[cfg(test)]

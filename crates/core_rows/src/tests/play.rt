@@ -1,4 +1,5 @@
-//! Playing the rows event by event.
+//! Plays the rows event by event.
+use crate::tests::first_left::first_left_rows;
 use crate::tests::named::id;
 use crate::tests::rows::{Row, Turn, rows};
 use crate::tests::texts::{
@@ -13,7 +14,7 @@ use std::test::Fail;
 use test_support::lend;
 use world::{Event, WorldError};
 
-/// The event of an act.
+/// Returns the event of an act.
 pub(crate) fn event<A: Allocator + Copy>(
     rt: &impl Abort,
     alloc: A,
@@ -22,7 +23,7 @@ pub(crate) fn event<A: Allocator + Copy>(
     Ok(group_events::event(alloc, act)?.expect(rt, "names"))
 }
 
-/// Plays an event. What it gives stands in the log too.
+/// Plays an event. What it gives is also in the log.
 pub(crate) fn apply<A: Allocator + Copy>(
     world: &mut Group<A>,
     event: Event<A>,
@@ -36,7 +37,7 @@ fn compare_text(rt: &impl Abort, text: &str, wanted: &str) {
     assert_eq!(rt; text, wanted);
 }
 
-/// Compares what an event gave and left.
+/// Compares what an event gave and left with what it should have.
 pub(crate) fn compare<A: Allocator + Copy>(
     rt: &impl Abort,
     text: &mut String,
@@ -56,7 +57,7 @@ pub(crate) fn compare<A: Allocator + Copy>(
     Ok(())
 }
 
-/// Compares what all readers answer.
+/// Compares what all readers show with what they should.
 pub(crate) fn compare_whole<A: Allocator + Copy>(
     rt: &impl Abort,
     text: &mut String,
@@ -70,7 +71,7 @@ pub(crate) fn compare_whole<A: Allocator + Copy>(
     Ok(())
 }
 
-/// Plays an event over ample memory.
+/// Plays an event with ample memory.
 pub(crate) fn happen<A: Allocator + Copy>(
     rt: &impl Abort,
     alloc: A,
@@ -81,7 +82,7 @@ pub(crate) fn happen<A: Allocator + Copy>(
     apply(world, event)
 }
 
-/// Plays events over ample memory, and compares what each gives and leaves.
+/// Plays events with ample memory, and compares what each gives and leaves with what it should.
 pub(crate) fn play<A: Allocator + Copy>(
     rt: &impl Abort,
     alloc: A,
@@ -97,14 +98,14 @@ pub(crate) fn play<A: Allocator + Copy>(
     Ok(())
 }
 
-/// The ids of the two messages that a row asks about.
+/// Returns the ids of the two messages that a row asks about.
 pub(crate) fn asked(rt: &impl Abort, row: &Row) -> [MsgId; 2] {
     let first = id(rt, row.first.0);
     let second = id(rt, row.second.0);
     [first, second]
 }
 
-/// Compares what is told of a message at the end.
+/// Compares what is said about a message at the end of a row with what it should be.
 fn compare_told<A: Allocator + Copy>(
     rt: &impl Abort,
     alloc: A,
@@ -150,7 +151,7 @@ fn play_group<A: Allocator + Copy>(
     Ok(compare_end(rt, alloc, text, world, ids, row)?)
 }
 
-/// The limits of the group of a row.
+/// Returns the limits of the group of a row.
 pub(crate) fn limits(row: &Row) -> Limits {
     Limits::STANDARD.tuned(row.threshold).keeping(row.keep)
 }
@@ -190,4 +191,10 @@ fn plays_rows(rt: HostRuntime) -> Result<(), Fail> {
 fn plays_tuned_rows(rt: HostRuntime) -> Result<(), Fail> {
     let mut text = String::new(rt.alloc());
     Ok(play_rows(&rt, rt.alloc(), &mut text, tuned_rows())?)
+}
+
+#[test]
+fn plays_first_left_rows(rt: HostRuntime) -> Result<(), Fail> {
+    let mut text = String::new(rt.alloc());
+    Ok(play_rows(&rt, rt.alloc(), &mut text, first_left_rows())?)
 }

@@ -1,5 +1,5 @@
-//! Runs of nodes that swap branches or forget payloads. They stand apart from the other runs since a function that
-//! names a table costs by all of its rows.
+//! Runs of nodes that swap branches or forget payloads. They are apart from the other runs since a proof about a
+//! function that names a table costs more for each row of the table.
 use crate::tests::rows::{ASKING, Row};
 use group_events::{Act, Id};
 
@@ -12,8 +12,9 @@ const A3: Id = ("a", 3);
 /// Both views of the nodes of a square.
 const SQUARE: &str = "a: b d /; b: a c /; c: b d /; d: c a /; ";
 
-/// In a square the link from a to d is slow for once, so that messages go round. Then d hears of the second one from a,
-/// two links sooner than it comes, and asks a in place of c for the next ones.
+/// In a square, the link from a to d is slow for once, so the messages go the long way round. Then a announces the
+/// second message to d, with a path that is two links shorter than the one on which it arrives, and d asks a instead of
+/// c for the next messages.
 const SHORTER_WAY: Row = Row {
     threshold: 2,
     keep: 0,
@@ -151,8 +152,8 @@ const SHORTER_WAY: Row = Row {
 /// Both views of the nodes of a line.
 const LINE: &str = "a: b /; b: a c /; c: b /; ";
 
-/// A node that holds one message broadcasts its own before it is asked for the one that it announced. It sends nothing,
-/// and who asked lacks the message for good.
+/// A node that holds one message broadcasts its own before it is asked for the one that it announced. It then sends
+/// nothing, and the node that asked lacks the message for good.
 const FORGOTTEN: Row = Row {
     threshold: 0,
     keep: 1,
@@ -186,7 +187,7 @@ const FORGOTTEN: Row = Row {
 
 const ROWS: &[Row] = &[SHORTER_WAY, FORGOTTEN];
 
-/// All rows with a threshold, or whose nodes forget.
+/// Returns all rows that have a threshold or whose nodes forget payloads.
 pub(crate) fn tuned_rows() -> &'static [Row] {
     ROWS
 }

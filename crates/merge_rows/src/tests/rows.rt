@@ -1,4 +1,4 @@
-//! Runs of small groups, and what the merges of their traces are, worked out by hand.
+//! Runs of small groups, and the merges of their traces, worked out by hand.
 use group_events::Act;
 
 /// A run of a group, and merges of traces of it.
@@ -6,12 +6,12 @@ use group_events::Act;
 pub(crate) struct Case {
     /// What happens in the group.
     pub(crate) acts: &'static [Act],
-    /// Lists of runs, and the events that each is merged into with what is then in flight, or the fault.
+    /// Lists of runs, and what their traces are merged into: the events and what is then in flight, or the fault.
     pub(crate) merges: &'static [(&'static str, &'static str)],
 }
 
-/// Three nodes know each other. `c` has the message from `b`, and then once more from `a`; `a` has its own back from
-/// `c`.
+/// Three nodes know each other. `c` gets the message from `b`, and then again from `a`; `a` gets its own message back
+/// from `c`.
 pub(crate) const TRIANGLE: &[Act] = &[
     Act::Start("a", 1, "b c"),
     Act::Start("b", 1, "a c"),
@@ -55,10 +55,11 @@ const CORNERS: Case = Case {
         ("a1 c1", "M1 a/1 1"),
         ("c1 a1", "M1 c/1 0"),
         ("a1 b1 c1 a1", "M4 a/1"),
+        ("a1 b1 b1 a1", "M4 b/1"),
     ],
 };
 
-/// A node runs a second time. Its first run is played out before that, wherever it stands.
+/// A node runs a second time. Its first run is played to its end before that, wherever it is in the list.
 const RESTART: Case = Case {
     acts: &[
         Act::Start("a", 1, "b"),
@@ -86,7 +87,7 @@ const RESTART: Case = Case {
     ],
 };
 
-/// A packet comes twice, and what is answered to the second never comes.
+/// A packet arrives twice, and the answer to the second arrival never arrives.
 const TWICE: Case = Case {
     acts: &[
         Act::Start("a", 1, "b"),
@@ -113,17 +114,18 @@ const TWICE: Case = Case {
 
 const CASES: &[Case] = &[CORNERS, RESTART, TWICE];
 
-/// All cases. The table is named here alone, since a function that names it is proved over the whole of it.
+/// Returns all cases. Only this function names the table, since a function that names it needs a proof about the whole
+/// table.
 pub(crate) fn cases() -> &'static [Case] {
     CASES
 }
 
-/// What happens in the triangle.
+/// Returns what happens in the triangle.
 pub(crate) fn triangle() -> &'static [Act] {
     TRIANGLE
 }
 
-/// The runs of the triangle in the order of their names, and what their traces are merged into.
+/// Returns the runs of the triangle in the order of their names, and what their traces are merged into.
 pub(crate) fn merging_of_triangle() -> (&'static str, &'static str) {
     CORNERS.merges[0]
 }

@@ -1,4 +1,4 @@
-//! Bringing the groups of the rows to rest.
+//! Brings the groups of the rows to rest.
 use crate::tests::rows::{Row, rows};
 use crate::tests::texts::{Group, push_held, push_log};
 use at_rest::{SettleError, is_calm, settle};
@@ -15,7 +15,7 @@ fn compare_text(rt: &impl Abort, text: &str, wanted: &str) {
     assert_eq!(rt; text, wanted);
 }
 
-/// Compares what was played since the log had this length, and what the nodes hold.
+/// Compares what was played since the log had length `played`, and what the nodes hold, with what they should be.
 pub(crate) fn compare<A: Allocator + Copy>(
     rt: &impl Abort,
     text: &mut String,
@@ -32,7 +32,7 @@ pub(crate) fn compare<A: Allocator + Copy>(
     Ok(())
 }
 
-/// Brings a group to rest, and compares how many events that takes.
+/// Brings a group to rest, and compares how many events that takes with `count`.
 fn compare_count<A: Allocator + Copy>(
     rt: &impl Abort,
     alloc: A,
@@ -44,7 +44,7 @@ fn compare_count<A: Allocator + Copy>(
     assert!(rt; settle(alloc, world) == wanted);
 }
 
-/// Brings a group to rest twice.
+/// Brings a group to rest twice. If it is calm, the second time takes no events.
 fn play_group<A: Allocator + Copy>(
     rt: &impl Abort,
     alloc: A,
@@ -62,9 +62,9 @@ fn play_group<A: Allocator + Copy>(
     Ok(())
 }
 
-/// The limits of the group of a row.
+/// Returns the limits of the group of a row.
 pub(crate) fn limits(row: &Row) -> Limits {
-    Limits::STANDARD.keeping(row.keep)
+    Limits::STANDARD.tuned(row.threshold).keeping(row.keep)
 }
 
 fn play_row<A: Allocator + Copy>(

@@ -1,23 +1,26 @@
-//! Groups before they are brought to rest, with what that plays and leaves worked out by hand.
+//! Groups before they are brought to rest, with what that plays and leaves, worked out by hand.
 use group_events::{ASKING, Act, QUEUING};
 
-/// A group under the standard limits, but for the number of payloads that a node keeps.
+/// A group under the standard limits, except for the threshold and the number of payloads that a node keeps.
 #[derive(Clone, Copy)]
 pub(crate) struct Row {
-    /// How many of the messages that it delivered last a node holds, and 0 where it holds all.
+    /// How many links longer a message's way must be than an announced one to swap a branch; 0 if none is swapped.
+    pub(crate) threshold: u32,
+    /// How many of its last delivered messages a node holds; 0 for all.
     pub(crate) keep: u32,
-    /// Runs that happen first, one behind the other.
+    /// Runs that happen first, one after another.
     pub(crate) before: &'static [&'static [Act]],
-    /// How many events bring the group to rest, or `None` where it is not calm.
+    /// How many events bring the group to rest, or `None` if it is not calm.
     pub(crate) count: Option<u64>,
     /// What these events are, and what they deliver.
     pub(crate) told: &'static str,
-    /// Which messages each node holds then, in order of delivery.
+    /// Which messages each node then holds, in order of delivery.
     pub(crate) held: &'static str,
 }
 
 /// Two nodes, and a packet between them.
 const HELLO: Row = Row {
+    threshold: 0,
     keep: 0,
     before: &[&[
         Act::Start("a", 1, "b"),
@@ -31,6 +34,7 @@ const HELLO: Row = Row {
 
 /// Packets of two nodes cross, and each prunes the other.
 const TRIANGLE: Row = Row {
+    threshold: 0,
     keep: 0,
     before: &[&[
         Act::Start("a", 1, "b c"),
@@ -43,8 +47,9 @@ const TRIANGLE: Row = Row {
     held: "a: a/1/1; b: a/1/1; c: a/1/1; ",
 };
 
-/// `b` has a message queued for `c`, which asks for it once it has heard of it.
+/// `b` has an announcement queued for `c`, which asks for the message once it has heard of it.
 pub(crate) const REPAIR: Row = Row {
+    threshold: 0,
     keep: 0,
     before: &[QUEUING],
     count: Some(5),
@@ -52,8 +57,9 @@ pub(crate) const REPAIR: Row = Row {
     held: "a: a/1/1 a/1/2; b: a/1/1 a/1/2; c: a/1/1 a/1/2; ",
 };
 
-/// `c` asks `b` for a message that it has forgotten, and hears of another.
+/// `c` asks `b` for a message that `b` has forgotten, and hears of another one.
 const FORGOTTEN: Row = Row {
+    threshold: 0,
     keep: 1,
     before: &[QUEUING, ASKING, &[Act::Broadcast("b", "o")]],
     count: Some(8),
@@ -61,8 +67,56 @@ const FORGOTTEN: Row = Row {
     held: "a: b/1/1; b: b/1/1; c: b/1/1; ",
 };
 
+/// In a ring `d` had the first message from `c`, and has heard from `a` of the second one. It comes by two links more, so
+/// `d` asks `a` in place of `c` for what is to come.
+const SWAPPING: Row = Row {
+    threshold: 2,
+    keep: 0,
+    before: &[
+        &[
+            Act::Start("a", 1, "b d"),
+            Act::Start("b", 1, "a c"),
+            Act::Start("c", 1, "b d"),
+            Act::Start("d", 1, "c a"),
+            Act::Broadcast("a", "m"),
+            Act::Arrive(0),
+            Act::Arrive(1),
+            Act::Arrive(1),
+            Act::Arrive(0),
+            Act::Arrive(0),
+            Act::Arrive(0),
+            Act::Arrive(0),
+        ],
+        &[Act::Broadcast("a", "n"), Act::Flush("a"), Act::Arrive(1)],
+    ],
+    count: Some(7),
+    told: "#7 arrives; b delivers a/1/2 n; #9 arrives; c delivers a/1/2 n; #10 arrives; d delivers a/1/2 n; #11 arrives; #12 arrives; d flushes; #13 arrives; ",
+    held: "a: a/1/1 a/1/2; b: a/1/1 a/1/2; c: a/1/1 a/1/2; d: a/1/1 a/1/2; ",
+};
+
+/// The request of an earlier run of `c` is in flight, and is answered to the one that runs.
+const RESTARTED: Row = Row {
+    threshold: 0,
+    keep: 0,
+    before: &[QUEUING, ASKING, &[Act::Stop("c"), Act::Start("c", 2, "b")]],
+    count: Some(2),
+    told: "#5 arrives; #6 arrives; c delivers a/1/2 n; ",
+    held: "a: a/1/1 a/1/2; b: a/1/1 a/1/2; c: a/1/2; ",
+};
+
+/// The request of a node that does not run any more is in flight.
+const STOPPED: Row = Row {
+    threshold: 0,
+    keep: 0,
+    before: &[QUEUING, ASKING, &[Act::Stop("c"), Act::Down("b", "c")]],
+    count: None,
+    told: "",
+    held: "a: a/1/1 a/1/2; b: a/1/1 a/1/2; ",
+};
+
 /// A packet about membership is in flight.
 const JOINING: Row = Row {
+    threshold: 0,
     keep: 0,
     before: &[&[Act::Start("a", 1, ""), Act::Join("b", 1, "a")]],
     count: None,
@@ -72,6 +126,7 @@ const JOINING: Row = Row {
 
 /// A link goes one way, to a node that does not run.
 const ONE_WAY: Row = Row {
+    threshold: 0,
     keep: 0,
     before: &[&[Act::Start("a", 1, "b")]],
     count: None,
@@ -79,9 +134,11 @@ const ONE_WAY: Row = Row {
     held: "a:; ",
 };
 
-const ROWS: &[Row] = &[HELLO, TRIANGLE, REPAIR, FORGOTTEN, JOINING, ONE_WAY];
+const ROWS: &[Row] = &[
+    HELLO, TRIANGLE, REPAIR, FORGOTTEN, SWAPPING, RESTARTED, STOPPED, JOINING, ONE_WAY,
+];
 
-/// All rows.
+/// Returns all rows.
 pub(crate) fn rows() -> &'static [Row] {
     ROWS
 }

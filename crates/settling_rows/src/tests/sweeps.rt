@@ -1,5 +1,5 @@
-//! Groups that are brought to rest while an allocation is refused, each in turn: the refusal is as out of memory, and a
-//! second call plays what is left.
+//! Groups that are brought to rest with each allocation refused in turn: the call fails as out of memory, and a second
+//! call plays what is left.
 use crate::tests::play::{compare, limits};
 use crate::tests::rows::{REPAIR, Row};
 use crate::tests::texts::Group;
@@ -12,25 +12,30 @@ use std::test::Fail;
 use test_support::{lend, stop_refusing, sweep};
 use world::WorldError;
 
-/// Brings a group to rest while the allocation with this number is refused. Whether there was such an allocation, or
-/// `None` where the answer is another.
+/// Brings a group to rest while allocation number `n` is refused. Returns whether there was such an allocation, or
+/// `None` if the call failed otherwise. Counts the call in `spared` if it succeeded although an allocation was refused:
+/// some are for room that a collection can do without.
 fn settle_refused<A: Allocator + Copy>(
     heap: &RefusingAllocator,
     alloc: A,
     world: &mut Group<A>,
+    spared: &mut u64,
     n: u64,
 ) -> Option<bool> {
     heap.refuse(n);
     let answer = settle(alloc, world);
     let is_spent = stop_refusing(heap);
     match answer {
-        Ok(_) => Some(is_spent),
+        Ok(_) => {
+            *spared = spared.saturating_add(u64::from(is_spent));
+            Some(is_spent)
+        }
         Err(SettleError::OutOfMemory) if is_spent => Some(true),
         Err(_) => None,
     }
 }
 
-/// Does so with the group of a row, and lets a second call play what is left.
+/// Calls `settle_refused` with the group of a row, and lets a second call play what is left.
 fn play_refused<A: Allocator + Copy>(
     rt: &impl Abort,
     heap: &RefusingAllocator,
@@ -38,29 +43,31 @@ fn play_refused<A: Allocator + Copy>(
     text: &mut String,
     world: &mut Group<A>,
     row: &Row,
+    spared: &mut u64,
     n: u64,
 ) -> Result<Option<bool>, WorldError> {
     let are_names = play_runs(alloc, world, row.before)?;
     assert!(rt; are_names);
     let played = world.log().len();
-    let answer = settle_refused(heap, alloc, world, n);
+    let answer = settle_refused(heap, alloc, world, spared, n);
     assert!(rt; settle(alloc, world).is_ok());
     compare(rt, text, world, played, row)?;
     Ok(answer)
 }
 
-/// Does so in a fresh group.
+/// Calls `play_refused` with a fresh group.
 fn sweep_row<A: Allocator + Copy>(
     rt: &impl Abort,
     heap: &RefusingAllocator,
     alloc: A,
     text: &mut String,
     row: &Row,
+    spared: &mut u64,
     n: u64,
 ) -> Result<Option<bool>, WorldError> {
     let world = Group::<A>::new(alloc, limits(row));
     lend(world, |world| {
-        play_refused(rt, heap, alloc, text, world, row, n)
+        play_refused(rt, heap, alloc, text, world, row, spared, n)
     })
 }
 
@@ -68,7 +75,9 @@ fn sweep_row<A: Allocator + Copy>(
 fn refuses_each_allocation(rt: HostRuntime) -> Result<(), Fail> {
     let heap = RefusingAllocator::new(rt.alloc());
     let mut text = String::new(rt.alloc());
-    let count = sweep(|n| sweep_row(&rt, &heap, &heap, &mut text, &REPAIR, n))?;
-    assert!(rt; count.is_some_and(|count| 10 < count));
+    let mut spared = 0;
+    let count = sweep(|n| sweep_row(&rt, &heap, &heap, &mut text, &REPAIR, &mut spared, n))?;
+    assert!(rt; count == Some(30));
+    assert!(rt; spared == 3);
     Ok(())
 }

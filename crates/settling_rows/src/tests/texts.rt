@@ -1,4 +1,4 @@
-//! What happened in a group, and what its nodes hold, as texts.
+//! What happened in a group, and what its nodes hold, as text.
 use node_core::PlumCore;
 use node_names::MsgId;
 use std::alloc::{AllocError, Allocator};
@@ -9,7 +9,7 @@ use world::{Core, Delivery, Entry, EventOf, NodeState, World};
 /// A group of Plumtree nodes.
 pub(crate) type Group<A> = World<PlumCore<A>, A>;
 
-/// Appends what an event of settling is.
+/// Appends an event that brings a group to rest.
 fn push_event<A: Allocator>(text: &mut String, entry: &Entry<A>) -> Result<(), AllocError> {
     if let Some(number) = entry.packet {
         return write!(text, "#{number} arrives; ");
@@ -54,7 +54,7 @@ fn push_ids(text: &mut String, ids: &[MsgId]) -> Result<(), AllocError> {
     Ok(())
 }
 
-/// Appends what a node holds, and whether anything is left at it.
+/// Appends what a node holds, and whether it has queued announcements or timers left.
 fn push_core<A: Allocator + Copy>(text: &mut String, core: &PlumCore<A>) -> Result<(), AllocError> {
     write!(text, "{}:", core.me().name)?;
     push_ids(text, core.held())?;
