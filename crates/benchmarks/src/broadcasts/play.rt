@@ -1,4 +1,4 @@
-//! A broadcast, until nothing of it is in flight.
+//! Broadcasts, each until none of its packets is in flight.
 use crate::broadcasts::overlay::name_of;
 use anyhow::Result;
 use bytes::Bytes;
@@ -36,4 +36,28 @@ pub(crate) fn broadcast(
     })?;
     arrive_all(group)?;
     Ok(group.sent().len().saturating_sub(sent))
+}
+
+/// Loses the oldest packet until none is in flight.
+fn lose_all(group: &mut World<PlumCore>) -> Result<(), WorldError> {
+    for _ in 0..MANY {
+        if group.flight().is_empty() {
+            break;
+        }
+        group.apply(EventOf::Lose { place: 0 })?;
+    }
+    Ok(())
+}
+
+/// Broadcasts a message at the node at this place, and loses its packets, so that only announcements tell of it.
+pub(crate) fn broadcast_lost(
+    group: &mut World<PlumCore>,
+    place: usize,
+    payload: &Bytes,
+) -> Result<()> {
+    group.apply(EventOf::Broadcast {
+        name: name_of(place)?,
+        payload: payload.clone()?,
+    })?;
+    Ok(lose_all(group)?)
 }

@@ -1,6 +1,6 @@
-//! How fast a group is brought to rest, beside letting packets arrive alone.
+//! How fast a group is brought to rest, compared with only letting packets arrive.
 use crate::broadcasts::overlay::started;
-use crate::broadcasts::play::broadcast;
+use crate::broadcasts::play::{broadcast, broadcast_lost};
 use anyhow::Result;
 use at_rest::settle;
 use bytes::Bytes;
@@ -9,10 +9,13 @@ use node_names::Limits;
 use std::alloc::Global;
 use std::io::Print;
 use std::time::{Clock, Instant};
-use world::{Core, NodeState, World};
+use world::{Core, EventOf, NodeState, World};
 
-/// More broadcasts than it takes to queue what is asked for.
+/// More broadcasts than it takes to queue the announcements that are asked for.
 const MANY: usize = 100_000;
+
+/// How many broadcasts are lost on their way.
+const LOST: usize = 50;
 
 /// How many announcements a node has queued.
 fn queued_at(node: &NodeState<PlumCore>) -> usize {
@@ -31,7 +34,7 @@ fn queued(group: &World<PlumCore>) -> usize {
     count
 }
 
-/// Broadcasts until so many announcements are queued. All packets of a broadcast arrive before the next one.
+/// Broadcasts until `count` announcements are queued. All packets of a broadcast arrive before the next one.
 fn fill(group: &mut World<PlumCore>, payload: &Bytes, count: usize) -> Result<()> {
     for place in 0..MANY {
         if queued(group) >= count {
@@ -57,7 +60,7 @@ fn tell<R: Print + Clock>(
     Ok(())
 }
 
-/// Queues so many announcements and brings the group to rest.
+/// Queues `count` announcements and brings the group to rest.
 fn measure_group<R: Print + Clock>(
     rt: &R,
     alloc: Global,
@@ -76,7 +79,42 @@ fn measure_group<R: Print + Clock>(
     tell(rt, "settling", group, before, start)
 }
 
-/// Does so in a fresh group.
+/// Returns how many timers fired since the log had length `before`.
+fn fired(group: &World<PlumCore>, before: usize) -> usize {
+    let mut count = 0usize;
+    for entry in group.log().iter().skip(before) {
+        if let EventOf::Fire { .. } = &entry.event {
+            count = count.saturating_add(1);
+        }
+    }
+    count
+}
+
+/// Loses broadcasts on their way.
+fn lose(group: &mut World<PlumCore>, payload: &Bytes) -> Result<()> {
+    for place in 0..LOST {
+        broadcast_lost(group, place, payload)?;
+    }
+    Ok(())
+}
+
+/// Loses broadcasts on their way, and brings the group to rest: nodes ask for what was announced to them.
+fn measure_requests<R: Print + Clock>(
+    rt: &R,
+    alloc: Global,
+    group: &mut World<PlumCore>,
+    payload: &Bytes,
+) -> Result<()> {
+    lose(group, payload)?;
+    let start = Instant::now(rt)?;
+    let before = group.log().len();
+    settle(alloc, group)?;
+    tell(rt, "settling with requests", group, before, start)?;
+    println!(rt; "{} timers fired", fired(group, before))?;
+    Ok(())
+}
+
+/// Measures both kinds of settling in a fresh group.
 pub(crate) fn measure<R: Print + Clock>(
     rt: &R,
     alloc: Global,
@@ -84,5 +122,6 @@ pub(crate) fn measure<R: Print + Clock>(
     count: usize,
 ) -> Result<()> {
     let mut group = started(alloc, Limits::STANDARD)?;
-    measure_group(rt, alloc, &mut group, payload, count)
+    measure_group(rt, alloc, &mut group, payload, count)?;
+    measure_requests(rt, alloc, &mut group, payload)
 }
