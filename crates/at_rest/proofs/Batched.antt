@@ -22,7 +22,7 @@ sends_load sends = sum_by (λ (send : Name × Body). body_load send.1) sends
 pub sends_both : (xs ys : List (Name × Body)) → sends_load (xs ++ ys) ≡ sends_load xs + sends_load ys
 sends_both xs ys = sum_by-append (λ (send : Name × Body). body_load send.1) xs ys
 
--- so many frames announce no more than there is
+-- any number of frames announces no more than there is
 cut_load : (name : Name) (n : ℕ) (entries : List (MsgId × ℕ)) → sends_load (map (λ es. (name, IHave es)) (frames_of n entries)) ≤ 7 * length entries
 cut_load name zero entries = omega arith
 cut_load name (suc n) entries =
@@ -107,7 +107,7 @@ one_out name queued (other ∷ names) some = go (same_name name other) refl some
         let rest : waits name queued + all_wait (filter (λ n. not (same_name name n)) names) queued ≤ all_wait names queued = later at in
         omega arith
 
--- who is not among the others but for one is not among all, unless it is that one
+-- a name that is not among the others is not among all, unless it is the one that was left out
 found_in_filter : (name other : Name) (names : List Name) → same_name name other ≡ false → list_any (same_name name) (filter (λ n. not (same_name other n)) names) ≡ false → list_any (same_name name) names ≡ false
 found_in_filter name other [] apart none = refl
 found_in_filter name other (n ∷ names) apart none = go (same_name other n) (same_name name n) refl refl none (found_in_filter name other names apart)
@@ -118,7 +118,7 @@ found_in_filter name other (n ∷ names) apart none = go (same_name other n) (sa
     go false true is same none later = absurd (false≢true (sym none ∙ ap (λ c. c || list_any (same_name name) (filter (λ m. not (same_name other m)) names)) same))
     go false false is same none later = later (sym (ap (λ c. c || list_any (same_name name) (filter (λ m. not (same_name other m)) names)) same) ∙ none)
 
--- who is no receiver waits for nothing
+-- nothing waits for a name that is not a receiver
 nobody_waits : (name : Name) (queued : List (Name × MsgId × ℕ)) → list_any (same_name name) (receivers queued) ≡ false → waits name queued ≡ 0
 nobody_waits name [] none = refl
 nobody_waits name (entry ∷ queued) none = go (same_name name entry.0) refl none (nobody_waits name queued)

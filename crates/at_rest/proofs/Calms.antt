@@ -112,7 +112,7 @@ module _
       runs.2,
     )
 
-    -- who runs afterwards is the core that stepped, or ran before
+    -- a core that runs afterwards is the one that stepped, or ran before
     ran : (other : Name) (core : Plum) → Runs after other core → ((other ≡ name) × (new ≡ core)) ⊎ ((other ≡ name → ⊥) × Runs before other core)
     ran other core runs =
         elim (put_cases other (record step.acts.node { core = Some new }) runs.0 before.nodes (subst (λ ns. node_of other ns ≡ Some runs.0) step.acts.nodes runs.1)) [

@@ -29,7 +29,7 @@ use Rattle.node_core.specs.Fits.{AreFit, ComesFit, FitsFrames, IsFit}
 use Rattle.node_core.specs.Plum.{IsSoundPlum, Plum, plum_state}
 use Rattle.node_core.specs.Steps.{PlumStarts, PlumSteps, numbered, opening, turned}
 
--- What a stimulus leaves and sends fits, where what the core holds and what comes to it does.
+-- If what the core holds and the stimulus fit, then so do what the core holds afterwards and what it sends.
 abbrev pub StepsFit : Type 0
 StepsFit = (core : Plum) (stimulus : Stimulus Frame) → FitsFrames core.gossip → AreSound core.membership.views → ComesFit stimulus → FitsFrames (turned core.me core.membership core.gossip stimulus).gossip × AreFit (turned core.me core.membership core.gossip stimulus).sends
 
@@ -54,7 +54,7 @@ module _
     (limits : Limits)
   where
     module _ (past : List Entry) (entry : Entry) (before after : Group Plum Frame) (kept : Keeps plum_state frame_content IsSoundPlum limits past before.nodes before.sent) (fits : GroupFits before) where
-      -- a node that is put fits where its core does
+      -- a node that is put fits if its core does
       put_fits : (node : NodeState Plum) → ((core : Plum) → node.core ≡ Some core → FitsFrames core.gossip) → after.nodes ≡ put_node node before.nodes → (name : Name) (core : Plum) → Runs after name core → FitsFrames core.gossip
       put_fits node its nodes name core runs =
           elim (put_cases name node runs.0 before.nodes (subst (λ ns. node_of name ns ≡ Some runs.0) nodes runs.1)) [

@@ -148,7 +148,7 @@ either_has : (xs ys : List Delivery) (node : Origin) (id : MsgId) → HasDeliver
 either_has [] ys node id h = inr h
 either_has (x ∷ xs) ys node id h = elim h [ inl here ↦ inl (inl here) | inr later ↦ elim (either_has xs ys node id later) [ inl a ↦ inl (inr a) | inr b ↦ inr b ] ]
 
--- who delivered the message has a branch
+-- an incarnation that delivered the message has a branch
 delivered_branch : {N : Type 0} (sent : List (Packet N)) (id : MsgId) (history : List Entry) (node : Origin) → Delivered history node id → HasBranch node (tree_of sent id history)
 delivered_branch sent id [] node h = absurd h
 delivered_branch sent id (entry ∷ past) node h =

@@ -127,7 +127,7 @@ module _
     pub some_item : (at : ℕ) (name : Name) → slice_get (names_of nodes) at ≡ Some name → contains nat_cmp set at ≡ true → (x : X) × (ys : List X) × (list (core_of name nodes) ≡ x ∷ ys)
     some_item at name named member = an_item (list (core_of name nodes)) (sym (told at name named) ∙ member)
 
-    -- where nothing is left at the nodes before one, that one is the first
+    -- if nothing is left at the nodes before one, that one is the first
     split : (rest : List (NodeState C)) (at : ℕ) (name : Name) → slice_get (names_of rest) at ≡ Some name → ((q : ℕ) → q < at → (other : Name) → slice_get (names_of rest) q ≡ Some other → list (core_of other nodes) ≡ [])
         → (front : List (NodeState C)) × (node : NodeState C) × (back : List (NodeState C)) × (rest ≡ front ++ node ∷ back) × (name ≡ node.name) × Each (λ (other : NodeState C). list (core_of other.name nodes) ≡ []) front
     split [] at name is before = let no : None ≡ Some name = is in cc
@@ -260,7 +260,7 @@ module _
             differ : at ≡ q → ⊥
             differ e = false≢true (sym is ∙ equal_number at q e)
 
--- a list is empty where it has no first item
+-- a list is empty if it has no first item
 pub no_keys : (keys : List ℕ) → (0 < length keys → false ≡ true) → keys ≡ []
 no_keys [] h = refl
 no_keys (k ∷ keys) h = absurd (false≢true (h (omega arith)))
@@ -269,7 +269,7 @@ no_keys (k ∷ keys) h = absurd (false≢true (h (omega arith)))
 pub is_first : {X : Type 0} (list : List X) (first other : X) (others : List X) → Some first ≡ slice_get list 0 → list ≡ other ∷ others → other ≡ first
 is_first list first other others there is = let same : Some first ≡ Some other = there ∙ ap (λ xs. slice_get xs 0) is in cc
 
--- a core that may run has announcements or timers left where it has any
+-- the core, if one runs, has announcements or timers left if it has any
 pub queues_tell : {C : Type 0} (state : C → CoreState) (o : Option C) → is_left_in state Announcements o ≡ nat_lt 0 (length (queue_of state o))
 queues_tell state None = sym (not_less 0 0 (λ less. omega arith))
 queues_tell state (Some core) = refl

@@ -62,14 +62,14 @@ first_load sender id round payload g =
     let less : gossip_waiting (record g { missing = got id g.missing }) ≤ gossip_waiting g = got_less id g in
     omega arith
 
--- and 2 where a branch is swapped
+-- and 2 if a branch is swapped
 swapped_load : (sender : Name) (peer : Option Name) (done : Outcome) → sends_load (swapped sender peer done).sends + gossip_waiting (swapped sender peer done).state ≤ sends_load done.sends + gossip_waiting done.state + 2
 swapped_load sender None done = omega arith
 swapped_load sender (Some peer) done =
     let both : sends_load (done.sends ++ (peer, GraftPeer) ∷ (sender, Prune) ∷ []) ≡ sends_load done.sends + 2 = sends_both done.sends ((peer, GraftPeer) ∷ (sender, Prune) ∷ []) in
     omega arith
 
--- The call leaves less than there was and came, but for what a delivery adds: 9 for each member at most.
+-- The call leaves less than there was and came, except for what a delivery adds: 9 for each member at most.
 pub record IsLighter (came : ℕ) (g : GossipState) (done : Outcome) : Type 0 where
   pub quiet : done.delivered ≡ None → sends_load done.sends + gossip_waiting done.state + 1 ≤ came + gossip_waiting g
   pub spreads : (message : MsgId × List ℕ) → done.delivered ≡ Some message → sends_load done.sends + gossip_waiting done.state + 1 ≤ came + gossip_waiting g + 9 * member_count g

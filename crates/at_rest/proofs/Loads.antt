@@ -45,7 +45,7 @@ grows (suc m) few many less = let rest : m * few ≤ m * many = grows m few many
         let other : suc m * many ≡ m * many + many = suc-mul m many in
         omega arith
 
--- what a name that a list has is one of it
+-- a name that a list has is one of it
 has_one : (xs : List Name) (name : Name) → has_name xs name ≡ true → IsOneOf name xs
 has_one [] name has = absurd (false≢true has)
 has_one (x ∷ xs) name has = go (same_name name x) refl has (has_one xs name)
@@ -66,7 +66,7 @@ one_has (x ∷ xs) name one =
     or_true true = refl
     or_true false = refl
 
--- who runs is found
+-- a core that runs is found
 runs_found : (group : Group Plum Frame) (name : Name) (core : Plum) → Runs group name core → core_of name group.nodes ≡ Some core
 runs_found group name core runs = ap (λ (o : Option (NodeState Plum)). core_in o) runs.1 ∙ runs.2
 

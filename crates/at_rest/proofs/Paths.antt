@@ -33,13 +33,13 @@ module _ {C N : Type 0} (state : C → CoreState) (group : Group C N) where
   end_runs zero from end path = subst (λ name. IsRunning group name) path.0 path.1
   end_runs (suc n) from end path = end_runs n path.0 end path.2
 
-  -- The names reached so far are those nearer than so many links, and the level has those at that distance.
+  -- The names reached so far are those nearer than `k` links, and the level has those at that distance.
   pub record IsFront (from : Name) (k : ℕ) (reached level : List Name) : Type 0 where
     pub near : (end : Name) → (has_name reached end ≡ true) ↔ ((m : ℕ) × (m < k) × Path state group m from end)
     pub at : (end : Name) → (has_name level end ≡ true) ↔ IsDistance state group from k end
 
   module _ (from : Name) (k : ℕ) (reached level : List Name) (front : IsFront from k reached level) where
-    -- who is no farther than the level is reached or in it
+    -- a name that is no farther than the level is reached or in it
     pub covered : (m : ℕ) (end : Name) → m ≤ k → Path state group m from end → (has_name reached end ≡ true) ⊎ (has_name level end ≡ true)
     covered m end within path = go (has_name reached end) refl
       where
@@ -52,7 +52,7 @@ module _ {C N : Type 0} (state : C → CoreState) (group : Group C N) where
               | inr same ↦ inr ((front.at end).1 (record { path = subst (λ j. Path state group j from end) same path; shortest = none }))
             ]
 
-    -- so where the level is empty all are reached
+    -- so if the level is empty, all are reached
     pub all_reached : ((end : Name) → has_name level end ≡ true → ⊥) → (n : ℕ) (end : Name) → Path state group n from end → has_name reached end ≡ true
     all_reached empty zero end path = elim (covered zero end (omega arith) path) [ inl is ↦ is | inr in_level ↦ absurd (empty end in_level) ]
     all_reached empty (suc n) end path =

@@ -1,4 +1,4 @@
--- The packets of a gossip go to its members, or answer who asks; and they are about messages.
+-- The packets of a gossip go to its members, or answer a peer that asks; and they are about messages.
 use Rattle.std.proofs.Common.{◌≡◌, ◌∙◌, ℕ, zero, suc, List, [], ◌∷◌, true, false, refl, subst, inl, inr}
 use Rattle.std.specs.Prelude.{◌⊎◌, ◌&&◌, ◌==◌, ◌+◌, Bool, Option, Some, None, cond, drop, filter, map, nat_le, not}
 use Rattle.std.specs.FinSet as set
@@ -25,7 +25,7 @@ use Rattle.gossip_core.specs.Table.{Outcome, answer, asked, first_copy, gossip_t
 use Rattle.gossip_core.specs.declared.call.CallOf.TheVariants as call
 use Rattle.node_core.specs.Plum.{IsWhole}
 
--- The packet goes to a member, or to who asked; and it is about messages.
+-- The packet goes to a member, or to the peer that asked; and it is about messages.
 pub record GoesRight (g : GossipState) (asker : Option Name) (send : Name × Body) : Type 0 where
   pub receiver : (is_member g.peers.members send.0 ≡ true) ⊎ (asker ≡ Some send.0)
   pub about_messages : (body_content send.1).is_membership ≡ false
@@ -45,7 +45,7 @@ spread_right g asker left_out id round payload members same =
     each-map (gossip_to id round payload) (λ send. GoesRight g asker send) (eager_but left_out members)
     (each-weaker (λ name. is_member members name ≡ true) (λ name. GoesRight g asker (gossip_to id round payload name)) (λ name is. record { receiver = inl (subst (λ ms. is_member ms name ≡ true) same is); about_messages = refl }) (eager_but left_out members) (eager_are_members left_out members))
 
--- who announced an id first is one of those who announced
+-- the peer that announced an id first is one of those that announced
 first_is_one : (id : MsgId) (wants : List (MsgId × Name × ℕ)) (first : Name × ℕ) (P : Name → Type 0) → Each (λ entry. P entry.1) wants → first_want id wants ≡ Some first → P first.0
 first_is_one id [] first P h is = let no : None ≡ Some first = is in cc
 first_is_one id (entry ∷ wants) first P h is = go (same_id id entry.0) is (first_is_one id wants first P h.1)

@@ -55,7 +55,7 @@ said_before past entry silent (d ∷ given) honest id one =
       | inr later ↦ said_before past entry silent given honest.1 id later
     ]
 
--- who asks by a packet is its sender, and is asked for
+-- the peer that asks is the sender of the packet, which asks for a message
 asker_is : (content_asked : Option MsgId) (sender other : Name) (body : Body) → (body_content body).asked ≡ content_asked → asker_of sender body ≡ Some other → ((body_content body).asked ≡ None → ⊥) × (sender ≡ other)
 asker_is None sender other body at is = let no : None ≡ Some other = sym (ap (λ (o : Option MsgId). option_map (λ (id : MsgId). sender) o) at) ∙ is in cc
 asker_is (Some id) sender other body at is =
@@ -113,7 +113,7 @@ module _
               turns))),
         )
 
-    -- who asks is nobody
+    -- nobody asks
     nobody_asks : (other : Name) → None ≡ Some other → IsRunning before other
     nobody_asks other is = let no : None ≡ Some other = is in cc
 

@@ -118,7 +118,7 @@ all_at_rest {C} {N} state content group settled id =
           times_not = subst (λ (ts : List MsgId). Each (λ timed. timed ≡ id → ⊥) ts) (sym no_timer) tt;
         }
 
--- where an event is refused, or was the last to be played, what was played stands
+-- if an event is refused, or was the last to be played, the events that were played stay
 pub stopped_played : (is_spent : Plum → Stimulus Frame → Type 0) (e : SettleError) (old now new : Logged Plum Frame) → HasPlayed plum_state PlumStarts PlumSteps load_of old now → Stops plum_state PlumStarts PlumSteps is_spent e now new
     → (events : List Event) × Settles plum_state PlumStarts PlumSteps events old new
 stopped_played is_spent NotCalm old now new played stops = absurd stops

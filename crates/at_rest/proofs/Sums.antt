@@ -32,7 +32,7 @@ same_sums f g (x ∷ xs) same = sum_by-cons f x xs ∙ (λ i. same x i + same_su
 pub same_counts : {X : Type 0} (p q : X → Bool) (xs : List X) → ((x : X) → p x ≡ q x) → count_by p xs ≡ count_by q xs
 same_counts p q xs same = same_sums (λ x. cond {A = ℕ} (p x) 1 0) (λ x. cond {A = ℕ} (q x) 1 0) xs (λ x. ap (λ b. cond {A = ℕ} b 1 0) (same x))
 
--- where each passes, all are counted
+-- if each passes, all are counted
 pub all_counted : {X : Type 0} (p : X → Bool) (xs : List X) → ((x : X) → IsOneOf x xs → p x ≡ true) → count_by p xs ≡ length xs
 all_counted p [] all = refl
 all_counted p (x ∷ xs) all =
@@ -90,7 +90,7 @@ sent_is me framed bodies sender = sum_packets weight sender (numbered me framed 
 
 -- ---- what is lacked
 
--- who has more lacks no more
+-- a core that has more messages lacks no more
 pub lacks_less : (said : List MsgId) (old new : CoreState) → ((id : MsgId) → old.has id ≡ true → new.has id ≡ true) → lacked said new ≤ lacked said old
 lacks_less [] old new keeps = omega arith
 lacks_less (id ∷ said) old new keeps = go (old.has id) (new.has id) refl refl (lacks_less said old new keeps)
@@ -107,7 +107,7 @@ lacks_less (id ∷ said) old new keeps = go (old.has id) (new.has id) refl refl 
         one false false was is = let none : cond {A = ℕ} (not (old.has id)) 1 0 ≡ 1 = ap (λ x. cond {A = ℕ} (not x) 1 0) was in let some : cond {A = ℕ} (not (new.has id)) 1 0 ≡ 1 = ap (λ x. cond {A = ℕ} (not x) 1 0) is in omega arith
         one true false was is = absurd (false≢true (sym is ∙ keeps id was))
 
--- and less by one where it got one that it lacked
+-- and one less if it got one that it lacked
 pub lacks_one_less : (said : List MsgId) (old new : CoreState) (id : MsgId) → ((i : MsgId) → old.has i ≡ true → new.has i ≡ true) → IsOneOf id said → old.has id ≡ false → new.has id ≡ true → suc (lacked said new) ≤ lacked said old
 lacks_one_less [] old new id keeps one was is = absurd one
 lacks_one_less (first ∷ said) old new id keeps one was is =

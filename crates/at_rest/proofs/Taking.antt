@@ -34,7 +34,7 @@ use Rattle.at_rest.proofs.Fits.{StepsFit}
 use Rattle.at_rest.proofs.Settled.{event_settles}
 use Rattle.at_rest.proofs.Lefts.{same_names}
 
--- One node is put anew, and stands where it stood.
+-- One node is replaced, and keeps its place.
 abbrev pub IsPut : Group Plum Frame → Group Plum Frame → Name → Type 0
 IsPut before after name = (node : NodeState Plum) × (core : Plum) × (node_of name before.nodes ≡ Some node) × (after.nodes ≡ put_node (record node { core = Some core }) before.nodes)
 

@@ -21,11 +21,12 @@ use Rattle.at_rest.specs.Load.{body_load}
 use Rattle.at_rest.proofs.Lighter.{IsLighter, announcements_lighter, firing_lighter, flush_lighter, gossip_lighter, graft_lighter, prune_lighter, request_lighter}
 use Rattle.at_rest.proofs.Receivers.{GoRight, announcements_right, firing_right, flush_right, gossip_right, request_right}
 
--- who asks for a message by this packet
+-- the sender that asks for a message by this packet
 abbrev pub asker_of : Name → Body → Option Name
 asker_of sender body = option_map (λ (id : MsgId). sender) (body_content body).asked
 
--- The membership stays, less is left than there was and came, and what is sent goes to members or to who asked.
+-- The membership stays, less is left than there was and came, and what is sent goes to members or to the peer that
+-- asked.
 pub record TurnsLighter (came : ℕ) (asker : Option Name) (m : Membership) (g : GossipState) (t : Turned) : Type 0 where
   pub views_stay : t.membership ≡ m
   pub lighter : IsLighter came g (record { state = t.gossip; sends = t.sends; delivered = t.delivered })

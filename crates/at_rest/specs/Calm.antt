@@ -1,4 +1,4 @@
--- When a group is calm: nothing but broadcasting is under way in it, between nodes that run.
+-- When a group is calm: only broadcasting is under way in it, between nodes that run.
 use Rattle.std.specs.Prelude.{◌≡◌, ◌≢◌, ◌&&◌, ◌||◌, Bool, Option, Some, None, true, false, is_none, is_some, not, slice_get}
 use Rattle.std.specs.List.{AllByRecursion as Each, list_all}
 use Rattle.std.specs.Option.{IfSome}
@@ -9,8 +9,8 @@ use Rattle.world.specs.Group.{Group, core_of}
 use Rattle.world.specs.Links.{IsRunning, IsSymmetric}
 use Rattle.world.specs.declared.packet.Packet.{Packet}
 
--- The packet is not about membership, it goes to a running node, and if it asks for a message, so that it is answered,
--- it comes from one.
+-- The packet is not about membership and goes to a running node, and if it asks for a message, and so is answered, it
+-- also comes from a running node.
 pub record IsCalmPacket {C N : Type 0} (content : N → Content) (group : Group C N) (packet : Packet N) : Type 0 where
   pub broadcasts : (content packet.note).is_membership ≡ false
   pub arrives : IsRunning group packet.to
@@ -34,6 +34,6 @@ abbrev pub flies_calm : {C N : Type 0} → (N → Content) → Group C N → Opt
 flies_calm content group None = true
 flies_calm content group (Some packet) = is_calm_packet content group packet
 
--- whether all packets in flight are
+-- whether all packets in flight are calm
 abbrev pub all_fly_calm : {C N : Type 0} → (N → Content) → Group C N → Bool
 all_fly_calm content group = list_all (λ number. flies_calm content group (slice_get group.sent number)) group.flight

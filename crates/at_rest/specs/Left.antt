@@ -15,12 +15,12 @@ abbrev pub is_left : Kind → CoreState → Bool
 is_left Announcements core = nat_lt 0 (length core.queued)
 is_left Timers core = nat_lt 0 (length core.timers)
 
--- at a core that may run
+-- whether something of the kind is left at the core, if one runs
 abbrev pub is_left_in : {C : Type 0} → (C → CoreState) → Kind → Option C → Bool
 is_left_in state kind None = false
 is_left_in state kind (Some core) = is_left kind (state core)
 
--- at the node of a name that there may be
+-- whether something of the kind is left at the node of the name, if there is a name
 abbrev pub is_left_at : {C : Type 0} → (C → CoreState) → Kind → List (NodeState C) → Option Name → Bool
 is_left_at state kind nodes None = false
 is_left_at state kind nodes (Some name) = is_left_in state kind (core_of name nodes)

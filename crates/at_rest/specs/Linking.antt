@@ -26,6 +26,6 @@ module _ {C : Type 0} (state : C → CoreState) (nodes : List (NodeState C)) whe
   abbrev pub links_back : Name → Bool
   links_back name = option_map_or (λ (core : C). list_all (λ peer. has_link peer name) (state core).active) (core_of name nodes) true
 
-  -- whether that holds of all
+  -- whether that holds of all nodes
   abbrev pub all_link_back : Bool
   all_link_back = list_all (λ (node : NodeState C). links_back node.name) nodes

@@ -16,8 +16,8 @@ use Rattle.frames.specs.Frame.{Frame}
 use Rattle.frames.specs.declared.body.BodyOf.TheVariants as body
 use Rattle.node_core.specs.Plum.{Plum, plum_state}
 
--- the load of a packet: 3 for a message, 7 for each announcement, 4 for a request, and 1 where it says which set its
--- sender is in
+-- the load of a packet: 3 for a message, 7 for each announcement, 4 for a request, and 1 for a packet that makes its
+-- sender eager or lazy
 abbrev pub body_load : Body → ℕ
 body_load (body.Gossip id round payload) = 3
 body_load (body.IHave entries) = 7 * length entries
@@ -37,7 +37,7 @@ abbrev pub packet_load : Option (Packet Frame) → ℕ
 packet_load None = 0
 packet_load (Some packet) = body_load packet.note.body
 
--- the message that an event says, after this past
+-- the message that an event broadcasts, after this past
 abbrev pub said_under : Name → ℕ → Option Incarnation → List MsgId
 said_under name broadcasts None = []
 said_under name broadcasts (Some incarnation) = record { origin = record { name = name; incarnation = incarnation }; seq = broadcasts + 1 } ∷ []
@@ -54,7 +54,7 @@ said_by (Down name peer dice) past = []
 said_by (Shuffle name dice) past = []
 said_by (Stop name) past = []
 
--- all messages that a history said; a history is a log's entries, the newest first
+-- all messages that were broadcast in a history; a history is a log's entries, the newest first
 abbrev pub said_ids : List Entry → List MsgId
 said_ids [] = []
 said_ids (entry ∷ past) = said_by entry.event past ++ said_ids past
@@ -67,11 +67,12 @@ lacked said core = count_by (λ id. not (core.has id)) said
 abbrev pub links : Group Plum Frame → CoreState → ℕ
 links group core = count_by (λ name. is_some (core_of name group.nodes)) core.active
 
--- what waits at a core: 8 for each queued announcement, 5 for each that it took up, and 1 for each timer
+-- what waits at a core: 8 for each queued announcement, 5 for each received announcement that was not yet asked for,
+-- and 1 for each timer
 abbrev pub waiting : CoreState → ℕ
 waiting core = 8 * length core.queued + 5 * length core.wants + length core.timers
 
--- the load of a core: 9 for each link and message that it lacks, and what waits
+-- the load of a core: 9 for each pair of a link and a message that it lacks, and what waits
 abbrev pub core_load : List MsgId → Group Plum Frame → Option Plum → ℕ
 core_load said group None = 0
 core_load said group (Some core) = 9 * (links group (plum_state core) * lacked said (plum_state core)) + waiting (plum_state core)
@@ -80,10 +81,10 @@ core_load said group (Some core) = 9 * (links group (plum_state core) * lacked s
 abbrev pub flying_load : Group Plum Frame → ℕ
 flying_load group = sum_by (λ number. packet_load (slice_get group.sent number)) group.flight
 
--- the load of a group in which these messages were said
+-- the load of a group in which these messages were broadcast
 abbrev pub load : List MsgId → Group Plum Frame → ℕ
 load said group = sum_by (λ node. core_load said group node.core) group.nodes + flying_load group
 
--- the load of a group with the messages that its log says
+-- the load of a group with the messages that were broadcast in its log
 abbrev pub load_of : Logged Plum Frame → ℕ
 load_of world = load (said_ids (reverse world.log)) world.group

@@ -1,4 +1,4 @@
--- One event of a settling, and what may stand in its way.
+-- One event of a settling, and what may prevent it.
 use Rattle.std.specs.Prelude.{◌≡◌, ◌⊎◌, List, Option, Some}
 use Rattle.node_names.specs.NodeName.{Name}
 use Rattle.node_names.specs.Limits.{Limits}
@@ -35,7 +35,7 @@ module _
     (starts : Origin → Limits → List Name → Option Name → List (Name × N) → C → Type 0)
     (steps : C → Stimulus N → List (Name × N) → List Delivery → C → Type 0)
   where
-    -- The next event took the group from the one state to the other.
+    -- The next event took the group from the old state to the new one.
     abbrev pub TakesNext : Logged C N → Logged C N → Type 0
     TakesNext old new = (event : Event) × IsNext state old.group event × ((given : List Delivery) × Applied state starts steps event given old new)
 
@@ -44,8 +44,8 @@ module _
       abbrev pub IsNextSpent : Group C N → Type 0
       IsNextSpent group = (event : Event) × IsNext state group event × IsSpentBy is_spent group event
 
-      -- Why an event was not played, or played last: numbers that are used up leave the group as it is, and memory that
-      -- is refused leaves it so, or after the next event.
+      -- Why settling stopped: if the numbers are used up the group is unchanged, and if an allocation failed it is
+      -- unchanged or the next event was played.
       abbrev pub Stops : SettleError → Logged C N → Logged C N → Type 0
       Stops NotCalm old new = ⊥
       Stops SeqSpent old new = (new ≡ old) × IsNextSpent old.group

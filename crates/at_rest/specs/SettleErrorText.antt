@@ -1,4 +1,4 @@
--- The refusals of settling in words.
+-- The printed forms of the errors of settling.
 use Rattle.std.specs.Prelude.{ℕ, List, codes}
 use Rattle.at_rest.specs.declared.error.SettleError.{SettleError}
 use Rattle.at_rest.specs.declared.error.SettleError.TheVariants.{NotCalm, SeqSpent, OutOfMemory}

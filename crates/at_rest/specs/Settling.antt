@@ -18,17 +18,17 @@ use Rattle.world.specs.Stimulus.{Stimulus}
 use Rattle.world.specs.declared.event.EventOf.TheVariants.{Start, Broadcast, Arrive, Lose, Again, Fire, Flush, Down, Shuffle, Stop}
 use Rattle.world.specs.declared.node_state.NodeState.{NodeState}
 
--- what is queued at a core that may run
+-- what is queued at the core, if one runs
 abbrev pub queue_of : {C : Type 0} → (C → CoreState) → Option C → List (Name × MsgId × ℕ)
 queue_of state None = []
 queue_of state (Some core) = (state core).queued
 
--- the timers of a core that may run
+-- the timers of the core, if one runs
 abbrev pub timers_of : {C : Type 0} → (C → CoreState) → Option C → List MsgId
 timers_of state None = []
 timers_of state (Some core) = (state core).timers
 
--- Of these nodes the first at which something is left has this name, and what is left is this.
+-- Of these nodes the first at which something is left has this name, and `first` is the first thing that is left there.
 pub record IsFirstWith {C X : Type 0} (left : Option C → List X) (nodes : List (NodeState C)) (name : Name) (first : X) : Type 0 where
   pub front : List (NodeState C)
   pub node : NodeState C
@@ -43,13 +43,13 @@ pub record IsFirstWith {C X : Type 0} (left : Option C → List X) (nodes : List
 abbrev pub NothingIsLeft : {C X : Type 0} → (Option C → List X) → List (NodeState C) → Type 0
 NothingIsLeft {C} left nodes = Each (λ (node : NodeState C). left (core_of node.name nodes) ≡ []) nodes
 
--- dice that show 0 alone
+-- dice that are all zeros
 abbrev pub no_dice : Dice
 no_dice = record { 0 = replicate 16 0 }
 
 module _ {C N : Type 0} (state : C → CoreState) where
-  -- The event is the next to be played: while anything flies, the oldest packet arrives; else the first node with a
-  -- queue flushes it; else the first timer of the first node with one fires.
+  -- The event is the next to be played: while any packet is in flight, the oldest one arrives; otherwise the first node
+  -- with queued announcements flushes them; otherwise the first timer of the first node with a timer fires.
   abbrev pub IsNext : Group C N → Event → Type 0
   IsNext group (Arrive place dice) = (group.flight ≢ []) × (place ≡ 0) × (dice ≡ no_dice)
   IsNext group (Flush name) = (group.flight ≡ []) × ((entry : Name × MsgId × ℕ) × IsFirstWith (queue_of state) group.nodes name entry)
@@ -62,7 +62,7 @@ module _ {C N : Type 0} (state : C → CoreState) where
   IsNext group (Shuffle name dice) = ⊥
   IsNext group (Stop name) = ⊥
 
-  -- Nothing flies, and nothing is queued or armed at any node.
+  -- No packet is in flight, and nothing is queued or armed at any node.
   pub record IsSettled (group : Group C N) : Type 0 where
     pub nothing_flies : group.flight ≡ []
     pub nothing_queued : NothingIsLeft (queue_of state) group.nodes
@@ -72,13 +72,13 @@ module _ {C N : Type 0} (state : C → CoreState) where
       (starts : Origin → Limits → List Name → Option Name → List (Name × N) → C → Type 0)
       (steps : C → Stimulus N → List (Name × N) → List Delivery → C → Type 0)
     where
-      -- The events are played in turn, each the next one, and take the group from the one state to the other.
+      -- The events are played in turn, each the next one, and take the group from the old state to the new one.
       abbrev pub Settles : List Event → Logged C N → Logged C N → Type 0
       Settles [] old new = new ≡ old
       Settles (event ∷ events) old new = IsNext old.group event × ((given : List Delivery) × (between : Logged C N) × Applied state starts steps event given old between × Settles events between new)
 
--- In a group that came to rest: where a message had been said and all was calm since when it began to settle, and where
--- not all messages are to be kept no node has delivered more than are kept since, every node in reach of its origin has
--- delivered it.
+-- In a group that came to rest: if a message had been broadcast and all had been calm since then when the group began
+-- to settle, and if, unless all messages are kept, no node has delivered more than are kept since it delivered this
+-- message, then every node in reach of the message's origin has delivered it.
 abbrev pub AreDelivered : {C N : Type 0} → (C → CoreState) → Logged C N → Logged C N → Type 0
 AreDelivered state old new = (id : MsgId) → SaidAndCalm (reverse old.log) id → (0 < new.limits.keep → AreFewSince new.limits.keep (deliveries (reverse new.log)) id) → (name : Name) → Reaches state new.group id.origin.name name → DeliveredAt new.group (reverse new.log) name id

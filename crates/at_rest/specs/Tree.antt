@@ -1,4 +1,4 @@
--- The tree of a message: who delivered it, and from whom each had it.
+-- The tree of a message: which nodes delivered it, and from which node each had it.
 use Rattle.std.specs.Prelude.{◌≡◌, ℕ, List, [], ◌∷◌, ◌++◌, Option, Some, None, map, filter, option_map, slice_get}
 use Rattle.std.specs.Option.{option_and_then}
 use Rattle.node_names.specs.Same.{same_id}
@@ -12,11 +12,11 @@ use Rattle.world.specs.declared.event.EventOf.TheVariants.{Start, Broadcast, Arr
 use Rattle.world.specs.declared.packet.Packet.{Packet}
 use Rattle.at_rest.specs.declared.branch.Branch.{Branch}
 
--- who sent the packet with this number
+-- the sender of the packet with this number
 abbrev pub sender_of : {N : Type 0} → List (Packet N) → Option ℕ → Option Origin
 sender_of {N} sent number = option_map (λ (packet : Packet N). packet.sender) (option_and_then (slice_get sent) number)
 
--- from whom an event's deliveries came: from the sender of the packet that arrived, or from nobody
+-- the parent of an event's deliveries: the sender of the packet that arrived, or none for other events
 abbrev pub parent_by : {N : Type 0} → List (Packet N) → Option ℕ → Event → Option Origin
 parent_by sent number (Arrive place dice) = sender_of sent number
 parent_by sent number (Broadcast name payload) = None
@@ -42,16 +42,16 @@ abbrev pub tree_of : {N : Type 0} → List (Packet N) → MsgId → List Entry �
 tree_of sent id [] = []
 tree_of sent id (entry ∷ past) = tree_of sent id past ++ branches_of sent id entry
 
--- One of the branches is this run's.
+-- One of the branches is that of this incarnation.
 abbrev pub HasBranch : Origin → List Branch → Type 0
 HasBranch node branches = (b : Branch) × IsOneOf b branches × (b.node ≡ node)
 
--- A branch without parent is the origin's own, and the parent of any other has a branch before it.
+-- A branch without a parent is the origin's own, and the parent of any other branch has an earlier branch.
 abbrev pub LeadsOn : MsgId → List Branch → Origin → Option Origin → Type 0
 LeadsOn id before node None = node ≡ id.origin
 LeadsOn id before node (Some parent) = HasBranch parent before
 
--- So does each of the branches, behind those before them: each leads to the origin.
+-- This holds of each of the branches, given the branches before it: each leads to the origin.
 abbrev pub LeadToOrigin : MsgId → List Branch → List Branch → Type 0
 LeadToOrigin id before [] = Unit {0}
 LeadToOrigin id before (b ∷ branches) = LeadsOn id before b.node b.parent × LeadToOrigin id (before ++ b ∷ []) branches

@@ -1,11 +1,11 @@
 //! A branch of a message's tree.
 use node_names::Origin;
 
-/// A delivery of a message: which run of which node made it, and from which run of which node it had the message.
+/// A delivery of a message: the incarnation that delivered it, and the incarnation that it had the message from.
 #[derive(Clone, Copy, Debug, PartialEq, Eq)]
 pub struct Branch {
-    /// Who delivered.
+    /// The incarnation that delivered.
     pub node: Origin,
-    /// Who sent the packet whose arrival gave the delivery, or `None` for the origin's own.
+    /// The sender of the packet whose arrival caused the delivery, or `None` for the origin's own delivery.
     pub parent: Option<Origin>,
 }

@@ -7,9 +7,9 @@ use node_names::NodeName;
 use std::alloc::Allocator;
 use world::{Core, Packet, Wire, World};
 
-/// Whether nothing but broadcasting is under way, between nodes that run: no packet in flight is about membership, each
-/// goes to a running node, each request comes from one, links go both ways, and every active member of a running node
-/// runs.
+/// Whether only broadcasting is under way, and only between running nodes: no packet in flight is about membership,
+/// each goes to a running node, each request comes from a running node, links go both ways, and every active member of
+/// a running node runs.
 pub fn is_calm<C: Core<A>, A: Allocator + Copy>(world: &World<C, A>) -> bool
     ensures { IsTrue result ↔ IsCalm C.state C.Note.content world.now.group }
 {

@@ -1,4 +1,4 @@
-//! Why a group does not settle.
+//! Why a group cannot settle.
 use std::alloc::AllocError;
 use std::error::Error;
 use std::fmt;
@@ -6,11 +6,11 @@ use std::fmt;
 /// Why a group was not brought to rest.
 #[derive(Clone, Copy, Debug, PartialEq, Eq)]
 pub enum SettleError {
-    /// The group is not calm. Nothing was played.
+    /// The group is not calm. No event was played.
     NotCalm,
-    /// A node has no number left for its next packet. The group is as after what was played.
+    /// A node has no number left for its next packet. The group stays as the events that were played left it.
     SeqSpent,
-    /// An allocation is refused. The group is as after what was played.
+    /// An allocation failed. The group stays as the events that were played left it.
     OutOfMemory,
 }
 

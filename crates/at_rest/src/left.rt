@@ -1,4 +1,4 @@
-//! What is left at the nodes of a group: announcements that are queued, and timers that are armed.
+//! What is left to do at the nodes of a group: queued announcements and armed timers.
 ghost use Rattle.std.specs.Prelude.{◌≡◌, IfOk, OnOk, slice_get};
 ghost use Rattle.std.specs.BTreeSet.{Updates};
 ghost use Rattle.std.specs.Ordering.{nat_cmp};
@@ -12,7 +12,7 @@ use std::alloc::{AllocError, Allocator};
 use std::collections::BTreeSet;
 use world::{Core, World};
 
-/// What may be left at a node.
+/// What may be left to do at a node.
 #[derive(Clone, Copy)]
 pub(crate) enum Kind {
     /// Announcements that wait for a flush.
@@ -31,7 +31,7 @@ fn is_left<C: Core<A>, A: Allocator>(kind: Kind, core: &C) -> bool
     }
 }
 
-/// Whether something of this kind is left at the node of this place.
+/// Whether something of this kind is left at the node in this place.
 fn is_left_at<C: Core<A>, A: Allocator + Copy>(kind: Kind, world: &World<C, A>, at: usize) -> bool
     ensures { result ≡ is_left_at C.state kind world.now.group.nodes (slice_get (names_of world.now.group.nodes) at) }
 {
@@ -44,7 +44,7 @@ fn is_left_at<C: Core<A>, A: Allocator + Copy>(kind: Kind, world: &World<C, A>, 
     }
 }
 
-/// Notes whether something of this kind is left at the node of this place.
+/// Records whether something of this kind is left at the node in this place.
 fn note_kind<C: Core<A>, A: Allocator + Copy>(
     places: &mut BTreeSet<usize, A>,
     kind: Kind,
@@ -85,7 +85,7 @@ pub(crate) struct Left<A: Allocator> {
 }
 
 impl<A: Allocator + Copy> Left<A> {
-    /// What is left in the group.
+    /// Finds what is left in the group.
     pub(crate) fn of<C: Core<A>>(alloc: A, world: &World<C, A>) -> Result<Left<A>, AllocError>
         ensures queues { IfOk result (λ left. AreLeft C.state Announcements world.now.group.nodes left.queues) }
         ensures timers { IfOk result (λ left. AreLeft C.state Timers world.now.group.nodes left.timers) }
@@ -96,7 +96,7 @@ impl<A: Allocator + Copy> Left<A> {
         Ok(Left { queues, timers })
     }
 
-    /// Notes what an event left at the node of this place.
+    /// Records what an event left at the node in this place.
     pub(crate) fn note<C: Core<A>>(
         &mut self,
         world: &World<C, A>,

@@ -1,5 +1,5 @@
-//! Looking at a group: who is in reach of whom, whether the group is at rest for a message, and who gave it to whom;
-//! and bringing a group to rest.
+//! Inspects a group: which nodes can be reached from a node, whether the group is at rest for a message, and along
+//! which tree the message spread. Also brings a group to rest.
 #![tactic(auto)]
 
 mod branch;

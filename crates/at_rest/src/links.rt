@@ -1,4 +1,4 @@
-//! Who is linked to whom.
+//! Which nodes are linked.
 ghost use Rattle.std.specs.Prelude.{◌≡◌, ◌↔◌, IsTrue};
 ghost use Rattle.std.specs.List.{list_all};
 ghost use Rattle.world.specs.Links.{IsSymmetric};
@@ -15,7 +15,7 @@ pub fn is_symmetric<C: Core<A>, A: Allocator + Copy>(world: &World<C, A>) -> boo
     all_link_back(world)
 }
 
-/// Whether each node that runs is an active member of each of its own.
+/// Whether each running node is an active member of each of its own active members.
 fn all_link_back<C: Core<A>, A: Allocator + Copy>(world: &World<C, A>) -> bool
     ensures { result ≡ all_link_back C.state world.now.group.nodes }
 {
@@ -25,7 +25,7 @@ fn all_link_back<C: Core<A>, A: Allocator + Copy>(world: &World<C, A>) -> bool
         .all(|node| links_back(world, &node.name))
 }
 
-/// Whether the name runs and has the peer as an active member.
+/// Whether a core runs under the name and has the peer as an active member.
 #[tactic(auto, unfolding(crate::specs::Linking::has_link))]
 pub(crate) fn has_link<C: Core<A>, A: Allocator + Copy>(
     world: &World<C, A>,

@@ -1,4 +1,4 @@
-//! The next event of a group that settles.
+//! The next event of a group that is settling.
 ghost use Rattle.std.specs.Prelude.{◌≡◌, ℕ, [], IfSome, IfNone};
 ghost use Rattle.node_names.specs.NodeName.{Name};
 ghost use Rattle.node_names.specs.declared.ids.MsgId.{MsgId};
@@ -38,7 +38,7 @@ fn next_arrival<C: Core<A>, A: Allocator + Copy>(world: &World<C, A>) -> Option<
     })
 }
 
-/// The flush of the first node with a queue.
+/// The flush of the first node with queued announcements.
 fn next_flush<C: Core<A>, A: Allocator + Copy>(
     world: &World<C, A>,
     left: &Left<A>,

@@ -1,4 +1,4 @@
-//! Who is in reach of a name.
+//! Which nodes can be reached from a name.
 ghost use Rattle.std.specs.Prelude.{◌≡◌, [], ◌∷◌, true, filter, map, IfOk, if◌then◌else◌};
 ghost use Rattle.std.specs.List.{list_any};
 ghost use Rattle.std.specs.List.Sorted.{IsStrictlySortedBy};
@@ -13,9 +13,10 @@ use node_names::{NodeName, has_name};
 use std::alloc::{AllocError, Allocator};
 use world::{Core, NodeState, World};
 
-/// The names that paths of links lead to, by the length of the shortest path and then by name, the name itself first.
+/// Returns the names that can be reached over links, by the length of the shortest path and then by name, with the name
+/// itself first.
 ///
-/// There are none where nothing runs under the name.
+/// The list is empty if nothing runs under the name.
 pub fn reach<C: Core<A>, A: Allocator + Copy>(
     alloc: A,
     world: &World<C, A>,
@@ -91,7 +92,7 @@ fn first_level<C: Core<A>, A: Allocator + Copy>(
     Ok(level)
 }
 
-/// Those of the names, in their order, that the level is linked to and that are neither reached nor in the level.
+/// The names, in their order, that a member of the level is linked to and that are neither reached nor in the level.
 fn next_level<C: Core<A>, A: Allocator + Copy>(
     alloc: A,
     world: &World<C, A>,
@@ -110,7 +111,7 @@ fn next_level<C: Core<A>, A: Allocator + Copy>(
     Ok(next)
 }
 
-/// Whether the name comes next after these reached and the last level of them.
+/// Whether the name belongs to the next level: it runs, is neither reached nor in the level, and is linked from it.
 fn is_next<C: Core<A>, A: Allocator + Copy>(
     world: &World<C, A>,
     reached: &[NodeName],
@@ -132,7 +133,7 @@ fn is_running<C: Core<A>, A: Allocator + Copy>(world: &World<C, A>, name: &NodeN
     world.core(name).is_some()
 }
 
-/// Whether one of the level runs and has the name as an active member.
+/// Whether a member of the level runs and has the name as an active member.
 fn has_link_from<C: Core<A>, A: Allocator + Copy>(
     world: &World<C, A>,
     level: &[NodeName],

@@ -17,7 +17,7 @@ pub fn is_at_rest<C: Core<A>, A: Allocator + Copy>(world: &World<C, A>, id: &Msg
     is_nothing_left(world, id)
 }
 
-/// Whether no packet in flight says anything of the message and every running core is quiet.
+/// Whether no packet in flight mentions the message and every running core is quiet.
 fn is_nothing_left<C: Core<A>, A: Allocator + Copy>(world: &World<C, A>, id: &MsgId) -> bool
     ensures { result ≡ (is_silent_flight C.Note.content id.now world.now.group.sent world.now.group.flight && are_quiet C.state id.now world.now.group.nodes) }
 {
@@ -51,7 +51,7 @@ fn is_asked(asked: Option<MsgId>, id: &MsgId) -> bool
     }
 }
 
-/// Whether a packet says nothing of the message: it neither carries nor announces it, nor asks for it.
+/// Whether a packet does not mention the message: it neither carries it nor announces it nor asks for it.
 #[tactic(auto, unfolding(crate::specs::Silence::is_silent))]
 pub fn is_silent<N: Wire<A>, A: Allocator>(note: &N, id: &MsgId) -> bool
     ensures { result ≡ is_silent id.now (N.content note.now) }
@@ -59,7 +59,7 @@ pub fn is_silent<N: Wire<A>, A: Allocator>(note: &N, id: &MsgId) -> bool
     !is_carried(note, id) && !is_announced(note.announced(), id) && !is_asked(note.asked(), id)
 }
 
-/// Whether the packet that was sent with this number says nothing of the message.
+/// Whether the packet that was sent with this number does not mention the message.
 fn is_silent_at<N: Wire<A>, A: Allocator>(sent: &[Packet<N>], number: usize, id: &MsgId) -> bool
     ensures { result ≡ is_silent_at N.content id.now sent.now number }
 {
@@ -69,7 +69,7 @@ fn is_silent_at<N: Wire<A>, A: Allocator>(sent: &[Packet<N>], number: usize, id:
     }
 }
 
-/// Whether no packet in flight says anything of the message.
+/// Whether no packet in flight mentions the message.
 fn is_silent_flight<N: Wire<A>, A: Allocator>(
     sent: &[Packet<N>],
     flight: &[usize],

@@ -1,4 +1,4 @@
-//! Playing what is left in a calm group, in a fixed order, until nothing is.
+//! Plays what is left to do in a calm group, in a fixed order, until nothing is left.
 ghost use Rattle.std.specs.Prelude.{◌≡◌, ◌↔◌, ◌+◌, ◌≤◌, Ok, Err, true, false, IfErr, IfOk, List, OnOk, length, reverse};
 ghost use Rattle.std.specs.List.{IsDistinct};
 ghost use Rattle.node_names.specs.Same.{same_name};
@@ -68,34 +68,34 @@ fn play_next<A: Allocator + Copy>(
 
 /// Brings a calm group to rest. Returns how many events it played.
 ///
-/// While anything is in flight, the oldest packet arrives, with dice that show 0 alone; else the first node with a
-/// queue flushes it; else the first timer of the first node with one fires. docs/settling.md says what is left to do in
-/// a group as a number, which each of these events makes smaller. An event costs what it does in the group, and a look
-/// into a sorted set.
+/// While any packet is in flight, the oldest one arrives, with dice that are all zeros; otherwise the first node with
+/// queued announcements flushes them; otherwise the first timer of the first node with a timer fires. docs/settling.md
+/// counts what is left to do in a group as a number that each of these events makes smaller. The cost of an event is
+/// what it costs in the group, plus a look-up in a sorted set.
 ///
-/// It is refused with `NotCalm` where `is_calm` says no, and then nothing was played. A node whose numbers are used up
-/// and an allocation that is refused end it earlier: the group stands after the events that were played, and another
-/// call goes on.
+/// Fails with `NotCalm` if `is_calm` returns false; then no event was played. It stops early if the numbers of a node
+/// are used up or an allocation fails: the group stays as the events that were played left it. After `OutOfMemory`
+/// another call continues from there. After `SeqSpent` it fails in the same way, since the same event is next.
 pub fn settle<A: Allocator + Copy>(
     alloc: A,
     world: &mut World<PlumCore<A>, A>,
 ) -> Result<u64, SettleError>
-    // It is refused exactly where the group is not calm, and nothing changes then.
+    // It fails with `NotCalm` exactly if the group is not calm, and then nothing changes.
     ensures not_calm { (result ≡ Err NotCalm) ↔ (IsCalm plum_state frame_content world.old.group → ⊥) }
     ensures unchanged { result ≡ Err NotCalm → world.new ≡ world.old }
 
-    // The next event was played again and again, as often as is answered, and no more often than the load of the group
-    // was.
+    // The next event was played again and again, as many times as the result says, which is at most the load of the
+    // group.
     ensures played { (events : List Event) × Settles plum_state PlumStarts PlumSteps events world.old world.new × IfOk result (λ k. length events ≡ k) }
     ensures bound { IfOk result (λ k. k ≤ load_of world.old) }
 
-    // Nothing is left, so the group is at rest for all messages, and undisturbed ones are delivered wherever they
+    // Nothing is left, so the group is at rest for all messages, and the undisturbed ones are delivered wherever they
     // should be.
     ensures settled { OnOk result (IsSettled {N = Frame} plum_state world.new.group) }
     ensures rest { OnOk result ((id : MsgId) → IsAtRest plum_state frame_content world.new.group id) }
     ensures delivered { OnOk result (AreDelivered plum_state world.old world.new) }
 
-    // A node without numbers is named only where the next event needs one.
+    // `SeqSpent` comes only if the next event needs more numbers than its node has left.
     ensures spent { result ≡ Err SeqSpent → IsNextSpent plum_state PlumStarts PlumSteps PlumIsSpent world.new.group }
 {
     if !is_calm(world) {

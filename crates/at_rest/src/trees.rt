@@ -9,9 +9,9 @@ use node_names::{MsgId, Origin};
 use std::alloc::{AllocError, Allocator};
 use world::{Core, Delivery, Entry, EventOf, Packet, World};
 
-/// The deliveries of a message, in their order, each with whom it came from.
+/// Returns the deliveries of a message, in their order, each with the node that it came from.
 ///
-/// The parent of every branch but the origin's own has a branch before it, so that each leads to the origin.
+/// The parent of every branch except the origin's own has an earlier branch, so each branch leads to the origin.
 /// Incarnations that have ended keep their branches.
 pub fn tree<C: Core<A>, A: Allocator + Copy>(
     alloc: A,
@@ -88,7 +88,7 @@ fn push_branch<A: Allocator + Copy>(
     Ok(())
 }
 
-/// From whom the deliveries of an entry came.
+/// The sender that the deliveries of an entry came from, if a packet caused them.
 pub(crate) fn parent_of<N, A: Allocator>(sent: &[Packet<N>], entry: &Entry<A>) -> Option<Origin>
     ensures { result ≡ parent_by sent.now entry.now.packet entry.now.event }
 {
@@ -98,7 +98,7 @@ pub(crate) fn parent_of<N, A: Allocator>(sent: &[Packet<N>], entry: &Entry<A>) -
     }
 }
 
-/// Who sent the packet with this number.
+/// The sender of the packet with this number.
 fn sender_of<N>(sent: &[Packet<N>], number: Option<usize>) -> Option<Origin>
     ensures { result ≡ sender_of sent.now number }
 {

@@ -14,7 +14,7 @@ use std::hash::{BuildHasherDefault, FoldHasher};
 use std::marker::Model;
 use world::{Core, Packet, Wire, World};
 
-/// Ids, each once.
+/// A set of ids.
 type Ids<A> = IndexSet<MsgId, BuildHasherDefault<FoldHasher>, A>;
 
 /// All messages for which a group is not at rest, as it stood when they were found.
@@ -35,7 +35,7 @@ impl<A: Allocator> Model for Unrest<A> {
 }
 
 impl<A: Allocator + Copy> Unrest<A> {
-    /// Finds them in one pass over the packets in flight and the nodes.
+    /// Finds these messages in one pass over the packets in flight and the nodes.
     pub fn new<C: Core<A>>(alloc: A, world: &World<C, A>) -> Result<Unrest<A>, AllocError>
         ensures { IfOk result (λ unrest. (id : MsgId) → (has_id unrest id ≡ false) ↔ IsAtRest C.state C.Note.content world.now.group id) }
     {
@@ -43,7 +43,7 @@ impl<A: Allocator + Copy> Unrest<A> {
         Ok(Unrest { ids })
     }
 
-    /// Whether the group is at rest for the message, as `is_at_rest` tells.
+    /// Whether the group is at rest for the message; the result is that of `is_at_rest`.
     pub fn is_at_rest(&self, id: &MsgId) -> bool
         ensures { result ≡ not (has_id self.now id.now) }
     {
@@ -51,7 +51,7 @@ impl<A: Allocator + Copy> Unrest<A> {
     }
 }
 
-/// The messages of packets in flight and of running nodes.
+/// Collects the messages of packets in flight and of running nodes.
 fn unrest_ids<C: Core<A>, A: Allocator + Copy>(
     alloc: A,
     world: &World<C, A>,
@@ -72,7 +72,7 @@ fn add<A: Allocator + Copy>(ids: &mut Ids<A>, id: MsgId) -> Result<(), AllocErro
     Ok(())
 }
 
-/// Adds each of these.
+/// Adds each of these ids.
 fn add_all<A: Allocator + Copy>(ids: &mut Ids<A>, more: &[MsgId]) -> Result<(), AllocError>
     ensures { OnOk result (Adds ids.old.keys more.now ids.new.keys) }
 {
@@ -168,7 +168,7 @@ fn add_flight<N: Wire<A>, A: Allocator + Copy>(
     Ok(())
 }
 
-/// Adds the messages that a core has queued announcements of or timers for.
+/// Adds the messages for which a core has queued announcements or timers.
 fn add_core<C: Core<A>, A: Allocator + Copy>(ids: &mut Ids<A>, core: &C) -> Result<(), AllocError>
     ensures { OnOk result (Adds ids.old.keys (core_ids (C.state core.now)) ids.new.keys) }
 {
@@ -176,7 +176,7 @@ fn add_core<C: Core<A>, A: Allocator + Copy>(ids: &mut Ids<A>, core: &C) -> Resu
     add_all(ids, core.timers())
 }
 
-/// Adds those of the core that runs under the name, if there is one.
+/// Adds the messages of the core that runs under the name, if there is one.
 fn add_node<C: Core<A>, A: Allocator + Copy>(
     ids: &mut Ids<A>,
     world: &World<C, A>,
@@ -190,7 +190,7 @@ fn add_node<C: Core<A>, A: Allocator + Copy>(
     }
 }
 
-/// Adds those of every running core.
+/// Adds the messages of every running core.
 fn add_nodes<C: Core<A>, A: Allocator + Copy>(
     ids: &mut Ids<A>,
     world: &World<C, A>,

@@ -1,5 +1,5 @@
-//! Broadcasts in a group of 64 Plumtree nodes: how many packets each of the first few takes, how long so many take, how
-//! far messages go where branches are swapped, and how long it takes to bring the group to rest.
+//! Broadcasts in a group of 64 Plumtree nodes: how many packets each of the first few takes, how long a given number of
+//! them takes, how far messages go when branches are swapped, and how long it takes to bring the group to rest.
 mod hops;
 mod overlay;
 mod play;
@@ -19,7 +19,7 @@ use world::World;
 /// The bytes of each message.
 const LENGTH: usize = 100;
 
-/// As many broadcasts are told of: the first makes the tree, and the others go along it.
+/// How many broadcasts are printed: the first makes the tree, and the others go along it.
 const TOLD: usize = 4;
 
 fn payload(alloc: Global) -> Result<Bytes, AllocError> {
@@ -44,7 +44,7 @@ fn broadcast_all(group: &mut World<PlumCore>, payload: &Bytes, count: usize) -> 
     Ok(())
 }
 
-/// Prints how long so many broadcasts take in this group.
+/// Prints how long `count` broadcasts take in this group.
 fn measure_in<R: Print + Clock>(
     rt: &R,
     group: &mut World<PlumCore>,
@@ -68,18 +68,18 @@ pub(crate) fn tell(rt: &impl Print, alloc: Global) -> Result<()> {
     tell_of(rt, &mut group, &payload(alloc)?)
 }
 
-/// Prints how long so many broadcasts take.
+/// Prints how long `count` broadcasts take.
 pub(crate) fn measure<R: Print + Clock>(rt: &R, alloc: Global, count: usize) -> Result<()> {
     let mut group = started(alloc, Limits::STANDARD)?;
     measure_in(rt, &mut group, &payload(alloc)?, count)
 }
 
-/// Prints how far messages go under this threshold.
+/// Prints how far messages go with this threshold.
 pub(crate) fn measure_hops(rt: &impl Print, alloc: Global, threshold: u32) -> Result<()> {
     hops::measure(rt, alloc, &payload(alloc)?, threshold)
 }
 
-/// Prints how long it takes to bring the group to rest when so many announcements are queued.
+/// Prints how long it takes to bring the group to rest when `count` announcements are queued.
 pub(crate) fn measure_settling<R: Print + Clock>(
     rt: &R,
     alloc: Global,

@@ -1,5 +1,5 @@
-//! A group of nodes that runs over TCP connections within this machine: how many messages a small one delivers, and how
-//! fast they are delivered and at what cost, once one message before has made the tree.
+//! A group of nodes that runs over TCP connections on localhost: how many messages a small one delivers, and how fast
+//! messages are delivered and at what cost, once an earlier message has made the tree.
 mod figures;
 mod overlay;
 mod phase;
@@ -17,7 +17,7 @@ use std::alloc::Global;
 use std::io::Print;
 use std::rt::Files;
 
-/// What runs where nothing is measured.
+/// The group that runs when nothing is measured.
 const SMALL: Group = Group {
     nodes: 4,
     messages: 3,
@@ -25,7 +25,7 @@ const SMALL: Group = Group {
     ticks: 100,
 };
 
-/// Prints how many messages were delivered, and how many of them twice.
+/// Prints how many messages were delivered, and how many of these were repeated.
 fn tell_ran(rt: &impl Print, ran: &RunReport) -> Result<()> {
     let count = ran.deliveries.len();
     let again = repeated(ran.deliveries.as_slice());
@@ -63,8 +63,8 @@ pub(crate) fn tell<R: Print + Machine>(rt: R, alloc: Global) -> Result<()> {
     tell_ran(&rt, &run_somewhere(rt, alloc, &SMALL, &mut Unwatched)?)
 }
 
-/// Prints how fast the messages of this group are delivered but for the first, which is delivered before, and at what
-/// cost.
+/// Prints how fast the messages of this group are delivered, except for the first, which is delivered before, and at
+/// what cost.
 pub(crate) fn measure<R>(rt: R, alloc: Global, group: &Group) -> Result<()>
 where
     R: AllocGlobal + Print + Files + Machine,

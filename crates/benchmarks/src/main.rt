@@ -1,5 +1,6 @@
-//! What the crates cost. Without an argument it prints what each benchmark makes of a little, which is the same in each
-//! run; given the name of one and its numbers, it prints how long that takes. The scripts of `bench` call it.
+//! What the crates cost. Without an argument it runs each benchmark with a small input and prints the result, which is
+//! the same in each run. With the name of a benchmark and its numbers, it prints how long that takes. The scripts of
+//! `bench` call it.
 #![tactic(auto)]
 
 mod broadcasts;
@@ -23,8 +24,8 @@ use std::sync::Wait;
 use std::thread::Threads;
 use std::time::Clock;
 
-/// The group that words describe: how many nodes, messages beside the one that makes the tree, and bytes, and after how
-/// many ticks the nodes are stopped if not all is delivered before.
+/// The group that the arguments describe: the number of nodes, of messages besides the one that makes the tree, and of
+/// bytes, and the number of ticks after which the nodes are stopped if not all is delivered before.
 fn group(words: &[String]) -> Result<Group> {
     Ok(Group {
         nodes: size(words, 2, 8)?,
@@ -34,7 +35,7 @@ fn group(words: &[String]) -> Result<Group> {
     })
 }
 
-/// Prints what each benchmark makes of a little.
+/// Prints the result of each benchmark with a small input.
 fn tell<R: Print + Machine>(rt: R, alloc: Global) -> Result<()> {
     broadcasts::tell(&rt, alloc)?;
     streams::run_all(&rt, alloc, None)?;
@@ -44,7 +45,7 @@ fn tell<R: Print + Machine>(rt: R, alloc: Global) -> Result<()> {
     groups::tell(rt, alloc)
 }
 
-/// Measures what the word names, with the numbers that follow.
+/// Measures the benchmark of this name, with the numbers that follow.
 fn measure<R>(rt: R, alloc: Global, what: &str, words: &[String]) -> Result<()>
 where
     R: AllocGlobal + Print + Files + Machine,
@@ -66,8 +67,8 @@ where
     }
 }
 
-/// Does what the words say. It names the parts of a `Machine`, since the prover does not cover a call that gives the
-/// host's runtime as one.
+/// Does what the arguments say. It names the parts of a `Machine`, since the prover does not cover a call that passes
+/// the host's runtime as a `Machine`.
 fn obey<R>(rt: R, alloc: Global, words: &[String]) -> Result<()>
 where
     R: AllocGlobal

@@ -1,5 +1,6 @@
-//! Merges of the traces of a group of Plumtree nodes: how many events a small one has, and how long one takes of so many
-//! nodes, so many steps of each, packets that arrive oldest, newest or at random, and so many in flight meanwhile.
+//! Merges of the traces of a group of Plumtree nodes: how many events the merge of a small group has, and how long a
+//! merge takes for a given number of nodes, of steps of each, and of packets in flight meanwhile, and for packets that
+//! arrive oldest first, newest first or at random.
 mod overlay;
 mod plan;
 mod play;
@@ -16,7 +17,7 @@ use std::time::{Clock, Instant};
 use trace_merge::{merge, project};
 use world::{Trace, World};
 
-/// What is merged where nothing is measured.
+/// The plan of what is merged when nothing is measured.
 const SMALL: Plan = Plan {
     nodes: 8,
     steps: 4,
@@ -24,7 +25,7 @@ const SMALL: Plan = Plan {
     waiting: 0,
 };
 
-/// Puts the trace of each node of a group last.
+/// Appends the trace of each node of a group.
 fn push_traces(
     alloc: Global,
     group: &World<PlumCore>,
@@ -41,7 +42,7 @@ fn push_traces(
     Ok(())
 }
 
-/// The traces of a group that is played as planned.
+/// The traces of a group that is played according to the plan.
 fn traces_of(alloc: Global, plan: &Plan) -> Result<Vec<Trace<Frame>>> {
     let group = played(alloc, plan)?;
     let mut traces = Vec::new(alloc);
@@ -93,7 +94,7 @@ pub(crate) fn tell(rt: &impl Print, alloc: Global) -> Result<()> {
     tell_of(rt, alloc, traces_of(alloc, &SMALL)?.as_slice())
 }
 
-/// Prints how long the merge of a group's traces takes that these words plan.
+/// Prints how long the merge of a group's traces takes. The arguments give the plan.
 pub(crate) fn measure<R: Print + Clock>(rt: &R, alloc: Global, words: &[String]) -> Result<()> {
     let plan = Plan::parse(words)?;
     measure_of(rt, alloc, traces_of(alloc, &plan)?.as_slice())

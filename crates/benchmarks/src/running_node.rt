@@ -1,4 +1,4 @@
-//! A node that runs, with four links each way: how many frames go in and out, and how long that takes.
+//! A running node, with four links each way: how many frames go in and out, and how long that takes.
 mod draining;
 mod messages;
 mod running;
@@ -13,7 +13,7 @@ use std::sync::Wait;
 use std::thread::Threads;
 use std::time::Clock;
 
-/// So many messages come in where nothing is measured.
+/// How many messages come in when nothing is measured.
 const TOLD: u64 = 1_000;
 
 /// Prints how many frames went in and out.
@@ -46,7 +46,7 @@ where
     tell_sent(&rt, &sent)
 }
 
-/// Prints how long it takes until so many messages are passed on, while so many others are held.
+/// Prints how long it takes until `count` messages are passed on, while `held` others are held.
 pub(crate) fn measure<R>(rt: R, alloc: Global, count: u64, held: u64) -> Result<()>
 where
     R: Print + Clock + Threads + Wait + Copy + Send + Drop + 'static,

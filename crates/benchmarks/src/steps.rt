@@ -1,4 +1,4 @@
-//! What the parts of a node cost alone: what comes of a few messages, and how long it takes with more.
+//! What the parts of a node cost alone: the result of a few messages, and how long it takes with more.
 mod cell_steps;
 mod core_steps;
 mod known;
@@ -15,16 +15,16 @@ use std::alloc::Global;
 use std::io::Print;
 use std::time::Clock;
 
-/// So many messages come where nothing is measured: a hundred of each origin.
+/// How many messages come when nothing is measured: a hundred of each origin.
 const TOLD: u64 = 6_400;
 
-/// How many links a wide cell has beside those to its four peers.
+/// How many links a wide cell has besides those to its four peers.
 const IDLE: u64 = 60;
 
-/// How many payloads a core holds that does not hold all.
+/// How many payloads a core holds if it does not hold all.
 const KEPT: u32 = 1_000;
 
-/// Prints how many messages came in and frames went out, and in how long, if that is asked for.
+/// Prints how many messages came in and frames went out, and how long it took, if that is asked for.
 fn tell_taken(rt: &impl Print, what: &str, taken: Taken, is_timed: bool) -> Result<()> {
     let Taken { came, sent, nanos } = taken;
     println!(rt; "{what:5} {came:8} in {sent:8} out")?;
@@ -35,7 +35,7 @@ fn tell_taken(rt: &impl Print, what: &str, taken: Taken, is_timed: bool) -> Resu
     Ok(())
 }
 
-/// Does what the word says with so many messages.
+/// Does what the word says with `count` messages.
 fn step<R: Print + Clock>(
     rt: &R,
     alloc: Global,
@@ -60,7 +60,7 @@ fn step<R: Print + Clock>(
     tell_taken(rt, word, taken, is_timed)
 }
 
-/// Prints what comes of a few messages, for each part.
+/// Prints the result of a few messages, for each part.
 pub(crate) fn tell<R: Print + Clock>(rt: &R, alloc: Global) -> Result<()> {
     for word in [
         "core", "cell", "wide", "ids", "gaps", "seen", "kept", "seal", "copy",
@@ -70,7 +70,7 @@ pub(crate) fn tell<R: Print + Clock>(rt: &R, alloc: Global) -> Result<()> {
     Ok(())
 }
 
-/// Prints how long the part that the word names takes with so many messages.
+/// Prints how long the part that the word names takes with `count` messages.
 pub(crate) fn measure<R: Print + Clock>(
     rt: &R,
     alloc: Global,

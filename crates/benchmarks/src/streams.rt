@@ -1,5 +1,5 @@
-//! Writes streams of frames, and cuts them in pieces of several sizes: each once, and then it prints how many bytes and
-//! frames went through, or for so many MiB, and then how many a second.
+//! Writes streams of frames, and cuts them in pieces of several sizes. It does each once and prints how many bytes and
+//! frames went through, or for a number of MiB, and then prints how many per second.
 mod stream;
 mod through;
 
@@ -10,14 +10,14 @@ use std::alloc::Global;
 use std::io::Print;
 use std::time::{Clock, Instant};
 
-/// The sizes of pieces in which a stream is cut.
+/// The sizes of the pieces into which a stream is cut.
 const SIZES: [usize; 3] = [1, 64, 4_096];
 
 /// What is done with a stream.
 #[derive(Clone, Copy)]
 enum Work {
     Write,
-    /// In pieces of this size.
+    /// The stream is cut in pieces of this size.
     Cut(usize),
 }
 
@@ -37,12 +37,12 @@ fn print(rt: &impl Print, stream: &Stream, work: Work, bytes: u64, frames: u64) 
     Ok(())
 }
 
-/// So many in so many microseconds, as so many a second.
+/// The rate per second of `count` in `micros` microseconds.
 fn in_a_second(count: u64, micros: u64) -> u64 {
     count.saturating_mul(1_000_000) / micros.max(1)
 }
 
-/// Does the work once, or for so many MiB, and prints a line.
+/// Does the work once, or for `mib` MiB, and prints a line.
 fn run<R: Print + Clock>(
     rt: &R,
     alloc: Global,
@@ -76,7 +76,7 @@ fn run_stream<R: Print + Clock>(
     Ok(())
 }
 
-/// Prints what went through, each stream once, or how much a second, for so many MiB each.
+/// Prints what went through when each stream is used once, or what went through per second for `mib` MiB of each.
 pub(crate) fn run_all<R: Print + Clock>(rt: &R, alloc: Global, mib: Option<u64>) -> Result<()> {
     match mib {
         Some(_) => println!(rt; "stream work                   bytes / s frames / s")?,

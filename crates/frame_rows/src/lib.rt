@@ -1,4 +1,4 @@
-//! Frames and links as tests, and where memory runs out: each allocation of each call is refused in turn.
+//! Tests of frames and links, also where memory runs out: each allocation of each call is refused in turn.
 #![tactic(auto)]
 
 #[cfg(test)]

@@ -1,4 +1,4 @@
-//! What is made of a stream.
+//! The answers to a case: what `decode`, a cutter and `pump` return for its stream.
 use crate::case::Case;
 use crate::sink::Kept;
 use crate::text::push_frame;
@@ -8,10 +8,10 @@ use frames::{Cutter, Frame, FrameFault, decode};
 use links::{LinkEnd, TapeReader, pump};
 use std::alloc::{AllocError, Global};
 
-/// The turns of one call of `pump`, which is made again and again.
+/// The turns of one call of `pump`. The call is repeated until the link ends.
 const TURNS: u64 = 2;
 
-/// Appends what `decode` answers.
+/// Appends what `decode` returns.
 fn push_decoded(alloc: Global, text: &mut String, stream: &[u8]) -> Result<(), AllocError> {
     match decode(alloc, stream) {
         Ok((frame, len)) => {
@@ -25,8 +25,8 @@ fn push_decoded(alloc: Global, text: &mut String, stream: &[u8]) -> Result<(), A
     }
 }
 
-/// Appends the frames that a cutter has, of which the first stands at this place of the stream, and answers the fault
-/// after them. The place is then that after the last one.
+/// Appends the frames that a cutter has, and returns the fault after them, if there is one. `at` is the place of the
+/// first frame in the stream, and becomes the place after the last one.
 fn push_given(
     alloc: Global,
     text: &mut String,
@@ -47,7 +47,7 @@ fn push_given(
     Ok(None)
 }
 
-/// Appends what a cutter gives that is fed the stream in pieces, up to its first fault, and answers that.
+/// Feeds a cutter the stream in pieces and appends its frames, up to its first fault. Returns that fault.
 fn push_pieces(
     alloc: Global,
     text: &mut String,
@@ -68,8 +68,8 @@ fn push_pieces(
     Ok(None)
 }
 
-/// Appends what a cutter gives, and how it ends: with a fault, which it answers from then on, or with bytes of no whole
-/// frame.
+/// Appends a cutter's frames and how it ends: with a fault, and `once` if it does not return that fault again, or with
+/// the number of bytes that are left over, which are no whole frame.
 fn push_cut(alloc: Global, text: &mut String, case: &Case) -> Result<(), AllocError> {
     let mut cutter = Cutter::new(alloc);
     match push_pieces(alloc, text, &mut cutter, case)? {
@@ -84,7 +84,7 @@ fn push_cut(alloc: Global, text: &mut String, case: &Case) -> Result<(), AllocEr
     }
 }
 
-/// Pumps until that ends.
+/// Calls `pump` until the link ends.
 fn pump_all(reader: &mut TapeReader, cutter: &mut Cutter, sink: &mut Kept) -> LinkEnd {
     for _ in 0..u64::MAX {
         match pump(reader, cutter, sink, TURNS) {
@@ -95,7 +95,7 @@ fn pump_all(reader: &mut TapeReader, cutter: &mut Cutter, sink: &mut Kept) -> Li
     LinkEnd::TurnLimit
 }
 
-/// Appends frames that begin a stream.
+/// Appends the first frames of a stream.
 fn push_front(
     alloc: Global,
     text: &mut String,
@@ -110,7 +110,7 @@ fn push_front(
     Ok(())
 }
 
-/// Appends what `pump` hands out, and its end.
+/// Appends the frames that `pump` hands out, and how it ends.
 fn push_pumped(alloc: Global, text: &mut String, case: &Case) -> Result<(), AllocError> {
     let stream = case.stream.as_slice();
     let tape = Bytes::copy_from_slice(alloc, stream)?;
@@ -126,7 +126,7 @@ fn push_pumped(alloc: Global, text: &mut String, case: &Case) -> Result<(), Allo
     write!(text, "{end}")
 }
 
-/// Appends what `decode`, a cutter and `pump` make of a case's stream, with `; ` between them.
+/// Appends what `decode`, a cutter and `pump` return for a case's stream, separated by `; `.
 pub(crate) fn push_answers(alloc: Global, text: &mut String, case: &Case) -> Result<()> {
     push_decoded(alloc, text, case.stream.as_slice())?;
     text.push_str("; ")?;

@@ -1,12 +1,13 @@
-//! Cases: streams of bytes, and how they come.
+//! Cases: streams of bytes, and how they arrive.
 use anyhow::{Context, Result};
 use std::alloc::Global;
 
-/// A stream and how it comes. Its line has four words: the sizes of the pieces, with commas between them, the frames
-/// that the sink takes, the read that fails, and the bytes in hexadecimal digits; a `-` stands for none.
+/// A stream and how it arrives. Its line has four words: the sizes of the pieces, separated by commas, the number of
+/// frames that the sink takes, the read that fails, and the bytes in hexadecimal digits. A `-` stands for no pieces, no
+/// failing read or no bytes.
 #[derive(Drop)]
 pub(crate) struct Case {
-    /// The sizes of the pieces; what is left comes as one.
+    /// The sizes of the pieces. The last one has room for all bytes that are left.
     pub(crate) pieces: Vec<usize>,
     /// How many frames the sink takes.
     pub(crate) most: usize,
@@ -15,7 +16,7 @@ pub(crate) struct Case {
     pub(crate) stream: Vec<u8>,
 }
 
-/// The sizes of pieces. The last one has room for all that is left.
+/// Parses the sizes of pieces, and adds a last piece that has room for all bytes that are left.
 fn pieces_of(alloc: Global, word: &str) -> Result<Vec<usize>> {
     let mut pieces = Vec::new(alloc);
     if word != "-" {
@@ -40,7 +41,7 @@ fn bytes_of(alloc: Global, word: &str) -> Result<Vec<u8>> {
 }
 
 impl Case {
-    /// The case of a line.
+    /// Parses the case of a line.
     pub(crate) fn parse(alloc: Global, line: &str) -> Result<Case> {
         let mut words = line.split(' ');
         let pieces = words.next().context("no pieces")?;

@@ -1,5 +1,5 @@
-//! Answers cases of `bench/fuzz`: each line of standard input is a stream of bytes and how it comes, and the line that
-//! is printed for it says what `decode`, a cutter and `pump` make of it.
+//! Answers cases of `bench/fuzz`: each line of standard input is a stream of bytes and how it arrives, and the line
+//! that is printed for it says what `decode`, a cutter and `pump` return for it.
 #![tactic(auto)]
 
 mod answers;
@@ -14,10 +14,10 @@ use std::alloc::Global;
 use std::io;
 use std::io::{BufRead, BufReader, BufWriter, Write};
 
-/// How many bytes of input and of output are gathered.
+/// The buffer sizes of input and output, in bytes.
 const ROOM: usize = 65_536;
 
-/// Puts the answers to a line in place of a text.
+/// Replaces a text with the answers to a line.
 fn answer(alloc: Global, text: &mut String, line: &str) -> Result<()> {
     let case = Case::parse(alloc, line)?;
     text.clear();

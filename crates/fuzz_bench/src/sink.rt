@@ -2,7 +2,7 @@
 use frames::Frame;
 use links::Sink;
 
-/// Takes so many frames, and refuses all others.
+/// Takes at most `most` frames, and refuses all others.
 #[derive(Drop)]
 pub(crate) struct Kept {
     pub(crate) frames: Vec<Frame>,

@@ -18,7 +18,7 @@ fn push_announcements(text: &mut String, entries: &[(MsgId, u32)]) -> Result<(),
     Ok(())
 }
 
-/// Appends a kind and its fields. Of a payload it is the length.
+/// Appends a body's kind and fields. Of a payload it appends only the length.
 fn push_body(text: &mut String, body: &Body) -> Result<(), AllocError> {
     match body {
         BodyOf::Join => text.push_str("JOIN"),
@@ -47,8 +47,8 @@ fn push_body(text: &mut String, body: &Body) -> Result<(), AllocError> {
     }
 }
 
-/// Appends a frame, with `misspelt` where it is not spelled as the stream has it at this place, and answers where it
-/// ends.
+/// Appends a frame, and `misspelt` if its encoding differs from the stream's bytes at `at`. Returns the place where the
+/// encoding ends.
 pub(crate) fn push_frame(
     alloc: Global,
     text: &mut String,

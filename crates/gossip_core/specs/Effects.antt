@@ -1,4 +1,4 @@
--- What the calls of a node's gossip give.
+-- What the calls of a node's gossip yield.
 use Rattle.std.specs.Prelude.{ℕ, List, Option}
 use Rattle.node_names.specs.NodeName.{Name}
 use Rattle.node_names.specs.declared.ids.MsgId.{MsgId}

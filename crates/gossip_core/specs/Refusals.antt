@@ -18,7 +18,7 @@ IsTooLong Flush = ⊥
 IsTooLong (Up peer) = ⊥
 IsTooLong (Down peer) = ⊥
 
--- A payload of allowed length is broadcast where the numbers of this run's messages are used up.
+-- A payload of allowed length is broadcast although the numbers of this run's messages are used up.
 abbrev pub IsSpent : GossipState → Call → Type 0
 IsSpent g (Broadcast payload) = (length payload ≤ MAX_PAYLOAD) × (g.spent ≡ 2 ^ 64 - 1)
 IsSpent g (OnGossip sender id round payload) = ⊥

@@ -1,4 +1,4 @@
--- What a node's gossip is seen as.
+-- The state of a node's gossip, as contracts see it.
 use Rattle.std.specs.Prelude.{◌≡◌, ℕ, ◌<◌, ◌≤◌, true, List, is_some}
 use Rattle.std.specs.FinSet as set
 use Rattle.std.specs.Map.{lookup}
@@ -9,10 +9,11 @@ use Rattle.node_names.specs.declared.ids.MsgId.{MsgId}
 use Rattle.missing.specs.Missing.{Missing}
 use Rattle.peer_sets.specs.PeerSets.{PeerSets}
 
--- Who the node is, by how many links a message's way must be longer than that of its first announcement for its sender
--- to be swapped for the announcer (0 for never), how many of the messages that it delivered last it holds (0 for all),
--- how many messages the node has broadcast, its eager and lazy peers with what waits for them, what it knows of
--- messages that it lacks, the ids that it knows, and the messages that it holds, in order of delivery.
+-- The node and its run; the threshold, by how many links a message's path must be longer than that of its first
+-- announcement for its sender to be swapped for the announcer (0 for never); how many of the messages that it delivered
+-- last it holds (0 for all); how many messages the node has broadcast; its eager and lazy peers with the announcements
+-- that are queued for them; what it knows of messages that it lacks; the ids that it knows; and the messages that it
+-- holds, in order of delivery.
 pub record GossipState : Type 0 where
   pub me : Origin
   pub threshold : ℕ
@@ -23,7 +24,8 @@ pub record GossipState : Type 0 where
   pub known : set.FinSet id_cmp
   pub held : List (MsgId × List ℕ)
 
--- What always holds: of its own messages the node knows those that it has broadcast, and what it holds it knows.
+-- What always holds: of its own messages the node knows only those that it has broadcast, and it knows all that it
+-- holds.
 pub record IsSound (gossip : GossipState) : Type 0 where
   pub counted : (id : MsgId) → set.contains gossip.known id ≡ true → id.origin ≡ gossip.me → (0 < id.seq) × (id.seq ≤ gossip.spent)
   pub held_is_known : (id : MsgId) → is_some (lookup (same_id id) gossip.held) ≡ true → set.contains gossip.known id ≡ true

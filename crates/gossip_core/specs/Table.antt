@@ -21,12 +21,12 @@ use Rattle.gossip_core.specs.Announcements.{announcements}
 use Rattle.gossip_core.specs.Effects.{Effects}
 use Rattle.gossip_core.specs.State.{GossipState}
 
--- A call of a node's gossip: the application broadcasts, a packet comes, a timer fires, what waits is to be sent, or a
--- link comes up or goes down.
+-- A call of a node's gossip: the application broadcasts, a packet comes, a timer fires, the queued announcements are
+-- to be sent, or a link comes up or goes down.
 abbrev pub Call : Type 0
 Call = CallOf (List ℕ) (List (MsgId × ℕ))
 
--- the call that a borrowed one is
+-- the call whose payload and announcements are borrowed, as a call that owns them
 abbrev pub lent : CallOf (Bor (List ℕ)) (Bor (List (MsgId × ℕ))) → Call
 lent (Broadcast payload) = Broadcast payload.now
 lent (OnGossip sender id round payload) = OnGossip sender id round payload.now
@@ -39,7 +39,7 @@ lent Flush = Flush
 lent (Up peer) = Up peer
 lent (Down peer) = Down peer
 
--- What a call leaves, what it sends and what it delivers.
+-- The state after a call, what it sends and what it delivers.
 pub record Outcome : Type 0 where
   pub state : GossipState
   pub sends : List (Name × Body)
@@ -49,7 +49,7 @@ pub record Outcome : Type 0 where
 abbrev pub quiet : GossipState → Outcome
 quiet g = record { state = g; sends = []; delivered = None }
 
--- the state where the peer, if it is a member, is of this kind
+-- the state after the peer, if it is a member, was made eager or lazy
 abbrev pub with_peer : Name → PeerKind → GossipState → GossipState
 with_peer name kind g = record g { peers = record g.peers { members = with_kind name kind g.peers.members } }
 
@@ -57,8 +57,8 @@ with_peer name kind g = record g { peers = record g.peers { members = with_kind 
 abbrev pub gossip_to : MsgId → ℕ → List ℕ → Name → Name × Body
 gossip_to id round payload peer = (peer, Gossip id round payload)
 
--- The message is delivered and known, sent to the eager members and queued for the lazy ones, but for one. Of the
--- messages that were delivered the last ones are held.
+-- The message is delivered and known, sent to the eager members and queued for the lazy ones, except for `left_out`.
+-- Of the messages that were delivered the last `keep` are held.
 abbrev pub spread : Option Name → MsgId → ℕ → List ℕ → GossipState → Outcome
 spread left_out id round payload g =
     record {
@@ -76,7 +76,7 @@ spread left_out id round payload g =
 abbrev pub next_id : GossipState → MsgId
 next_id g = record { origin = g.me; seq = g.spent + 1 }
 
--- one step further; the greatest round stays
+-- the round one step further; the greatest round stays
 abbrev pub next_round : ℕ → ℕ
 next_round round = min (round + 1) (2 ^ 32 - 1)
 
@@ -84,35 +84,36 @@ next_round round = min (round + 1) (2 ^ 32 - 1)
 abbrev pub is_news : GossipState → MsgId → Bool
 is_news g id = not (set.contains g.known id) && not (same_origin id.origin g.me)
 
--- A message that is known comes again: a member that sent it is told to announce from now on.
+-- A message that is known comes again: if its sender is a member, the sender is told to announce from now on.
 abbrev pub repeated : Name → GossipState → Outcome
 repeated sender g =
     if is_member g.peers.members sender
     then record { state = with_peer sender Lazy g; sends = (sender, Prune) ∷ []; delivered = None }
     else quiet g
 
--- A message comes for the first time: its announcements and its timer go, and its sender is eager.
+-- A message comes for the first time: its announcements and its timer are dropped, and its sender becomes eager.
 abbrev pub first_copy : Name → MsgId → ℕ → List ℕ → GossipState → Outcome
 first_copy sender id round payload g =
     let done = spread (Some sender) id (next_round round) payload (record g { missing = got id g.missing }) in
     record done { state = with_peer sender Eager done.state }
 
--- The peer, where another announced a message on a way that was shorter than its own by the threshold or more.
+-- The announcer of a message, if it is not the sender and its path is shorter than the sender's by the threshold or
+-- more.
 abbrev pub passed_by : ℕ → Name → ℕ → Option (Name × ℕ) → Option Name
 passed_by threshold sender round None = None
 passed_by threshold sender round (Some first) =
     if not (same_name first.0 sender) && nat_le (first.1 + threshold) round then Some first.0 else None
 
--- By whom a member that sends a message for the first time was passed, if a threshold is set: who announced the message
--- first.
+-- The peer that takes the sender's place when a member sends the first copy of a message: the peer that announced the
+-- message first, if a threshold is set and its path was shorter by that much.
 abbrev pub shortcut : GossipState → Name → MsgId → ℕ → Option Name
 shortcut g sender id round =
     if g.threshold == 0 then None
     else if is_member g.peers.members sender then passed_by g.threshold sender round (first_want id g.missing.wants)
     else None
 
--- Who passed the sender takes its place in the tree: the one is asked for messages from now on, the other for
--- announcements.
+-- The announcer, if there is one, takes the sender's place in the tree: the announcer is asked for messages from now
+-- on, the sender for announcements.
 abbrev pub swapped : Name → Option Name → Outcome → Outcome
 swapped sender None done = done
 swapped sender (Some peer) done =
@@ -122,7 +123,7 @@ swapped sender (Some peer) done =
       delivered = done.delivered;
     }
 
--- The timer fires: who announced the message first is asked for it, and is eager.
+-- The timer fires: the peer that announced the message first is asked for it, and becomes eager.
 abbrev pub asked : MsgId → Option (Name × ℕ) → GossipState → Outcome
 asked id None g = quiet g
 asked id (Some first) g = record { state = with_peer first.0 Eager g; sends = (first.0, Graft id first.1) ∷ []; delivered = None }
@@ -132,7 +133,7 @@ abbrev pub answer : Name → MsgId → ℕ → Option (List ℕ) → List (Name 
 answer peer id round None = []
 answer peer id round (Some payload) = gossip_to id round payload peer ∷ []
 
--- Each call, and what it does.
+-- What each call does.
 abbrev pub outcome : GossipState → Call → Outcome
 outcome g (Broadcast payload) = spread None (next_id g) 0 payload (record g { spent = g.spent + 1 })
 outcome g (OnGossip sender id round payload) =

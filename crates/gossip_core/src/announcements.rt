@@ -1,4 +1,4 @@
-//! The packets that announce what waits.
+//! The packets that announce the queued messages.
 ghost use Rattle.std.specs.Prelude.{◌≡◌, ◌++◌, ◌≤◌, length, map, IfOk, OnOk, OnErr};
 ghost use Rattle.gossip_core.specs.Announcements.{in_frames, packets_to, announcements};
 ghost use Rattle.frames.specs.declared.body.BodyOf.TheVariants.{IHave};
@@ -8,7 +8,7 @@ use node_names::{Listed, MsgId, NodeName};
 use peer_sets::{Batch, PeerSets};
 use std::alloc::{AllocError, Allocator};
 
-/// The packet that announces these to the peer.
+/// Makes the packet that announces the entries to the peer.
 fn packet<A: Allocator>(
     alloc: A,
     peer: &NodeName,
@@ -20,7 +20,7 @@ fn packet<A: Allocator>(
     Ok((*peer, BodyOf::IHave { entries }))
 }
 
-/// Appends the packets that announce these to the peer.
+/// Appends the packets that announce the entries to the peer.
 fn push_packets<A: Allocator + Copy>(
     packets: &mut Vec<(NodeName, Body<A>), A>,
     peer: &NodeName,
@@ -38,7 +38,7 @@ fn push_packets<A: Allocator + Copy>(
     Ok(())
 }
 
-/// The packets that announce all that waits, peer by peer.
+/// Makes the packets that announce everything in the queue, peer by peer.
 pub(crate) fn announcements<A: Allocator + Copy>(
     alloc: A,
     peers: &PeerSets<A>,

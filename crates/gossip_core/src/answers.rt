@@ -29,7 +29,7 @@ fn to_broadcast<A: Allocator + Copy>(
     spread(alloc, node.peers().members(), &None, &id, 0, payload)
 }
 
-/// What a known message makes it send when it comes again.
+/// What another copy of a known message makes the node send.
 fn to_repeated<A: Allocator + Copy>(
     alloc: A,
     node: &Gossip<A>,
@@ -44,7 +44,7 @@ fn to_repeated<A: Allocator + Copy>(
     }
 }
 
-/// What a node sends besides where who passed the sender takes its place in the tree.
+/// Appends what a node also sends when the announcer takes the sender's place in the tree.
 fn send_swap<A: Allocator + Copy>(
     effects: &mut Effects<A>,
     sender: &NodeName,
@@ -56,7 +56,7 @@ fn send_swap<A: Allocator + Copy>(
     effects.send(sender, BodyOf::Prune)
 }
 
-/// What a packet that carries a message makes it send and deliver.
+/// What a packet that carries a message makes the node send and deliver.
 fn to_gossip<A: Allocator + Copy>(
     alloc: A,
     node: &Gossip<A>,
@@ -82,7 +82,7 @@ fn to_gossip<A: Allocator + Copy>(
     Ok(effects)
 }
 
-/// What the timer of the id makes it send.
+/// What the id's timer makes the node send.
 fn to_fire<A: Allocator + Copy>(
     alloc: A,
     node: &Gossip<A>,
@@ -99,7 +99,7 @@ fn to_fire<A: Allocator + Copy>(
     }
 }
 
-/// What a packet that asks for a message makes it send.
+/// What a packet that asks for a message makes the node send.
 fn to_graft<A: Allocator + Copy>(
     alloc: A,
     node: &Gossip<A>,
@@ -115,7 +115,7 @@ fn to_graft<A: Allocator + Copy>(
     }
 }
 
-/// The packets that announce all that waits.
+/// The packets that announce everything in the queue.
 fn to_flush<A: Allocator + Copy>(alloc: A, node: &Gossip<A>) -> Result<Effects<A>, AllocError>
     ensures { IfOk result (λ effects. effects ≡ record { sends = (outcome node.now CallOf.Flush).sends; delivered = None }) }
 {

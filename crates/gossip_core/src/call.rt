@@ -3,12 +3,12 @@ use bytes::Bytes;
 use node_names::{MsgId, NodeName};
 use std::alloc::Global;
 
-/// A call of a node's gossip, over its form of a payload and of a list of announcements.
+/// A call of a node's gossip, generic in the types of its payload and of its list of announcements.
 #[derive(Drop)]
 pub enum CallOf<P, E> {
     /// The application broadcasts its next message.
     Broadcast {
-        /// What it says.
+        /// The message's payload.
         payload: P,
     },
     /// A packet that carries a message came.
@@ -19,7 +19,7 @@ pub enum CallOf<P, E> {
         id: MsgId,
         /// The round of the packet.
         round: u32,
-        /// What the message says.
+        /// The message's payload.
         payload: P,
     },
     /// A packet that announces messages came.
@@ -43,7 +43,7 @@ pub enum CallOf<P, E> {
         /// The round of the packet.
         round: u32,
     },
-    /// A packet came that asks for messages in place of announcements, and for none in particular.
+    /// A packet came that asks for messages in place of announcements, and for no particular message.
     OnGraftPeer {
         /// Who sent the packet.
         sender: NodeName,
@@ -53,16 +53,16 @@ pub enum CallOf<P, E> {
         /// Who sent the packet.
         sender: NodeName,
     },
-    /// All that waits is to be announced.
+    /// Everything in the queue is to be announced.
     Flush,
     /// A link came up.
     Up {
-        /// Whom it leads to.
+        /// The peer that it leads to.
         peer: NodeName,
     },
     /// A link went down.
     Down {
-        /// Whom it led to.
+        /// The peer that it led to.
         peer: NodeName,
     },
 }

@@ -1,4 +1,4 @@
-//! What a node's gossip gives: packets to send, and a message to deliver.
+//! What a node's gossip yields: packets to send, and a message to deliver.
 ghost use Rattle.std.specs.Prelude.{◌≡◌, [], ◌∷◌, ◌++◌, take, None, IfOk, OnOk, OnErr};
 
 use bytes::Bytes;
@@ -10,9 +10,9 @@ use std::marker::Model;
 /// The packets to send, each with its receiver, and the message that is delivered, if any. Calls append to it.
 #[derive(Drop)]
 pub struct Effects<A: Allocator = Global> {
-    /// The packets in order, each with the name that it goes to.
+    /// The packets in order, each with its receiver's name.
     pub sends: Listed<(NodeName, Body<A>), A>,
-    /// The message for the application; the last one where several calls delivered.
+    /// The message for the application; the last one if several calls delivered.
     pub delivered: Option<(MsgId, Bytes<A>)>,
 }
 
@@ -32,7 +32,7 @@ impl<A: Allocator> Model for Effects<A> {
 impl<A: Allocator + Copy> Effects<A> {
     ghost use Rattle.gossip_core.specs.Table.{latest};
 
-    /// Nothing to send and nothing to deliver. It takes no memory.
+    /// Nothing to send and nothing to deliver. Allocates nothing.
     pub fn new(alloc: A) -> Self
         ensures sends { result.sends ≡ [] }
         ensures delivered { result.delivered ≡ None }

@@ -29,11 +29,11 @@ use world::MAX_PAYLOAD;
 
 /// The gossip of one run of one node: which messages it has, to whom it sends them, and how it repairs what it lacks.
 ///
-/// A call has two halves: `answer` says what it will send and deliver, and `take` changes the state. A caller who makes
-/// room for the answer in between has nothing left that can be refused after `take`. The other calls are both halves in
-/// one. Looking a message up costs the same however many are held. A copy costs their number. Which messages are known
-/// takes memory by their origins and the gaps in their numbers, and not by the messages; what is held takes memory by
-/// `keep`, or by all messages where that is 0.
+/// A call has two halves: `answer` returns what it will send and deliver, and `take` changes the state. A caller that
+/// makes room for the answer in between has nothing left that can fail after `take`. The other calls do both halves at
+/// once. A look-up of a message takes the same time however many are held; a copy takes time proportional to their
+/// number. The memory for the known messages depends on their origins and the gaps in their numbers, not on how many
+/// there are; the memory for the held messages depends on `keep`, or on all messages if that is 0.
 #[derive(Drop)]
 pub struct Gossip<A: Allocator = Global> {
     me: Origin,
@@ -66,8 +66,8 @@ impl<A: Allocator> Model for Gossip<A> {
 }
 
 impl<A: Allocator + Copy> Gossip<A> {
-    /// A node that has these peers, all eager, and has broadcast `seq_spent` messages; it knows none, swaps no
-    /// branches, and holds all that it delivers. The peers are distinct.
+    /// Creates a node that has these peers, all eager, and has broadcast `seq_spent` messages. It knows no messages,
+    /// never swaps branches, and holds all messages that it delivers. The peers must be distinct.
     pub fn new(alloc: A, me: Origin, peers: &[NodeName], seq_spent: u64) -> Result<Self, AllocError>
         requires { IsDistinct same_name peers.now }
         ensures { IfOk result (λ gossip. gossip ≡ record {
@@ -84,10 +84,11 @@ impl<A: Allocator + Copy> Gossip<A> {
         Gossip::new_tuned(alloc, me, peers, seq_spent, 0, 0)
     }
 
-    /// The same node with a threshold and a bound on its store. Where a member sends a message for the first time that
-    /// another announced before, on a way shorter by so many links or more, that other takes the sender's place as an
-    /// eager peer. With 0 none does. Of the messages that it delivered the node holds the last `keep`, or all for 0; it
-    /// knows the others too, and has no payload for who asks.
+    /// Creates the same node with a threshold and a bound on its store. When the first copy of a message comes from a
+    /// member, and another peer announced the message first over a path that is shorter by `threshold` links or more,
+    /// the announcer takes the sender's place as an eager peer. A threshold of 0 disables this. Of the messages that it
+    /// delivered the node holds the last `keep`, or all if `keep` is 0; it still knows the others, but has no payload
+    /// for peers that ask.
     pub fn new_tuned(
         alloc: A,
         me: Origin,
@@ -120,7 +121,7 @@ impl<A: Allocator + Copy> Gossip<A> {
         })
     }
 
-    /// What the call will send and deliver. It changes nothing. The refusals are tested in the order of `GossipFault`.
+    /// Returns what the call will send and deliver; changes nothing. Errors are tested in the order of `GossipFault`.
     pub fn answer(&self, call: &Call<'_, A>) -> Result<Effects<A>, GossipFault>
         ensures ok { IfOk result (λ effects. effects ≡ record { sends = (outcome self.now (lent call.now)).sends; delivered = (outcome self.now (lent call.now)).delivered }) }
         ensures taken { OnOk result (CanTake self.now (lent call.now)) }
@@ -131,7 +132,7 @@ impl<A: Allocator + Copy> Gossip<A> {
         Ok(answers(*self.held.allocator(), self, call)?)
     }
 
-    /// Whether the call may be made.
+    /// Rejects a call that may not be made.
     fn judge(&self, call: &Call<'_, A>) -> Result<(), GossipFault>
         ensures taken { OnOk result (CanTake self.now (lent call.now)) }
         ensures too_long { IsErrOf result GossipFault.PayloadTooLong ↔ IsTooLong (lent call.now) }
@@ -152,7 +153,7 @@ impl<A: Allocator + Copy> Gossip<A> {
         }
     }
 
-    /// Whether the message may be broadcast.
+    /// Rejects a message that may not be broadcast.
     fn judge_broadcast(&self, payload: &Bytes<A>) -> Result<(), GossipFault>
         ensures taken { OnOk result (CanTake self.now (Broadcast payload.now)) }
         ensures too_long { IsErrOf result GossipFault.PayloadTooLong ↔ IsTooLong (Broadcast payload.now) }
@@ -168,7 +169,7 @@ impl<A: Allocator + Copy> Gossip<A> {
         Ok(())
     }
 
-    /// Changes the state as the call does, or not at all where memory is refused.
+    /// Changes the state as the call does, or leaves it unchanged if an allocation fails.
     pub fn take(&mut self, call: &Call<'_, A>) -> Result<(), AllocError>
         requires { CanTake self.old (lent call.now) }
         ensures ok { OnOk result (self.new ≡ (outcome self.old (lent call.now)).state) }
@@ -262,7 +263,8 @@ impl<A: Allocator + Copy> Gossip<A> {
         Ok(())
     }
 
-    /// Who takes the sender's place in the tree, where it sends this message for the first time at this round.
+    /// Returns the peer that takes the sender's place in the tree, if any, when the sender delivers the first copy of
+    /// this message at this round.
     pub(crate) fn shortcut(&self, sender: &NodeName, id: &MsgId, round: u32) -> Option<NodeName>
         ensures { result ≡ shortcut self.now sender.now id.now round }
     {
@@ -278,7 +280,7 @@ impl<A: Allocator + Copy> Gossip<A> {
         }
     }
 
-    /// Who passed the sender takes its place in the tree.
+    /// Gives the sender's place in the tree to the announcer.
     fn swap(&mut self, sender: &NodeName, announcer: &NodeName)
         ensures { self.new ≡ with_peer sender.now PeerKind.Lazy (with_peer announcer.now PeerKind.Eager self.old) }
     {
@@ -286,7 +288,7 @@ impl<A: Allocator + Copy> Gossip<A> {
         self.peers.make_lazy(sender);
     }
 
-    /// A known message came again.
+    /// Handles another copy of a known message.
     fn take_repeated(&mut self, sender: &NodeName)
         ensures { self.new ≡ (repeated sender.now self.old).state }
     {
@@ -296,7 +298,7 @@ impl<A: Allocator + Copy> Gossip<A> {
         self.peers.make_lazy(sender);
     }
 
-    /// A message of another run came for the first time.
+    /// Handles the first copy of a message of another run.
     fn take_first_copy(
         &mut self,
         sender: &NodeName,
@@ -324,7 +326,7 @@ impl<A: Allocator + Copy> Gossip<A> {
         Ok(())
     }
 
-    /// The timer of the id fires: who announced it first is eager from now on.
+    /// Fires the id's timer: the peer that announced it first becomes eager.
     fn take_fire(&mut self, id: &MsgId)
         ensures { self.new ≡ (outcome self.old (Fire id.now)).state }
     {
@@ -357,7 +359,7 @@ impl<A: Allocator + Copy> Gossip<A> {
         }
     }
 
-    /// Takes the application's next message. The refusals are tested in the order of `GossipFault`.
+    /// Broadcasts the application's next message. Errors are tested in the order of `GossipFault`.
     pub fn broadcast(
         &mut self,
         payload: &Bytes<A>,
@@ -378,7 +380,7 @@ impl<A: Allocator + Copy> Gossip<A> {
         Ok(id)
     }
 
-    /// A packet that carries a message came.
+    /// Handles a packet that carries a message.
     pub fn on_gossip(
         &mut self,
         sender: &NodeName,
@@ -399,7 +401,7 @@ impl<A: Allocator + Copy> Gossip<A> {
         self.make(&call, out)
     }
 
-    /// The announcements of messages that the node lacks, and did not broadcast itself.
+    /// Returns the announcements of messages that the node lacks and did not broadcast itself.
     fn news(&self, entries: &[(MsgId, u32)]) -> Result<Vec<(MsgId, u32), A>, AllocError>
         ensures { IfOk result (λ news. news.items ≡ filter (λ entry. is_news self.now entry.0) entries.now) }
     {
@@ -412,7 +414,7 @@ impl<A: Allocator + Copy> Gossip<A> {
         Ok(news)
     }
 
-    /// A packet that announces messages came. What a stranger announces is not taken.
+    /// Handles a packet that announces messages. Announcements of a sender that is not a member are ignored.
     pub fn on_ihave(
         &mut self,
         sender: &NodeName,
@@ -428,7 +430,7 @@ impl<A: Allocator + Copy> Gossip<A> {
         Ok(())
     }
 
-    /// The timer of the id fires.
+    /// Fires the id's timer.
     pub fn fire(&mut self, id: &MsgId, out: &mut Effects<A>) -> Result<(), AllocError>
         ensures ok { OnOk result (Does (Fire id.now) self.old out.old self.new out.new) }
         ensures err { OnErr result ((self.new ≡ self.old) × (out.new ≡ out.old)) }
@@ -436,7 +438,7 @@ impl<A: Allocator + Copy> Gossip<A> {
         self.make(&CallOf::Fire { id: *id }, out)
     }
 
-    /// A packet that asks for a message came.
+    /// Handles a packet that asks for a message.
     pub fn on_graft(
         &mut self,
         sender: &NodeName,
@@ -455,7 +457,7 @@ impl<A: Allocator + Copy> Gossip<A> {
         self.make(&call, out)
     }
 
-    /// Announces all that waits.
+    /// Announces everything in the queue.
     pub fn flush(&mut self, out: &mut Effects<A>) -> Result<(), AllocError>
         ensures ok { OnOk result (Does Flush self.old out.old self.new out.new) }
         ensures err { OnErr result ((self.new ≡ self.old) × (out.new ≡ out.old)) }
@@ -463,7 +465,7 @@ impl<A: Allocator + Copy> Gossip<A> {
         self.make(&CallOf::Flush, out)
     }
 
-    /// A link came up.
+    /// Handles a link that came up.
     pub fn up(&mut self, peer: &NodeName) -> Result<(), AllocError>
         ensures ok { OnOk result (self.new ≡ (outcome self.old (Up peer.now)).state) }
         ensures err { OnErr result (self.new ≡ self.old) }
@@ -471,21 +473,21 @@ impl<A: Allocator + Copy> Gossip<A> {
         self.peers.up(peer)
     }
 
-    /// A packet came that asks for messages in place of announcements, and for none in particular.
+    /// Handles a packet that asks for messages in place of announcements, and for no particular message.
     pub fn on_graft_peer(&mut self, sender: &NodeName)
         ensures { self.new ≡ (outcome self.old (OnGraftPeer sender.now)).state }
     {
         self.peers.make_eager(sender);
     }
 
-    /// A packet came that asks for announcements in place of messages.
+    /// Handles a packet that asks for announcements in place of messages.
     pub fn on_prune(&mut self, sender: &NodeName)
         ensures { self.new ≡ (outcome self.old (OnPrune sender.now)).state }
     {
         self.peers.make_lazy(sender);
     }
 
-    /// A link went down.
+    /// Handles a link that went down.
     pub fn down(&mut self, peer: &NodeName)
         ensures { self.new ≡ (outcome self.old (Down peer.now)).state }
     {
@@ -493,7 +495,7 @@ impl<A: Allocator + Copy> Gossip<A> {
         self.missing.down(peer);
     }
 
-    /// These links went down, and then these came up. Where memory is refused, nothing is changed.
+    /// Handles links that went down, and then links that came up. If an allocation fails, nothing is changed.
     pub fn relink(&mut self, downs: &[NodeName], ups: &[NodeName]) -> Result<(), AllocError>
         ensures ok { OnOk result (self.new ≡ after_ups ups.now (after_downs downs.now self.old)) }
         ensures err { OnErr result (self.new ≡ self.old) }
@@ -503,7 +505,7 @@ impl<A: Allocator + Copy> Gossip<A> {
         Ok(())
     }
 
-    /// A copy of all that the gossip holds.
+    /// Copies the whole gossip.
     pub fn copy(&self) -> Result<Self, AllocError>
         ensures { IfOk result (λ copy. copy ≡ self.now) }
     {
@@ -528,8 +530,8 @@ impl<A: Allocator> Gossip<A> {
         self.known.contains(id)
     }
 
-    /// The highest number for which 1 to it are all known of the origin, and how many known numbers stand past it. Both
-    /// are 0 for an origin of which nothing is known.
+    /// The highest number n such that the messages 1 to n of the origin are all known, and how many known numbers are
+    /// greater than n. Both are 0 for an origin of which nothing is known.
     pub fn span(&self, origin: &Origin) -> (u64, usize)
         ensures span { IsSpan self.now.known origin.now result.0 result.1 }
         ensures last { result.0 ≡ u64.MAX → result.1 ≡ 0 }
@@ -551,14 +553,14 @@ impl<A: Allocator> Gossip<A> {
         self.held.ids()
     }
 
-    /// Which run of which node it is.
+    /// The node and the run that this gossip belongs to.
     pub fn me(&self) -> Origin
         ensures { result ≡ self.now.me }
     {
         self.me
     }
 
-    /// How many messages it has broadcast, or was told at its start that it had.
+    /// How many messages the node has broadcast, including the count that it was created with.
     pub fn spent(&self) -> u64
         ensures { result ≡ self.now.spent }
     {
@@ -573,7 +575,7 @@ impl<A: Allocator> Gossip<A> {
         &self.peers
     }
 
-    /// What it knows of messages that it lacks.
+    /// What the node knows of messages that it lacks.
     pub fn missing(&self) -> &Missing<A>
         ensures { result.now ≡ self.now.missing }
     {

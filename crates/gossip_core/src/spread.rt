@@ -1,4 +1,4 @@
-//! How a message goes on: at once to the eager members, and announced to the lazy ones.
+//! How a message is forwarded: at once to the eager members, and announced to the lazy ones.
 ghost use Rattle.std.specs.Prelude.{◌≡◌, map, Some, IfOk};
 ghost use Rattle.peer_sets.specs.Members.{eager_but};
 ghost use Rattle.gossip_core.specs.Table.{gossip_to};
@@ -25,7 +25,7 @@ pub(crate) fn gossip<A: Allocator>(
     })
 }
 
-/// The packets that carry the message to the eager members but one.
+/// Makes the packets that carry the message to all eager members except `left_out`.
 fn pushes<A: Allocator + Copy>(
     alloc: A,
     members: &[Member],
@@ -45,7 +45,7 @@ fn pushes<A: Allocator + Copy>(
     Ok(sends)
 }
 
-/// What a new message makes the node send and deliver: it goes to the eager members but one.
+/// What a new message makes the node send and deliver: it goes to all eager members except `left_out`.
 pub(crate) fn spread<A: Allocator + Copy>(
     alloc: A,
     members: &[Member],

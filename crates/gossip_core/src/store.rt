@@ -15,8 +15,8 @@ use node_names::{MsgId, NodeName};
 use peer_sets::PeerSets;
 use std::alloc::{AllocError, Allocator};
 
-/// Knows and holds a message that is not held, and queues it for the lazy members but one. Of the messages that are
-/// held then the last `keep` stay, or all for 0. All memory is taken first.
+/// Adds a message that is not held to the known and the held messages, and queues it for all lazy members except
+/// `left_out`. Afterwards only the last `keep` messages are held, or all if `keep` is 0. All memory is reserved first.
 pub(crate) fn keep<A: Allocator + Copy>(
     known: &mut KnownIds<A>,
     held: &mut MessageStore<A>,

@@ -1,4 +1,4 @@
--- What an act is as an event.
+-- The event that an act stands for.
 use Rattle.std.specs.Prelude.{◌≡◌, List, [], Some, None, replicate}
 use Rattle.node_names.specs.declared.dice.Dice.{Dice}
 use Rattle.node_names.specs.NodeName.{Name}
@@ -11,7 +11,7 @@ use Rattle.group_events.specs.declared.act.Act.TheVariants.{Start, Join, Broadca
 abbrev pub zeros : Dice
 zeros = record { 0 = replicate 16 0 }
 
--- An event is that of an act. Which words of a text are the peers of a start is left to the rows.
+-- An event is the one of an act. Which names are the peers of a `Start` is left open: the rows show that.
 abbrev pub IsEventOf : Act → Event → Type 0
 IsEventOf (Start node incarnation peers) e = (names : List Name) × (e ≡ event.Start node.now (record { 0 = incarnation }) names None)
 IsEventOf (Join node incarnation contact) e = e ≡ event.Start node.now (record { 0 = incarnation }) [] (Some contact.now)

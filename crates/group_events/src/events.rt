@@ -1,4 +1,4 @@
-//! Acts as events. A text that is no name is in no event.
+//! Turns acts into events. An act in which a text should be a name but is not has no event.
 ghost use Rattle.std.specs.Prelude.{◌≡◌, ℕ, [], List, IfOk, Some, None, replicate};
 ghost use Rattle.std.specs.Option.{ForSome};
 ghost use Rattle.node_names.specs.NodeName.{Name};
@@ -12,21 +12,21 @@ use std::alloc::{AllocError, Allocator};
 use test_support::message;
 use world::{Event, EventOf};
 
-/// The name of this text.
+/// Parses a name.
 fn name(text: &str) -> Option<NodeName>
     ensures { ForSome result (λ name. name ≡ text.now) }
 {
     NodeName::parse(text.as_bytes()).ok()
 }
 
-/// The id of the message.
+/// Returns the id of a message, if its origin is a name.
 fn id(id: Id) -> Option<MsgId>
     ensures { ForSome result (λ message. message ≡ record { origin = record { name = id.entry.0.now; incarnation = record { 0 = 1 } }; seq = id.entry.1 }) }
 {
     Some(message(name(id.0)?, id.1))
 }
 
-/// The names of a text.
+/// Parses the names of a text, which are separated by blanks. Returns `None` if one of them is not a name.
 fn names<A: Allocator>(alloc: A, text: &str) -> Result<Option<Listed<NodeName, A>>, AllocError> {
     let mut names = Listed::new(alloc);
     for word in text.split_whitespace() {
@@ -148,7 +148,7 @@ fn stop<A: Allocator>(node: &str) -> Option<Event<A>>
     Some(EventOf::Stop { name: name(node)? })
 }
 
-/// The event of an act, if its texts are names.
+/// Returns the event of an act, or `None` if a text that should be a name is not.
 pub fn event<A: Allocator + Copy>(alloc: A, act: &Act) -> Result<Option<Event<A>>, AllocError>
     ensures { IfOk result (λ made. ForSome made (IsEventOf act.now)) }
 {

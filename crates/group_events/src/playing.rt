@@ -10,7 +10,7 @@ use crate::events::event;
 use std::alloc::Allocator;
 use world::{Core, World, WorldError};
 
-/// Plays an act. Whether its texts are names; if not, nothing is played. What it delivers stands in the log.
+/// Plays an act. Returns whether its names are valid; if not, nothing is played. What it delivers stands in the log.
 pub fn play_act<C: Core<A>, A: Allocator + Copy>(
     alloc: A,
     world: &mut World<C, A>,
@@ -27,7 +27,7 @@ pub fn play_act<C: Core<A>, A: Allocator + Copy>(
     Ok(true)
 }
 
-/// Plays acts, up to the first that is refused. Whether their texts are names.
+/// Plays acts, up to the first that is refused. Returns whether the names of the acts are valid.
 pub fn play_acts<C: Core<A>, A: Allocator + Copy>(
     alloc: A,
     world: &mut World<C, A>,
@@ -41,7 +41,7 @@ pub fn play_acts<C: Core<A>, A: Allocator + Copy>(
     Ok(true)
 }
 
-/// Plays runs, one behind the other, up to the first act that is refused. Whether their texts are names.
+/// Plays runs one after another, up to the first act that is refused. Returns whether the names of the acts are valid.
 pub fn play_runs<C: Core<A>, A: Allocator + Copy>(
     alloc: A,
     world: &mut World<C, A>,

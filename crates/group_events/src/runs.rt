@@ -1,7 +1,8 @@
 //! Runs that several tests begin with.
 use crate::act::Act;
 
-/// In a line a repeated packet makes c lazy to b, which queues for it what it announces of a's second message.
+/// In the line a-b-c, a repeated packet makes c a lazy peer of b, so b queues an announcement of a's second message for
+/// c.
 pub const QUEUING: &[Act] = &[
     Act::Start("a", 1, "b"),
     Act::Start("b", 1, "a c"),
@@ -16,5 +17,5 @@ pub const QUEUING: &[Act] = &[
     Act::Arrive(0),
 ];
 
-/// After it c hears of that message, waits, and asks for it.
+/// After `QUEUING`: c hears of that message, waits, and asks for it.
 pub const ASKING: &[Act] = &[Act::Flush("b"), Act::Arrive(0), Act::Fire("c", ("a", 2))];

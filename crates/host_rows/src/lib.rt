@@ -1,4 +1,4 @@
-//! Running nodes as tests: what ports are answered, what closing finds, and what the workers move.
+//! Tests of running nodes: what their ports are answered, what closing finds, and what the workers move.
 #![tactic(auto)]
 
 #[cfg(test)]

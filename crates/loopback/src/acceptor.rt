@@ -10,7 +10,7 @@ use std::thread;
 use std::thread::{JoinHandle, Threads};
 use std::time::Clock;
 
-/// The thread of a node that takes connections, and what it took.
+/// The thread of a node that takes connections, and the connections that it took.
 #[derive(Drop)]
 pub(crate) struct Acceptor {
     port: u16,
@@ -21,7 +21,7 @@ pub(crate) struct Acceptor {
 }
 
 impl Acceptor {
-    /// Of this port, without a thread yet.
+    /// Makes the acceptor of this port, without a thread yet.
     pub(crate) fn new(
         alloc: Global,
         port: u16,
@@ -50,8 +50,8 @@ impl Acceptor {
         }
     }
 
-    /// Dials the port once the arrivals are closed, unless that was done, so that the thread, which waits there for a
-    /// connection, gets on. Answers whether the thread will end.
+    /// Dials the port once the arrivals are closed, unless this was done already, so that the thread, which waits there
+    /// for a connection, wakes up. Returns whether the thread will end.
     pub(crate) fn knock<R>(&mut self, rt: &R) -> bool
     where
         R: Net<Listener = TcpListener, Stream = TcpStream>,

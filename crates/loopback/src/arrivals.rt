@@ -1,4 +1,4 @@
-//! Connections that others made to a node and of which it does not read yet.
+//! Connections that other nodes made to a node and that it does not read yet.
 use crate::list::keep;
 use crate::shortage::Shortage;
 use crate::shortages::{Failures, Shortages, pause};
@@ -10,7 +10,7 @@ use std::sync::atomic::{AtomicBool, Ordering};
 use std::sync::{Arc, Mutex, Wait};
 use std::time::Clock;
 
-/// The connections, while they are taken.
+/// The connections that wait for a reader, and whether more are taken.
 #[derive(Drop)]
 struct Waiting {
     is_open: bool,
@@ -22,13 +22,13 @@ struct Waiting {
 pub(crate) struct Arrivals {
     waiting: Mutex<Waiting>,
     shortages: Arc<Shortages, Global>,
-    /// Whether the thread takes none any more.
+    /// Whether the thread takes no more connections.
     is_over: AtomicBool,
     alloc: Global,
 }
 
 impl Arrivals {
-    /// No connections yet.
+    /// Makes arrivals without connections.
     pub(crate) fn new(alloc: Global, shortages: Arc<Shortages, Global>) -> Arrivals {
         let readers = Vec::new(alloc);
         Arrivals {
@@ -42,7 +42,7 @@ impl Arrivals {
         }
     }
 
-    /// Puts a connection last, and answers whether more are taken. Where there is no memory for it, it is closed, which
+    /// Appends a connection, and returns whether more are taken. If there is no memory for it, it is closed, and this
     /// is noted.
     fn put<R: Wait>(&self, rt: &R, reader: TcpReader) -> bool {
         let mut waiting = self.waiting.lock(rt);
@@ -63,12 +63,12 @@ impl Arrivals {
         drop(self.take(rt));
     }
 
-    /// Whether the thread that takes connections comes to its end without another one.
+    /// Whether the thread that takes connections ends without another connection.
     pub(crate) fn is_over(&self) -> bool {
         self.is_over.load(Ordering::SeqCst)
     }
 
-    /// Waits for a connection and takes it. Answers whether more are taken.
+    /// Waits for a connection and takes it. Returns whether more are taken.
     fn take_next<R: Wait + Clock>(
         &self,
         rt: &R,
@@ -89,7 +89,7 @@ impl Arrivals {
     }
 }
 
-/// Takes connections until one comes, or is refused, after the arrivals were closed.
+/// Takes connections until one comes or fails after the arrivals were closed.
 pub(crate) fn accept_all<R: Wait + Clock>(rt: &R, listener: &TcpListener, arrivals: &Arrivals) {
     let mut failures = Failures::new(&arrivals.shortages);
     for _ in rt.forever() {

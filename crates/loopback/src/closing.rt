@@ -21,9 +21,9 @@ use world::{Delivery, Trace};
 /// What the nodes of a group leave, in the order of the members.
 #[derive(Drop)]
 pub struct RunReport {
-    /// What the nodes handed out: those of each node in the order in which it delivered them.
+    /// The deliveries that the nodes handed out: those of each node in the order in which it delivered them.
     pub deliveries: Vec<Delivery>,
-    /// When each of the deliveries was handed out, since the run began.
+    /// The time since the run began at which each of the deliveries was handed out.
     pub times: Vec<Duration>,
     /// When each message was broadcast: those of each node in order.
     pub broadcasts: Vec<Stamp>,
@@ -32,7 +32,7 @@ pub struct RunReport {
 }
 
 impl RunReport {
-    /// Nothing yet.
+    /// Makes an empty report.
     fn new(alloc: Global) -> RunReport
         ensures { result.traces.items ≡ [] }
     {
@@ -44,7 +44,7 @@ impl RunReport {
         }
     }
 
-    /// Puts what a node leaves last.
+    /// Appends what a node leaves.
     fn add<R: Wait>(
         &mut self,
         rt: &R,
@@ -96,7 +96,7 @@ fn first_refusal<C: NodeCore<Global> + Drop>(nodes: &[Node<C>]) -> Option<RunErr
     nodes.iter().find_map(|node| node.speech.refused)
 }
 
-/// Closes all nodes in order, adds what they leave, and answers the first fault.
+/// Closes all nodes in order, adds what they leave, and returns the first fault.
 fn close_each<R: Threads + Wait, C: NodeCore<Global> + Drop>(
     rt: &R,
     nodes: Vec<Node<C>>,
@@ -114,8 +114,8 @@ fn close_each<R: Threads + Wait, C: NodeCore<Global> + Drop>(
     first
 }
 
-/// Stops all nodes, and closes them in order. What they leave is answered, or the fault that ended the run, or else the
-/// first of a broadcast, or else of a close.
+/// Stops all nodes, and closes them in order. Returns what they leave, or the fault that ended the run, or else the
+/// first fault of a broadcast, or else of a close.
 pub(crate) fn close_all<R, C>(
     rt: &R,
     alloc: Global,

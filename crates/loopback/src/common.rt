@@ -6,7 +6,7 @@ use std::alloc::{AllocError, Global};
 use std::sync::Arc;
 use std::time::{Clock, Duration, Instant};
 
-/// Where a node of this name takes connections.
+/// The port where the node of this name takes connections.
 #[derive(Clone, Copy)]
 pub(crate) struct Address {
     pub(crate) name: NodeName,
@@ -18,9 +18,9 @@ pub(crate) struct Address {
 pub(crate) struct Common<R: Drop> {
     pub(crate) rt: R,
     pub(crate) alloc: Global,
-    /// When the run began, where the clock could be read.
+    /// When the run began, if the clock could be read.
     pub(crate) start: Option<Instant>,
-    /// What the dice of each worker are drawn from, its number added.
+    /// The seed of the workers' dice, to which each worker's number is added.
     seed: u64,
     /// How many workers were started.
     workers: u64,
@@ -28,7 +28,7 @@ pub(crate) struct Common<R: Drop> {
     addresses: Vec<Address>,
 }
 
-/// The time since a run began. It is 0 where the clock can't be read.
+/// The time since a run began. It is 0 if the clock can't be read.
 pub(crate) fn since<R: Clock>(rt: &R, start: &Option<Instant>) -> Duration {
     match start {
         Some(start) => start.elapsed(rt).unwrap_or(Duration::ZERO),
@@ -80,7 +80,7 @@ impl<R: Drop> Common<R> {
         seed
     }
 
-    /// Where the node of this name takes connections, if it is in the group.
+    /// The port where the node of this name takes connections, if the node is in the group.
     pub(crate) fn port_of(&self, name: &NodeName) -> Option<u16> {
         self.addresses
             .iter()

@@ -5,25 +5,25 @@ use node_threads::HostError;
 use std::alloc::{AllocError, AllocFailed};
 use thiserror::Error;
 
-/// Why a group did not run, or what its nodes leave is not as it should be.
+/// Why a group did not run, or why what its nodes leave is not as it should be.
 #[derive(Clone, Copy, Debug, PartialEq, Eq, Error)]
 pub enum RunError {
     /// The node's port can't be listened on: another program has it.
     #[error("node {node}: cannot listen: the port is in use")]
     CannotListen { node: NodeName },
-    /// The node's port is that of another node, which stands before it.
+    /// The node's port is also that of an earlier node.
     #[error("node {node}: cannot listen: node {other} has the port")]
     SamePort { node: NodeName, other: NodeName },
     /// The node can't start with its peers and its contact.
     #[error("node {node}: it can't start with these peers and this contact")]
     BadPeers { node: NodeName },
-    /// The node had too little of something, and the run ended with that.
+    /// The node had a shortage, which ended the run.
     #[error("node {node}: {of}")]
     Short { node: NodeName, of: Shortage },
     /// The node refused a broadcast.
     #[error("node {node}: {why}")]
     Refused { node: NodeName, why: HostError },
-    /// What the node's port was told of its broadcasts is not what its history has.
+    /// The receipts that the node's port got for its broadcasts are not those of its history.
     #[error("node {node}: the receipts of its broadcasts are not as in its history")]
     Unlike { node: NodeName },
     /// A worker of the node did not come back.
@@ -32,7 +32,7 @@ pub enum RunError {
     /// What came out of one of the node's links is not what the node sent.
     #[error("node {node}: what came out of a link is not what was sent")]
     Torn { node: NodeName },
-    /// An allocation is refused that is of no node alone.
+    /// An allocation is refused that belongs to no single node.
     #[error("out of memory")]
     OutOfMemory,
 }

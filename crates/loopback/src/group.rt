@@ -23,18 +23,18 @@ use std::time::{Duration, Instant};
 /// How many milliseconds pass between two turns while there is something to do.
 const TURN: u64 = 5;
 
-/// After how many ticks at most the nodes begin to broadcast.
+/// The most ticks that pass before the nodes begin to broadcast.
 const MOST_QUIET: u32 = 10;
 
-/// How many links may have a writer before those that nobody uses lose it soon: each takes two descriptors, of the 1,024
+/// How many links may have a writer before unused links lose theirs sooner: each takes two of the 1,024 descriptors
 /// that a process usually has, and the 64 nodes of a large group may each open one more in a turn.
 const MANY_LINKS: usize = 330;
 
-/// For how many ticks a link keeps its writer that nobody uses and that goes to no neighbour: who asked to become one may
-/// be waiting for the answer, and the end of the connection would take the question back.
+/// For how many ticks an unused link that goes to no neighbour keeps its writer: a node that asked to become a
+/// neighbour may be waiting for the answer, and the end of the connection would withdraw its request.
 const LONG_IDLE: u64 = 25;
 
-/// The same where there are many.
+/// The same if more than `MANY_LINKS` links have a writer.
 const SHORT_IDLE: u64 = 5;
 
 /// How a group is to run.
@@ -42,9 +42,9 @@ const SHORT_IDLE: u64 = 5;
 pub struct Plan {
     /// The limits of every node.
     pub limits: Limits,
-    /// What the nodes' dice are drawn from.
+    /// The seed of the nodes' dice.
     pub seed: u64,
-    /// After how many ticks of 20 milliseconds the nodes are stopped.
+    /// The number of ticks, of 20 milliseconds each, after which the nodes are stopped.
     pub ticks: u32,
 }
 
@@ -65,8 +65,8 @@ where
     Ok(())
 }
 
-/// One turn of each node, in which it broadcasts so many messages at most. Answers whether one of them had anything to
-/// do, so that another one may have soon.
+/// Makes one turn of each node, in which it broadcasts at most `most` messages. Returns whether one of them had
+/// anything to do, since there may soon be more to do then.
 fn turn<R, C>(common: &mut Common<R>, nodes: &mut [Node<C>], most: usize) -> Result<bool, RunError>
 where
     R: Machine,
@@ -79,12 +79,12 @@ where
     Ok(is_busy)
 }
 
-/// How many milliseconds pass before the next turn: those of a tick where there was nothing to do.
+/// How many milliseconds pass before the next turn: those of a tick if there was nothing to do.
 fn pause_after(is_busy: bool) -> u64 {
     if is_busy { TURN } else { TICK }
 }
 
-/// Has the writers of links end that nobody uses.
+/// Ends the writers of unused links.
 fn retire_idle<R: Wait, C: NodeCore<Global> + Drop>(rt: &R, nodes: &mut [Node<C>], now: u64) {
     let ticks = if written(nodes) > MANY_LINKS {
         SHORT_IDLE
@@ -96,7 +96,7 @@ fn retire_idle<R: Wait, C: NodeCore<Global> + Drop>(rt: &R, nodes: &mut [Node<C>
     }
 }
 
-/// Answers what the first of the nodes that had too little of something had too little of.
+/// Returns the error of the first node that has a shortage, if there is one.
 fn check<C: NodeCore<Global> + Drop>(nodes: &[Node<C>], is_last: bool) -> Result<(), RunError> {
     for node in nodes {
         node.check(is_last)?;
@@ -205,17 +205,17 @@ where
     close_all(&rt, alloc, nodes, spare, ended.err())
 }
 
-/// Runs a group of nodes over connections within this machine, each of which has a link to each other.
+/// Runs a group of nodes over connections on localhost. Each node has a link to every other.
 ///
-/// It listens on all ports, in the order of the members, and starts the nodes. Once a tenth of the ticks is over, and
-/// ten ticks at most, each node broadcasts its texts, in order: by then nodes that have a contact have joined. When the
+/// It listens on all ports, in the order of the members, and starts the nodes. After a tenth of the ticks, but ten
+/// ticks at most, each node broadcasts its texts, in order: by then nodes that have a contact have joined. When the
 /// ticks are over and all is broadcast, or the watch ends the run, all nodes are stopped and closed.
 ///
 /// `CannotListen` and `SamePort` come before any node starts, and so does `BadPeers`. `Short` may come at any time, and
-/// ends the run; the node is the first in order of those that had too little of something in that turn. Else the nodes
-/// run to the end, and the first node that refused a broadcast is answered, or else the first whose close is no success.
-/// The names of the members are to be distinct: else frames go to the first of a name. Where the clock can't be read the
-/// times of what is answered are 0.
+/// ends the run; its node is the first in order of those that had a shortage in that turn. Otherwise the nodes run to
+/// the end, and the error is that of the first node that refused a broadcast, or else of the first node whose close
+/// failed. The names of the members should be distinct: otherwise frames go to the first member of a name. If the clock
+/// can't be read, the times in the report are 0.
 pub fn run<R, V>(
     rt: R,
     alloc: Global,

@@ -12,12 +12,12 @@ use world::Delivery;
 pub(crate) struct Given {
     pub(crate) deliveries: Vec<Delivery>,
     pub(crate) times: Vec<Duration>,
-    /// Whether some were lost since an allocation was refused.
+    /// Whether some were lost because an allocation was refused.
     is_short: bool,
 }
 
 impl Given {
-    /// No deliveries.
+    /// Makes a list without deliveries.
     fn new(alloc: Global) -> Given {
         Given {
             deliveries: Vec::new(alloc),
@@ -26,7 +26,7 @@ impl Given {
         }
     }
 
-    /// Puts deliveries last that were handed out at this time.
+    /// Appends deliveries that were handed out at this time.
     fn put(&mut self, batch: &mut Vec<Delivery>, at: Duration) -> Result<(), AllocError> {
         for _ in 0..batch.len() {
             self.times.push(at)?;
@@ -52,7 +52,7 @@ impl Inbox {
         }
     }
 
-    /// Puts deliveries last.
+    /// Appends deliveries.
     fn put<R: Wait>(&self, rt: &R, mut batch: Vec<Delivery>, at: Duration) {
         let mut given = self.given.lock(rt);
         if given.put(&mut batch, at).is_err() {
@@ -79,7 +79,7 @@ impl Inbox {
 #[derive(Drop)]
 pub(crate) struct ToInbox<R: Wait + Clock + Drop> {
     pub(crate) rt: R,
-    /// When the run began, where the clock could be read.
+    /// When the run began, if the clock could be read.
     pub(crate) start: Option<Instant>,
     pub(crate) inbox: Arc<Inbox, Global>,
 }

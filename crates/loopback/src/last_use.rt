@@ -12,7 +12,7 @@ pub(crate) struct LastUse {
 }
 
 impl LastUse {
-    /// In this tick.
+    /// The link was last used in the current tick.
     pub(crate) fn new(ticking: Arc<Ticking, Global>) -> LastUse {
         LastUse {
             tick: AtomicU64::new(ticking.now()),
@@ -20,12 +20,12 @@ impl LastUse {
         }
     }
 
-    /// Notes that it is used in this tick.
+    /// Notes that the link is used in this tick.
     pub(crate) fn renew(&self) {
         self.tick.store(self.ticking.now(), Ordering::SeqCst);
     }
 
-    /// Whether it was used in none of so many ticks.
+    /// Whether the link was not used in the last `ticks` ticks.
     pub(crate) fn is_over(&self, ticks: u64) -> bool {
         let tick = self.tick.load(Ordering::SeqCst);
         tick.saturating_add(ticks) < self.ticking.now()

@@ -1,4 +1,4 @@
-//! Groups of nodes that run in this process and write to each other over TCP connections within this machine.
+//! Groups of nodes that run in this process and write to each other over TCP connections on localhost.
 #![tactic(auto)]
 
 mod acceptor;

@@ -18,12 +18,12 @@ use std::sync::{Arc, Wait};
 struct WrittenLink {
     peer: NodeName,
     used: Arc<LastUse, Global>,
-    /// The tick in which it began or was last looked at for being idle.
+    /// The tick in which it began or was last checked for being idle.
     looked_at: u64,
 }
 
 impl WrittenLink {
-    /// Whether it was neither used nor looked at in so many ticks.
+    /// Whether it was neither used nor checked in the last `ticks` ticks.
     fn is_due(&self, now: u64, ticks: u64) -> bool {
         self.used.is_over(ticks) && self.looked_at.saturating_add(ticks) < now
     }
@@ -45,7 +45,7 @@ pub(crate) struct LinkTable {
 }
 
 impl LinkTable {
-    /// The links of these outlets, of which none has a writer.
+    /// Makes the table of the links of these outlets, none of which has a writer.
     pub(crate) fn new(alloc: Global, outlets: Vec<Outlet>) -> LinkTable {
         LinkTable {
             unwritten: outlets,
@@ -63,8 +63,8 @@ impl LinkTable {
         Ok(())
     }
 
-    /// Starts a writer for each link that has none and has a frame, and answers whether there is one. The writers note
-    /// what they have too little of.
+    /// Starts a writer for each link that has a frame and no writer, and returns whether there is such a link. The
+    /// writers note their shortages.
     pub(crate) fn write_all<R, C>(
         &mut self,
         common: &Common<R>,
@@ -109,7 +109,7 @@ impl LinkTable {
         }
     }
 
-    /// The dialler of a link that is to be written.
+    /// Makes the dialler of a link that gets a writer.
     fn connect<R: Machine>(
         &mut self,
         common: &Common<R>,
@@ -141,8 +141,8 @@ impl LinkTable {
         self.written.len()
     }
 
-    /// Has the writers end of links that were used in none of so many ticks, to names that are not in the node's active
-    /// view. Since that takes the node's lock, each link is looked at once in as many ticks.
+    /// Ends the writers of links that were not used in the last `ticks` ticks and that go to names outside the node's
+    /// active view. Since looking at the view takes the node's lock, each link is checked only once in as many ticks.
     pub(crate) fn retire_idle<R: Wait, C: NodeCore<Global> + Drop>(
         &mut self,
         rt: &R,

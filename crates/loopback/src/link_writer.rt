@@ -15,11 +15,11 @@ use std::net::{Net, TcpListener, TcpStream};
 use std::sync::Arc;
 use std::time::Clock;
 
-/// How many bytes are gathered before they are sent: a link often has several frames at once, and a call of the system
-/// costs as much for one of them as for all.
+/// How many bytes are buffered before they are sent: a link often has several frames at once, and a system call costs
+/// as much for one of them as for all.
 const GATHERED: usize = 16 * 1_024;
 
-/// Writes to a link's connection, and notes when. What is written is sent when it is flushed, or when there is much of it.
+/// Writes to a link's connection, and notes when. Bytes are sent at a flush, or when the buffer is full.
 #[derive(Drop)]
 pub(crate) struct LinkWriter {
     connection: BufWriter<TcpWriter>,
@@ -70,7 +70,7 @@ impl MeteredWrite for LinkWriter {
     }
 }
 
-/// Connects to a port. Where there are too few descriptors it tries again for a while, and notes it then.
+/// Connects to a port. If there are too few descriptors, it tries again for a while, and then notes the shortage.
 fn dial_on<R: Clock + Net<Listener = TcpListener, Stream = TcpStream>>(
     rt: &R,
     port: u16,
@@ -95,7 +95,7 @@ fn dial_on<R: Clock + Net<Listener = TcpListener, Stream = TcpStream>>(
     None
 }
 
-/// The writer of a connection. `OutOfMemory` is its only error.
+/// Makes the buffered writer of a connection. Its only error is `OutOfMemory`.
 fn gather(
     alloc: Global,
     connection: TcpWriter,
@@ -109,7 +109,7 @@ fn gather(
     })
 }
 
-/// Makes the connections of a link, and notes what there was too little of where one can't be made.
+/// Makes the connections of a link. If one can't be made because of a shortage, it notes that.
 #[derive(Drop)]
 pub(crate) struct LinkDialler<R: Clock + Net<Listener = TcpListener, Stream = TcpStream> + Drop> {
     pub(crate) rt: R,

@@ -1,10 +1,10 @@
-//! What a group that runs needs of its machine.
+//! What a running group needs of its machine.
 use std::net::{Net, TcpListener, TcpStream};
 use std::sync::Wait;
 use std::thread::Threads;
 use std::time::Clock;
 
-/// A machine with threads, locks, a clock and TCP, as the host's runtime is. Whatever has these is one.
+/// A machine with threads, locks, a clock and TCP, like the host's runtime. Every type that has these is one.
 pub trait Machine: Threads
     + Wait
     + Clock

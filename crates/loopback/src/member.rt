@@ -14,14 +14,14 @@ pub struct Member {
     pub port: u16,
     /// Its first active view.
     pub peers: Vec<NodeName>,
-    /// Whom it asks to be taken into the group, if anybody.
+    /// The node that it asks to be taken into the group, if any.
     pub contact: Option<NodeName>,
     /// What it broadcasts, in order.
     pub texts: Vec<Bytes>,
 }
 
-/// Whether a node of this name may start with these peers and this contact: the peers fit its active view, and are
-/// distinct and others than itself, and so is the contact.
+/// Whether a node of this name may start with these peers and this contact: the peers fit its active view and are
+/// distinct nodes other than itself, and the contact is another node too.
 pub fn may_start(
     limits: &Limits,
     me: &NodeName,

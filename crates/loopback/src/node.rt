@@ -1,4 +1,4 @@
-//! A node of a group that runs.
+//! A node of a running group.
 use crate::acceptor::Acceptor;
 use crate::common::Common;
 use crate::error::RunError;
@@ -16,7 +16,7 @@ use std::alloc::Global;
 use std::net::TcpListener;
 use std::sync::{Arc, Wait};
 
-/// A node that runs, and all that belongs to it.
+/// A running node, and all that belongs to it.
 #[derive(Drop)]
 pub(crate) struct Node<C: NodeCore<Global> + Drop> {
     pub(crate) name: NodeName,
@@ -71,7 +71,7 @@ impl<C: NodeCore<Global> + Drop + Send + 'static> Node<C> {
         self.running.start_handing(to)
     }
 
-    /// Starts the worker that keeps the time, for so many ticks.
+    /// Starts the worker that keeps the time, for `ticks` ticks.
     fn start_ticking<R>(&mut self, common: &mut Common<R>, ticks: u32) -> Result<(), Shortage>
     where
         R: Machine,
@@ -81,8 +81,8 @@ impl<C: NodeCore<Global> + Drop + Send + 'static> Node<C> {
         self.running.start_ticking(common.rt, ticker, seed)
     }
 
-    /// One turn: threads that have ended are joined, it broadcasts so many messages at most, and its new connections and
-    /// links get threads. Answers whether there was anything to do but to join.
+    /// Makes one turn: threads that have ended are joined, the node broadcasts at most `most` messages, and its new
+    /// connections and links get threads. Returns whether there was anything to do besides joining.
     pub(crate) fn turn<R>(&mut self, common: &mut Common<R>, most: usize) -> Result<bool, RunError>
     where
         R: Machine,
@@ -93,7 +93,7 @@ impl<C: NodeCore<Global> + Drop + Send + 'static> Node<C> {
         Ok(is_busy || has_more)
     }
 
-    /// Does a turn, and answers whether a connection or a link got a thread.
+    /// Does a turn, and returns whether a connection or a link got a thread.
     fn do_turn<R>(&mut self, common: &mut Common<R>, most: usize) -> Result<bool, Shortage>
     where
         R: Machine,
@@ -110,7 +110,7 @@ impl<C: NodeCore<Global> + Drop + Send + 'static> Node<C> {
         Ok(are_read || are_written)
     }
 
-    /// Starts a reader of each connection that came since the last turn. Answers whether one came.
+    /// Starts a reader of each connection that came since the last turn. Returns whether one came.
     fn read_arrivals<R>(&mut self, common: &mut Common<R>) -> Result<bool, Shortage>
     where
         R: Machine,
@@ -126,7 +126,7 @@ impl<C: NodeCore<Global> + Drop + Send + 'static> Node<C> {
 }
 
 impl<C: NodeCore<Global> + Drop> Node<C> {
-    /// What a call answered, or the fault that it had too little of something.
+    /// The result of a call, with a shortage as the error of this node.
     fn judge<T: Drop>(&self, done: Result<T, Shortage>) -> Result<T, RunError> {
         match done {
             Ok(answer) => Ok(answer),
@@ -137,7 +137,7 @@ impl<C: NodeCore<Global> + Drop> Node<C> {
         }
     }
 
-    /// Answers what its threads had too little of, if they had, or at the end of the run still have.
+    /// Returns an error if its threads had a shortage, or, at the end of the run, still have one.
     pub(crate) fn check(&self, is_last: bool) -> Result<(), RunError> {
         if self.running.host.lacks_memory() {
             self.shortages.note(Shortage::Memory);
@@ -149,18 +149,18 @@ impl<C: NodeCore<Global> + Drop> Node<C> {
         }
     }
 
-    /// Whether it has nothing to broadcast any more.
+    /// Whether it has nothing more to broadcast.
     pub(crate) fn is_said(&self) -> bool {
         self.speech.is_over()
     }
 
-    /// Has the writers end of links that were used in none of so many ticks, to names that are not in the node's active
-    /// view.
+    /// Ends the writers of links that were not used in the last `ticks` ticks and that go to names outside the node's
+    /// active view.
     pub(crate) fn retire_idle<R: Wait>(&mut self, rt: &R, now: u64, ticks: u64) {
         self.links.retire_idle(rt, &self.running.host, now, ticks);
     }
 
-    /// Takes no more connections, and ends those that there are. The node is stopped before.
+    /// Takes no more connections, and ends the existing ones. The node must have been stopped before.
     pub(crate) fn close_connections<R: Wait>(&mut self, rt: &R) {
         self.acceptor.arrivals.close(rt);
         self.running.close_connections();

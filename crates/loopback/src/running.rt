@@ -33,7 +33,7 @@ pub(crate) struct Running<C: NodeCore<Global> + Drop> {
     pub(crate) closers: Vec<TcpCloser>,
 }
 
-/// Puts a worker that was started last. A host that was stopped needs none.
+/// Appends a worker that was started. A host that was stopped needs none.
 fn employ(workers: &mut Vec<Worker>, started: Result<Worker, HostError>) -> Result<(), Shortage> {
     match started {
         Ok(worker) => Ok(keep(workers, worker)?),
@@ -111,7 +111,7 @@ impl<C: NodeCore<Global> + Drop + Send + 'static> Running<C> {
 }
 
 impl<C: NodeCore<Global> + Drop> Running<C> {
-    /// Broadcasts a text, and answers under which id.
+    /// Broadcasts a text, and returns the id of its message.
     pub(crate) fn broadcast<R: Wait>(&mut self, rt: &R, text: Bytes) -> Result<MsgId, HostError> {
         match self.ports.first_mut() {
             Some(port) => port.broadcast(rt, text).map(|receipt| receipt.id),
@@ -119,8 +119,8 @@ impl<C: NodeCore<Global> + Drop> Running<C> {
         }
     }
 
-    /// Joins the workers that have ended, closes the connections that nobody reads any more, and puts the outlets of the
-    /// links that nobody writes any more last.
+    /// Joins the workers that have ended, closes the connections that are no longer read, and appends the outlets of
+    /// the links that are no longer written.
     pub(crate) fn join_ended<R: Threads>(
         &mut self,
         rt: &R,
@@ -133,8 +133,7 @@ impl<C: NodeCore<Global> + Drop> Running<C> {
         }
     }
 
-    /// Has outlets of links that nobody writes count among the workers, so that the close looks at what came out of
-    /// them.
+    /// Counts outlets of links that are not written among the workers, so that the close checks what came out of them.
     pub(crate) fn rest(&mut self, outlets: Vec<Outlet>) -> Result<(), AllocError> {
         self.workers.reserve(outlets.len())?;
         for outlet in outlets {
@@ -151,7 +150,7 @@ impl<C: NodeCore<Global> + Drop> Running<C> {
         self.closers.clear();
     }
 
-    /// Closes the node, which is stopped, and answers its history.
+    /// Closes the node, which is stopped, and returns its history.
     pub(crate) fn close<R: Threads + Wait>(
         self,
         rt: &R,

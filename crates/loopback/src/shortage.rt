@@ -3,10 +3,10 @@ use std::alloc::{AllocError, AllocFailed};
 use std::io;
 use thiserror::Error;
 
-/// The system's number for a process that has too many descriptors.
+/// The system's error number for too many open descriptors of a process.
 const PROCESS_IS_FULL: i32 = 24;
 
-/// The system's number for too many descriptors of all processes together.
+/// The system's error number for too many open descriptors of all processes together.
 const SYSTEM_IS_FULL: i32 = 23;
 
 /// What a node has too little of.
@@ -15,7 +15,7 @@ pub enum Shortage {
     /// A thread can't be made.
     #[error("no thread can be made")]
     Threads,
-    /// A connection can't be taken or made, or a port listened on, since that takes a descriptor.
+    /// A connection can't be taken or made, or a port can't be listened on, since that takes a descriptor.
     #[error("too few descriptors")]
     Descriptors,
     /// An allocation is refused.
@@ -36,7 +36,7 @@ impl<T: Drop> From<AllocFailed<T>> for Shortage {
 }
 
 impl Shortage {
-    /// What a call had too little of, if that is why it failed.
+    /// The shortage that made a call fail, if that is why it failed.
     pub(crate) fn of(error: &io::Error) -> Option<Shortage> {
         let number = error.raw_os_error().unwrap_or(0);
         if number == PROCESS_IS_FULL || number == SYSTEM_IS_FULL {

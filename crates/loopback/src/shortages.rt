@@ -1,17 +1,17 @@
-//! What the threads of a node had too little of.
+//! The shortages of a node's threads.
 use crate::shortage::Shortage;
 use std::sync::atomic::{AtomicBool, AtomicUsize, Ordering};
 use std::time::{Clock, Duration};
 use std::{io, thread};
 
-/// How often a call is made again that had too few descriptors, before that is noted: connections that nobody uses may
-/// be closed until then.
+/// How many times in a row a call may have too few descriptors before this is noted: unused connections may be closed
+/// until then.
 pub(crate) const PATIENCE: u32 = 100;
 
-/// How many milliseconds pass before a call is made again that failed.
+/// How many milliseconds pass before a failed call is made again.
 const PAUSE: u64 = 5;
 
-/// What the threads of a node had too little of, which they share with the one that runs the group.
+/// The shortages of a node's threads, which the threads share with the one that runs the group.
 #[derive(Drop)]
 pub(crate) struct Shortages {
     /// How many threads wait for descriptors.
@@ -21,7 +21,7 @@ pub(crate) struct Shortages {
 }
 
 impl Shortages {
-    /// Nothing yet.
+    /// Makes a record without shortages.
     pub(crate) fn new() -> Shortages {
         Shortages {
             waiting: AtomicUsize::new(0),
@@ -30,7 +30,7 @@ impl Shortages {
         }
     }
 
-    /// Notes what there was too little of. Threads are made by the one that runs the group alone, and are not noted.
+    /// Notes a shortage. One of threads is not noted: only the thread that runs the group makes threads.
     pub(crate) fn note(&self, shortage: Shortage) {
         match shortage {
             Shortage::Threads => {}
@@ -39,7 +39,7 @@ impl Shortages {
         }
     }
 
-    /// Answers what was noted, if anything was.
+    /// Returns the shortage that was noted, if any, as an error.
     pub(crate) fn check(&self) -> Result<(), Shortage> {
         if self.descriptors.load(Ordering::SeqCst) {
             return Err(Shortage::Descriptors);
@@ -50,7 +50,7 @@ impl Shortages {
         Ok(())
     }
 
-    /// Answers what was noted, if anything was, or is waited for.
+    /// Like `check`, but also returns an error while a thread waits for descriptors.
     pub(crate) fn check_last(&self) -> Result<(), Shortage> {
         self.check()?;
         if self.waiting.load(Ordering::SeqCst) > 0 {
@@ -60,21 +60,21 @@ impl Shortages {
     }
 }
 
-/// Waits a little, before a call is made again that failed.
+/// Waits a little before a failed call is made again.
 pub(crate) fn pause<R: Clock>(rt: &R) {
     thread::sleep(rt, Duration::from_millis(PAUSE));
 }
 
-/// The failures of one call that is made again and again.
+/// The failures of one call that is repeated.
 #[derive(Drop)]
 pub(crate) struct Failures<'a> {
     shortages: &'a Shortages,
-    /// How often in a row it had too few descriptors.
+    /// How many times in a row it had too few descriptors.
     count: u32,
 }
 
 impl<'a> Failures<'a> {
-    /// None yet.
+    /// Makes a record without failures.
     pub(crate) fn new(shortages: &'a Shortages) -> Failures<'a> {
         Failures {
             shortages,
@@ -82,7 +82,7 @@ impl<'a> Failures<'a> {
         }
     }
 
-    /// The call succeeded, or failed for another reason.
+    /// Notes that the call succeeded, or failed for another reason.
     pub(crate) fn end(&mut self) {
         if self.count > 0 {
             self.shortages.waiting.fetch_sub(1, Ordering::SeqCst);
@@ -90,8 +90,8 @@ impl<'a> Failures<'a> {
         self.count = 0;
     }
 
-    /// Notes what the call had too little of, if that is why it failed. Answers whether it had too few descriptors, and
-    /// not for long.
+    /// Notes the shortage that made the call fail, if that is why it failed. Returns whether it had too few
+    /// descriptors, but in fewer than `PATIENCE` calls in a row.
     pub(crate) fn add(&mut self, error: &io::Error) -> bool {
         match Shortage::of(error) {
             Some(Shortage::Descriptors) => self.count(),
@@ -107,7 +107,7 @@ impl<'a> Failures<'a> {
         }
     }
 
-    /// Counts a call that had too few descriptors. Answers whether it had them not for long.
+    /// Counts a call that had too few descriptors. Returns whether there were fewer than `PATIENCE` of these in a row.
     fn count(&mut self) -> bool {
         if self.count == 0 {
             self.shortages.waiting.fetch_add(1, Ordering::SeqCst);

@@ -11,13 +11,13 @@ use std::alloc::{AllocError, Global};
 use std::sync::Wait;
 use std::time::{Clock, Duration};
 
-/// How many texts a node broadcasts in one turn at most, so that the rings of its links do not overflow.
+/// The most texts that a node broadcasts in one turn, so that the rings of its links do not overflow.
 const TEXTS: usize = 64;
 
 /// When a message was broadcast.
 #[derive(Clone, Copy, Debug)]
 pub struct Stamp {
-    /// Which message.
+    /// The id of the message.
     pub id: MsgId,
     /// The time since the run began.
     pub at: Duration,
@@ -45,7 +45,7 @@ fn reverse(texts: &mut Vec<Bytes>, last_first: &mut Vec<Bytes>) -> Result<(), Al
 }
 
 impl Speech {
-    /// These texts, in order.
+    /// Makes the speech of a node that is to broadcast these texts, in order.
     pub(crate) fn new(alloc: Global, mut texts: Vec<Bytes>) -> Result<Speech, AllocError> {
         let mut left = Vec::new(alloc);
         reverse(&mut texts, &mut left)?;
@@ -56,12 +56,12 @@ impl Speech {
         })
     }
 
-    /// Whether there is nothing to broadcast any more.
+    /// Whether there is nothing more to broadcast.
     pub(crate) fn is_over(&self) -> bool {
         self.left.is_empty() || self.refused.is_some()
     }
 
-    /// Has the node broadcast the next texts, so many at most, until one is refused.
+    /// Has the node broadcast at most `most` of the next texts, until one is refused.
     pub(crate) fn go_on<R, C>(
         &mut self,
         common: &Common<R>,

@@ -39,7 +39,7 @@ fn owner_of(members: &[Member], port: u16) -> Option<NodeName> {
         .map(|member| member.me.name)
 }
 
-/// Listens on the port of a member, unless one before it has the port.
+/// Listens on the port of a member, unless an earlier member has the port.
 fn listen_for<R: Net<Listener = TcpListener, Stream = TcpStream>>(
     rt: &R,
     members: &[Member],
@@ -80,8 +80,8 @@ fn listen_at<R: Net<Listener = TcpListener, Stream = TcpStream>>(
     }
 }
 
-/// Listens on a port that is free, for the descriptor that this takes and which the stop of the nodes may need. Where
-/// it can't be had, the last of the members is short of it.
+/// Listens on a free port, to keep a descriptor that stopping the nodes may need. If there is no descriptor, the error
+/// names the last of the members.
 pub(crate) fn listen_spare<R: Net<Listener = TcpListener, Stream = TcpStream>>(
     rt: &R,
     members: &[Member],
@@ -92,7 +92,7 @@ pub(crate) fn listen_spare<R: Net<Listener = TcpListener, Stream = TcpStream>>(
     }
 }
 
-/// The names of a group but for one, in order.
+/// The names of a group except for one, in order.
 fn others(
     alloc: Global,
     addresses: &[Address],
@@ -141,7 +141,7 @@ fn start_host(
     }
 }
 
-/// The fault of a node that was refused an allocation.
+/// The error of a node that was refused an allocation.
 fn no_memory(node: NodeName) -> RunError {
     RunError::Short {
         node,
@@ -149,7 +149,7 @@ fn no_memory(node: NodeName) -> RunError {
     }
 }
 
-/// What a node has beside its host and links.
+/// What a node has besides its host and links.
 #[derive(Drop)]
 struct Surroundings {
     name: NodeName,
@@ -159,7 +159,7 @@ struct Surroundings {
     shortages: Arc<Shortages, Global>,
 }
 
-/// What the node of a member has beside its host and links.
+/// What the node of a member has besides its host and links.
 fn surround(alloc: Global, member: Member) -> Result<Surroundings, AllocError> {
     let shortages = Arc::new(alloc, Shortages::new())?;
     Ok(Surroundings {
@@ -171,7 +171,7 @@ fn surround(alloc: Global, member: Member) -> Result<Surroundings, AllocError> {
     })
 }
 
-/// A node of these parts.
+/// Makes a node of these parts.
 fn assemble(alloc: Global, started: Started, around: Surroundings) -> Node<PlumCore> {
     let (host, ports, outlets) = started;
     let Surroundings {
@@ -202,7 +202,7 @@ fn name_of(member: &Member) -> NodeName {
     member.me.name
 }
 
-/// A member as a node that has started and has no threads yet.
+/// Starts the node of a member, without threads yet.
 fn start_node(
     alloc: Global,
     limits: Limits,

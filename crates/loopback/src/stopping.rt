@@ -8,10 +8,10 @@ use std::thread;
 use std::thread::Threads;
 use std::time::{Clock, Duration};
 
-/// How many milliseconds pass before ports are dialled again that could not be dialled.
+/// How many milliseconds pass before ports that could not be dialled are dialled again.
 const PAUSE: u64 = 5;
 
-/// Stops the hosts of all nodes: they make no step any more.
+/// Stops the hosts of all nodes: they make no more steps.
 fn stop_hosts<R: Wait, C: NodeCore<Global> + Drop>(rt: &R, nodes: &[Node<C>]) {
     for node in nodes {
         node.running.host.stop(rt);
@@ -25,7 +25,7 @@ fn close_connections<R: Wait, C: NodeCore<Global> + Drop>(rt: &R, nodes: &mut [N
     }
 }
 
-/// Dials the ports of all nodes once. Whether all threads that take connections will end.
+/// Dials the ports of all nodes once. Returns whether all threads that take connections will end.
 fn knock<R, C>(rt: &R, nodes: &mut [Node<C>]) -> bool
 where
     R: Net<Listener = TcpListener, Stream = TcpStream>,
@@ -59,8 +59,8 @@ fn join_acceptors<R: Threads, C: NodeCore<Global> + Drop>(rt: &R, nodes: &mut [N
     }
 }
 
-/// Stops all nodes: they make no step any more, their connections end, and they take no others. To dial their ports
-/// takes a descriptor, and where there is no other left it is the one of the spare listener.
+/// Stops all nodes: they make no more steps, their connections end, and they take no others. Dialling their ports takes
+/// a descriptor. If no other is left, it is that of the spare listener.
 pub(crate) fn stop_all<R, C>(rt: &R, nodes: &mut [Node<C>], spare: Option<TcpListener>)
 where
     R: Threads + Wait + Clock + Net<Listener = TcpListener, Stream = TcpStream>,

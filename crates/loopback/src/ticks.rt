@@ -9,7 +9,7 @@ use std::time::{Clock, Duration};
 /// How long a tick takes, in milliseconds.
 pub(crate) const TICK: u64 = 20;
 
-/// How far the ticks are, and how many nodes have ticks left.
+/// How many ticks have passed, and how many nodes have ticks left.
 #[derive(Drop)]
 pub(crate) struct Ticking {
     nodes: AtomicUsize,
@@ -17,7 +17,7 @@ pub(crate) struct Ticking {
 }
 
 impl Ticking {
-    /// No node has.
+    /// No ticks have passed yet, and no node has ticks left.
     pub(crate) fn new() -> Ticking {
         Ticking {
             nodes: AtomicUsize::new(0),
@@ -30,12 +30,12 @@ impl Ticking {
         self.nodes.load(Ordering::SeqCst) == 0
     }
 
-    /// How many ticks are over, at the node that is about the furthest.
+    /// How many ticks have passed at about the furthest node.
     pub(crate) fn now(&self) -> u64 {
         self.ticks.load(Ordering::SeqCst)
     }
 
-    /// Notes that so many ticks are over at a node.
+    /// Notes that `ticks` ticks have passed at a node.
     fn advance(&self, ticks: u64) {
         if self.now() < ticks {
             self.ticks.store(ticks, Ordering::SeqCst);
@@ -43,7 +43,7 @@ impl Ticking {
     }
 }
 
-/// The ticks of one node. It counts among those that have ticks left until it is dropped.
+/// The ticks of one node. The node counts among those that have ticks left until this is dropped.
 pub(crate) struct Ticks<R: Clock + Drop> {
     rt: R,
     made: u64,
@@ -64,7 +64,7 @@ impl<R: Clock + Drop> Drop for Ticks<R> {
 }
 
 impl<R: Clock + Drop> Ticks<R> {
-    /// So many ticks.
+    /// Makes the ticks of a node that has `left` ticks left.
     pub(crate) fn new(rt: R, left: u32, ticking: Arc<Ticking, Global>) -> Ticks<R> {
         ticking.nodes.fetch_add(1, Ordering::SeqCst);
         Ticks {

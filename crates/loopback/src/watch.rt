@@ -1,18 +1,18 @@
-//! Who is told how far a run is, and says how it goes on.
+//! What watches a run and says how it goes on.
 
-/// What is told, at most 200 times a second, how far a run is, and says how it goes on.
+/// Watches how far a run is, at most 200 times a second, and says how it goes on.
 pub trait Watch {
-    /// So many ticks of so many are over, and so many messages were delivered by all nodes together.
+    /// `ticks` of `of` ticks have passed, and all nodes together have delivered `deliveries` messages.
     fn look(&mut self, ticks: u64, of: u32, deliveries: usize);
 
-    /// How many messages each node may broadcast in the next turn, where these are fewer than it does in a turn anyway.
-    /// `None`: the run is to end at once. It is asked before each turn in which nodes broadcast.
+    /// The most messages that each node may broadcast in the next turn, if these are fewer than it broadcasts in a turn
+    /// anyway. `None`: the run is to end at once. This is called before each turn in which nodes broadcast.
     fn allow(&mut self) -> Option<usize> {
         Some(usize::MAX)
     }
 }
 
-/// Nobody is told.
+/// A watch that ignores how far a run is and never limits it.
 #[derive(Clone, Copy, Debug, Drop)]
 pub struct Unwatched;
 

@@ -1,4 +1,4 @@
-//! Traces that are read off groups and merged again, as tests, and sweeps in which each allocation is refused in turn.
+//! Tests of traces that are read off groups and merged again, also with each allocation refused in turn.
 #![tactic(auto)]
 
 #[cfg(test)]

@@ -107,7 +107,7 @@ packets_fit peer (suc fuel) (entry ∷ entries) enough h =
     counted : has_good_counts (body.IHave (take MAX_ANNOUNCEMENTS (entry ∷ entries))) ≡ true
     counted = both (nat_lt 0 (length (take MAX_ANNOUNCEMENTS (entry ∷ entries)))) (nat_le (length (take MAX_ANNOUNCEMENTS (entry ∷ entries))) MAX_ANNOUNCEMENTS) (test_lt 0 _ (omega (arith, length-take MAX_ANNOUNCEMENTS (entry ∷ entries)))) (test_le _ MAX_ANNOUNCEMENTS (omega (arith, length-take MAX_ANNOUNCEMENTS (entry ∷ entries))))
 
--- what waits for a peer is numbered, where all that waits is
+-- what is queued for a peer is numbered, if all that is queued is
 waiting_numbered : (peer : Name) (queued : List (Name × MsgId × ℕ)) → Each (λ entry. 0 < entry.1.seq) queued → Each (λ entry. 0 < entry.0.seq) (waiting_for peer queued)
 waiting_numbered peer queued h = each_one _ (waiting_for peer queued) (λ entry is. go entry (one_of_map (λ (e : Name × MsgId × ℕ). (e.1, e.2)) entry (filter (λ e. same_name peer e.0) queued) is))
   where
@@ -126,7 +126,7 @@ announcements_fit queued h = go (receivers queued)
 
 -- ---- the calls
 
--- What the call brings fits.
+-- What the call passes in fits.
 abbrev CallFits : Call → Type 0
 CallFits (call.Broadcast payload) = length payload ≤ MAX_PAYLOAD
 CallFits (call.OnGossip sender id round payload) = IsFit (body.Gossip id round payload)
@@ -199,7 +199,7 @@ module _ (g : GossipState) (fits : FitsFrames g) where
       go rest false (inl same) = inl same
       go rest false (inr later) = inr (rest later)
 
-  -- who is asked first asks for a numbered message
+  -- the id of the first entry that is asked for is numbered from 1
   first_numbered : (id : MsgId) (wants : List (MsgId × Name × ℕ)) (first : Name × ℕ) → first_want id wants ≡ Some first → Each (λ entry. 0 < entry.0.seq) wants → 0 < id.seq
   first_numbered id [] first none h = absurd (false≢true (ap is_some none))
   first_numbered id (entry ∷ wants) first found h = go (λ later. first_numbered id wants first later h.1) (same_id id entry.0) refl found

@@ -65,7 +65,7 @@ refused_for contact framed fits effects is_effects SeqSpent no_payload spent =
     inr (refl, needed.0, needed.1)
 refused_for contact framed fits effects is_effects OutOfMemory no_payload spent = inl refl
 
--- where no number is spent, one is left
+-- if no number is spent, one is left
 pub only_memory : {T : Type 0} (result : Result T CoreError) (contact : Option Name) → IfErr result (IsRefusal contact 0) → IfErr result (λ e. e ≡ OutOfMemory)
 only_memory (Ok x) contact refused = tt
 only_memory (Err e) contact (inl memory) = memory

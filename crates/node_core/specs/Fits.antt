@@ -1,4 +1,4 @@
--- What a core holds and hears fits frames, so that what it sends does.
+-- What a core holds and receives fits frames, and therefore so does what it sends.
 use Rattle.std.specs.Prelude.{◌≡◌, ◌<◌, ◌≤◌, true, List, length}
 use Rattle.std.specs.List.{AllByRecursion as Each}
 use Rattle.node_names.specs.NodeName.{Name}
@@ -9,18 +9,17 @@ use Rattle.frames.specs.Body.{Body}
 use Rattle.frames.specs.Frame.{Frame, has_good_fields, has_good_counts}
 use Rattle.gossip_core.specs.State.{GossipState}
 
--- The numbers of the messages that are held, wait or are wanted count from 1, and what is held is no longer than
--- payloads may be.
+-- The messages that are held, queued or wanted are numbered from 1, and no held payload is longer than payloads may be.
 pub record FitsFrames (g : GossipState) : Type 0 where
   pub held : Each (λ message. (0 < message.0.seq) × (length message.1 ≤ MAX_PAYLOAD)) g.held
   pub queued : Each (λ entry. 0 < entry.1.seq) g.peers.queued
   pub wants : Each (λ entry. 0 < entry.0.seq) g.missing.wants
 
--- The body may stand in a frame.
+-- The body fits a frame.
 abbrev pub IsFit : Body → Type 0
 IsFit body = (has_good_fields body ≡ true) × (has_good_counts body ≡ true)
 
--- All these may.
+-- All these bodies fit frames.
 abbrev pub AreFit : List (Name × Body) → Type 0
 AreFit sends = Each (λ send. IsFit send.1) sends
 

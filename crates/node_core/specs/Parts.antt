@@ -1,4 +1,4 @@
--- Whose a stimulus is: the membership's, the gossip's or nobody's.
+-- Which part of a node handles a stimulus: the membership, the gossip or neither.
 use denote.Ref.{Bor}
 use Rattle.std.specs.Prelude.{◌≡◌, ◌+◌, ℕ, List, Option, None, Some, length, if◌then◌else◌}
 use Rattle.std.specs.declared.boxed.Box.{Box}
@@ -27,17 +27,17 @@ use Rattle.node_core.specs.Steps.{IsAllowed, Turned, by_gossip, by_membership, i
 use Rattle.node_core.specs.declared.dispatch.PartOf.{PartOf}
 use Rattle.node_core.specs.declared.dispatch.PartOf.TheVariants.{Membership, Gossip, Nobody}
 
--- what a stimulus is to the two parts
+-- the part that handles a stimulus, with the event or the call that the stimulus is to it
 abbrev pub Part : Type 0
 Part = PartOf Event Call Dice
 
--- the part that is lent
+-- the part whose lists and payloads are borrowed, as a part that owns them
 abbrev pub lent : PartOf (EventOf (Bor (List Name))) (CallOf (Bor (List ℕ)) (Bor (List (MsgId × ℕ)))) (Bor Dice) → Part
 lent (Membership event dice) = Membership (lent_event event) dice.now
 lent (Gossip called) = Gossip (lent_call called)
 lent Nobody = Nobody
 
--- what a packet with this body is
+-- the part that handles a packet with this body
 abbrev pub part_heard : Name → Body → Dice → Part
 part_heard sender body.Join dice = Membership (on.Join sender) dice
 part_heard sender (body.ForwardJoin new ttl) dice = Membership (on.ForwardJoin sender new ttl) dice
@@ -52,7 +52,7 @@ part_heard sender (body.Graft id round) dice = Gossip (call.OnGraft sender id ro
 part_heard sender body.Prune dice = Gossip (call.OnPrune sender)
 part_heard sender body.GraftPeer dice = Gossip (call.OnGraftPeer sender)
 
--- what each stimulus is; what comes from a sender of the node's own name is nobody's
+-- the part that handles each stimulus; no part handles a packet whose sender has the node's own name
 abbrev pub part_of : Origin → Stimulus Frame → Part
 part_of me (Broadcast payload) = Gossip (call.Broadcast payload)
 part_of me (Arrive sender frame dice) = if same_name sender.name me.name then Nobody else part_heard sender.name frame.body dice
@@ -67,7 +67,7 @@ pub record ViewChange : Type 0 where
   pub downs : List Name
   pub ups : List Name
 
--- what stands in a box, if there is one
+-- the contents of the box, if there is one
 abbrev pub unboxed : {A : Type 0} → Option (Box ViewChange A) → Option ViewChange
 unboxed None = None
 unboxed (Some boxed) = Some boxed.value
@@ -76,8 +76,8 @@ unboxed (Some boxed) = Some boxed.value
 abbrev pub moved_by : MemberTurn → ViewChange
 moved_by done = record { membership = ended done; downs = done.downs; ups = done.ups }
 
--- What is kept between the halves of a step: what the membership's event moved, if it is one, and the last frame
--- number.
+-- What is kept between the halves of a step: what the event of the membership changed, if the step is one, and the
+-- last frame number.
 pub record PreparedStep : Type 0 where
   pub moved : Option ViewChange
   pub framed : ℕ
@@ -88,7 +88,7 @@ by_part m g (Membership event dice) = by_membership m g event dice
 by_part m g (Gossip called) = by_gossip m g called
 by_part m g Nobody = idle m g
 
--- What was moved is what the part takes to go on.
+-- If the part is an event, the view change is the one that it makes; if the part is a call, the gossip can take it.
 abbrev pub Takes : Member → GossipState → Part → Option ViewChange → Type 0
 Takes m g (Membership event dice) moved = moved ≡ Some (moved_by (table event dice (still m)))
 Takes m g (Gossip called) moved = CanTake g called
@@ -100,13 +100,13 @@ IsTooLongPart (Membership event dice) = ⊥
 IsTooLongPart (Gossip called) = IsTooLong called
 IsTooLongPart Nobody = ⊥
 
--- The part broadcasts where the numbers of the messages are used up.
+-- The part broadcasts although the numbers of the messages are used up.
 abbrev pub IsSpentPart : GossipState → Part → Type 0
 IsSpentPart g (Membership event dice) = ⊥
 IsSpentPart g (Gossip called) = IsSpent g called
 IsSpentPart g Nobody = ⊥
 
--- The turn is what the core keeps of the stimulus, which it does not refuse.
+-- The turn is what the core keeps between the halves of the step for a stimulus that it does not refuse.
 pub record IsTurn (core : Plum) (stimulus : Stimulus Frame) (turn : PreparedStep) : Type 0 where
   pub allowed : IsAllowed stimulus
   pub takes : Takes core.membership core.gossip (part_of core.me stimulus) turn.moved

@@ -1,4 +1,4 @@
--- What a node's core is seen as: its membership and its gossip, joined.
+-- The state of a node's core, as contracts see it: its membership and its gossip, joined.
 use Rattle.std.specs.Prelude.{◌≡◌, ◌≢◌, ℕ, true, false, List, [], ◌∷◌, None, is_some}
 use Rattle.std.specs.FinSet as set
 use Rattle.std.specs.List.{AllByRecursion as Each}
@@ -17,14 +17,14 @@ use Rattle.peer_sets.specs.PeerSets.{IsSound as ArePeerSetsSound}
 use Rattle.missing.specs.Missing.{IsSound as IsMissingSound}
 use Rattle.gossip_core.specs.State.{GossipState, IsSound as IsGossipSound}
 
--- Who the core is, its membership, its gossip, and how many frame numbers it has spent.
+-- The node and its run, its membership, its gossip, and how many frame numbers it has spent.
 pub record Plum : Type 0 where
   pub me : Origin
   pub membership : Membership
   pub gossip : GossipState
   pub framed : ℕ
 
--- what the gossip shows, beside views that it does not know
+-- the core state that consists of the given views and of what the gossip shows
 abbrev pub state_with : List Name → List Name → GossipState → CoreState
 state_with active passive g =
     record {
@@ -54,9 +54,9 @@ abbrev pub HeldOnce : List (MsgId × List ℕ) → Type 0
 HeldOnce [] = Unit {0}
 HeldOnce (message ∷ held) = (lookup (same_id message.0) held ≡ None) × HeldOnce held
 
--- What always holds of a gossip: its sets, its announcements and its store are sound; it holds what it knows, where it
--- is to keep all, and each message once; what waits to be announced is known, and what was announced to it is lacked,
--- of another run, and was announced by members.
+-- What always holds of a gossip: its sets, its announcements and its store are sound; it holds each message once, and
+-- all that it knows if `keep` is 0; the messages in its queue are known; the messages that it wants are lacked, of
+-- another run, and announced by members.
 pub record IsWhole (g : GossipState) : Type 0 where
   pub peers : ArePeerSetsSound g.peers
   pub missing : IsMissingSound g.missing
@@ -68,9 +68,9 @@ pub record IsWhole (g : GossipState) : Type 0 where
   pub wants_lacked : Each (λ entry. IsLacked g.known g.me entry.0) g.missing.wants
   pub timers_lacked : Each (λ id. IsLacked g.known g.me id) g.missing.timers
 
--- What always holds of a core: its views are sound, and within these limits, and its gossip keeps as many messages as
--- these say; it is the owner of its views; its gossip is whole and its own, and the members of the gossip are the
--- active names, in their order.
+-- What always holds of a core: its views are sound and have these limits, and its gossip keeps as many messages as the
+-- limits say; it is the owner of its views; its gossip is whole and belongs to the same run; and the members of the
+-- gossip are the names of the active view, in the same order.
 pub record IsSoundPlum (limits : Limits) (core : Plum) : Type 0 where
   pub views : AreSound core.membership.views
   pub its_limits : core.membership.views.limits ≡ limits

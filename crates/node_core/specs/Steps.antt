@@ -1,5 +1,5 @@
--- How a node's core starts and steps: a packet or a tick of the membership moves the views, and the gossip hears which
--- links went down and came up; everything else is the gossip's.
+-- How a node's core starts and steps: a packet or a tick of the membership changes the views, and the gossip is told
+-- which links went down and came up; the gossip handles everything else.
 use Rattle.std.specs.Prelude.{◌≡◌, ◌+◌, ◌-◌, ◌^◌, ◌<◌, ◌≤◌, ◌⊎◌, ℕ, List, [], ◌∷◌, Option, None, Some, length, if◌then◌else◌}
 use Rattle.std.specs.FinSet as set
 use Rattle.node_names.specs.NodeName.{Name}
@@ -38,17 +38,17 @@ pub record Turned : Type 0 where
 abbrev pub idle : Membership → GossipState → Turned
 idle m g = record { membership = m; gossip = g; sends = []; delivered = None }
 
--- the gossip takes the call
+-- the gossip handles the call
 abbrev pub by_gossip : Membership → GossipState → Call → Turned
 by_gossip m g c =
     let done = outcome g c in
     record { membership = m; gossip = done.state; sends = done.sends; delivered = done.delivered }
 
--- the gossip hears which links the turn closed, and then which it opened
+-- the gossip is told which links the turn closed, and then which it opened
 abbrev pub moved : GossipState → Turn → Turned
 moved g turn = record { membership = ended turn; gossip = after_ups turn.ups (after_downs turn.downs g); sends = turn.sends; delivered = None }
 
--- the membership takes the event
+-- the membership handles the event
 abbrev pub by_membership : Membership → GossipState → Event → Dice → Turned
 by_membership m g event dice = moved g (table event dice (still m))
 
@@ -67,7 +67,7 @@ heard m g sender (body.Graft id round) dice = by_gossip m g (call.OnGraft sender
 heard m g sender body.Prune dice = by_gossip m g (call.OnPrune sender)
 heard m g sender body.GraftPeer dice = by_gossip m g (call.OnGraftPeer sender)
 
--- What each stimulus does. What comes from a sender of the node's own name does nothing.
+-- What each stimulus does. A packet whose sender has the node's own name does nothing.
 abbrev pub turned : Origin → Membership → GossipState → Stimulus Frame → Turned
 turned me m g (Broadcast payload) = by_gossip m g (call.Broadcast payload)
 turned me m g (Arrive sender frame dice) = if same_name sender.name me.name then idle m g else heard m g sender.name frame.body dice
@@ -86,11 +86,11 @@ abbrev pub delivered_at : Origin → Option (MsgId × List ℕ) → List Deliver
 delivered_at me None = []
 delivered_at me (Some message) = record { node = me; id = message.0; payload = message.1 } ∷ []
 
--- the core that goes on
+-- the core after the step
 abbrev pub gone_on : Plum → Turned → Plum
 gone_on core t = record { me = core.me; membership = t.membership; gossip = t.gossip; framed = core.framed + length t.sends }
 
--- A payload that is broadcast is no longer than payloads may be.
+-- If the stimulus is a broadcast, its payload is no longer than payloads may be.
 abbrev pub IsAllowed : Stimulus Frame → Type 0
 IsAllowed (Broadcast payload) = length payload ≤ MAX_PAYLOAD
 IsAllowed (Arrive sender frame dice) = Unit {0}
@@ -111,7 +111,7 @@ abbrev pub opening : Option Name → List (Name × Body)
 opening None = []
 opening (Some contact) = (contact, body.Join) ∷ []
 
--- a core that has these peers and nothing else, and has spent so many numbers of messages and of frames
+-- a core that has these peers and nothing else, and has spent `spent` message numbers and `framed` frame numbers
 abbrev pub newcomer : Origin → Limits → List Name → ℕ → ℕ → Plum
 newcomer me limits peers spent framed =
     record {
@@ -127,15 +127,15 @@ pub record PlumStartsCounted (spent framed : ℕ) (me : Origin) (limits : Limits
   pub leaves : core ≡ newcomer me limits peers spent (framed + length (opening contact))
   pub sent : sends ≡ numbered me framed (opening contact)
 
--- and with no number spent
+-- the same with no number spent
 abbrev pub PlumStarts : Origin → Limits → List Name → Option Name → List (Name × Frame) → Plum → Type 0
 PlumStarts = PlumStartsCounted 0 0
 
--- The numbers are used up: those of the messages at a broadcast, or those of the frames, of which the step needs more
--- than are left.
+-- The numbers are used up: no message number is left for a broadcast, or fewer frame numbers are left than the step
+-- needs.
 abbrev pub PlumIsSpent : Plum → Stimulus Frame → Type 0
 PlumIsSpent core stimulus = IsOutOfNumbers (plum_state core) stimulus ⊎ (2 ^ 64 - 1 < core.framed + length (turned core.me core.membership core.gossip stimulus).sends)
 
--- the core that goes on after the stimulus
+-- the core after the stimulus
 abbrev pub plum_after : Plum → Stimulus Frame → Plum
 plum_after core stimulus = gone_on core (turned core.me core.membership core.gossip stimulus)

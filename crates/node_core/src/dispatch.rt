@@ -1,4 +1,4 @@
-//! Whose a stimulus is: the membership's, the gossip's or nobody's.
+//! Which part of a node handles a stimulus: the membership, the gossip or neither.
 ghost use Rattle.std.specs.Prelude.{◌≡◌};
 ghost use Rattle.world.specs.Stimulus.{lent as told};
 ghost use Rattle.node_core.specs.Parts.{lent, part_heard, part_of};
@@ -10,21 +10,22 @@ use node_names::{Dice, NodeName, Origin};
 use std::alloc::Allocator;
 use world::{StimulusOf, StimulusRef};
 
-/// What a stimulus is to a node's two parts. `E` is an event of the membership, `C` a call of the gossip.
+/// The part of a node that handles a stimulus. `E` is an event of the membership, `C` a call of the gossip, and `D` the
+/// dice.
 #[derive(Drop)]
 pub(crate) enum PartOf<E, C, D> {
-    /// The membership takes it, with these dice.
+    /// The membership handles the event, with these dice.
     Membership { event: E, dice: D },
-    /// The gossip takes it.
+    /// The gossip handles the call.
     Gossip { call: C },
     /// Nothing happens.
     Nobody,
 }
 
-/// What a stimulus is, its lists and payloads lent.
+/// The part that handles a stimulus, with its lists and payloads borrowed.
 pub(crate) type Part<'a, A> = PartOf<Event<'a>, Call<'a, A>, &'a Dice>;
 
-/// What a packet from the sender is.
+/// Maps a packet from the sender to the part that handles it.
 fn part_heard<'a, A: Allocator>(sender: NodeName, body: &'a Body<A>, dice: &'a Dice) -> Part<'a, A>
     ensures { lent result ≡ part_heard sender body.now dice.now }
 {
@@ -95,7 +96,7 @@ fn part_heard<'a, A: Allocator>(sender: NodeName, body: &'a Body<A>, dice: &'a D
     PartOf::Membership { event, dice }
 }
 
-/// What a stimulus is to the node of this origin.
+/// Maps a stimulus to the part of the node `me` that handles it.
 pub(crate) fn part_of<'a, A: Allocator>(
     me: &Origin,
     stimulus: &'a StimulusRef<'a, Frame<A>, A>,

@@ -1,4 +1,4 @@
-//! What holds of every start and step of the core. Nothing runs here: a caller calls these for what they ensure.
+//! What holds of every start and step of the core. Nothing runs here: callers call these functions for their `ensures`.
 ghost use Rattle.world.specs.Laws.{Laws};
 ghost use Rattle.world.specs.Stimulus.{Stimulus};
 ghost use Rattle.frames.specs.Content.{frame_content};
@@ -14,7 +14,7 @@ pub fn core_is_lawful()
     ensures { Laws plum_state frame_content IsSoundPlum PlumStarts PlumSteps }
 {}
 
-/// What a stimulus leaves and sends fits frames, where what the core holds and what comes to it does.
+/// If what the core holds and the stimulus fit frames, then so do what the core holds afterwards and what it sends.
 pub fn packets_fit_frames()
     ensures { (core : Plum) (stimulus : Stimulus Frame) → FitsFrames core.gossip → AreSound core.membership.views → ComesFit stimulus
         → FitsFrames (turned core.me core.membership core.gossip stimulus).gossip × AreFit (turned core.me core.membership core.gossip stimulus).sends }

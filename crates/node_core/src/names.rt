@@ -5,7 +5,7 @@ ghost use Rattle.world.specs.Run.{SameNames};
 use node_names::NameSet;
 use std::alloc::Allocator;
 
-/// Whether two sets have the same names.
+/// Whether two sets contain the same names.
 pub(crate) fn are_same<A: Allocator>(names: &NameSet<A>, others: &NameSet<A>) -> bool
     ensures { IsTrue result ↔ SameNames names.now.keys others.now.keys }
 {

@@ -1,4 +1,4 @@
-//! Bodies become numbered frames.
+//! Turns bodies into numbered frames.
 ghost use Rattle.std.specs.Prelude.{◌≡◌, ◌+◌, ◌≤◌, ◌<◌, [], ◌∷◌, ◌++◌, OnOk, OnErr, length, take};
 ghost use Rattle.node_core.specs.Fits.{AreFit, IsFit};
 ghost use Rattle.node_core.specs.Steps.{numbered};
@@ -7,7 +7,7 @@ use frames::{Body, Frame};
 use node_names::{Listed, NodeName, Origin};
 use std::alloc::{AllocError, Allocator};
 
-/// Puts the frame of this number last.
+/// Appends the body as a frame with this number.
 fn push_frame<A: Allocator + Copy>(
     frames: &mut Listed<(NodeName, Frame<A>), A>,
     me: &Origin,
@@ -26,9 +26,9 @@ fn push_frame<A: Allocator + Copy>(
     frames.push((to, frame))
 }
 
-/// Puts the bodies last as frames of this origin, numbered in their order from the number after `framed` on. There are
-/// numbers for all of them, and each fits a frame. Where an allocation is refused, the frames before stay, and some may
-/// follow.
+/// Appends the bodies as frames of this origin, numbered in their order from `framed` + 1 on. There must be numbers
+/// for all of them, and each must fit a frame. If an allocation fails, the earlier frames stay, and some of the new
+/// ones may follow them.
 pub(crate) fn number_all<A: Allocator + Copy>(
     me: &Origin,
     framed: u64,

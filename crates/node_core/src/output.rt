@@ -11,7 +11,7 @@ use node_names::{Listed, MsgId, NodeName, Origin};
 use std::alloc::{AllocError, Allocator};
 use world::{CoreError, Delivery, Out};
 
-/// Puts the delivery last, if there is one.
+/// Appends the delivery, if there is one.
 fn deliver<A: Allocator + Copy>(
     me: &Origin,
     delivered: Option<(MsgId, Bytes<A>)>,
@@ -30,7 +30,7 @@ fn deliver<A: Allocator + Copy>(
     Ok(())
 }
 
-/// Puts the packets, numbered, and the delivery last.
+/// Appends the packets, numbered, and the delivery.
 fn append<A: Allocator + Copy>(
     me: &Origin,
     framed: u64,
@@ -55,8 +55,8 @@ fn append<A: Allocator + Copy>(
     Ok(())
 }
 
-/// Appends the packets, numbered from the number after `framed` on, and the delivery, and returns the last number. Each
-/// packet fits a frame. `SeqSpent`: the packets are more than the numbers that are left.
+/// Appends the packets, numbered from `framed` + 1 on, and the delivery, and returns the last number. Each packet must
+/// fit a frame. `SeqSpent`: there are more packets than numbers left.
 pub(crate) fn append_numbered<A: Allocator + Copy>(
     me: &Origin,
     framed: u64,

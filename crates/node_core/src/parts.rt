@@ -1,4 +1,4 @@
-//! What a stimulus does to a node's two parts: worked out first, and then made.
+//! What a stimulus does to a node's two parts: first it is worked out, and then it is carried out.
 ghost use Rattle.std.specs.Prelude.{◌≡◌, ◌↔◌, false, None, Some, IfOk, OnOk, OnErr, IsErrOf};
 ghost use Rattle.gossip_core.specs.Refusals.{CanTake, IsSpent, IsTooLong};
 ghost use Rattle.gossip_core.specs.Table.{lent as lent_call, outcome};
@@ -21,15 +21,15 @@ use world::CoreError;
 /// What a part of the node will do.
 #[derive(Drop)]
 pub(crate) struct Worked<A: Allocator> {
-    /// What its membership will be, where that takes the stimulus.
+    /// The next membership and its link changes, if the membership handles the stimulus.
     pub(crate) moved: Option<BoxedViewChange<A>>,
-    /// Whether the active view will be another set.
+    /// Whether the active view will be a different set.
     pub(crate) is_moved: bool,
     /// What it sends and delivers.
     pub(crate) effects: Effects<A>,
 }
 
-/// What was moved, in a box.
+/// Boxes a view change.
 fn boxed<A: Allocator>(alloc: A, moved: ViewChange<A>) -> Result<BoxedViewChange<A>, AllocError>
     ensures { IfOk result (λ boxed. boxed.value ≡ moved) }
 {
@@ -112,7 +112,7 @@ pub(crate) fn work_out<A: Allocator + Copy>(
     }
 }
 
-/// Does what was worked out: all of it, or nothing where an allocation is refused. The gossip hears which links went
+/// Carries out what was worked out: all of it, or nothing if an allocation fails. The gossip is told which links went
 /// down and then which came up.
 pub(crate) fn go_on<A: Allocator + Copy>(
     membership: &mut Membership<A>,

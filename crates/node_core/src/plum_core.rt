@@ -28,8 +28,8 @@ use world::{Core, CoreError, Out, Prepared, StimulusOf, StimulusRef};
 
 /// One run of one node.
 ///
-/// A step costs what it sends and changes: an event of the membership copies its views, of at most 80 names, and a call
-/// of the gossip finds ids by hashes. Only `copy` costs as much as the node holds.
+/// The cost of a step depends on what it sends and changes: an event of the membership copies its views, of at most 80
+/// names, and a call of the gossip finds ids by hash. Only the cost of `copy` depends on how much the node holds.
 #[derive(Drop)]
 pub struct PlumCore<A: Allocator = Global> {
     me: Origin,
@@ -56,7 +56,7 @@ impl<A: Allocator> Model for PlumCore<A> {
     ghost invariant = { λ core. FitsFrames core.gossip };
 }
 
-/// JOIN to the contact, if there is one.
+/// Makes the JOIN to the contact, if there is one.
 fn greet<A: Allocator + Copy>(
     alloc: A,
     membership: &mut Membership<A>,
@@ -78,8 +78,8 @@ fn greet<A: Allocator + Copy>(
 }
 
 impl<A: Allocator + Copy> PlumCore<A> {
-    /// A node that has spent so many numbers of messages and of frames. `SeqSpent`: it has a contact, and no frame
-    /// number is left for the JOIN.
+    /// Starts a node that has already used the message numbers up to `seq_spent` and the frame numbers up to
+    /// `frames_spent`. `SeqSpent`: it has a contact, and no frame number is left for the JOIN.
     pub fn start_counted(
         alloc: A,
         me: Origin,
@@ -138,7 +138,7 @@ impl<A: Allocator + Copy> PlumCore<A> {
     }
 }
 
-/// What may be taken fits frames: a packet that came is one.
+/// Ensures that an allowed stimulus fits frames: a packet that arrived is itself a frame.
 fn heed<A: Allocator + Copy>(stimulus: &StimulusRef<'_, Frame<A>, A>)
     ensures { IsAllowed (lent stimulus.now) → ComesFit (lent stimulus.now) }
 {
@@ -266,7 +266,7 @@ impl<A: Allocator + Copy> Core<A> for PlumCore<A> {
 }
 
 impl<A: Allocator> PlumCore<A> {
-    /// The peers of its gossip: the eager ones, the lazy ones, and what waits to be announced to them.
+    /// The peers of the node's gossip: the eager ones, the lazy ones, and the announcements that are queued for them.
     pub fn peers(&self) -> &PeerSets<A>
         ensures { result.now ≡ self.now.gossip.peers }
     {

@@ -5,10 +5,10 @@ use std::alloc::{Allocator, Global};
 use std::boxed::Box;
 use std::marker::Model;
 
-/// What an event of the membership has moved.
+/// What an event of the membership changes.
 #[derive(Drop)]
 pub(crate) struct ViewChange<A: Allocator> {
-    /// The membership that goes on.
+    /// The membership after the event.
     pub(crate) membership: Membership<A>,
     /// The links that went down.
     pub(crate) downs: Listed<NodeName, A>,
@@ -29,10 +29,10 @@ impl<A: Allocator> Model for ViewChange<A> {
     ghost inverse_ok = { λ m held. refl };
 }
 
-/// What an event of the membership has moved, in a box: most steps move nothing, and a step is moved about.
+/// A boxed view change: most steps change no view, and boxing keeps a `PreparedStep` cheap to move.
 pub(crate) type BoxedViewChange<A> = Box<ViewChange<A>, A>;
 
-/// A step of a core that was worked out: what its membership will be, and the last number of its frames.
+/// A step of a core that was worked out: what its membership will be, and the number of its last frame.
 #[derive(Drop)]
 pub struct PreparedStep<A: Allocator = Global> {
     pub(crate) moved: Option<BoxedViewChange<A>>,

@@ -1,4 +1,4 @@
--- What a close finds is what it answers.
+-- What a close finds is what it returns.
 use Rattle.std.specs.Prelude.{◌≡◌, ℕ, List, Option, Result, Ok, Err, IfErr, length}
 use Rattle.node_names.specs.NodeName.{Name}
 use Rattle.node_names.specs.Limits.{Limits}

@@ -30,6 +30,6 @@ more_left before workers outlets worker its left has = record {
 pub joined : {A : Type 0} (before : List Outlet) (workers : List (Option Name)) (given : List (Outlets A)) (worker : Option Name) (its : Outlets A) → AreLeft before workers (outlets_of given) → HasLeft worker (outlets_in its) → AreLeft before (workers ++ worker ∷ []) (outlets_of (given ++ its ∷ []))
 joined before workers given worker its left has = subst (AreLeft before (workers ++ worker ∷ [])) (sym (flat_push outlets_in given its)) (more_left before workers (outlets_of given) worker (outlets_in its) left has)
 
--- the outlets of a link that was given up so often, and its last
+-- the outlets of the links that were given up, and the last one
 pub leaves_to : (peer : Name) (spent : List Outlet) (last : Outlet) (outlets : List Outlet) → outlets ≡ spent ++ last ∷ [] → All (GoesTo peer) spent → last.peer ≡ peer → LeavesTo peer outlets
 leaves_to peer spent last outlets is all its = rw is (omega (arith, length-append spent (last ∷ [])), All-push (GoesTo peer) spent last all its)

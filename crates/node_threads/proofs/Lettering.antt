@@ -171,7 +171,7 @@ module _ (b : List Name) (letters : List Letter) (letter : Letter) (olds news : 
         (λ old found its there took. blocks b letters letter old found after free (is ∙ same_item new found (sym is_new ∙ there)) its took)
         (subst (IsDistinct same_name) (sym peers) apart) (ap (λ ns. slice_get ns letter.1) peers ∙ here) posted
 
--- links that were posted to have the names that they had
+-- posting to links leaves their names as they were
 pub posted_peers : (b : List Name) (letters : List Letter) (olds news : List Link) → Posted b letters olds news → peers_of olds ≡ peers_of news
 posted_peers b letters [] [] posted = refl
 posted_peers b letters [] (new ∷ news) posted = absurd posted
@@ -182,7 +182,7 @@ posted_peers b letters (old ∷ olds) (new ∷ news) posted = (λ i. head (has_n
     head false took = ap (λ (l : Link). l.peer) (sym took)
     head true took = ap (λ (l : Link). l.peer) (sym took.took)
 
--- a link that stays to its name leaves the names as they were
+-- replacing a link by one to the same name leaves the names as they were
 pub peers_set : (links : List Link) (place : ℕ) (new after : Link) → slice_get links place ≡ Some new → after.peer ≡ new.peer → peers_of (slice_set links place after) ≡ peers_of links
 peers_set [] place new after here is = let no : None ≡ Some new = here in absurd (cc no)
 peers_set (link ∷ links) zero new after here is = let its = is ∙ ap (λ (l : Link). l.peer) (sym (same_item link new here)) in (λ i. its i ∷ peers_of links)
@@ -275,7 +275,7 @@ other_names name (link ∷ links) = go (same_name name link.peer) (other_names n
     go true rest = rest
     go false rest = (λ i. link.peer ∷ rest i)
 
--- after the others the name is not among them
+-- the name is not among the other names
 pub gone : (name : Name) (names : List Name) → has_name (others name names) name ≡ false
 gone name [] = refl
 gone name (other ∷ names) = go (same_name name other) refl (gone name names)
@@ -298,7 +298,7 @@ linked_named : (links : List Link) (name : Name) → is_linked links name ≡ ha
 linked_named [] name = refl
 linked_named (link ∷ links) name = ap (λ u. same_name name link.peer || u) (linked_named links name)
 
--- who has no link, by the links and by their names
+-- the receivers without a link, by the links and by their names
 pub lacks_by_names : (links : List Link) (sends : List (Name × Frame)) → unlinked links sends ≡ lacking (peers_of links) sends
 lacks_by_names links sends = (λ i. fold (λ (names : List Name) (send : Name × Frame). if linked_named links send.0 i then names else with_name names send.0) [] sends)
 
@@ -338,7 +338,7 @@ module _ (b : List Name) (letters : List Letter) (sends : List (Name × Frame)) 
 pub posted_puts : (b : List Name) (letters : List Letter) (sends : List (Name × Frame)) (olds news : List Link) → HaveMail (peers_of olds) sends letters → Posted b letters olds news → Puts (map (mail_to sends) olds) olds (left_open b news) (filter (has_name b) (peers_of olds))
 posted_puts b letters sends olds news have posted = puts_each b letters sends olds news posted (each_turned _ _ (λ (link : Link) is. have link.peer is) olds (each_named olds olds (λ name is. is)))
 
--- a slice that was written over the whole of the links
+-- a slice that was written over all of the links
 pub over_links : (len : ℕ) (olds news : List Link) → len ≡ length olds → peers_of olds ≡ peers_of news → take len (news ++ drop (length news) olds) ≡ news
 over_links len olds news is same =
     take_at news (drop (length news) olds) len (let e = ap length same in omega (arith, is, e, length-map olds (λ (l : Link). l.peer), length-map news (λ (l : Link). l.peer)))

@@ -48,12 +48,12 @@ after_differing given a b differ more p = differ (b ++ more) (subst (IsPrefix gi
 whole : (given text : Texts) → IsPrefix given text → IsPrefix given (text ++ [])
 whole given text p = subst (IsPrefix given) (sym (append-nil text)) p
 
--- where nothing is left, what came out begins the text
+-- if nothing is left, what came out is how the text begins
 pub begins : (given text rest : Texts) → Leaves given text (Some rest) → length rest ≡ 0 → IsPrefix given text
 begins given text [] left none = subst (IsPrefix given) (append-nil text) ((left []).1 ([], refl))
 begins given text (frame ∷ rest) left none = absurd (omega arith)
 
--- and only there
+-- and only then
 pub begins_whole : (given text rest : Texts) → Leaves given text (Some rest) → IsPrefix given text → length rest ≡ 0
 begins_whole given text [] left p = refl
 begins_whole given text (frame ∷ rest) left p = let more = (left []).0 (whole given text p) in absurd (cc (more.1))

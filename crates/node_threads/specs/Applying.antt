@@ -53,7 +53,7 @@ mail_to sends link = mail_for sends link.peer
 abbrev pub Posts : List (Name × Frame) → List Link → List Link → List Name → Type 0
 Posts sends links live full = Puts (map (mail_to sends) links) links live full
 
--- the names, with this one last unless it is there
+-- the names, with this one last unless it is there already
 abbrev pub with_name : List Name → Name → List Name
 with_name names name = if has_name names name then names else names ++ name ∷ []
 

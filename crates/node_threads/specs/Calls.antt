@@ -1,9 +1,9 @@
--- What a call under a lock answers.
+-- What a call under a lock returns.
 use Rattle.std.specs.Fn.{FnOnceReturnsAtMut}
 use denote.Param.Members.{Once}
 use denote.Ref.{MutBor}
 
--- The call may answer this where it is lent some value, and leave some value there.
+-- If the call borrows some value, it may return this answer and leave some value in its place.
 pub record MayAnswer {F T R : Type 0} (g : Once F (MutBor T × Unit {0}) (R × (MutBor T × Unit {0}))) (call : F) (answer : R) : Type 0 where
   pub old : T
   pub new : T

@@ -30,7 +30,7 @@ pub record Cell (C : Type 0) : Type 0 where
   pub handed_out : ℕ
   pub is_shut : Bool
 
--- The ring got the link's text, spelled, since the link was opened.
+-- Since the link was opened, the ring got the link's text, each frame as its bytes.
 pub record FollowsText (trace : Trace Frame) (link : Link) : Type 0 where
   pub opened_before : link.opened ≤ length trace.steps
   pub pushed_text : link.pushed ≡ map spelling (link_text trace link.peer link.opened)
@@ -47,8 +47,9 @@ peers_of links = map (λ link. link.peer) links
 abbrev pub IsListed : List Link → List Name → Type 0
 IsListed links names = names ≡ peers_of links
 
--- What a lock keeps, whatever happened: the trace replays and the core is the state at its end; what was not handed out
--- is what the trace delivered after what was; and there is at most one link to a name, which follows its text.
+-- What always holds of what a lock keeps: the trace replays, and the core is the state at its end; the deliveries that
+-- were not handed out are those that the trace delivered after the ones that were; and there is at most one link to a
+-- name, which follows its text.
 pub record IsKept
     {C : Type 0}
     (starts : Origin → Limits → List Name → Option Name → List (Name × Frame) → C → Type 0)

@@ -24,26 +24,26 @@ pub record IsWithin (trace : Trace Frame) (report : LinkReport) : Type 0 where
   pub opened_within : report.opened ≤ length trace.steps
   pub taken_of_text : report.taken ≤ length (link_text trace report.peer report.opened)
 
--- The receipts are as in the trace, and the links are the reports of the outlets, out of each of which came how its text
--- begins.
+-- The receipts are as in the trace, and the links are the reports of the outlets; what came out of each outlet is how
+-- its text begins.
 pub record Matches (trace : Trace Frame) (ports : List (List Call)) (outlets : List Outlet) (links : List LinkReport) : Type 0 where
   pub alike : AllAlike trace.steps ports
   pub reported : AddsReports trace outlets [] links
   pub within : All (IsWithin trace) links
 
--- It is the peer of the first outlet that is not as in the trace, or it is not known what.
+-- The mismatch is the peer of the first outlet that is not as in the trace, or it is not known.
 abbrev pub Tears : Trace Frame → List Outlet → Mismatch → Type 0
 Tears trace outlets (mismatch.Port n) = ⊥
 Tears trace outlets (mismatch.Link peer) = IsFirstTorn trace outlets peer
 Tears trace outlets mismatch.OutOfMemory = Unit {0}
 
--- What is not as in the trace: a port; or an outlet, where all ports are; or it is not known.
+-- What is not as in the trace: a port; or an outlet, if all ports are as in the trace; or it is not known.
 abbrev pub Mismatches : Trace Frame → List (List Call) → List Outlet → Mismatch → Type 0
 Mismatches trace ports outlets (mismatch.Port n) = IsFirstUnlike trace.steps ports n
 Mismatches trace ports outlets (mismatch.Link peer) = AllAlike trace.steps ports × IsFirstTorn trace outlets peer
 Mismatches trace ports outlets mismatch.OutOfMemory = Unit {0}
 
--- What was found in place of a closed node's reports, where all outlets came back: its trace is handed out.
+-- The error that was found in place of a closed node's reports, if all outlets came back: its trace is handed out.
 abbrev pub Finds : {C K A : Type 0}
     → (Origin → Limits → List Name → Option Name → List (Name × Frame) → C → Type 0)
     → (C → Stimulus Frame → List (Name × Frame) → List Delivery → C → Type 0)
@@ -61,7 +61,7 @@ pub record IsClosed (trace : Trace Frame) (ports : List (List Call)) (workers : 
   pub left : AreLeft before workers outlets
   pub matches : Matches trace ports outlets links
 
--- Among the outlets that the workers of a node had is one that is torn, the first of them to this peer, and what the
+-- One of the outlets that the workers of a node had is torn, and the first torn outlet goes to this peer. What the
 -- ports had is as in the trace.
 pub record IsTorn (trace : Trace Frame) (ports : List (List Call)) (workers : List (Option Name)) (peer : Name) : Type 0 where
   pub before : List Outlet
@@ -70,8 +70,8 @@ pub record IsTorn (trace : Trace Frame) (ports : List (List Call)) (workers : Li
   pub alike : AllAlike trace.steps ports
   pub torn : IsFirstTorn trace outlets peer
 
--- What a call answers that does not close a node: a port or worker is missing, and all is handed back as it was; or all
--- ports came back, the trace is handed out, and where a port or a link is named, what it had is not as in the trace.
+-- What a call returns that does not close a node: a port or worker is missing, and all is handed back as it was; or all
+-- ports came back, the trace is handed out, and if a port or a link is named, what it had is not as in the trace.
 abbrev pub Fails : {C K A : Type 0}
     → (Origin → Limits → List Name → Option Name → List (Name × Frame) → C → Type 0)
     → (C → Stimulus Frame → List (Name × Frame) → List Delivery → C → Type 0)

@@ -1,4 +1,4 @@
--- A step of a running node, and the links that turn out to be down by it.
+-- A step of a running node, and the links that it finds to be down.
 use Rattle.std.specs.Prelude.{◌≡◌, ◌⊎◌, ℕ, List, [], ◌∷◌, Option, replicate}
 use Rattle.node_names.specs.NodeName.{Name}
 use Rattle.node_names.specs.declared.dice.Dice.{Dice}
@@ -53,8 +53,8 @@ module _
       pub downs_full : TakesDowns stepped full told_full
       pub downs_lacking : TakesDowns told_full lacking new
 
-    -- The node takes the Downs of these peers, one after the other, each with the next dice of a generator; what the
-    -- generator will answer afterwards comes last.
+    -- The node takes the Downs of these peers, one after the other, each with the next dice of a generator. The last
+    -- argument is what the generator yields afterwards.
     abbrev pub TakesDrawnDowns : Stream → Cell C → List Name → Cell C → Stream → Type 0
     TakesDrawnDowns stream old [] new left = (new ≡ old) × (left ≡ stream)
     TakesDrawnDowns stream old (peer ∷ peers) new left =

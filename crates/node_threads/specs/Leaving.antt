@@ -18,7 +18,7 @@ outlets_of workers = flat_map outlets_in workers
 abbrev pub GoesTo : Name → Outlet → Type 0
 GoesTo peer outlet = outlet.peer ≡ peer
 
--- The outlets are of links to this name, and there is one at least.
+-- The outlets are of links to this name, and there is at least one.
 abbrev pub LeavesTo : Name → List Outlet → Type 0
 LeavesTo peer outlets = (0 < length outlets) × All (GoesTo peer) outlets
 

@@ -20,7 +20,7 @@ sent_to peer sends = map (λ send. send.1) (filter (λ send. same_name send.0 pe
 abbrev pub text_of : Name → List (Step Frame) → List Frame
 text_of peer steps = flat_map (λ step. sent_to peer step.out.sends) steps
 
--- The frames that a link to this name carries which was opened when the trace had so many steps: those of the steps
--- since, and first those of the opening where there was no step yet.
+-- The frames that a link to this name carries if it was opened when the trace had `opened` steps: first those of the
+-- opening if there was no step yet, and then those of the steps since.
 abbrev pub link_text : Trace Frame → Name → ℕ → List Frame
 link_text trace peer opened = (if opened == 0 then sent_to peer trace.opening.sends else []) ++ text_of peer (drop opened trace.steps)

@@ -15,7 +15,7 @@ pub record FitsAt (steps : List (Step Frame)) (marks : List Bool) (low : ℕ) (c
   pub right : IsRight steps call
   pub free : marks_at call.receipt.place marks ≡ 0
 
--- The receipts of a port are in order from this place on and right, no two are for the same step, and none is for a
+-- The receipts of a port are right and in order from this place on, no two are for the same step, and none is for a
 -- marked one.
 pub record Fits (steps : List (Step Frame)) (marks : List Bool) (low : ℕ) (calls : List Call) : Type 0 where
   pub in_order : Rises low calls

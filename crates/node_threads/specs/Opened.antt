@@ -13,11 +13,12 @@ without name links = filter (λ link. not (same_name name link.peer)) links
 abbrev pub others : Name → List Name → List Name
 others name names = filter (λ other. not (same_name name other)) names
 
--- what a link that is opened now begins with: where the node has made no step, what its opening sent to the name
+-- what a link that is opened now begins with: what the opening sent to the name if the node has made no step, or
+-- nothing
 abbrev pub first_mail : {C : Type 0} → Cell C → Name → List (List ℕ)
 first_mail cell name = if length cell.trace.steps == 0 then mail_for cell.trace.opening.sends name else []
 
--- the links after one to this name was opened, with a ring for so many frames: it is open if what it begins with fits
+-- the links after one to this name was opened, with a ring for `ring` frames: it is open if what it begins with fits
 -- the ring
 abbrev pub linked_to : {C : Type 0} → Cell C → Name → ℕ → List Link
 linked_to cell name ring =

@@ -8,7 +8,7 @@ use Rattle.world.specs.Output.{Output}
 use Rattle.world.specs.Peers.{are_peers}
 use Rattle.frames.specs.Frame.{Frame}
 
--- who gets the first of these frames: of an opening, the contact
+-- the receiver of the first of these frames: of an opening, it is the contact
 abbrev pub first_receiver : List (Name × Frame) → Option Name
 first_receiver [] = None
 first_receiver (send ∷ sends) = Some send.0
@@ -19,7 +19,7 @@ pub record ShowsStart (me : Origin) (peers : List Name) (contact : Option Name) 
   pub active_are_peers : core.active ≡ peers
   pub to_contact : first_receiver sends ≡ contact
 
--- Every start shows itself so.
+-- Every start shows its origin, peers and contact.
 abbrev pub TellsItsStart : {C : Type 0} → (C → CoreState) → (Origin → Limits → List Name → Option Name → List (Name × Frame) → C → Type 0) → Type 0
 TellsItsStart {C} state starts =
     (me : Origin) (limits : Limits) (peers : List Name) (contact : Option Name) (sends : List (Name × Frame)) (core : C)

@@ -45,7 +45,7 @@ pub record PortsFit (steps : List (Step Frame)) (ports : List (List Call)) : Typ
   pub right : All (IsRight steps) (all_calls ports)
   pub once : (place : ℕ) → calls_at place (all_calls ports) ≤ 1
 
--- one for a broadcast, and none for another stimulus
+-- 1 for a broadcast, and 0 for any other stimulus
 abbrev pub broadcasts_of : Stimulus Frame → ℕ
 broadcasts_of (Broadcast payload) = 1
 broadcasts_of (Arrive sender frame dice) = 0
@@ -54,13 +54,13 @@ broadcasts_of Flush = 0
 broadcasts_of (Down peer dice) = 0
 broadcasts_of (Shuffle dice) = 0
 
--- one where a step was found that is a broadcast
+-- 1 if a step was found and is a broadcast, and 0 otherwise
 abbrev pub broadcasts_in : Option (Step Frame) → ℕ
 broadcasts_in None = 0
 broadcasts_in (Some step) = broadcasts_of step.stimulus
 
--- how many broadcasts the trace has at this place: one where its step is a broadcast, and none where it is not or where
--- there is no step
+-- the number of broadcasts that the trace has at this place: 1 if its step is a broadcast, and 0 if it is not or there
+-- is no step
 abbrev pub broadcasts_at : ℕ → List (Step Frame) → ℕ
 broadcasts_at place steps = broadcasts_in (slice_get steps place)
 

@@ -12,8 +12,8 @@ use Rattle.node_threads.specs.declared.error.HostError.TheVariants as host
 abbrev pub HasRoom : {C : Type 0} → Cell C → Type 0
 HasRoom cell = (cell.is_shut ≡ false) × (length cell.trace.steps < cell.limit)
 
--- The core refuses the step so: a payload that is too long is refused as such, and numbers are used up only where the
--- core says so.
+-- When the core refuses the step with this error: a payload that is too long is refused as such, and numbers are used
+-- up only if the core says so.
 abbrev pub CoreRefuses : {C : Type 0} → (C → Stimulus Frame → Type 0) → C → Stimulus Frame → HostError → Type 0
 CoreRefuses is_spent core stimulus host.Closed = ⊥
 CoreRefuses is_spent core stimulus host.TraceFull = ⊥
@@ -23,8 +23,8 @@ CoreRefuses is_spent core stimulus (host.Refused OutOfMemory) = ⊥
 CoreRefuses is_spent core stimulus host.GateShut = ⊥
 CoreRefuses is_spent core stimulus host.OutOfMemory = IsTooLong stimulus → ⊥
 
--- The node refuses the step so, in this order: it was shut; its trace is full; the core refuses; an allocation is
--- refused.
+-- When the node refuses the step with this error, in this order: it was shut; its trace is full; the core refuses; an
+-- allocation is refused.
 abbrev pub Refuses : {C : Type 0} → (C → Stimulus Frame → Type 0) → Cell C → Stimulus Frame → HostError → Type 0
 Refuses is_spent cell stimulus host.Closed = cell.is_shut ≡ true
 Refuses is_spent cell stimulus host.TraceFull = (cell.is_shut ≡ false) × (cell.limit ≤ length cell.trace.steps)
@@ -32,8 +32,8 @@ Refuses is_spent cell stimulus (host.Refused error) = HasRoom cell × CoreRefuse
 Refuses is_spent cell stimulus host.GateShut = ⊥
 Refuses is_spent cell stimulus host.OutOfMemory = HasRoom cell × (IsTooLong stimulus → ⊥)
 
--- A port refuses to broadcast a payload so: where it is said to be too long, it is, and where all numbers are said to be
--- used up, it is not. It never speaks of a gate.
+-- When a port refuses to broadcast a payload with this error: if the error says that it is too long, it is, and if the
+-- error says that all numbers are used up, it is not too long. The error is never `GateShut`.
 abbrev pub RefusesPayload : List ℕ → HostError → Type 0
 RefusesPayload payload host.Closed = Unit {0}
 RefusesPayload payload host.TraceFull = Unit {0}

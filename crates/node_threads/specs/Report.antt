@@ -8,15 +8,15 @@ use Rattle.node_threads.specs.LinkText.{link_text, spelling}
 use Rattle.node_threads.specs.Outlet.{Outlet}
 use Rattle.node_threads.specs.declared.report.LinkReport.{LinkReport}
 
--- The link was opened when the trace had no more steps than now, and what came out of it is how the frames begin that
+-- The link was opened when the trace had no more steps than now, and what came out of it is a prefix of the frames that
 -- the node sent to its peer since then, each frame as its bytes.
 pub record BeginsText (trace : Trace Frame) (outlet : Outlet) : Type 0 where
   pub opened_before : outlet.opened ≤ length trace.steps
   pub begins : IsPrefix outlet.given (map spelling (link_text trace outlet.peer outlet.opened))
 
 -- What is left of what came out of a link when these frames are taken from its front: whatever follows the frames, what
--- came out begins with them and that exactly where what is left begins that. None is left where it goes on otherwise
--- than they do.
+-- came out is a prefix of the frames and what follows exactly if what is left is a prefix of what follows. `None`: what
+-- came out differs from the frames.
 abbrev pub Leaves : List (List ℕ) → List (List ℕ) → Option (List (List ℕ)) → Type 0
 Leaves given frames (Some rest) = (more : List (List ℕ)) → IsPrefix given (frames ++ more) ↔ IsPrefix rest more
 Leaves given frames None = (more : List (List ℕ)) → IsPrefix given (frames ++ more) → ⊥
@@ -25,7 +25,7 @@ Leaves given frames None = (more : List (List ℕ)) → IsPrefix given (frames +
 abbrev pub report_of : Outlet → LinkReport
 report_of outlet = record { peer = outlet.peer; opened = outlet.opened; taken = length outlet.given }
 
--- The reports of these outlets are put last, one each and in order, and what came out of each is how its text begins.
+-- The reports of these outlets are appended, one each and in order, and what came out of each is how its text begins.
 pub record AddsReports (trace : Trace Frame) (outlets : List Outlet) (old new : List LinkReport) : Type 0 where
   pub reports : new ≡ old ++ map report_of outlets
   pub begun : All (BeginsText trace) outlets

@@ -5,7 +5,7 @@ use Rattle.node_threads.specs.Leaving.{HasLeft, outlets_in}
 use Rattle.node_threads.specs.declared.worker.Work.{Work}
 use Rattle.node_threads.specs.declared.worker.Work.TheVariants.{Thread, Ended}
 
--- Its thread promised to leave what a worker with this peer leaves, or it left that.
+-- Its thread promised to leave what a worker with this peer leaves, or it has ended and left that.
 abbrev pub IsSure : {A : Type 0} → Option Name → Work A → Type 0
 IsSure peer (Thread thread has_ended) = thread.promise.0 ≡ peer
 IsSure peer (Ended outlets) = HasLeft peer (outlets_in outlets)

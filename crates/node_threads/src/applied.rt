@@ -5,13 +5,13 @@ use std::alloc::{Allocator, Global};
 /// A step that was made.
 #[derive(Drop)]
 pub struct Applied<A: Allocator = Global> {
-    /// The id of the message, where the step was a broadcast.
+    /// The id of the message, if the step was a broadcast.
     pub id: Option<MsgId>,
     /// The place of the step in the trace, from 0.
     pub place: usize,
-    /// The links whose rings had no room. They are closed, and their frames of this step are in the trace and not in a
-    /// ring.
+    /// The names of the links whose rings had no room for all frames of the step. These links are closed, and the
+    /// frames that did not fit are only in the trace.
     pub full: Listed<NodeName, A>,
-    /// The names that the step sent to and that had no open link, each once.
+    /// The receivers of the step's frames that had no open link, each once.
     pub unlinked: Listed<NodeName, A>,
 }

@@ -7,12 +7,12 @@ use std::alloc::Allocator;
 
 /// The frames that a read completed, until the node takes them one by one.
 ///
-/// A sink says at once whether it took a frame, and a step may be refused or wait for its turn: so a reader gathers
-/// first.
+/// A sink must say at once whether it took a frame, but a step may be refused or have to wait for its turn. So a reader
+/// gathers the frames of a read first.
 #[derive(Drop)]
 pub(crate) struct Basket<A: Allocator> {
     frames: Vec<Frame<A>, A>,
-    /// The frames that there was no memory for. The count stays at the greatest u64.
+    /// The number of frames that there was no memory for. It stays at the greatest u64.
     refusals: u64,
 }
 

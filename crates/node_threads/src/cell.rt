@@ -1,4 +1,4 @@
-//! What the lock of a running node keeps.
+//! The state that a running node keeps under its lock.
 ghost use Rattle.std.specs.Prelude.{◌≡◌, ◌<◌, ◌+◌, [], true, false, IfOk, IfErr, OnOk, OnErr, length};
 ghost use Rattle.world.specs.IdentityLaw.{IsTooLong};
 ghost use Rattle.node_threads.specs.Applying.{Applies, id_given};
@@ -20,16 +20,16 @@ use std::marker::Model;
 use std::mem;
 use world::{CoreError, Delivery, Out, Prepared, Step, Stimulus, StimulusOf, Trace};
 
-/// A running node: its core, all that it did, the links that are open, and what waits for the application.
+/// A running node: its core, its trace, the open links, and the deliveries that wait for the application.
 ///
-/// One thread at a time calls it, under the node's lock. Nothing here waits.
+/// It is called by one thread at a time, under the node's lock, and never waits.
 #[derive(Drop)]
 pub struct NodeCell<C: NodeCore<A> + Drop, A: Allocator = Global> {
     core: C,
     pub(crate) trace: Trace<Frame<A>, A>,
     limit: usize,
     pub(crate) links: Vec<Link<A>, A>,
-    /// The names that the links go to, in the order of the links: so the place of a link is found by its name.
+    /// The peers of the links, in the order of the links, so that the place of a link is found by its name.
     pub(crate) names: NameSet<A>,
     /// Room for the names of all links.
     pub(crate) room: Vec<NodeName, A>,
@@ -62,7 +62,7 @@ fn broadcast_id<A: Allocator>(
     }
 }
 
-/// Works a step out: what it leaves to be made, and what it sends and delivers.
+/// Works a step out without making it. Returns what `advance` needs to make it, and what it sends and delivers.
 fn prepare<C: NodeCore<A>, A: Allocator + Copy>(
     alloc: A,
     core: &C,
@@ -82,7 +82,7 @@ fn prepare<C: NodeCore<A>, A: Allocator + Copy>(
     }
 }
 
-/// Who gets the first of these frames.
+/// The receiver of the first of these frames.
 fn first_receiver<A: Allocator>(sends: &[(NodeName, Frame<A>)]) -> Option<NodeName>
     ensures { result ≡ first_receiver sends.now }
 {
@@ -106,7 +106,8 @@ fn fresh_trace<C: NodeCore<A>, A: Allocator + Copy>(
 }
 
 impl<C: NodeCore<A> + Drop, A: Allocator + Copy> NodeCell<C, A> {
-    /// A node that has just started: `opening` is what its start gave. Its trace may have `trace_limit` steps.
+    /// Makes a node that has just started. `opening` is the output of its start, and its trace may have at most
+    /// `trace_limit` steps.
     pub fn new(
         alloc: A,
         core: C,
@@ -142,8 +143,8 @@ impl<C: NodeCore<A> + Drop, A: Allocator + Copy> NodeCell<C, A> {
     /// Lets the core take one stimulus, records the step, and puts its frames into the rings of the open links.
     ///
     /// `Closed`: the node was shut. `TraceFull`: the trace has as many steps as it may have. `Refused`: the core
-    /// refused the step. `OutOfMemory` comes last. A link whose ring has no room is closed and listed, and the step
-    /// stands.
+    /// refused the step. `OutOfMemory` comes last. A link whose ring has no room is closed and listed in
+    /// `Applied::full`, and the step stands.
     pub fn apply(&mut self, stimulus: Stimulus<Frame<A>, A>) -> Result<Applied<A>, HostError>
         ensures applied { IfOk result (λ applied. Applies C.state C.steps self.old stimulus self.new applied.id applied.place applied.full applied.unlinked) }
         ensures accepted { OnOk result (HasRoom self.old × (IsTooLong stimulus → ⊥)) }
@@ -186,7 +187,7 @@ impl<C: NodeCore<A> + Drop, A: Allocator + Copy> NodeCell<C, A> {
         })
     }
 
-    /// The deliveries that were not handed out yet, in order. They are handed out with this call.
+    /// Returns the deliveries that were not handed out yet, in order. This call hands them out.
     pub fn take_deliveries(&mut self) -> Vec<Delivery<A>, A>
         ensures given { result.items ≡ self.old.pending }
         ensures handed_out { self.new ≡ record self.old { pending = []; handed_out = self.old.handed_out + length self.old.pending } }
@@ -233,7 +234,7 @@ impl<C: NodeCore<A> + Drop, A: Allocator + Copy> NodeCell<C, A> {
         &self.core
     }
 
-    /// All that the node did.
+    /// The trace: all that the node did.
     pub fn trace(&self) -> &Trace<Frame<A>, A>
         ensures { result.now ≡ self.now.trace }
     {
@@ -244,7 +245,7 @@ impl<C: NodeCore<A> + Drop, A: Allocator + Copy> NodeCell<C, A> {
         *self.links.allocator()
     }
 
-    /// All that the node did, which is taken out of it.
+    /// Takes the trace, which is all that the node did, out of it.
     pub fn into_trace(self) -> Trace<Frame<A>, A>
         ensures same { result ≡ self.trace }
         ensures history { IsHistory C.starts C.steps result }

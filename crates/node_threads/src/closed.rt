@@ -10,29 +10,30 @@ use std::alloc::{Allocator, Global};
 use thiserror::Error;
 use world::Trace;
 
-/// What a node that was closed leaves.
+/// What a closed node leaves.
 #[derive(Drop)]
 pub struct Closed<A: Allocator = Global> {
     /// All that it did.
     pub trace: Trace<Frame<A>, A>,
-    /// How many of its deliveries were handed out: the first ones.
+    /// The number of deliveries that were handed out. They are the first ones of the trace.
     pub handed_out: u64,
     /// A report for each outlet that its workers had.
     pub links: Vec<LinkReport, A>,
 }
 
-/// Why a node can't be closed, or what it leaves is not as it should be.
+/// Why a node can't be closed, or why what it leaves is not as it should be.
 #[derive(Drop, Error)]
 pub enum CloseError<C: NodeCore<A> + Drop, A: Allocator = Global> {
-    /// Not as many ports or workers came back as were made. Nothing was stopped, and all are handed back.
+    /// The number of ports or workers that came back is not the number that were made. Nothing was stopped, and all are
+    /// handed back.
     #[error("a port or worker is missing")]
     PortMissing {
         host: Host<C, A>,
         ports: Vec<Port<C, A>, A>,
         workers: Vec<Worker<A>, A>,
     },
-    /// The receipts of the port at this place are not those of its broadcasts in the trace. At the number of the ports:
-    /// the trace has a broadcast of no port.
+    /// The receipts of the port at this place are not those of its broadcasts in the trace. If the place is the number
+    /// of ports, the trace has a broadcast that no port made.
     #[error("the receipts of port {port} are not as in the trace")]
     Unlike {
         port: usize,

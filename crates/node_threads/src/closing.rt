@@ -1,4 +1,4 @@
-//! A running node comes to its end.
+//! Closing a running node.
 ghost use Rattle.std.specs.Prelude.{◌≡◌, ◌≤◌, true, List, ◌∷◌, [], ◌++◌, IfOk, IfErr, length};
 ghost use Rattle.world.specs.Trace.{delivered};
 ghost use Rattle.node_threads.specs.Closing.{Fails, Finds, IsClosed, Matches, Mismatches};
@@ -23,7 +23,7 @@ use std::sync::Wait;
 use std::thread::Threads;
 use world::Trace;
 
-/// Puts what a worker left last, and answers whether there was room for it and for all before.
+/// Appends the outlets that a worker left. Returns whether there was room for these and for all before.
 fn keep<A: Allocator>(kept: bool, given: &mut Vec<Outlets<A>, A>, outlets: Outlets<A>) -> bool
     ensures before { result ≡ true → kept ≡ true }
     ensures here { result ≡ true → given.new.items ≡ given.old.items ++ outlets ∷ [] }
@@ -31,8 +31,8 @@ fn keep<A: Allocator>(kept: bool, given: &mut Vec<Outlets<A>, A>, outlets: Outle
     given.push(outlets).is_ok() && kept
 }
 
-/// Waits for the ends of all workers, and puts the outlets that they had behind those of others. If an allocation is
-/// refused, all are waited for all the same.
+/// Waits until all workers have ended, and appends their outlets to `given`. If an allocation is refused, it still
+/// waits for all of them.
 fn join_all<R: Threads, A: Allocator + Copy>(
     rt: &R,
     mut given: Vec<Outlets<A>, A>,
@@ -64,7 +64,7 @@ fn calls_of<C: NodeCore<A> + Drop, A: Allocator + Copy>(
     Ok(calls)
 }
 
-/// Compares what the ports and the workers had with the trace.
+/// Compares the calls of the ports and the outlets of the workers with the trace.
 fn judge<C: NodeCore<A> + Drop, A: Allocator + Copy>(
     cell: &NodeCell<C, A>,
     ports: Vec<Port<C, A>, A>,
@@ -78,7 +78,7 @@ fn judge<C: NodeCore<A> + Drop, A: Allocator + Copy>(
     compare(alloc, cell, calls.as_slice(), workers)
 }
 
-/// The error that hands the trace out.
+/// Makes the error that hands the trace out.
 fn close_error<C: NodeCore<A> + Drop, A: Allocator + Copy>(
     mismatch: Mismatch,
     trace: Trace<Frame<A>, A>,
@@ -132,10 +132,13 @@ fn hand_back<C: NodeCore<A> + Drop, A: Allocator + Copy>(
 impl<C: NodeCore<A> + Drop, A: Allocator + Copy> Host<C, A> {
     /// Stops the node, waits for its workers to end, and compares what its ports and its workers had with its trace.
     ///
-    /// `PortMissing`: not as many ports or workers came back as were made and not joined yet, and nothing was stopped. Then `Unlike`,
-    /// `Torn` and `OutOfMemory`, in this order but that an allocation may be refused at any point: the node is closed,
-    /// and its trace is handed out. It is to be called in the thread that started the workers, and it returns when they
-    /// have ended: readers whose links do not end keep it waiting.
+    /// `PortMissing`: the number of ports is not the number that were made, or the number of workers is not the number
+    /// that were started and not joined yet; nothing was stopped. After that come `Unlike`, `Torn` and `OutOfMemory`,
+    /// in this order except that an allocation may be refused at any point: the node is closed, and its trace is handed
+    /// out.
+    ///
+    /// Call it in the thread that started the workers. It returns when they have ended: readers whose links do not end
+    /// keep it waiting.
     pub fn close<R: Threads + Wait>(
         self,
         rt: &R,

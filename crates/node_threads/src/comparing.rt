@@ -1,4 +1,4 @@
-//! What a closed node left is compared with its trace.
+//! Compares what a closed node left with its trace.
 ghost use Rattle.std.specs.Prelude.{◌≡◌, List, [], ◌∷◌, ◌++◌, IfOk, IfErr, OnOk};
 ghost use Rattle.std.specs.Option.{option_to_list};
 ghost use Rattle.node_threads.specs.Closing.{Matches, Mismatches, Tears};
@@ -20,7 +20,7 @@ use node_names::{Listed, NodeName};
 use std::alloc::{AllocError, Allocator};
 use world::Trace;
 
-/// What is not as in the trace, or why it is not known.
+/// What is not as in the trace, or why this is not known.
 #[derive(Clone, Copy)]
 pub(crate) enum Mismatch {
     /// The receipts of the port at this place.
@@ -42,7 +42,7 @@ impl From<AllocError> for Mismatch {
     }
 }
 
-/// Whether the receipts of all ports are as in the trace.
+/// Checks that the receipts of all ports are as in the trace.
 fn compare_ports<A: Allocator + Copy>(
     alloc: A,
     trace: &Trace<Frame<A>, A>,
@@ -57,7 +57,7 @@ fn compare_ports<A: Allocator + Copy>(
     }
 }
 
-/// Puts a report last.
+/// Appends a report.
 fn add_report<A: Allocator>(
     links: &mut Vec<LinkReport, A>,
     report: LinkReport,
@@ -68,7 +68,7 @@ fn add_report<A: Allocator>(
     Ok(())
 }
 
-/// Puts the report of an outlet last.
+/// Appends the report of an outlet.
 fn report_one<C: NodeCore<A> + Drop, A: Allocator + Copy>(
     cell: &NodeCell<C, A>,
     outlet: &Outlet<A>,
@@ -84,7 +84,7 @@ fn report_one<C: NodeCore<A> + Drop, A: Allocator + Copy>(
     }
 }
 
-/// Puts the reports of outlets last.
+/// Appends the reports of outlets.
 fn report_each<C: NodeCore<A> + Drop, A: Allocator + Copy>(
     cell: &NodeCell<C, A>,
     outlets: &[Outlet<A>],
@@ -99,7 +99,7 @@ fn report_each<C: NodeCore<A> + Drop, A: Allocator + Copy>(
     Ok(())
 }
 
-/// Puts the report of an outlet last, if there is one.
+/// Appends the report of an outlet, if there is one.
 fn report_last<C: NodeCore<A> + Drop, A: Allocator + Copy>(
     cell: &NodeCell<C, A>,
     outlet: &Option<Outlet<A>>,
@@ -114,7 +114,7 @@ fn report_last<C: NodeCore<A> + Drop, A: Allocator + Copy>(
     }
 }
 
-/// Puts the reports of a worker's outlets last.
+/// Appends the reports of a worker's outlets.
 fn report_worker<C: NodeCore<A> + Drop, A: Allocator + Copy>(
     cell: &NodeCell<C, A>,
     outlets: &Outlets<A>,
@@ -143,7 +143,7 @@ fn compare_links<C: NodeCore<A> + Drop, A: Allocator + Copy>(
     Ok(links)
 }
 
-/// Compares the receipts of the ports and what came out of the links with the trace, and answers the links' reports.
+/// Compares the receipts of the ports and what came out of the links with the trace. Returns the links' reports.
 pub(crate) fn compare<C: NodeCore<A> + Drop, A: Allocator + Copy>(
     alloc: A,
     cell: &NodeCell<C, A>,

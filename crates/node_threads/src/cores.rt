@@ -19,27 +19,28 @@ use node_names::{MsgId, NameSet, Origin};
 use std::alloc::{AllocError, Allocator};
 use world::{Core, CoreError, Out, Prepared, StimulusRef};
 
-/// A core whose packets are frames. What a node calls is as in `world::Core`, where each function is explained.
+/// A core whose packets are frames. Its functions are those of `world::Core` that a node calls, and are explained
+/// there.
 pub trait NodeCore<A: Allocator>: Sized {
-    /// What it shows of itself.
+    /// The state that it shows.
     ghost state: { Self → CoreState };
 
-    /// From this origin, limits, peers and contact it may start with these frames, as this core.
+    /// With this origin, limits, peers and contact, a start may send these frames and give this core.
     ghost starts: { Origin → Limits → List Name → Option Name → List (Name × Sent) → Self → Type 0 };
 
-    /// At this stimulus it may send these frames, deliver these messages and go on as the second core.
+    /// At this stimulus the first core may send these frames, deliver these messages and go on as the second core.
     ghost steps: { Self → Stimulus Sent → List (Name × Sent) → List Delivery → Self → Type 0 };
 
     /// Some number that this step needs is used up.
     ghost is_spent: { Self → Stimulus Sent → Type 0 };
 
-    /// The core that goes on after the stimulus.
+    /// The core after the stimulus.
     ghost after: { Self → Stimulus Sent → Self };
 
     /// The turn is what the core keeps of this stimulus, which it does not refuse.
     ghost is_turn: { Self → Stimulus Sent → Kept → Type 0 };
 
-    /// Works a step out, and changes nothing of the core.
+    /// Works a step out without changing the core.
     fn prepare(
         &self,
         stimulus: &StimulusRef<'_, Frame<A>, A>,
@@ -50,7 +51,7 @@ pub trait NodeCore<A: Allocator>: Sized {
         ensures too_long { IsErrOf result CoreError.PayloadTooLong ↔ IsTooLong (lent stimulus.now) }
         ensures spent { IsErrOf result CoreError.SeqSpent → is_spent self.now (lent stimulus.now) };
 
-    /// Makes a step that was worked out, whose turn it takes: all of it, or nothing where an allocation is refused.
+    /// Makes a step that was worked out, and takes its turn: all of it, or nothing if an allocation is refused.
     fn advance(
         &mut self,
         stimulus: &StimulusRef<'_, Frame<A>, A>,
@@ -61,11 +62,11 @@ pub trait NodeCore<A: Allocator>: Sized {
         ensures ok { OnOk result (self.new ≡ after self.old (lent stimulus.now)) }
         ensures err { OnErr result (self.new ≡ self.old) };
 
-    /// A copy of it. This costs all that it holds.
+    /// Returns a copy. It costs as much as all that the core holds.
     fn copy(&self) -> Result<Self, AllocError>
         ensures { IfOk result (λ copy. copy ≡ self.now) };
 
-    /// Who it is: its name and incarnation.
+    /// Its name and incarnation.
     fn me(&self) -> Origin
         ensures { result ≡ (state self.now).me };
 
@@ -73,7 +74,7 @@ pub trait NodeCore<A: Allocator>: Sized {
     fn active(&self) -> &NameSet<A>
         ensures { result.now.keys ≡ (state self.now).active };
 
-    /// The ids whose timers are armed, in order of arming.
+    /// The ids whose timers are armed, in the order in which they were armed.
     fn timers(&self) -> &[MsgId]
         ensures { result.now ≡ (state self.now).timers };
 

@@ -1,4 +1,4 @@
-//! A step, and the links that turn out to be down by it.
+//! A step, and the links that it finds to be down.
 ghost use Rattle.std.specs.Prelude.{◌≡◌, IfOk, IfErr, OnErr};
 ghost use Rattle.node_threads.specs.Downs.{AppliesDrawing, AppliesWithDowns, TakesDownBy, TakesDowns, TakesDrawnDowns};
 ghost use Rattle.node_threads.specs.Refusal.{Refuses};
@@ -13,8 +13,8 @@ use rand_core::Rng;
 use std::alloc::Allocator;
 use world::{Stimulus, StimulusOf};
 
-/// Tells the core that the link to the peer is down, with these dice. If the node refuses it, nothing changes: a link
-/// that is closed and of which the core was not told is only one whose frames reach nobody.
+/// Tells the core that the link to the peer is down, with these dice. If the node refuses this, nothing changes: the
+/// core does not learn that the link is closed, and the frames that it sends over it reach no one.
 fn take_down<C: NodeCore<A> + Drop, A: Allocator + Copy>(
     cell: &mut NodeCell<C, A>,
     peer: NodeName,
@@ -55,12 +55,12 @@ fn take_drawn_downs<C: NodeCore<A> + Drop, A: Allocator + Copy, R: Rng>(
 }
 
 impl<C: NodeCore<A> + Drop, A: Allocator + Copy> NodeCell<C, A> {
-    /// Applies the stimulus, and then tells the core that the links are down which this step found full, and then those
-    /// which it found missing. So a core that sends to a peer without a link drops it from its active view. The Downs
-    /// have dice of zeros.
+    /// Applies the stimulus, and then tells the core that the links are down that this step found full, and then those
+    /// that it found missing. So a core that sends to a peer without a link drops the peer from its active view. The
+    /// Downs have dice of zeros.
     ///
-    /// It is refused as `apply` is. What the Downs find full or missing in turn is not followed up, and a Down that is
-    /// refused is dropped.
+    /// It is refused as `apply` is. If a Down in turn finds links full or missing, they are not followed up, and a Down
+    /// that is refused is dropped.
     pub fn apply_with_downs(
         &mut self,
         stimulus: Stimulus<Frame<A>, A>,
@@ -75,7 +75,7 @@ impl<C: NodeCore<A> + Drop, A: Allocator + Copy> NodeCell<C, A> {
         Ok(applied)
     }
 
-    /// As `apply_with_downs`, but that each Down has the generator's next dice.
+    /// Like `apply_with_downs`, except that each Down has the generator's next dice.
     pub fn apply_drawing<R: Rng>(
         &mut self,
         stimulus: Stimulus<Frame<A>, A>,

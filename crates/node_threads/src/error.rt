@@ -1,4 +1,4 @@
-//! Why a running node refuses.
+//! Why a running node refuses a call.
 use std::alloc::AllocError;
 use thiserror::Error;
 use world::CoreError;
@@ -15,7 +15,7 @@ pub enum HostError {
     /// The core refused the step.
     #[error("{0}")]
     Refused(CoreError),
-    /// The gate let the worker through in none of as many askings as it makes.
+    /// The gate did not let the worker pass within `ASKINGS` attempts.
     #[error("the gate is shut")]
     GateShut,
     /// An allocation is refused.

@@ -1,14 +1,14 @@
-//! Who lets a worker make its next step.
+//! The gate that lets a worker make its next step.
 
-/// What a worker asks before each step that it makes, and tells of each step that it made.
+/// What a worker asks before each step that it makes, and tells about each step that it made.
 ///
-/// A test orders workers by it, and a program that needs no order takes `OpenGate`. Its methods are called from the
-/// workers' threads, and never under the node's lock.
+/// A test uses it to order the workers, and a program that needs no order uses `OpenGate`. Its methods are called from
+/// the workers' threads, and never under the node's lock.
 pub trait Gate {
-    /// Whether the worker of this number may make its next step now.
+    /// Whether the worker with this number may make its next step now.
     fn pass(&self, worker: usize) -> bool;
 
-    /// The worker of this number made a step.
+    /// Notes that the worker with this number made a step.
     fn applied(&self, worker: usize);
 
     /// Waits a little, since the gate did not let a worker pass.
@@ -29,15 +29,15 @@ impl Gate for OpenGate {
     fn pause(&self) {}
 }
 
-/// How often a worker asks before one step.
+/// How many times a worker asks before one step.
 const ASKINGS: u32 = 1_000;
 
-/// Asks until the gate lets the worker pass, and answers whether it did.
+/// Asks until the gate lets the worker pass, at most `ASKINGS` times. Returns whether it did.
 pub(crate) fn passes<G: Gate>(gate: &G, worker: usize) -> bool {
     gate.pass(worker) || passes_later(gate, worker)
 }
 
-/// Goes on asking a gate that did not let the worker pass, and answers whether it did then.
+/// Goes on asking a gate that did not let the worker pass. Returns whether it did then.
 pub(crate) fn passes_later<G: Gate>(gate: &G, worker: usize) -> bool {
     for _ in 1..ASKINGS {
         gate.pause();

@@ -19,7 +19,7 @@ pub trait Handed<B> {
     fn take(&mut self, batch: B);
 }
 
-/// Hands out batches until the node was stopped and nothing is left.
+/// Hands out batches until the node is stopped and nothing is left.
 fn hand_batches<R, C, A, G, S>(rt: &R, steps: &Stepper<C, A, G>, mut sink: S)
 where
     R: Wait,
@@ -38,8 +38,8 @@ where
 
 /// Starts the worker that hands deliveries to the application, each once and in order, in batches of all that wait.
 ///
-/// It makes no step, so it never asks the gate. It ends when the node was stopped and nothing waits any more. `Closed`:
-/// the node was stopped. `OutOfMemory`: an allocation is refused, or no thread can be made.
+/// It makes no step, so it never asks the gate. It ends when the node is stopped and no delivery waits any more.
+/// `Closed`: the node was stopped. `OutOfMemory`: an allocation is refused, or no thread can be made.
 pub fn hand_out<R, C, A, G, S>(
     rt: R,
     host: &Host<C, A>,

@@ -1,4 +1,4 @@
-//! A node that runs: how it starts and how it stops.
+//! A running node: how it starts and how it stops.
 ghost use Rattle.std.specs.Prelude.{◌≡◌, [], ◌∷◌, ◌++◌, IfOk, IfErr, OnOk, map, replicate};
 ghost use Rattle.node_threads.specs.Opening.{IsFresh};
 ghost use Rattle.node_threads.specs.Outlet.{fresh_outlet};
@@ -20,15 +20,15 @@ use std::marker::Model;
 use std::sync::{Arc, Wait};
 use world::Out;
 
-/// A running node. Its ports are the application's, and its workers move frames and deliveries.
+/// A running node. Its ports belong to the application, and its workers move frames and deliveries.
 ///
-/// Dropping it stops nothing: `close` does.
+/// Dropping it does not stop anything; `close` does.
 #[derive(Drop)]
 pub struct Host<C: NodeCore<A> + Drop, A: Allocator = Global> {
     pub(crate) shared: Arc<Shared<C, A>, A>,
     /// How many ports were made.
     pub(crate) ports: usize,
-    /// What the workers that were joined left, for the close.
+    /// The outlets of the workers that were joined, kept for the close.
     pub(crate) left: Vec<Outlets<A>, A>,
 }
 
@@ -40,7 +40,7 @@ impl<C: NodeCore<A> + Drop, A: Allocator> Model for Host<C, A> {
     ghost view = { λ h. h.ports };
 }
 
-/// So many ports of one node.
+/// Makes `count` ports of one node.
 fn new_ports<C: NodeCore<A> + Drop, A: Allocator + Copy>(
     alloc: A,
     shared: &Arc<Shared<C, A>, A>,
@@ -55,7 +55,7 @@ fn new_ports<C: NodeCore<A> + Drop, A: Allocator + Copy>(
     Ok(ports)
 }
 
-/// Puts an outlet last.
+/// Appends an outlet.
 fn keep<A: Allocator>(outlets: &mut Vec<Outlet<A>, A>, outlet: Outlet<A>) -> Result<(), AllocError>
     ensures { OnOk result (outlets.new.items ≡ outlets.old.items ++ outlet ∷ []) }
 {
@@ -63,7 +63,7 @@ fn keep<A: Allocator>(outlets: &mut Vec<Outlet<A>, A>, outlet: Outlet<A>) -> Res
     Ok(())
 }
 
-/// Opens a link to each of the names, in order, with rings for so many frames.
+/// Opens a link to each of the names, in order, with rings for `ring` frames.
 fn open_links<C: NodeCore<A> + Drop, A: Allocator + Copy>(
     alloc: A,
     cell: &mut NodeCell<C, A>,
@@ -82,7 +82,7 @@ fn open_links<C: NodeCore<A> + Drop, A: Allocator + Copy>(
     Ok(outlets)
 }
 
-/// Puts the cell under a lock, which several threads can hold.
+/// Puts the cell under a lock that several threads can share.
 fn share<C: NodeCore<A> + Drop, A: Allocator + Copy>(
     alloc: A,
     cell: NodeCell<C, A>,
@@ -93,13 +93,13 @@ fn share<C: NodeCore<A> + Drop, A: Allocator + Copy>(
 }
 
 impl<C: NodeCore<A> + Drop, A: Allocator + Copy> Host<C, A> {
-    /// Runs a node that has just started, `opening` being what its start gave, and opens a link to each of the names
-    /// before any step. It answers the host, its ports, and the outlets of the links in the order of the names.
+    /// Runs a node that has just started, and opens a link to each of the names before any step. `opening` is the
+    /// output of its start. Returns the host, its ports, and the outlets of the links in the order of the names.
     ///
-    /// `ring` is how many frames the ring of each link has room for, and `trace_limit` how many steps the trace may
-    /// have. The names are to be distinct and other than the node's own: of two links to one name only the last is
-    /// open, and a node sends nothing to itself. A link whose ring has no room for what the start sent is closed. Its
-    /// only refusal is `OutOfMemory`.
+    /// `ring` is the number of frames that the ring of each link has room for, and the trace may have at most
+    /// `trace_limit` steps. The names should be distinct and other than the node's own: of two links to one name only
+    /// the last is open, and a node sends nothing to itself. A link whose ring has no room for what the start sent is
+    /// closed. The only error is `OutOfMemory`.
     pub fn start(
         alloc: A,
         core: C,
@@ -131,18 +131,18 @@ impl<C: NodeCore<A> + Drop, A: Allocator + Copy> Host<C, A> {
         ))
     }
 
-    /// Stops the node: from now on no step is made. Its workers come to their ends.
+    /// Stops the node: from now on no step is made. Its workers then end.
     pub fn stop<R: Wait>(&self, rt: &R) {
         self.shared.stop(rt);
     }
 
-    /// Hands out the steps since the last call, as `NodeCell::seal` does, also after the stop. The node takes no step
-    /// meanwhile.
+    /// Hands out the steps since the last call, as `NodeCell::seal` does. This works after the stop too. The node makes
+    /// no step meanwhile.
     pub fn seal<R: Wait>(&self, rt: &R) -> Result<Sealed<C, A>, HostError> {
         self.shared.seal(rt)
     }
 
-    /// Whether one of its workers was refused memory, so that it ended before its time or gave a link up.
+    /// Whether one of its workers was refused memory, so that it ended early or gave a link up.
     pub fn lacks_memory(&self) -> bool {
         self.shared.lacks_memory()
     }
@@ -152,15 +152,15 @@ impl<C: NodeCore<A> + Drop, A: Allocator + Copy> Host<C, A> {
         self.shared.is_neighbour(rt, name)
     }
 
-    /// Asks the worker that writes the link to this name to end once its outlet has no frame. Its connection is dropped
-    /// then, and `join_ended` answers its outlet.
+    /// Tells the worker that writes the link to this name to end once its outlet has no frame. Its connection is then
+    /// dropped, and `join_ended` hands its outlet back.
     pub fn retire<R: Wait>(&self, rt: &R, peer: &NodeName) {
         if let Some(place) = self.shared.writer(peer) {
             place.retire(rt);
         }
     }
 
-    /// A worker's way to the node's steps.
+    /// Gives the worker with this number access to the node's steps.
     pub(crate) fn stepper<G: Gate + Drop>(
         &self,
         gate: G,
@@ -173,7 +173,7 @@ impl<C: NodeCore<A> + Drop, A: Allocator + Copy> Host<C, A> {
         Ok(Stepper::new(shared, gate, number))
     }
 
-    /// A worker that was started, which is to come back when the node is closed.
+    /// Counts a worker that was started, which must come back when the node is closed, and returns it.
     pub(crate) fn employ(&self, worker: Worker<A>) -> Worker<A>
         ensures { result ≡ worker }
     {

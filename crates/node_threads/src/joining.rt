@@ -9,21 +9,21 @@ use crate::worker::{Outlets, Worker};
 use std::alloc::Allocator;
 use std::thread::Threads;
 
-/// Puts an item last, for which there is room.
+/// Appends an item, for which there is room.
 fn put<T: Drop, A: Allocator>(list: &mut Vec<T, A>, item: T)
     requires { vec_len list.old < vec_capacity list.old }
 {
     list.push(item).unwrap();
 }
 
-/// The place of the first of the workers that has ended, if one has.
+/// The place of the first worker that has ended, if there is one.
 fn first_ended<A: Allocator>(workers: &[Worker<A>]) -> Option<usize>
     ensures { IfSome result (λ place. place < length workers.now) }
 {
     workers.iter().position(|worker| worker.has_ended())
 }
 
-/// Joins a worker, and puts its last outlet and the others to those of the workers before, for which there is room.
+/// Joins a worker. Appends its last outlet to `outlets` and those before to `left`; both have room.
 fn join<R: Threads, A: Allocator>(
     rt: &R,
     worker: Worker<A>,
@@ -43,11 +43,11 @@ fn join<R: Threads, A: Allocator>(
 }
 
 impl<C: NodeCore<A> + Drop, A: Allocator + Copy> Host<C, A> {
-    /// Joins the workers of a list that have ended, takes them out of it, and puts the outlets of the writers among them
-    /// last: these can be given to `write_link` again, or to `rest` for the close. The outlets that a writer had before
-    /// its last are kept for the close.
+    /// Joins the workers of a list that have ended, takes them out of it, and appends the last outlets of the writers
+    /// among them to `outlets`: these can be given to `write_link` again, or to `rest` for the close. The outlets that
+    /// a writer had before its last are kept for the close.
     ///
-    /// `OutOfMemory`: those that were not joined are still in the list.
+    /// `OutOfMemory`: the workers that were not joined are still in the list.
     pub fn join_ended<R: Threads>(
         &mut self,
         rt: &R,
@@ -66,7 +66,7 @@ impl<C: NodeCore<A> + Drop, A: Allocator + Copy> Host<C, A> {
         Ok(())
     }
 
-    /// A worker without a thread that has this outlet, for the close.
+    /// Makes a worker without a thread that has this outlet, for the close.
     pub fn rest(&self, outlet: Outlet<A>) -> Worker<A>
         ensures { result ≡ Some outlet.peer }
     {

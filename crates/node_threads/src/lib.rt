@@ -1,4 +1,4 @@
-//! A running node: one core under a lock, between the links that bring frames and those that take them.
+//! A running node: one core under a lock, between the links that bring frames and those that take them away.
 #![tactic(auto)]
 
 mod applied;

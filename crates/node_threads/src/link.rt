@@ -10,7 +10,7 @@ use std::marker::Model;
 /// The frames of a step that go to one link.
 pub(crate) type Mail<A> = Listed<LinkFrame<A>, A>;
 
-/// A link that is open: the name that it goes to, and the ring from which its outlet takes.
+/// An open link: the name that it goes to, and the ring from which its outlet takes frames.
 #[derive(Drop)]
 pub(crate) struct Link<A: Allocator> {
     pub(crate) peer: NodeName,
@@ -36,7 +36,7 @@ impl<A: Allocator> Link<A> {
         self.peer
     }
 
-    /// Puts a frame into the ring, and answers whether there was room.
+    /// Puts a frame into the ring. Returns whether there was room.
     pub(crate) fn push(&mut self, frame: LinkFrame<A>) -> bool
         ensures pushed { result ≡ true → self.new ≡ record self.old { pushed = self.old.pushed ++ frame ∷ [] } }
         ensures kept { result ≡ false → self.new ≡ self.old }

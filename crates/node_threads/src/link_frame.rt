@@ -8,8 +8,8 @@ use std::alloc::{AllocError, Allocator};
 use std::marker::Model;
 use world::Wire;
 
-/// A frame that goes over a link. Contracts see it as its bytes, which are written only when it comes out: so the node
-/// makes none under its lock, and a payload is shared and never copied before that.
+/// A frame that goes over a link. Contracts see it as its bytes. These are encoded only when it comes out, so the node
+/// encodes nothing under its lock, and the payload is shared and not copied before that.
 #[derive(Drop)]
 pub(crate) struct LinkFrame<A: Allocator> {
     frame: Frame<A>,
@@ -41,7 +41,7 @@ impl<A: Allocator + Copy> LinkFrame<A> {
         encode(alloc, &self.frame)
     }
 
-    /// Whether it is this frame. It writes no bytes.
+    /// Whether it is this frame. Nothing is encoded.
     pub(crate) fn is(&self, frame: &Frame<A>) -> bool
         ensures { result ≡ true → self.now ≡ spelling frame.now }
     {

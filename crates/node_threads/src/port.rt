@@ -30,7 +30,7 @@ impl<C: NodeCore<A> + Drop, A: Allocator> Model for Port<C, A> {
     ghost view = { λ p. p.calls.items };
 }
 
-/// Puts a call last, for which there is room.
+/// Appends a call, for which there is room.
 fn keep<A: Allocator>(calls: &mut Vec<Call<A>, A>, payload: Bytes<A>, receipt: &Receipt)
     requires { vec_len calls.old < vec_capacity calls.old }
     ensures { calls.new.items ≡ calls.old.items ++ record { payload = payload; receipt = receipt.now } ∷ [] }
@@ -68,10 +68,10 @@ impl<C: NodeCore<A> + Drop, A: Allocator + Copy> Port<C, A> {
         }
     }
 
-    /// Broadcasts a payload of at most 32,768 bytes, and answers under which id and at which place of the trace.
+    /// Broadcasts a payload of at most 32,768 bytes. Returns its id and its place in the trace.
     ///
-    /// `OutOfMemory` may come before the other refusals, for the room that the port takes to keep the call; else they
-    /// come as those of `NodeCell::apply`.
+    /// The errors are those of `NodeCell::apply`, in the same order, except that `OutOfMemory` may come before the
+    /// others, since the port makes room to keep the call.
     pub fn broadcast<R: Wait>(&mut self, rt: &R, payload: Bytes<A>) -> Result<Receipt, HostError>
         ensures ok { IfOk result (λ receipt. self.new ≡ self.old ++ record { payload = payload; receipt = receipt } ∷ []) }
         ensures err { OnErr result (self.new ≡ self.old) }

@@ -26,7 +26,7 @@ pub(crate) fn has_link<A: Allocator>(links: &[Link<A>], name: &NodeName) -> bool
     links.iter().any(|link| *name == link.peer)
 }
 
-/// Puts the frame of a packet last, if it goes to the peer.
+/// Appends the frame of a packet, if it goes to the peer.
 fn add_mail<A: Allocator + Copy>(
     mail: &mut Mail<A>,
     peer: &NodeName,
@@ -55,7 +55,7 @@ pub(crate) fn mail_for<A: Allocator + Copy>(
     Ok(mail)
 }
 
-/// Puts a name last, unless it is there.
+/// Appends a name, unless it is there already.
 fn add_name<A: Allocator>(names: &mut Vec<NodeName, A>, name: NodeName) -> Result<(), AllocError>
     ensures { OnOk result (names.new.items ≡ with_name names.old.items name) }
 {
@@ -66,7 +66,7 @@ fn add_name<A: Allocator>(names: &mut Vec<NodeName, A>, name: NodeName) -> Resul
     Ok(())
 }
 
-/// Puts a letter last.
+/// Appends a letter.
 fn add_letter<A: Allocator + Copy>(
     letters: &mut Vec<Letter<A>, A>,
     place: usize,
@@ -79,8 +79,8 @@ fn add_letter<A: Allocator + Copy>(
     Ok(())
 }
 
-/// Puts the frame of a packet to the letters, if a link to its receiver is open, and else the receiver to those that
-/// have none.
+/// Appends the frame of a packet to `letters` if a link to its receiver is open, and otherwise the receiver to
+/// `lacking`.
 fn address<A: Allocator + Copy>(
     names: &NameSet<A>,
     send: &(NodeName, Frame<A>),
@@ -97,8 +97,8 @@ fn address<A: Allocator + Copy>(
     }
 }
 
-/// The frames of these packets for the open links, which have these names in their order; and the receivers that have
-/// none, each once.
+/// The frames of these packets for the open links, whose names are given in the order of the links; and the receivers
+/// without an open link, each once.
 fn letters_for<A: Allocator + Copy>(
     alloc: A,
     names: &NameSet<A>,
@@ -116,8 +116,9 @@ fn letters_for<A: Allocator + Copy>(
     Ok((letters, lacking))
 }
 
-/// Puts a frame that has room in its ring, or the name of its link to those that are blocked. Of a link that is
-/// blocked nothing more is put into the ring, since what comes out of it is to be how its text begins.
+/// Puts a frame into the ring of its link, or, if that has no room, the name of the link into `blocked`. Nothing more
+/// is put into the ring of a blocked link, since what comes out of a link must be the beginning of what the node sent
+/// to its peer.
 fn post_one<A: Allocator>(links: &mut [Link<A>], letter: Letter<A>, blocked: &mut Vec<NodeName, A>)
     requires addressed { IsAddressed (peers_of links.old) letter }
     requires within { letter.1 < length links.old }
@@ -137,7 +138,7 @@ fn post_one<A: Allocator>(links: &mut [Link<A>], letter: Letter<A>, blocked: &mu
 }
 
 /// Puts the letters into the rings of their links, in order, and the names of the links that had no room for all of
-/// theirs to the blocked ones.
+/// their letters into `blocked`.
 pub(crate) fn post_all<A: Allocator>(
     links: &mut [Link<A>],
     letters: Vec<Letter<A>, A>,
@@ -155,7 +156,7 @@ pub(crate) fn post_all<A: Allocator>(
     }
 }
 
-/// Puts the name of a link last, if it is blocked.
+/// Appends the name of a link to `full`, if the link is blocked.
 fn add_blocked<A: Allocator>(full: &mut Vec<NodeName, A>, blocked: &[NodeName], peer: NodeName)
     requires { vec_len full.old < vec_capacity full.old }
     ensures full { full.new.items ≡ full.old.items ++ filter (has_name blocked.now) (peer ∷ []) }
@@ -166,7 +167,7 @@ fn add_blocked<A: Allocator>(full: &mut Vec<NodeName, A>, blocked: &[NodeName], 
     }
 }
 
-/// The names of the links that are blocked, in the order of the links.
+/// Appends the names of the blocked links to `full`, in the order of the links.
 fn names_in_order<A: Allocator>(
     links: &[Link<A>],
     blocked: &[NodeName],
@@ -180,7 +181,7 @@ fn names_in_order<A: Allocator>(
     }
 }
 
-/// Closes the links to these names, and answers their names in the order of the links.
+/// Closes the links to these names, and appends their names to `full` in the order of the links.
 fn close_blocked<A: Allocator>(
     links: &mut Vec<Link<A>, A>,
     names: &mut NameSet<A>,
@@ -205,8 +206,8 @@ fn close_blocked<A: Allocator>(
     );
 }
 
-/// Closes the links that are blocked, if any are, and answers their names in the order of the links. `room` has room for
-/// the names of all links; it is given away where a link is closed.
+/// Closes the links that are blocked, if any are. Returns their names in the order of the links. `room` has room for
+/// the names of all links; this room is given away if a link is closed.
 pub(crate) fn close_full<A: Allocator + Copy>(
     links: &mut Vec<Link<A>, A>,
     names: &mut NameSet<A>,
@@ -229,7 +230,7 @@ pub(crate) fn close_full<A: Allocator + Copy>(
     full
 }
 
-/// All that a step needs besides the step itself, so that nothing after it can be refused.
+/// All that a step needs besides the step itself, prepared so that nothing can be refused after the step.
 #[derive(Drop)]
 pub(crate) struct Posting<A: Allocator> {
     /// The frames for open links, in the order of the packets.
@@ -242,7 +243,7 @@ pub(crate) struct Posting<A: Allocator> {
     pub(crate) copies: Vec<Delivery<A>, A>,
 }
 
-/// What the step with this output needs, where links to these names are open.
+/// Prepares what the step with this output needs if links to these names are open.
 pub(crate) fn posting_for<A: Allocator + Copy>(
     alloc: A,
     names: &NameSet<A>,

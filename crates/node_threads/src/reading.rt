@@ -21,7 +21,7 @@ use world::StimulusOf;
 struct Incoming<A: Allocator> {
     /// The bytes of a frame that is not whole yet.
     cutter: Cutter<A>,
-    /// Who sent the last frame.
+    /// The sender of the last frame.
     sender: Option<NodeName>,
     generator: Lcg128Xsl64,
 }
@@ -40,7 +40,7 @@ fn take_frames<R: Wait, C: NodeCore<A> + Drop, A: Allocator + Copy, G: Gate + Dr
     steps.take_frames(rt, frames, &mut link.generator)
 }
 
-/// Why a reader ends with its link: it was refused memory, or for no fault of the node.
+/// The result of a reader whose link ended in this way: only a refusal of memory is an error.
 fn judge(end: LinkEnd) -> Result<(), HostError> {
     if end == LinkEnd::OutOfMemory {
         return Err(HostError::OutOfMemory);
@@ -92,12 +92,12 @@ where
 }
 
 /// Starts the worker that brings the frames of a link to the node. Bytes come from the reader, and each frame is one
-/// step; those of one read are taken under one hold of the node's lock. Their dice, and those of the Downs that follow
-/// them, are drawn from the generator that this seed starts.
+/// step; the frames of one read are taken under one hold of the node's lock. Their dice, and those of the Downs that
+/// follow them, are drawn from a generator with this seed.
 ///
-/// It ends with the link, of which the core is told as a Down of whoever sent the last frame; with the node; and at the
-/// first refusal, which `Host::lacks_memory` tells where it is of memory. Bytes that are no frame end the link. `Closed`:
-/// the node was stopped. `OutOfMemory`: an allocation is refused, or no thread can be made.
+/// It ends with the link, with the node, or at the first refusal; `Host::lacks_memory` tells whether memory was
+/// refused. When the link ends, the core gets a Down of the peer that sent the last frame. Bytes that are not a frame
+/// end the link. `Closed`: the node was stopped. `OutOfMemory`: an allocation is refused, or no thread can be made.
 pub fn read_link<R, C, A, G, D>(
     rt: R,
     host: &Host<C, A>,

@@ -4,7 +4,7 @@ use node_names::MsgId;
 use std::alloc::{Allocator, Global};
 use std::marker::Model;
 
-/// What a broadcast answers.
+/// What a broadcast returns.
 #[derive(Clone, Copy, Debug, PartialEq, Eq)]
 pub struct Receipt {
     /// The id of the message.
@@ -13,12 +13,12 @@ pub struct Receipt {
     pub place: usize,
 }
 
-/// One broadcast of a port: the payload that it was handed and the receipt that it answered.
+/// One broadcast of a port: the payload that it was given and the receipt that it returned.
 #[derive(Drop)]
 pub struct Call<A: Allocator = Global> {
     /// What was to be broadcast.
     pub payload: Bytes<A>,
-    /// What the broadcast answered.
+    /// What the broadcast returned.
     pub receipt: Receipt,
 }
 

@@ -1,4 +1,4 @@
-//! Whether what the ports got for their broadcasts is as in the trace.
+//! Compares what the ports got for their broadcasts with the trace.
 ghost use Rattle.std.specs.Prelude.{◌≡◌, ◌↔◌, true, None, length, IfOk, IfSome, IsTrue, slice_set};
 ghost use Rattle.std.specs.Bool.{OnTrue, OnFalse};
 ghost use Rattle.node_threads.specs.Marks.{Fits, FitsAt, HasMarks, LacksMark, Marks};
@@ -30,7 +30,8 @@ fn is_broadcast_of<A: Allocator>(step: &Step<Frame<A>, A>, call: &Call<A>) -> bo
     *payload == call.payload && delivery.id == call.receipt.id
 }
 
-/// Whether the receipt of the call is right and its place is free and not below `low`. The place is marked then.
+/// Whether the receipt of the call is right and its place has no mark and is not below `low`. If so, the place is
+/// marked.
 fn mark_one<A: Allocator>(
     trace: &Trace<Frame<A>, A>,
     marks: &mut [bool],
@@ -53,8 +54,8 @@ fn mark_one<A: Allocator>(
     true
 }
 
-/// Whether the receipts of a port are in order, right, and for steps of their own that have no mark. Their places are
-/// marked then; where they are not so, some of the places may be.
+/// Whether the receipts of a port are right, in order, and for different steps that have no mark. If so, their places
+/// are marked; if not, some of the places may be.
 fn mark_all<A: Allocator>(trace: &Trace<Frame<A>, A>, marks: &mut [bool], calls: &[Call<A>]) -> bool
     requires { length marks.old ≡ length trace.now.steps }
     ensures fits { OnTrue result (Fits trace.now.steps marks.old 0 calls.now) }
@@ -88,9 +89,9 @@ fn lacks_mark<A: Allocator>(trace: &Trace<Frame<A>, A>, marks: &[bool]) -> bool
     false
 }
 
-/// The first port whose receipts are not, in order, those of broadcasts of its payloads in the trace that no earlier
-/// port has. Where all ports are as they should be and a broadcast of the trace is in none of them, it is the number of
-/// ports. None where the ports have all broadcasts of the trace and nothing else.
+/// Returns the first port whose receipts are not, in order, those of broadcasts of its payloads in the trace that no
+/// earlier port has. If there is no such port, but a broadcast of the trace is in none of the ports, returns the number
+/// of ports. Returns `None` if the ports have all broadcasts of the trace and nothing else.
 pub(crate) fn first_unlike<A: Allocator + Copy>(
     alloc: A,
     trace: &Trace<Frame<A>, A>,

@@ -1,4 +1,4 @@
-//! A step is recorded and made, or neither.
+//! Records and makes a step, or does neither.
 ghost use Rattle.std.specs.Prelude.{◌≡◌, ◌∷◌, [], ◌++◌, OnOk, OnErr};
 
 use crate::cores::NodeCore;
@@ -8,7 +8,7 @@ use node_names::Listed;
 use std::alloc::{AllocError, Allocator};
 use world::{Delivery, Step, Trace};
 
-/// Records the step, and makes it. It is recorded first, since the core is what cannot be taken back.
+/// Records the step, and makes it. It is recorded first, since a step of the core cannot be taken back.
 fn make<C: NodeCore<A>, A: Allocator>(
     core: &mut C,
     trace: &mut Trace<Frame<A>, A>,
@@ -34,8 +34,8 @@ fn make<C: NodeCore<A>, A: Allocator>(
     }
 }
 
-/// Records the step and makes it, and puts copies of its deliveries to those that wait: all of this, or nothing where
-/// an allocation is refused.
+/// Records the step, makes it, and appends copies of its deliveries to `pending`: all of this, or nothing if an
+/// allocation is refused.
 pub(crate) fn record<C: NodeCore<A>, A: Allocator>(
     core: &mut C,
     trace: &mut Trace<Frame<A>, A>,

@@ -1,4 +1,4 @@
-//! What came out of a link is held against what the node sent, a packet at a time.
+//! Compares what came out of a link with what the node sent, one packet at a time.
 ghost use Rattle.std.specs.Prelude.{◌≡◌, ◌==◌, ◌∷◌, [], IfOk, drop, map, nat_eq, option_copied, if◌then◌else◌};
 ghost use Rattle.std.specs.Cmp.Lexicographic.{pointwise};
 ghost use Rattle.node_threads.specs.Applying.{mail_for};
@@ -11,8 +11,8 @@ use node_names::NodeName;
 use std::alloc::{AllocError, Allocator};
 use world::Trace;
 
-/// Whether what came out is the frame. Only where it is not are the bytes of both written, compared and freed again:
-/// frames that differ have other bytes, and to ask those spares the proof of it.
+/// Whether what came out is the frame. Only if it is not, the bytes of both are encoded, compared and freed again.
+/// Different frames have different bytes, but comparing the bytes saves a proof of that.
 fn is_frame<A: Allocator + Copy>(
     alloc: A,
     frame: &Frame<A>,
@@ -28,8 +28,8 @@ fn is_frame<A: Allocator + Copy>(
     Ok(others.as_slice() == bytes.as_slice())
 }
 
-/// What is left of these frames after a packet, which counts if it goes to the peer. None: it is another frame than the
-/// first.
+/// What is left of these frames after a packet, which counts if it goes to the peer. `None`: its frame is not the first
+/// of these.
 fn strip_packet<'a, A: Allocator + Copy>(
     alloc: A,
     peer: &NodeName,
@@ -50,8 +50,7 @@ fn strip_packet<'a, A: Allocator + Copy>(
     Ok(Some(rest))
 }
 
-/// What is left of these frames after the packets of a step. Where nothing is left, the packets that remain are passed
-/// over.
+/// What is left of these frames after the packets of a step. Once nothing is left, the remaining packets are skipped.
 fn strip<'a, A: Allocator + Copy>(
     alloc: A,
     peer: &NodeName,
@@ -72,8 +71,7 @@ fn strip<'a, A: Allocator + Copy>(
     Ok(Some(given))
 }
 
-/// What is left of these frames after the steps from a place on. Where nothing is left, the steps that remain are
-/// passed over.
+/// What is left of these frames after the steps from a place on. Once nothing is left, the remaining steps are skipped.
 fn strip_steps<'a, A: Allocator + Copy>(
     alloc: A,
     trace: &Trace<Frame<A>, A>,
@@ -98,7 +96,7 @@ fn strip_steps<'a, A: Allocator + Copy>(
     Ok(Some(given))
 }
 
-/// The packets of the opening, where a link was opened before any step, and else none.
+/// The packets of the opening if a link was opened before any step, and no packets otherwise.
 fn opening_of<A: Allocator>(trace: &Trace<Frame<A>, A>, opened: usize) -> &[(NodeName, Frame<A>)]
     ensures { result.now ≡ (if opened == 0 then trace.now.opening.sends else []) }
 {

@@ -1,4 +1,4 @@
-//! What came out of a link is compared with the trace.
+//! Compares what came out of a link with the trace.
 ghost use Rattle.std.specs.Prelude.{◌≡◌, None, Ok, IfOk, IfErr, IfSome};
 ghost use Rattle.node_threads.specs.Report.{BeginsText, report_of};
 
@@ -10,7 +10,7 @@ use crate::remainder::strip_text;
 use node_names::NodeName;
 use std::alloc::Allocator;
 
-/// How far the frames of a link came, where they came out as the node sent them.
+/// How far a link got whose frames came out as the node sent them.
 #[derive(Drop)]
 pub struct LinkReport {
     /// The name that the link goes to.
@@ -22,12 +22,12 @@ pub struct LinkReport {
 }
 
 impl<C: NodeCore<A> + Drop, A: Allocator + Copy> NodeCell<C, A> {
-    /// How far the frames of a link came, if they came out as the node sent them to its peer since the link was opened:
-    /// each as its bytes, in order, with none left out. None says that they did not, or that the link was opened after
-    /// more steps than the trace has, so that the outlet is another node's.
+    /// Returns how far a link got, if its frames came out as the node sent them to its peer since the link was opened:
+    /// each as its bytes, in order, with none left out. `None`: they did not, or the link was opened after more steps
+    /// than the trace has, so that the outlet belongs to another node.
     ///
-    /// It goes over the steps since the link was opened until the frames that came out are used up, and writes the bytes
-    /// of a frame only where it finds one that differs. Its only refusal is `OutOfMemory`, which comes of that alone.
+    /// It goes over the steps since the link was opened until the frames that came out are used up, and encodes a frame
+    /// only if it finds one that differs. The only error is `OutOfMemory`, and only this encoding causes it.
     pub fn report(&self, outlet: &Outlet<A>) -> Result<Option<LinkReport>, HostError>
         ensures begins { IfOk result (λ r. IfSome r (λ report. BeginsText self.now.trace outlet.now)) }
         ensures report { IfOk result (λ r. IfSome r (λ report. report ≡ report_of outlet.now)) }

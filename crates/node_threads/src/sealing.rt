@@ -1,4 +1,4 @@
-//! The history of a running node is handed out in parts.
+//! Hands out the history of a running node in parts.
 ghost use Rattle.std.specs.Prelude.{◌≡◌, IfErr, IfOk};
 ghost use Rattle.std.specs.Arc.{arc_value};
 ghost use Rattle.world.specs.Segments.{Ends};
@@ -15,7 +15,7 @@ use world::Segment;
 /// A part of a node's history, and the core that it leads to.
 #[derive(Drop)]
 pub struct Sealed<C: Drop, A: Allocator = Global> {
-    /// The steps since the part before it. The node's trace shares them.
+    /// The steps since the previous part. The node's trace shares them.
     pub segment: Arc<Segment<Frame<A>, A>, A>,
     /// A copy of the core after them.
     pub state: C,
@@ -25,8 +25,7 @@ impl<C: NodeCore<A> + Drop, A: Allocator + Copy> NodeCell<C, A> {
     /// Hands out the steps since the last call as a segment, with a copy of the core after them. The trace keeps its
     /// steps, and shares these from now on.
     ///
-    /// It costs the copy of the core and none of the steps, and works after `shut` too. Its only refusal is
-    /// `OutOfMemory`.
+    /// The core is copied, but none of the steps. It works after `shut` too. The only error is `OutOfMemory`.
     pub fn seal(&mut self) -> Result<Sealed<C, A>, HostError>
         ensures same { self.new ≡ self.old }
         ensures ends { IfOk result (λ sealed. Ends self.old.trace.steps (arc_value sealed.segment)) }

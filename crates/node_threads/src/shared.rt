@@ -1,4 +1,4 @@
-//! What the threads of a running node share: the cell under its lock, and who waits for it.
+//! What the threads of a running node share: the cell under its lock, and the threads that wait for it.
 ghost use Rattle.std.specs.Prelude.{◌≡◌, IfErr, IfOk, IfSome};
 ghost use Rattle.node_threads.specs.Calls.{MayAnswer};
 ghost use Rattle.node_threads.specs.Refusal.{RefusesPayload};
@@ -23,9 +23,9 @@ use std::sync::atomic::{AtomicBool, AtomicUsize, Ordering};
 use std::sync::{Condvar, Mutex, Wait};
 use world::{Delivery, Stimulus, StimulusOf};
 
-/// A node that runs. The lock holds the cell until the node is closed.
+/// A running node. The lock holds the cell until the node is closed.
 ///
-/// Waiting threads are told of each step that sends or delivers what they wait for, and of the stop.
+/// Waiting threads are woken at each step that sends or delivers what they wait for, and at the stop.
 #[derive(Drop)]
 pub(crate) struct Shared<C: NodeCore<A> + Drop, A: Allocator> {
     cell: Held<NodeCell<C, A>>,
@@ -41,18 +41,18 @@ pub(crate) struct Shared<C: NodeCore<A> + Drop, A: Allocator> {
     pub(crate) alloc: A,
 }
 
-/// Whether nothing waits for the application, and something may still come.
+/// Whether no delivery waits for the application, but one may still come.
 fn is_idle<C: NodeCore<A> + Drop, A: Allocator + Copy>(cell: &NodeCell<C, A>) -> bool {
     cell.pending().is_empty() && !cell.is_shut()
 }
 
-/// What a lock holds until it is taken out.
+/// A cache-padded mutex around a value that can be taken out.
 type Held<T> = CachePadded<Mutex<Option<T>>>;
 
-/// Calls with what the lock holds, if it was not taken out.
+/// Calls `call` with what the lock holds, if it was not taken out.
 ///
-/// The prover takes long over a function that names what a guard holds. Here it is any type, and callers lend it to a
-/// closure.
+/// The prover takes long over a function that names what a guard holds. So it is any type here, and callers lend it to
+/// a closure.
 fn with<T: Drop, Q, R: Wait, F: FnOnce(&mut T) -> Q>(rt: &R, lock: &Held<T>, call: F) -> Option<Q>
     requires { F.IsAlwaysCallable call }
     ensures { IfSome result (MayAnswer F.FnOnce call) }
@@ -64,7 +64,7 @@ fn with<T: Drop, Q, R: Wait, F: FnOnce(&mut T) -> Q>(rt: &R, lock: &Held<T>, cal
     }
 }
 
-/// Takes what the lock holds. If it is not there it waits until it is.
+/// Takes what the lock holds. If nothing is there, waits until something is.
 fn take_out<T: Drop, R: Wait>(rt: &R, lock: &Held<T>, told: &Condvar) -> T {
     let mut guard = told.wait_while(rt, lock.lock(rt), |held| held.is_none());
     let Some(held) = guard.take() else {
@@ -78,11 +78,11 @@ trait Stepping<A: Allocator> {
     /// How many steps it made.
     fn steps(&self) -> usize;
 
-    /// For whom the steps from this place on did something.
+    /// The threads to wake for the steps from this place on.
     fn moved_since(&self, wakeups: &Wakeups<A>, first: usize) -> WakeSet;
 }
 
-/// Calls with what makes steps, and answers for whom those that it made did something.
+/// Calls `call` with what makes steps. Returns its result, and the threads to wake for the steps that it made.
 fn step_held<T: Stepping<A>, A: Allocator, Q, F: FnOnce(&mut T) -> Q>(
     held: &mut T,
     wakeups: &Wakeups<A>,
@@ -96,8 +96,8 @@ fn step_held<T: Stepping<A>, A: Allocator, Q, F: FnOnce(&mut T) -> Q>(
     (answer, held.moved_since(wakeups, first))
 }
 
-/// Calls with what the lock holds under one hold of it, and tells those that wait for what its steps sent or delivered.
-/// None: the node is closed.
+/// Calls `call` with what the lock holds, under one hold of the lock, and wakes the threads that wait for what its
+/// steps sent or delivered. `None`: the node is closed.
 fn step<T: Stepping<A> + Drop, A: Allocator + Copy, Q, R: Wait, F: FnOnce(&mut T) -> Q>(
     rt: &R,
     lock: &Held<T>,
@@ -112,7 +112,7 @@ fn step<T: Stepping<A> + Drop, A: Allocator + Copy, Q, R: Wait, F: FnOnce(&mut T
     Some(answer)
 }
 
-/// For whom the steps from this place on did something.
+/// The threads to wake for the steps from this place on.
 fn moved_since<C: NodeCore<A> + Drop, A: Allocator + Copy>(
     cell: &NodeCell<C, A>,
     wakeups: &Wakeups<A>,
@@ -138,7 +138,7 @@ impl<C: NodeCore<A> + Drop, A: Allocator + Copy> Stepping<A> for NodeCell<C, A> 
     }
 }
 
-/// Broadcasts a payload with its Downs, and answers what the port gets for it.
+/// Broadcasts a payload with its Downs. Returns the receipt for the port.
 fn broadcast<C: NodeCore<A> + Drop, A: Allocator + Copy>(
     cell: &mut NodeCell<C, A>,
     payload: Bytes<A>,
@@ -156,7 +156,7 @@ fn broadcast<C: NodeCore<A> + Drop, A: Allocator + Copy>(
 }
 
 impl<C: NodeCore<A> + Drop, A: Allocator + Copy> Shared<C, A> {
-    /// A node that has a link to each of these names, with rings for so many frames.
+    /// A node that has a link to each of these names, with rings for `ring` frames.
     pub(crate) fn new(
         alloc: A,
         cell: NodeCell<C, A>,
@@ -206,8 +206,8 @@ impl<C: NodeCore<A> + Drop, A: Allocator + Copy> Shared<C, A> {
         .unwrap_or(Err(HostError::Closed))
     }
 
-    /// Has the node take frames, one step each with its Downs, until one is refused; all dice are drawn. Answers how
-    /// many steps that were, and why the next one was refused.
+    /// Has the node take frames, one step each with its Downs, until one is refused; all dice are drawn. Returns the
+    /// number of steps made, and why the next one was refused.
     pub(crate) fn take_frames<R: Wait>(
         &self,
         rt: &R,
@@ -236,7 +236,7 @@ impl<C: NodeCore<A> + Drop, A: Allocator + Copy> Shared<C, A> {
         .unwrap_or(Err(HostError::Closed))
     }
 
-    /// Opens a link to the outlet's peer in place of its own, and answers the outlet of the new one.
+    /// Opens a new link to the outlet's peer in place of the outlet's own. Returns the outlet of the new link.
     pub(crate) fn open_again<R: Wait>(
         &self,
         rt: &R,
@@ -248,7 +248,7 @@ impl<C: NodeCore<A> + Drop, A: Allocator + Copy> Shared<C, A> {
         with(rt, &self.cell, |cell| cell.open_link(peer, ring)).unwrap_or(Err(HostError::Closed))
     }
 
-    /// Ends the node: from now on no step is made, and nobody waits for one.
+    /// Ends the node: from now on no step is made, and no thread waits for one.
     pub(crate) fn stop<R: Wait>(&self, rt: &R) {
         let _ = with(rt, &self.cell, |cell| cell.shut());
         self.is_stopped.store(true, Ordering::SeqCst);
@@ -270,17 +270,17 @@ impl<C: NodeCore<A> + Drop, A: Allocator + Copy> Shared<C, A> {
         self.is_stopped.load(Ordering::SeqCst)
     }
 
-    /// What tells the writer of a link to this name that there is something to do.
+    /// The place where the writer of a link to this name waits.
     pub(crate) fn writer(&self, peer: &NodeName) -> Option<&WriterPlace> {
         self.wakeups.writer(peer)
     }
 
-    /// Takes the cell out of the lock. If it is not there it waits until it is.
+    /// Takes the cell out of the lock. If the cell is not there, waits until it is.
     pub(crate) fn take<R: Wait>(&self, rt: &R) -> NodeCell<C, A> {
         take_out(rt, &self.cell, &self.wakeups.delivered)
     }
 
-    /// Waits for deliveries and hands them out; none when the node was stopped and all are handed out.
+    /// Waits for deliveries and hands them out. Returns `None` when the node was stopped and all are handed out.
     pub(crate) fn wait_for_deliveries<R: Wait>(&self, rt: &R) -> Option<Vec<Delivery<A>, A>> {
         let mut guard = self
             .wakeups
@@ -310,7 +310,7 @@ impl<C: NodeCore<A> + Drop, A: Allocator + Copy> Shared<C, A> {
         self.lacks_memory.store(true, Ordering::SeqCst);
     }
 
-    /// Notes it, if that is how a worker ended.
+    /// Notes that a worker was refused memory, if that is how it ended.
     pub(crate) fn note_end(&self, ended: Result<(), HostError>) {
         if ended == Err(HostError::OutOfMemory) {
             self.note_lack();
@@ -327,7 +327,7 @@ impl<C: NodeCore<A> + Drop, A: Allocator + Copy> Shared<C, A> {
         self.workers.fetch_add(1, Ordering::SeqCst);
     }
 
-    /// Counts a worker less, which has ended and was joined.
+    /// Counts one worker less, which has ended and was joined.
     pub(crate) fn discount_worker(&self) {
         self.workers.fetch_sub(1, Ordering::SeqCst);
     }

@@ -1,4 +1,4 @@
-//! A worker's way to its node's steps.
+//! A worker's access to its node's steps.
 use crate::cores::NodeCore;
 use crate::error::HostError;
 use crate::gate::{Gate, passes, passes_later};
@@ -10,13 +10,13 @@ use std::mem;
 use std::sync::{Arc, Wait};
 use world::Stimulus;
 
-/// Puts a frame last.
+/// Appends a frame.
 fn add<A: Allocator>(frames: &mut Vec<Frame<A>, A>, frame: Frame<A>) -> Result<(), AllocError> {
     frames.push(frame)?;
     Ok(())
 }
 
-/// The node that a worker makes steps of, and the gate that it asks before each.
+/// The node whose steps a worker makes, and the gate that the worker asks before each.
 #[derive(Drop)]
 pub(crate) struct Stepper<C: NodeCore<A> + Drop, A: Allocator, G: Gate + Drop> {
     pub(crate) shared: Arc<Shared<C, A>, A>,
@@ -26,7 +26,7 @@ pub(crate) struct Stepper<C: NodeCore<A> + Drop, A: Allocator, G: Gate + Drop> {
 }
 
 impl<C: NodeCore<A> + Drop, A: Allocator + Copy, G: Gate + Drop> Stepper<C, A, G> {
-    /// The way of the worker of this number.
+    /// The access of the worker with this number.
     pub(crate) fn new(shared: Arc<Shared<C, A>, A>, gate: G, number: usize) -> Stepper<C, A, G> {
         Stepper {
             shared,
@@ -37,7 +37,7 @@ impl<C: NodeCore<A> + Drop, A: Allocator + Copy, G: Gate + Drop> Stepper<C, A, G
 
     /// Asks the gate, applies the stimulus with its Downs, whose dice are zeros, and reports the step.
     ///
-    /// `GateShut`: the gate let the worker through in none of its askings.
+    /// `GateShut`: the gate did not let the worker pass within `ASKINGS` attempts.
     pub(crate) fn apply<R: Wait>(
         &self,
         rt: &R,
@@ -49,7 +49,7 @@ impl<C: NodeCore<A> + Drop, A: Allocator + Copy, G: Gate + Drop> Stepper<C, A, G
         Ok(())
     }
 
-    /// As `apply`, with dice that are drawn.
+    /// Like `apply`, with dice that are drawn.
     pub(crate) fn apply_drawing<R: Wait>(
         &self,
         rt: &R,
@@ -63,7 +63,7 @@ impl<C: NodeCore<A> + Drop, A: Allocator + Copy, G: Gate + Drop> Stepper<C, A, G
     }
 
     /// Has the node take frames, one step each with its Downs, under one hold of the lock as long as the gate lets the
-    /// worker pass at once: where it does not, the frames before are taken first.
+    /// worker pass at once. If it does not, the frames before are taken first.
     pub(crate) fn take_frames<R: Wait>(
         &self,
         rt: &R,
@@ -96,12 +96,12 @@ impl<C: NodeCore<A> + Drop, A: Allocator + Copy, G: Gate + Drop> Stepper<C, A, G
         ended
     }
 
-    /// Asks the gate until it lets the worker pass.
+    /// Asks the gate until it lets the worker pass, at most `ASKINGS` times.
     fn ask(&self) -> Result<(), HostError> {
         Self::judge(passes(&self.gate, self.number))
     }
 
-    /// What it means whether the gate let the worker pass.
+    /// Returns `GateShut` if the gate did not let the worker pass.
     fn judge(is_passed: bool) -> Result<(), HostError> {
         if is_passed {
             Ok(())

@@ -1,4 +1,4 @@
-//! Frames that came over a link are taken, one step each.
+//! Takes frames that came over a link, one step each.
 ghost use Rattle.std.specs.Prelude.{◌≡◌, ◌≤◌, length, take, OnOk, OnErr};
 ghost use Rattle.rand_core.specs.Stream.{Stream};
 ghost use Rattle.node_threads.specs.Taking.{TakesFrame, TakesFrames};
@@ -12,7 +12,7 @@ use rand_core::Rng;
 use std::alloc::Allocator;
 use world::StimulusOf;
 
-/// Has the cell take a frame: one step with its Downs, all dice being the generator's next.
+/// Has the cell take a frame: one step with its Downs. All dice are the generator's next.
 fn take_frame<C: NodeCore<A> + Drop, A: Allocator + Copy, R: Rng>(
     cell: &mut NodeCell<C, A>,
     note: Frame<A>,
@@ -28,7 +28,7 @@ fn take_frame<C: NodeCore<A> + Drop, A: Allocator + Copy, R: Rng>(
 }
 
 /// Has the cell take frames, one step each with its Downs, until one is refused; all dice are the generator's next.
-/// Answers how many steps that were, and why the next one was refused.
+/// Returns the number of steps made, and why the next one was refused.
 pub(crate) fn take_frames<C: NodeCore<A> + Drop, A: Allocator + Copy, R: Rng>(
     cell: &mut NodeCell<C, A>,
     frames: Vec<Frame<A>, A>,

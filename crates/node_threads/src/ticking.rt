@@ -13,17 +13,17 @@ use std::sync::Wait;
 use std::thread::Threads;
 use world::StimulusOf;
 
-/// What a node's time comes from.
+/// The source of a node's time.
 pub trait Ticker {
-    /// Waits for the next tick. False ends the worker.
+    /// Waits for the next tick. `false` ends the worker.
     fn next(&mut self) -> bool;
 }
 
-/// The node shuffles its passive view at every tick of this number's multiples.
+/// The node shuffles its passive view every `SHUFFLE_EVERY` ticks.
 const SHUFFLE_EVERY: u64 = 10;
 
-/// One tick: queued announcements are flushed, and each timer that is armed fires; and at every tenth tick the passive
-/// view is shuffled.
+/// Makes one tick: queued announcements are flushed, each armed timer fires, and at every tenth tick the passive view
+/// is shuffled.
 fn make_tick<R: Wait, C: NodeCore<A> + Drop, A: Allocator + Copy, G: Gate + Drop>(
     rt: &R,
     steps: &Stepper<C, A, G>,
@@ -69,9 +69,9 @@ where
 
 /// Starts the worker that keeps the node's time. At each tick it applies Flush, then Fire for each id whose timer is
 /// armed, and at every tenth tick Shuffle. The dice of Shuffles, and of the Downs that follow any of these steps, are
-/// drawn from the generator that this seed starts.
+/// drawn from a generator with this seed.
 ///
-/// It ends when the ticker does, and at the first refusal, which `Host::lacks_memory` tells where it is of memory.
+/// It ends when the ticker does, or at the first refusal; `Host::lacks_memory` tells whether memory was refused.
 /// `Closed`: the node was stopped. `OutOfMemory`: an allocation is refused, or no thread can be made.
 pub fn tick<R, C, A, G, T>(
     rt: R,

@@ -1,4 +1,4 @@
-//! Who waits for a node's steps, and who is told of which.
+//! The threads that wait for a node's steps, and which of them a step wakes.
 use crate::writer_place::WriterPlace;
 use frames::Frame;
 use node_names::{NameSet, NodeName};
@@ -6,16 +6,16 @@ use std::alloc::{AllocError, Allocator};
 use std::sync::{Condvar, Wait};
 use world::Out;
 
-/// For whom steps did something.
+/// The threads that steps are to wake.
 #[derive(Clone, Copy)]
 pub(crate) struct WakeSet {
-    /// The places of the links that had frames, a bit each: that of place 64 is the bit of place 0 again.
+    /// The places of the links that had frames, one bit each: place 64 shares the bit of place 0, and so on.
     links: u64,
     has_delivered: bool,
 }
 
 impl WakeSet {
-    /// For nobody.
+    /// Wakes no one.
     pub(crate) fn nothing() -> WakeSet {
         WakeSet {
             links: 0,
@@ -23,7 +23,7 @@ impl WakeSet {
         }
     }
 
-    /// For all.
+    /// Wakes everyone.
     fn all() -> WakeSet {
         WakeSet {
             links: u64::MAX,
@@ -32,20 +32,20 @@ impl WakeSet {
     }
 }
 
-/// Who waits for a node's steps.
+/// The threads that wait for a node's steps.
 ///
-/// The writer of each link has a place of its own, and is told only where its link had a frame. A node with many links
-/// would else wake all their writers at each step.
+/// The writer of each link has a place of its own, and is woken only if its link had a frame. Otherwise a node with
+/// many links would wake all their writers at each step.
 #[derive(Drop)]
 pub(crate) struct Wakeups<A: Allocator> {
-    /// For who hands deliveries out, and who closes the node.
+    /// Wakes the worker that hands deliveries out, and the thread that closes the node.
     pub(crate) delivered: Condvar,
-    /// The names that links were opened to at the start, by the places of their writers.
+    /// The names that links were opened to at the start, in the order of their writers' places.
     names: NameSet<A>,
     writers: Vec<WriterPlace, A>,
 }
 
-/// A place for each of the names, and one for the writers of links to others.
+/// Makes a place for each of the names, and one for the writers of links to other names.
 fn places_for<A: Allocator + Copy>(
     alloc: A,
     names: &NameSet<A>,
@@ -58,7 +58,7 @@ fn places_for<A: Allocator + Copy>(
 }
 
 impl<A: Allocator + Copy> Wakeups<A> {
-    /// Nobody waits yet. Links are open to these names.
+    /// Makes the places for links to these names. No thread waits yet.
     pub(crate) fn new(alloc: A, links: &[NodeName]) -> Result<Wakeups<A>, AllocError> {
         let mut names = NameSet::new(alloc);
         for name in links {
@@ -72,17 +72,17 @@ impl<A: Allocator + Copy> Wakeups<A> {
         })
     }
 
-    /// The number of the place of the writer of a link to this name.
+    /// The number of the place where the writer of a link to this name waits.
     fn place_of(&self, peer: &NodeName) -> usize {
         self.names.get_index_of(peer).unwrap_or(self.names.len())
     }
 
-    /// Where the writer of a link to this name waits.
+    /// The place where the writer of a link to this name waits.
     pub(crate) fn writer(&self, peer: &NodeName) -> Option<&WriterPlace> {
         self.writers.get(self.place_of(peer))
     }
 
-    /// Adds what a step did.
+    /// Adds the threads that a step is to wake.
     pub(crate) fn add(&self, moved: &mut WakeSet, out: &Out<Frame<A>, A>) {
         for (to, _) in out.sends.as_slice() {
             moved.links |= 1_u64.rotate_left((self.place_of(to) % 64) as u32);
@@ -92,7 +92,7 @@ impl<A: Allocator + Copy> Wakeups<A> {
         }
     }
 
-    /// Wakes those for whom something was done.
+    /// Wakes these threads.
     pub(crate) fn wake<R: Wait>(&self, rt: &R, moved: WakeSet) {
         if moved.links != 0 {
             self.tell_writers(rt, moved.links);
@@ -102,7 +102,7 @@ impl<A: Allocator + Copy> Wakeups<A> {
         }
     }
 
-    /// Tells the writers at the places of these bits.
+    /// Wakes the writers at the places of these bits.
     fn tell_writers<R: Wait>(&self, rt: &R, links: u64) {
         let mut bits = links;
         for writer in self.writers.iter() {
@@ -113,7 +113,7 @@ impl<A: Allocator + Copy> Wakeups<A> {
         }
     }
 
-    /// Wakes all.
+    /// Wakes all threads that wait.
     pub(crate) fn wake_all<R: Wait>(&self, rt: &R) {
         self.wake(rt, WakeSet::all());
     }

@@ -11,7 +11,7 @@ use std::sync::Arc;
 use std::sync::atomic::{AtomicBool, Ordering};
 use std::thread::{Builder, Promise, PromisedHandle, Threads};
 
-/// How many bytes of stack a worker's thread has. What it calls needs a few thousand: buffers are on the heap.
+/// The size of the stack of a worker's thread, in bytes. It needs a few thousand: buffers are on the heap.
 const STACK: usize = 256 * 1024;
 
 /// The outlets that a worker had: those whose links it gave up, and the last.
@@ -33,8 +33,8 @@ impl<A: Allocator> Outlets<A> {
     }
 }
 
-/// What a worker's thread promises: to leave the outlets of the links to this name, and one at least. Where there is no
-/// name, it leaves none.
+/// What a worker's thread promises: to leave the outlets of the links to this name, of which there is at least one. If
+/// there is no name, it leaves no outlets.
 #[derive(Drop)]
 pub(crate) struct LinksTo(pub(crate) Option<NodeName>);
 
@@ -44,10 +44,10 @@ impl<A: Allocator> Promise<Outlets<A>> for LinksTo {
     ghost kept_by = { λ p r. HasLeft p.0 (outlets_in r) };
 }
 
-/// What a worker's outlets come from.
+/// Where a worker's outlets come from.
 #[derive(Drop)]
 enum Work<A: Allocator> {
-    /// A thread, which says when it has ended.
+    /// A thread, and the flag that it sets when it has ended.
     Thread {
         thread: PromisedHandle<Outlets<A>, LinksTo>,
         has_ended: Arc<AtomicBool, A>,
@@ -115,7 +115,7 @@ impl<A: Allocator> Worker<A> {
         self.peer
     }
 
-    /// Whether it has ended, so that joining it waits for nothing.
+    /// Whether it has ended, so that joining it does not wait.
     pub fn has_ended(&self) -> bool {
         match &self.work {
             Work::Thread { has_ended, .. } => has_ended.load(Ordering::SeqCst),
@@ -123,7 +123,7 @@ impl<A: Allocator> Worker<A> {
         }
     }
 
-    /// Waits for its end, and answers the outlets that it had.
+    /// Waits until it has ended. Returns the outlets that it had.
     pub(crate) fn join<R: Threads>(self, rt: &R) -> Outlets<A>
         ensures { HasLeft self (outlets_in result) }
     {
@@ -135,10 +135,10 @@ impl<A: Allocator> Worker<A> {
     }
 }
 
-/// A thread that was started, and what it sets when it has ended.
+/// A thread that was started, and the flag that it sets when it has ended.
 pub(crate) type Started<T, P, A> = (PromisedHandle<T, P>, Arc<AtomicBool, A>);
 
-/// What a thread says when it has ended.
+/// Makes the flag that a thread sets when it has ended.
 fn flag<A: Allocator>(alloc: A) -> Result<Arc<AtomicBool, A>, AllocError> {
     Ok(Arc::new(alloc, AtomicBool::new(false))?)
 }
@@ -175,7 +175,7 @@ where
     }
 }
 
-/// Starts a thread that has no outlets. What the work answers is dropped.
+/// Starts a thread that has no outlets. What the work returns is dropped.
 pub(crate) fn start<R, A, T, F>(rt: &R, alloc: A, work: F) -> Result<Worker<A>, HostError>
 where
     R: Threads,

@@ -2,7 +2,7 @@
 use std::sync::atomic::{AtomicBool, Ordering};
 use std::sync::{Condvar, Mutex, Wait};
 
-/// How often something was told, and how many threads wait to be told more.
+/// How many times the writer was notified, and how many threads wait for more.
 #[derive(Clone, Copy, Drop)]
 struct Told {
     times: u64,
@@ -11,8 +11,8 @@ struct Told {
 
 /// Where the writer of a link waits until there is something to do.
 ///
-/// It asks how often something was told, looks whether there is something to do, and waits until more was told: so it
-/// misses nothing that is told in between.
+/// The writer asks how many times it was notified, looks whether there is something to do, and waits until that number
+/// changes: so it misses no notification in between.
 #[derive(Drop)]
 pub(crate) struct WriterPlace {
     told: Mutex<Told>,
@@ -22,7 +22,7 @@ pub(crate) struct WriterPlace {
 }
 
 impl WriterPlace {
-    /// Nothing was told yet.
+    /// Makes a place that was not notified yet.
     pub(crate) fn new() -> WriterPlace {
         WriterPlace {
             told: Mutex::new(Told {
@@ -34,7 +34,7 @@ impl WriterPlace {
         }
     }
 
-    /// Tells the writer that there may be something to do.
+    /// Notifies the writer that there may be something to do.
     pub(crate) fn tell<R: Wait>(&self, rt: &R) {
         let mut told = self.told.lock(rt);
         told.times = told.times.wrapping_add(1);
@@ -43,12 +43,12 @@ impl WriterPlace {
         }
     }
 
-    /// How often something was told.
+    /// How many times the writer was notified.
     pub(crate) fn times<R: Wait>(&self, rt: &R) -> u64 {
         self.told.lock(rt).times
     }
 
-    /// Waits until something was told that was not counted in these times.
+    /// Waits until the number of notifications is no longer `times`.
     pub(crate) fn wait<R: Wait>(&self, rt: &R, times: u64) {
         let mut told = self.told.lock(rt);
         told.waiting = told.waiting.saturating_add(1);
@@ -62,7 +62,7 @@ impl WriterPlace {
         self.tell(rt);
     }
 
-    /// Whether the writer was told to end, since this was asked last.
+    /// Whether the writer was told to end since the last call.
     pub(crate) fn takes_retirement(&self) -> bool {
         self.retires.swap(false, Ordering::SeqCst)
     }

@@ -11,7 +11,7 @@ first_bytes known same limit most before read is limited empty given = go known 
     go None h = tt
     go (Some rest) h = h ∙ ap (λ (b : List ℕ). b ++ take limit rest) empty ∙ ap (λ n. take n rest) limited
 
--- where fewer bytes came than were wanted, they are all
+-- if fewer bytes came than were wanted, they are all there are
 pub all_bytes : (known : Option (List ℕ)) (read : List ℕ) (most : ℕ) (P : List ℕ → Type 0) → IfSome known (λ rest. read ≡ take (most + 1) rest) → length read ≤ most → P read → IfSome known P
 all_bytes None read most P first short holds = tt
 all_bytes (Some rest) read most P first short holds =

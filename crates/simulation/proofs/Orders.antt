@@ -1,4 +1,4 @@
--- Origins and ids are totally ordered, and tie only where they are equal.
+-- Origins and ids are totally ordered, and tie only if they are equal.
 use Rattle.std.specs.Prelude.{◌≡◌}
 use Rattle.std.specs.declared.cmp.Ordering.TheVariants.{Equal}
 use Rattle.std.specs.Cmp.{IsTotalOrder, nat_cmp_total, then_total, on_total, both_tied, unsigned_ties}

@@ -6,7 +6,7 @@ use Rattle.at_rest.specs.declared.error.SettleError.TheVariants as settle
 use Rattle.world.specs.declared.error.WorldError.{WorldError}
 use Rattle.world.specs.declared.error.WorldError.TheVariants.{UnknownNode, NotRunning, StaleIncarnation, BadPeers, NoPacket, PayloadTooLong, SeqSpent, OutOfMemory}
 
--- `W` and a number; a stale incarnation is printed with the greatest one that there was
+-- `W` and a number; for a stale incarnation the highest one of the node is printed too
 abbrev pub code_of : WorldError → List ℕ
 code_of UnknownNode = codes "W1"
 code_of NotRunning = codes "W2"
@@ -17,7 +17,7 @@ code_of PayloadTooLong = codes "W6"
 code_of SeqSpent = codes "W7"
 code_of OutOfMemory = codes "W8"
 
--- `S` and a number for why a group was not brought to rest
+-- `S` and a number that says why a group was not brought to rest
 abbrev pub settle_code_of : SettleError → List ℕ
 settle_code_of settle.NotCalm = codes "S1"
 settle_code_of settle.SeqSpent = codes "S2"

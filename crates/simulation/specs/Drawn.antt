@@ -1,4 +1,4 @@
--- What is drawn of a group that played a scenario.
+-- What is drawn for a group that played a scenario.
 use Rattle.std.specs.Prelude.{ℕ, Bool, true, List, filter, Option, Some, None, IsPermutation, IsSorted}
 use Rattle.std.specs.Io.KnownBytes.{Appends}
 use Rattle.frames.specs.Frame.{Frame}
@@ -16,7 +16,7 @@ use Rattle.simulation.specs.Rolls.{rolls_of}
 use Rattle.simulation.specs.Trees.{broadcasts_of}
 use Rattle.simulation.specs.declared.scenario.action.Action.{Action}
 
--- whether a message is shown: each is, or the one that was asked for
+-- whether a message is shown: all are, or only the one that was asked for
 abbrev pub is_shown : Option MsgId → MsgId → Bool
 is_shown None id = true
 is_shown (Some only) id = same_id only id
@@ -25,8 +25,8 @@ is_shown (Some only) id = same_id only id
 abbrev pub shown_of : Option MsgId → List MsgId → List MsgId
 shown_of only ids = filter (is_shown only) ids
 
--- What the output gains is the drawing of a group: of its nodes, and of the shown ones of all messages that were
--- broadcast, in the order of their ids.
+-- The output gains the drawing of a group: of its nodes, and of those messages that were broadcast and are shown, in
+-- the order of their ids.
 pub record DrawsShown (only : Option MsgId) (group : Logged Plum Frame) (before after : Option (List ℕ)) : Type 0 where
   pub messages : List MsgId
   pub text : List ℕ
@@ -35,7 +35,7 @@ pub record DrawsShown (only : Option MsgId) (group : Logged Plum Frame) (before 
   pub drawn : DrawsGroup group (shown_of only messages) text
   pub written : Appends before after text
 
--- What the output gains is the drawing of a group that played these actions.
+-- The output gains the drawing of a group that played these actions.
 pub record Draws (most : ℕ) (only : Option MsgId) (seed : Option ℕ) (limits : Limits) (actions : List Action) (before after : Option (List ℕ)) : Type 0 where
   pub group : Logged Plum Frame
   pub rolls : Option Stream

@@ -1,4 +1,4 @@
--- What is written of a run, by the form that was asked for.
+-- What is written for a run, in the form that was asked for.
 use Rattle.std.specs.Prelude.{ℕ, List, Option}
 use Rattle.frames.specs.Content.{frame_content}
 use Rattle.node_core.specs.Plum.{plum_state}
@@ -11,8 +11,8 @@ use Rattle.simulation.specs.declared.form.Form.{Form}
 use Rattle.simulation.specs.declared.form.Form.TheVariants.{Lines, Graph, Trace}
 use Rattle.simulation.specs.declared.scenario.action.Action.{Action}
 
--- The actions were played in a group, and the output gains what is printed of that group, or drawn of it, or told of
--- the run.
+-- The actions were played in a group, and the output gains the lines that are printed for that group, or its drawing,
+-- or the trace of the run.
 abbrev pub IsWritten : ℕ → Form → Option ℕ → Limits → List Action → Option (List ℕ) → Option (List ℕ) → Type 0
 IsWritten most Lines seed limits actions before after = Prints plum_state frame_content PlumStarts PlumSteps most seed limits actions before after
 IsWritten most (Graph only) seed limits actions before after = Draws most only seed limits actions before after

@@ -33,12 +33,13 @@ style_text Lazy = codes " [style = dashed];\n"
 abbrev pub link_line : Name → Name × PeerKind → List ℕ
 link_line name member = codes "    \"" ++ name ++ codes "\" -> \"" ++ member.0 ++ codes "\"" ++ style_text member.1
 
--- the lines of its links, in their order
+-- the lines of the links of a node, in their order
 abbrev pub link_lines : Name → List (Name × PeerKind) → List ℕ
 link_lines name [] = []
 link_lines name (member ∷ members) = link_line name member ++ link_lines name members
 
--- the lines of a node: itself, by its last run, and its links if it runs; one that stopped is dotted
+-- the lines of a node: the node itself, with its current or last run, and its links if it runs; a stopped node is
+-- dotted
 abbrev pub node_lines : Origin → Option Plum → List ℕ
 node_lines node None = codes "    \"" ++ node.name ++ codes "\" [label = \"" ++ origin_text node ++ codes " stopped\", style = dotted];\n"
 node_lines node (Some core) = codes "    \"" ++ node.name ++ codes "\" [label = \"" ++ origin_text node ++ codes "\"];\n" ++ link_lines node.name core.gossip.peers.members
@@ -54,7 +55,7 @@ overlay_lines (node ∷ nodes) = state_lines node ++ overlay_lines nodes
 
 -- ---- the trees
 
--- how a run is named in the part of a message
+-- the name of a run in the part of a message
 abbrev pub run_text : MsgId → Origin → List ℕ
 run_text id run = codes "\"" ++ msg_id_text id ++ codes " " ++ origin_text run ++ codes "\""
 
@@ -62,7 +63,7 @@ run_text id run = codes "\"" ++ msg_id_text id ++ codes " " ++ origin_text run +
 unfoldable pub between_text : MsgId → Origin → Origin → List ℕ
 between_text id from to = codes "    " ++ run_text id from ++ codes " -> " ++ run_text id to
 
--- the arrow of a delivery, from whom it came; the origin's own has none
+-- the arrow of a delivery, from the run that it came from; the origin's own delivery has none
 abbrev pub edge_line : MsgId → Origin → Option Origin → List ℕ
 edge_line id node None = []
 edge_line id node (Some parent) = between_text id parent node ++ codes " [style = bold];\n"
@@ -76,11 +77,11 @@ abbrev pub crown_lines : MsgId → List Branch → List ℕ
 crown_lines id [] = []
 crown_lines id (branch ∷ branches) = twig_lines id branch ++ crown_lines id branches
 
--- the line of a run that has not delivered the message: marked by dots
+-- the line of a run that has not delivered the message: it is dotted
 abbrev pub lacking_line : MsgId → Origin → List ℕ
 lacking_line id node = codes "    \"" ++ msg_id_text id ++ codes " " ++ origin_text node ++ codes "\" [label = \"" ++ origin_text node ++ codes "\", style = dotted];\n"
 
--- the line of a node that runs and has not delivered the message
+-- the line of a node, if it runs and has not delivered the message
 abbrev pub lacking_lines_of : MsgId → List Branch → Origin → Option Plum → List ℕ
 lacking_lines_of id branches node None = []
 lacking_lines_of id branches node (Some core) = if list_any (λ b. same_origin b.node node) branches then [] else lacking_line id node
@@ -89,14 +90,14 @@ lacking_lines_of id branches node (Some core) = if list_any (λ b. same_origin b
 abbrev pub state_lacking : MsgId → List Branch → NodeState Plum → List ℕ
 state_lacking id branches node = lacking_lines_of id branches (origin_of node) node.core
 
--- the lines of all nodes that run and have not delivered it, in their order
+-- the lines of all running nodes that have not delivered the message, in their order
 abbrev pub lacking_lines : MsgId → List Branch → List (NodeState Plum) → List ℕ
 lacking_lines id branches [] = []
 lacking_lines id branches (node ∷ nodes) = state_lacking id branches node ++ lacking_lines id branches nodes
 
 -- ---- what is in flight
 
--- how the arrow of a packet looks
+-- the style of the arrow of a packet
 unfoldable pub packet_style : ℕ → List ℕ
 packet_style number = codes " [style = dashed, label = \"packet " ++ decimal number ++ codes "\"];\n"
 
@@ -104,7 +105,7 @@ packet_style number = codes " [style = dashed, label = \"packet " ++ decimal num
 abbrev pub arrow_line : MsgId → ℕ → Origin → Origin → List ℕ
 arrow_line id number sender receiver = between_text id sender receiver ++ packet_style number
 
--- the arrow of a packet in flight to the last run of its receiver, if such a node was started
+-- the arrow of a packet in flight to the last run of its receiver, if that node was ever started
 abbrev pub flying_arrow : MsgId → ℕ → Origin → Option Origin → List ℕ
 flying_arrow id number sender None = []
 flying_arrow id number sender (Some receiver) = arrow_line id number sender receiver
@@ -118,24 +119,24 @@ flying_line id nodes number (Some packet) = if is_silent id (frame_content packe
 abbrev pub flying_at : MsgId → Group Plum Frame → ℕ → List ℕ
 flying_at id group number = flying_line id group.nodes number (slice_get group.sent number)
 
--- the lines of those in flight, in their order
+-- the lines of the packets in flight, in their order
 abbrev pub flying_lines : MsgId → Group Plum Frame → List ℕ → List ℕ
 flying_lines id group [] = []
 flying_lines id group (number ∷ numbers) = flying_at id group number ++ flying_lines id group numbers
 
--- how the part of a message begins
+-- the beginning of the part of a message
 abbrev pub opening_text : MsgId → List ℕ
 opening_text id = codes "  subgraph \"cluster " ++ msg_id_text id ++ codes "\" {\n"
 
--- how its label ends, which says whether the group is at rest for it
+-- the end of its label, which says whether the group is at rest for the message
 unfoldable pub rest_text : Bool → List ℕ
 rest_text rest = codes " rest " ++ rest_word rest ++ codes "\";\n"
 
--- its label
+-- the label of the part of a message
 abbrev pub title_text : MsgId → Bool → List ℕ
 title_text id rest = (codes "    label = \"" ++ msg_id_text id) ++ rest_text rest
 
--- both
+-- the beginning and the label of the part of a message
 unfoldable pub head_text : MsgId → Bool → List ℕ
 head_text id rest = opening_text id ++ title_text id rest
 
@@ -151,7 +152,7 @@ module _ (group : Logged Plum Frame) where
     pub written : text ≡ part_text id rest (tree_of group.group.sent id (reverse group.log)) group.group
 
   -- The text is the document of this group and these messages. It is laid out from left to right, so that the trees of
-  -- messages stand above one another.
+  -- the messages are placed above one another.
   pub record DrawsGroup (ids : List MsgId) (text : List ℕ) : Type 0 where
     pub parts : List ℕ
     pub drawn : InTurn DrawsPart ids parts

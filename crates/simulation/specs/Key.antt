@@ -3,7 +3,7 @@ use Rattle.std.specs.Prelude.{ℕ, List, codes}
 use Rattle.simulation.specs.declared.scenario.error.Key.{Key}
 use Rattle.simulation.specs.declared.scenario.error.Key.TheVariants.{Seed, Limits, Event, Active, Passive, Arwl, Prwl, Ka, Kp, Threshold, Keep, LimitsTogether, Do, Node, Incarnation, Peers, Contact, Text, Place, Number, Origin, Seq, Peer, Ticks, Name, Port, Say}
 
--- the word for each key; limits that do not go together have the code of their fault
+-- the word for each key; limits that are inconsistent with each other have the code of that error
 abbrev pub word_of : Key → List ℕ
 word_of Seed = codes "seed"
 word_of Limits = codes "limits"

@@ -18,12 +18,12 @@ abbrev pub hexadecimal : List ℕ → List ℕ
 hexadecimal [] = []
 hexadecimal (b ∷ bs) = hex_digit (b / 16) ∷ (hex_digit (b % 16) ∷ hexadecimal bs)
 
--- the digits of a payload, and a dash where it is empty
+-- the digits of a payload, or a dash if it is empty
 abbrev pub payload_text : List ℕ → List ℕ
 payload_text [] = codes "-"
 payload_text (b ∷ bs) = hexadecimal (b ∷ bs)
 
--- the line of a delivery: where, which message, how long it is, and its bytes
+-- the line of a delivery: the run that delivered, the message's id, and the length and the bytes of its payload
 abbrev pub line_of : Delivery → List ℕ
 line_of d = codes "deliver " ++ origin_text d.node ++ codes " " ++ msg_id_text d.id ++ codes " " ++ decimal (length d.payload) ++ codes " " ++ payload_text d.payload ++ codes "\n"
 

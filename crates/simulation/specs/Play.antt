@@ -42,8 +42,8 @@ use Rattle.simulation.specs.declared.play.PlayError.TheVariants as fault
 abbrev pub oldest : Dice → Event
 oldest dice = event.Arrive 0 dice
 
--- the event that an action is played as, with these dice if it draws any; `arrive_all` and `settle` are as many events
--- as it takes
+-- the event that an action is played as, with these dice if it draws any; `arrive_all` and `settle` are not one event
+-- but as many as it takes
 abbrev pub event_of : Dice → Action → Option Event
 event_of dice (Start node incarnation peers contact) = Some (event.Start node incarnation peers contact)
 event_of dice (Broadcast node text) = Some (event.Broadcast node text)
@@ -58,7 +58,7 @@ event_of dice (Stop node) = Some (event.Stop node)
 event_of dice ArriveAll = None
 event_of dice Settle = None
 
--- what the dice are drawn from after the event of an action: arrivals, ticks and failed links have drawn theirs
+-- the source of the dice after the event of an action: arrivals, ticks and failed links have drawn dice
 abbrev pub rolls_after : Action → Option Stream → Option Stream
 rolls_after (Start node incarnation peers contact) rolls = rolls
 rolls_after (Broadcast node text) rolls = rolls
@@ -73,7 +73,7 @@ rolls_after (Stop node) rolls = rolls
 rolls_after ArriveAll rolls = rolls
 rolls_after Settle rolls = rolls
 
--- the fault of a halt at this event; a refused allocation is no matter of the event
+-- the error of a run that stops at this event; a failed allocation is not attributed to the event
 abbrev pub fault_of : ℕ → ActionError → PlayError
 fault_of number (halt.Refused world.OutOfMemory) = fault.OutOfMemory
 fault_of number (halt.Refused why) = fault.Refused number (record { 0 = why })
@@ -82,7 +82,7 @@ fault_of number (halt.Unsettled settle.OutOfMemory) = fault.OutOfMemory
 fault_of number (halt.Unsettled why) = fault.Unsettled number (record { 0 = why })
 fault_of number (halt.Idle why) = fault.Idle number why
 
--- all deliveries of a group, in the order in which they were given
+-- all deliveries of a group, in the order in which they were made
 abbrev pub delivered : {C N : Type 0} → Logged C N → List Delivery
 delivered group = history.deliveries (reverse group.log)
 
@@ -90,12 +90,13 @@ delivered group = history.deliveries (reverse group.log)
 abbrev pub empty_group : {C N : Type 0} → Limits → Logged C N
 empty_group limits = record { limits = limits; group = record { nodes = []; sent = []; flight = [] }; log = [] }
 
--- A group, and what its next dice are drawn from.
+-- A group, and the source of its next dice.
 pub record Standing (C N : Type 0) : Type 0 where
   pub rolls : Option Stream
   pub group : Logged C N
 
--- The action would do nothing, though its node runs: the timer that fires is not armed, or the link that fails is none.
+-- The action would do nothing, although its node runs: the timer that fires is not armed, or the link that fails does
+-- not exist.
 abbrev pub IsIdle : {C N : Type 0} → (C → CoreState) → Idle → Action → Group C N → Type 0
 IsIdle {C} state idle.NoTimer action group = (node : Name) × (id : MsgId) × (core : C) × (action ≡ Fire node id) × (core_of node group.nodes ≡ Some core) × (has_id (state core).timers id ≡ false)
 IsIdle {C} state idle.NoLink action group = (node : Name) × (peer : Name) × (core : C) × (action ≡ Down node peer) × (core_of node group.nodes ≡ Some core) × (has_name (state core).active peer ≡ false)
@@ -106,7 +107,7 @@ module _
     (starts : Origin → Limits → List Name → Option Name → List (Name × N) → C → Type 0)
     (steps : C → Stimulus N → List (Name × N) → List Delivery → C → Type 0)
   where
-    -- The event takes the group on, whatever it delivers.
+    -- The event takes the group from the old state to the new one, whatever it delivers.
     abbrev pub Takes : Event → Logged C N → Logged C N → Type 0
     Takes e old new = (given : List Delivery) × Applied state starts steps e given old new
 
@@ -115,7 +116,7 @@ module _
       pub taken : Takes (oldest (rolled old.rolls)) old.group new.group
       pub rolled_on : new.rolls ≡ after_roll old.rolls
 
-    -- The oldest packet arrives so many times.
+    -- The oldest packet arrives, the given number of times.
     abbrev pub Drains : ℕ → Standing C N → Standing C N → Type 0
     Drains zero old new = new ≡ old
     Drains (suc n) old new = (between : Standing C N) × Drains n old between × Arrives between new
@@ -127,12 +128,12 @@ module _
       pub settled : IsSettled state new.group.group
       pub no_roll : new.rolls ≡ old.rolls
 
-    -- An action of many events is played: by arrivals until none is in flight, at most so many, or by settling.
+    -- An action of many events is played: by at most `most` arrivals, until no packet is in flight, or by settling.
     abbrev pub PlaysMany : ℕ → Action → Standing C N → Standing C N → Type 0
     PlaysMany most Settle old new = Rests old new
     PlaysMany most action old new = (n : ℕ) × (n ≤ most) × Drains n old new × (new.group.group.flight ≡ [])
 
-    -- The action is played: as its event, with the next dice if it draws any, or as many events.
+    -- The action is played: as its one event, with the next dice if it draws any, or as many events.
     abbrev pub PlaysAction : ℕ → Action → Standing C N → Standing C N → Type 0
     PlaysAction most action old new = MatchOption (event_of (rolled old.rolls) action)
         (PlaysMany most action old new)
@@ -144,19 +145,19 @@ module _
     PlaysActions most (action ∷ actions) old new = (between : Standing C N) × PlaysAction most action old between × PlaysActions most actions between new
 
     module _ (content : N → Content) (is_spent : C → Stimulus N → Type 0) where
-      -- The event is refused so by the group.
+      -- The group refuses the event with this error.
       abbrev pub Refuses : Event → WorldError → Logged C N → Type 0
       Refuses e why group = IsRefusal is_spent group.limits group.group e why
 
-      -- Settling ends early: the group is not calm, or a node is out of numbers, or memory is refused, after some
-      -- events.
+      -- Settling ends early: the group is not calm, or after some events a node is out of numbers or an allocation
+      -- fails.
       abbrev pub StopsSettling : SettleError → Logged C N → Logged C N → Type 0
       StopsSettling settle.NotCalm old new = (new ≡ old) × (IsCalm state content old.group → ⊥)
       StopsSettling settle.SeqSpent old new = (events : List Event) × Settles state starts steps events old new × IsNextSpent state starts steps is_spent new.group
       StopsSettling settle.OutOfMemory old new = (events : List Event) × Settles state starts steps events old new
 
-      -- The playing of an action halts: its event, or an arrival after some others, is refused, or something is still
-      -- in flight after the most arrivals, or settling ends early; or it does nothing.
+      -- An action stops early: its event, or an arrival after some others, is refused, or a packet is still in flight
+      -- after the maximum number of arrivals, or settling ends early, or the action does nothing.
       abbrev pub HaltsIn : ℕ → Action → ActionError → Standing C N → Logged C N → Type 0
       HaltsIn most action (halt.Refused why) old new = MatchOption (event_of (rolled old.rolls) action)
           ((n : ℕ) × (n < most) × (between : Standing C N) × Drains n old between × (new ≡ between.group) × Refuses (oldest (rolled between.rolls)) why new)
@@ -165,7 +166,7 @@ module _
       HaltsIn most action (halt.Idle why) old new = (new ≡ old.group) × IsIdle state why action old.group.group
       HaltsIn most action halt.NoEnd old new = (event_of (rolled old.rolls) action ≡ None) × (n : ℕ) × (n ≡ most) × (between : Standing C N) × Drains n old between × (new ≡ between.group) × (new.group.flight ≢ [])
 
-      -- The playing halts at the action with this number, after all those before it.
+      -- The run stops at the action with this number, after all those before it were played.
       pub record HaltsAt (most : ℕ) (actions : List Action) (number : ℕ) (stop : ActionError) (old : Standing C N) (new : Logged C N) : Type 0 where
         pub action : Action
         pub before : Standing C N
@@ -173,12 +174,12 @@ module _
         pub played : PlaysActions most (take number actions) old before
         pub halted : HaltsIn most action stop before new
 
-      -- The fault is that of a halt.
+      -- The error is that of a run that stops at some action.
       abbrev pub IsHalted : ℕ → List Action → PlayError → Standing C N → Logged C N → Type 0
       IsHalted most actions stopped old new = (number : ℕ) × (stop : ActionError) × (stopped ≡ fault_of number stop) × HaltsAt most actions number stop old new
 
--- What the output gains is what is printed of a group and its deliveries: the lines of these, sorted, and then those of
--- each message that was broadcast, in the order of their ids.
+-- The output gains what is printed for a group and its deliveries: the lines of the deliveries, sorted, and then those
+-- of each message that was broadcast, in the order of their ids.
 pub record PrintsGroup {C N : Type 0} (state : C → CoreState) (content : N → Content) (group : Logged C N) (deliveries : List Delivery) (before after : Option (List ℕ)) : Type 0 where
   pub lines : List Delivery
   pub messages : List MsgId
@@ -190,7 +191,7 @@ pub record PrintsGroup {C N : Type 0} (state : C → CoreState) (content : N →
   pub told : TellsTrees state content group messages trees
   pub written : Appends before after (lines_of lines ++ trees)
 
--- What the output gains is what is printed of a group that played these actions.
+-- The output gains what is printed for a group that played these actions.
 pub record Prints
     {C N : Type 0}
     (state : C → CoreState)
@@ -208,8 +209,8 @@ pub record Prints
   pub played : PlaysActions state starts steps most actions (record { rolls = rolls_of seed; group = empty_group limits }) (record { rolls = rolls; group = group })
   pub printed : PrintsGroup state content group (delivered group) before after
 
--- What the output gains is what is printed of a group that played these actions up to the one at which it halted by
--- this fault.
+-- The output gains what is printed for a group that played these actions up to the one at which it stopped with this
+-- error.
 pub record PrintsHalted
     {C N : Type 0}
     (state : C → CoreState)

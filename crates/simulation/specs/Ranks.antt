@@ -1,4 +1,4 @@
--- The rank of a value among distinct values that are in order: its place, and 0 of a value that is not there.
+-- The rank of a value among distinct values in ascending order: its index, or 0 if it is not among them.
 use Rattle.std.specs.Prelude.{ℕ, Bool, List, position}
 use Rattle.std.specs.Option.{unwrap_or}
 

@@ -1,4 +1,4 @@
--- What the keys of a scenario hold, and how it is read.
+-- The values of a scenario's keys, and how they are read.
 use Rattle.std.specs.Prelude.{◌≡◌, ◌≢◌, ℕ, ◌≤◌, List, [], ◌∷◌, length, pos, Option, Some, None, option_map, MatchOption, MatchResult, Result, All}
 use Rattle.toml.specs.Data.{Data, Members, Items, no_items, item, string, integer, array, table, get_member}
 use Rattle.node_names.specs.NodeName.{IsNodeName, Name}
@@ -10,11 +10,12 @@ use Rattle.simulation.specs.declared.scenario.error.ScenarioError.{ScenarioError
 abbrev pub at_key : Key → Members → Option Data
 at_key key members = get_member (word_of key) members
 
--- A key that may be left out gives nothing where it is left out, and else what it means.
+-- An optional key gives `None` if it is left out, and otherwise the meaning of its value.
 abbrev pub IsOptional : {T : Type 0} → (Option Data → T → Type 0) → Option Data → Option T → Type 0
 IsOptional Means found value = MatchOption value (found ≡ None) (Means found)
 
--- Such a key is refused where it is there and means nothing. `seen` is what is seen of the value that is read.
+-- An optional key is rejected if it is present and its value has no meaning. `seen` is the view of the value that is
+-- read.
 abbrev pub ReadsOptionalAs : {T V : Type 0} → (T → V) → (Option Data → V → Type 0) → Option Data → ScenarioError → Result (Option T) ScenarioError → Type 0
 ReadsOptionalAs seen Means found fault result = MatchResult result
     (λ value. IsOptional Means found (option_map seen value))
@@ -23,7 +24,7 @@ ReadsOptionalAs seen Means found fault result = MatchResult result
 abbrev pub ReadsOptional : {T : Type 0} → (Option Data → T → Type 0) → Option Data → ScenarioError → Result (Option T) ScenarioError → Type 0
 ReadsOptional Means found fault result = MatchResult result (IsOptional Means found) (λ e. (e ≡ fault) × (found ≢ None) × ((x : _) → ¬ Means found x))
 
--- A key that must be there gives what it means, and is refused where it means nothing.
+-- A required key gives the meaning of its value, and is rejected if there is none.
 abbrev pub ReadsRequiredAs : {T V : Type 0} → (T → V) → (Option Data → V → Type 0) → Option Data → ScenarioError → Result T ScenarioError → Type 0
 ReadsRequiredAs seen Means found fault result = MatchResult result (λ x. Means found (seen x)) (λ e. (e ≡ fault) × ((v : _) → ¬ Means found v))
 
@@ -59,7 +60,7 @@ abbrev pub texts : List (List ℕ) → Items
 texts [] = no_items
 texts (t ∷ ts) = item (string t) (texts ts)
 
--- a list of names; a key that is left out holds none
+-- a list of names; a key that is left out holds no names
 abbrev pub IsNames : Option Data → List Name → Type 0
 IsNames None names = names ≡ []
 IsNames (Some found) names = (found ≡ array (texts names)) × All IsNodeName names
@@ -69,7 +70,7 @@ abbrev pub tables : List Members → Items
 tables [] = no_items
 tables (t ∷ ts) = item (table t) (tables ts)
 
--- a list of tables, at most `most`; a key that is left out holds none
+-- a list of at most `most` tables; a key that is left out holds no tables
 abbrev pub IsTables : ℕ → Option Data → List Members → Type 0
 IsTables most None members = members ≡ []
 IsTables most (Some found) members = (found ≡ array (tables members)) × (length members ≤ most)

@@ -9,16 +9,16 @@ use Rattle.simulation.specs.declared.scenario.error.Key.TheVariants.{Seed, Limit
 use Rattle.simulation.specs.declared.scenario.action.Action.{Action}
 use Rattle.simulation.specs.declared.scenario.action.Action.TheVariants.{Start, Broadcast, Arrive, Lose, Again, Fire, Flush, Shuffle, Down, Stop, ArriveAll, Settle}
 
--- the greatest number that fits 64 bits
+-- the greatest number that fits into 64 bits
 abbrev pub greatest : ℕ
 greatest = 2 ^ 64 - 1
 
--- a limit of up to so much, or the standard one where it is left out
+-- a limit of at most `most`, or the standard one if it is left out
 abbrev pub IsLimit : ℕ → ℕ → Option Data → ℕ → Type 0
 IsLimit most standard None limit = limit ≡ standard
 IsLimit most standard (Some found) limit = IsNumber most (Some found) limit
 
--- the limits that a table gives, whether or not they go together
+-- the limits that a table gives, whether or not they are consistent with each other
 pub record AreSizes (members : Members) (sizes : Sizes) : Type 0 where
   pub active : IsLimit 255 5 (at_key Active members) sizes.active
   pub passive : IsLimit 255 30 (at_key Passive members) sizes.passive
@@ -29,7 +29,7 @@ pub record AreSizes (members : Members) (sizes : Sizes) : Type 0 where
   pub threshold : IsLimit (2 ^ 32 - 1) 0 (at_key Threshold members) sizes.threshold
   pub keep : IsLimit (2 ^ 32 - 1) 0 (at_key Keep members) sizes.keep
 
--- the limits that a table gives, where they go together
+-- the limits that a table gives, if they are consistent with each other
 pub record AreLimits (members : Members) (sizes : Sizes) : Type 0 where
   pub sizes_are : AreSizes members sizes
   pub allowed : IsAllowed sizes
@@ -65,16 +65,16 @@ IsAction members Settle = IsText (at_key Do members) (codes "settle")
 abbrev pub AreActions : List Members → List Action → Type 0
 AreActions members actions = AllZip IsAction members actions
 
--- the limits of a document, all of them standard where it gives none
+-- the limits of a document, all of them standard if it gives none
 abbrev pub HasLimits : Option Data → Sizes → Type 0
 HasLimits None sizes = AreLimits no_members sizes
 HasLimits (Some found) sizes = (members : Members) × (found ≡ table members) × AreLimits members sizes
 
--- the events of a document, as many as a scenario may have
+-- the events of a document, at most as many as a scenario may have
 abbrev pub HasActions : ℕ → Option Data → List Action → Type 0
 HasActions most found actions = (members : List Members) × IsTables most found members × AreActions members actions
 
--- The scenario that a document describes. Keys that it does not name are nobody's business.
+-- The scenario that a document describes. Keys that are not named here are ignored.
 pub record Describes (most : ℕ) (document : Members) (seed : Option ℕ) (sizes : Sizes) (actions : List Action) : Type 0 where
   pub seed_is : IsOptional (IsNumber greatest) (at_key Seed document) seed
   pub limits_are : HasLimits (at_key Limits document) sizes

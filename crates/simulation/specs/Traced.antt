@@ -1,4 +1,4 @@
--- What is told of a run, step by step.
+-- The trace of a run, step by step.
 use Rattle.std.specs.Prelude.{◌≡◌, ◌↔◌, ℕ, zero, suc, Bool, IsTrue, List, [], ◌++◌, length, reverse, Option, Some, None, slice_get, codes, IsPermutation, IsSorted}
 use Rattle.std.specs.Fmt.{decimal}
 use Rattle.std.specs.Io.KnownBytes.{Appends}
@@ -26,19 +26,20 @@ use Rattle.simulation.specs.Trees.{broadcasts_of}
 use Rattle.simulation.specs.Turns.{InTurn}
 use Rattle.simulation.specs.declared.scenario.action.Action.{Action}
 
--- how a step begins: its place among all steps, and the event of the scenario that it belongs to
+-- the beginning of a step: its place among all steps, and the event of the scenario that it belongs to
 abbrev pub label_text : ℕ → Option ℕ → List ℕ
 label_text place None = codes "step " ++ decimal place ++ codes ": "
 label_text place (Some number) = codes "step " ++ decimal place ++ codes " event " ++ decimal number ++ codes ": "
 
--- The text tells what an event did to a group: its packets, deliveries and changes, whatever its label is.
+-- The text says what an event did to a group: its packets, deliveries and changes, whatever its label is.
 pub record TellsStep (place : ℕ) (event : Event) (before after : Logged Plum Frame) (text : List ℕ) : Type 0 where
   pub number : Option ℕ
   pub given : List Delivery
   pub applied : Applied plum_state PlumStarts PlumSteps event given before after
   pub written : text ≡ label_text place number ++ step_text (touched_parts before event) after applied.entry
 
--- The text tells the first so many events of a log as a run from a group without nodes, each once and in order.
+-- The text says what the first events of a log, the given number of them, did as a run from a group without nodes, each
+-- once and in order.
 abbrev pub TellsSteps : Limits → List Entry → ℕ → Logged Plum Frame → List ℕ → Type 0
 TellsSteps limits log zero run text = (run ≡ empty_group limits) × (text ≡ [])
 TellsSteps limits log (suc n) run text = (before : Logged Plum Frame) × (earlier : List ℕ) × (step : List ℕ) × (entry : Entry)
@@ -48,15 +49,15 @@ TellsSteps limits log (suc n) run text = (before : Logged Plum Frame) × (earlie
     × (text ≡ earlier ++ step)
 
 module _ (group : Logged Plum Frame) where
-  -- The text is what is told of a message at the end of a run: whether the group is at rest for it, who lacks it, and
-  -- what is under way.
+  -- The text is what is printed for a message at the end of a run: whether the group is at rest for it, which nodes
+  -- lack it, and what is under way.
   pub record TellsMessage (id : MsgId) (text : List ℕ) : Type 0 where
     pub rest : Bool
     pub is_rest : IsTrue rest ↔ IsAtRest plum_state frame_content group.group id
     pub written : text ≡ message_text group id rest (tree_of group.group.sent id (reverse group.log))
 
-  -- The text is what is told of a group at the end of a run: each node, then each message that was broadcast, in the
-  -- order of their ids, and a summary.
+  -- The text is what is printed for a group at the end of a run: each node, then each message that was broadcast, in
+  -- the order of their ids, and a summary.
   pub record TellsEnd (text : List ℕ) : Type 0 where
     pub ids : List MsgId
     pub messages : List ℕ
@@ -66,8 +67,8 @@ module _ (group : Logged Plum Frame) where
     pub told : InTurn TellsMessage ids messages
     pub written : text ≡ (nodes_text group ++ messages) ++ summary
 
--- What the output gains tells the events of a group's log as such a run, why it was stopped, if it was, and how it
--- ends.
+-- The output gains the trace of the events of a group's log as such a run, why the run was stopped, if it was, and the
+-- group at the end.
 pub record TellsGroup (group : Logged Plum Frame) (before after : Option (List ℕ)) : Type 0 where
   pub run : Logged Plum Frame
   pub steps : List ℕ
@@ -77,7 +78,7 @@ pub record TellsGroup (group : Logged Plum Frame) (before after : Option (List �
   pub ended : TellsEnd run end
   pub written : Appends before after (steps ++ stop ++ end)
 
--- What the output gains is what is told of a group that played these actions.
+-- The output gains the trace of a group that played these actions.
 pub record Traces (most : ℕ) (seed : Option ℕ) (limits : Limits) (actions : List Action) (before after : Option (List ℕ)) : Type 0 where
   pub group : Logged Plum Frame
   pub rolls : Option Stream

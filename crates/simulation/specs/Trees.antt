@@ -13,16 +13,16 @@ use Rattle.at_rest.specs.Tree.{tree_of}
 use Rattle.at_rest.specs.declared.branch.Branch.{Branch}
 use Rattle.simulation.specs.Turns.{InTurn}
 
--- the messages among deliveries that their own origin delivered, which it does as it broadcasts them
+-- the messages that their own origin delivered, which it does when it broadcasts them
 abbrev pub broadcasts_of : List Delivery → List MsgId
 broadcasts_of deliveries = map (λ d. d.id) (filter (λ d. same_origin d.node d.id.origin) deliveries)
 
--- the word of whether a group is at rest
+-- the word that says whether a group is at rest
 abbrev pub rest_word : Bool → List ℕ
 rest_word true = codes "yes"
 rest_word false = codes "no"
 
--- from whom a message came: a dash for the origin's own
+-- the run that a message came from, or a dash for the origin's own delivery
 abbrev pub parent_text : Option Origin → List ℕ
 parent_text None = codes "-"
 parent_text (Some parent) = origin_text parent
@@ -41,12 +41,12 @@ abbrev pub tree_lines : MsgId → Bool → List Branch → List ℕ
 tree_lines id rest branches = codes "tree " ++ msg_id_text id ++ codes " rest " ++ rest_word rest ++ codes "\n" ++ branch_lines branches
 
 module _ {C N : Type 0} (state : C → CoreState) (content : N → Content) (group : Logged C N) where
-  -- The text is what is printed of a message in this group.
+  -- The text is what is printed for a message in this group.
   pub record TellsTree (id : MsgId) (text : List ℕ) : Type 0 where
     pub rest : Bool
     pub is_rest : IsTrue rest ↔ IsAtRest state content group.group id
     pub written : text ≡ tree_lines id rest (tree_of group.group.sent id (reverse group.log))
 
-  -- The text is what is printed of messages, one after the other.
+  -- The text is what is printed for the messages, one after the other.
   abbrev pub TellsTrees : List MsgId → List ℕ → Type 0
   TellsTrees ids text = InTurn TellsTree ids text

@@ -1,4 +1,4 @@
--- What is said of the items of a list, one after the other.
+-- The texts of the items of a list, one after the other.
 use Rattle.std.specs.Prelude.{◌≡◌, ℕ, List, [], ◌∷◌, ◌++◌}
 
 -- The text is a text of each item, in the order of the items.

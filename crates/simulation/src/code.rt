@@ -1,4 +1,4 @@
-//! The codes under which refusals are printed.
+//! The codes that are printed for refusals.
 ghost use Rattle.std.specs.Prelude.{Some};
 ghost use Rattle.simulation.specs.Code.{code_of, settle_code_of};
 

@@ -10,11 +10,11 @@ use crate::scenario::ScenarioError;
 /// Why a scenario was not played and written to its end.
 #[derive(Clone, Copy, Debug, PartialEq, Eq)]
 pub enum SimulationError {
-    /// No scenario was read.
+    /// The scenario could not be read.
     Refused(ScenarioError),
-    /// The run ended early. What came of it until then is written, unless memory ran out.
+    /// The run ended early. Its outcome up to then was written, unless memory ran out.
     Stopped(PlayError),
-    /// A write failed, after a run that ended by this fault, if by any.
+    /// A write failed. Holds the error by which the run had ended early, if it had.
     Unwritten(Option<PlayError>),
 }
 
@@ -29,7 +29,7 @@ impl From<ScenarioError> for SimulationError {
     }
 }
 
-/// What comes of a run that ended so, and of the writing after it.
+/// Combines the results of a run and of writing its outcome.
 pub fn ended(
     played: Result<(), PlayError>,
     written: Result<(), OutputError>,

@@ -1,4 +1,4 @@
-//! The forms in which the outcome of a scenario is written.
+//! The output forms for the outcome of a scenario.
 use node_names::MsgId;
 
 /// How the outcome of a scenario is written.
@@ -6,8 +6,8 @@ use node_names::MsgId;
 pub enum Form {
     /// The lines of deliveries and trees.
     Lines,
-    /// A Graphviz document: of all messages, or of one alone.
+    /// A Graphviz document, of all messages or of a single one.
     Graph(Option<MsgId>),
-    /// What each step did, and how the group stands at the end.
+    /// What each step did, and the state of the group at the end.
     Trace,
 }

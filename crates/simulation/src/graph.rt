@@ -1,4 +1,4 @@
-//! A group as a Graphviz document: the links that its nodes have, and each message's tree.
+//! Writes a group as a Graphviz document: the links that its nodes have, and each message's tree.
 ghost use Rattle.std.specs.Prelude.{◌≡◌, ◌++◌, ℕ, List, OnOk, string_bytes};
 ghost use Rattle.std.specs.Io.KnownBytes.{Appends};
 ghost use Rattle.simulation.specs.Graph.{DrawsGroup};
@@ -15,9 +15,9 @@ use std::alloc::{AllocError, Allocator};
 use std::io::Write;
 use world::World;
 
-/// Writes the document: each node with its incarnation, eager links as plain arrows and lazy ones dashed, stopped nodes
-/// dotted; and for each message whether the group is at rest for it, the edges of its tree bold, and nodes that run and
-/// have not delivered it dotted. It is written whole, in one write.
+/// Writes the document: each node with its incarnation, eager links as plain arrows, lazy links as dashed arrows, and
+/// stopped nodes dotted; and for each message whether the group is at rest for it, the edges of its tree in bold, and
+/// the running nodes that have not delivered it dotted. The whole document is written in one write.
 pub fn write_graph<A: Allocator + Copy, W: Write>(
     alloc: A,
     group: &World<PlumCore<A>, A>,

@@ -1,4 +1,4 @@
-//! Scenarios: read from TOML, played in a simulated group, and what came of them printed or drawn.
+//! Scenarios: reads them from TOML, plays them in a simulated group, and prints or draws the outcome.
 #![tactic(auto)]
 
 mod code;

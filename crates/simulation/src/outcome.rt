@@ -1,4 +1,4 @@
-//! What comes of a scenario, over its text and any writer.
+//! Plays a scenario, given as text, and writes its outcome to any writer.
 ghost use Rattle.std.specs.Prelude.{◌≡◌, ◌≢◌, ◌<◌, ℕ, List, Option, Err, IfOk, IfErr, OnOk, [], ◌∷◌, ◌++◌};
 ghost use Rattle.node_names.specs.Limits.{Limits as Sizes};
 ghost use Rattle.simulation.specs.declared.play.PlayError.{PlayError};
@@ -26,12 +26,12 @@ use std::io::Write;
 use std::mem;
 use world::{Core, World};
 
-/// The room for a line: the longest payload in hexadecimal, and what stands before it.
+/// The capacity for a line: the longest payload in hexadecimal, and what precedes it.
 const LINE_ROOM: usize = 66_000;
 
 /// Reads a text as a scenario, plays it, and writes what is delivered.
 ///
-/// Where the run ends early, all that was delivered before is written.
+/// If the run ends early, all that was delivered before is written.
 pub fn simulate<W: Write>(
     alloc: Global,
     text: &[u8],
@@ -52,8 +52,8 @@ pub fn simulate<W: Write>(
     play_and_print::<Global, W>(alloc, &scenario, is_strict, out)
 }
 
-/// Reads a text as a scenario, plays it, and writes the group as it stands then as a Graphviz document: with all
-/// messages, or with one alone.
+/// Reads a text as a scenario, plays it, and writes the group at the end as a Graphviz document: with all messages, or
+/// with a single one.
 pub fn draw<W: Write>(
     alloc: Global,
     text: &[u8],
@@ -72,10 +72,9 @@ pub fn draw<W: Write>(
     play_and_draw(alloc, &scenario, only, is_strict, out)
 }
 
-/// Reads a text as a scenario, plays it, and writes what each step did and how the group stands at the end.
+/// Reads a text as a scenario, plays it, and writes what each step did and the state of the group at the end.
 ///
-/// Where the run ends early, all steps before are written, then which event was not played to its end, and then the
-/// group.
+/// If the run ends early, all steps before are written, then which event was not played to its end, and then the group.
 pub fn trace<W: Write>(
     alloc: Global,
     text: &[u8],
@@ -103,7 +102,7 @@ fn read_scenario(alloc: Global, text: &[u8]) -> Result<Scenario, ScenarioError>
     Scenario::from_document(alloc, &document)
 }
 
-/// Plays a scenario and prints what came of it.
+/// Plays a scenario and prints its outcome.
 pub fn play_and_print<A: Allocator + Copy, W: Write>(
     alloc: A,
     scenario: &Scenario,
@@ -124,7 +123,7 @@ pub fn play_and_print<A: Allocator + Copy, W: Write>(
     ended(played, printed)
 }
 
-/// Plays a scenario and draws what came of it.
+/// Plays a scenario and draws its outcome.
 fn play_and_draw<A: Allocator + Copy, W: Write>(
     alloc: A,
     scenario: &Scenario,
@@ -142,7 +141,7 @@ fn play_and_draw<A: Allocator + Copy, W: Write>(
     ended(played, drawn)
 }
 
-/// Plays a scenario and tells what came of it. `source` is its text.
+/// Plays a scenario and writes its trace. `source` is its text.
 pub fn play_and_trace<A: Allocator + Copy, W: Write>(
     alloc: A,
     scenario: &Scenario,
@@ -165,12 +164,12 @@ pub fn play_and_trace<A: Allocator + Copy, W: Write>(
     ended(played, traced)
 }
 
-/// Leaves the memory of a group to the system: the program ends next, and freeing each packet and entry takes time.
+/// Leaks the memory of a group: the program ends next, and freeing each packet and entry takes time.
 fn leave<C: Core<A>, A: Allocator + Copy>(player: Player<C, A>) {
     mem::forget(player);
 }
 
-/// Draws the group, with the tree of each message or of one alone.
+/// Draws the group, with the tree of each message or of a single one.
 fn draw_group<A: Allocator + Copy, W: Write>(
     alloc: A,
     group: &World<PlumCore<A>, A>,
@@ -185,7 +184,7 @@ fn draw_group<A: Allocator + Copy, W: Write>(
     graph::write_graph(alloc, group, shown.as_slice(), out)
 }
 
-/// All of these messages, or the one that was asked for, if it is among them.
+/// Returns all of these messages, or only the one that was asked for, if it is among them.
 pub fn shown<A: Allocator + Copy>(
     alloc: A,
     messages: &[MsgId],
@@ -224,7 +223,7 @@ fn is_shown(only: &Option<MsgId>, message: &MsgId) -> bool
     }
 }
 
-/// Prints what was delivered, and then each message's tree. `text` is room for that.
+/// Prints what was delivered, and then each message's tree. `text` is a buffer for it.
 fn print<C: Core<A>, A: Allocator + Copy, W: Write>(
     alloc: A,
     text: &mut String<A>,

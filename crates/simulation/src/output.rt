@@ -49,7 +49,7 @@ pub fn deliveries<'a, A: Allocator + Copy>(
     Ok(found)
 }
 
-/// Appends each of these.
+/// Appends each of these deliveries.
 fn push_each<'a, A: Allocator>(
     found: &mut Vec<&'a Delivery<A>, A>,
     given: &'a [Delivery<A>],
@@ -64,7 +64,7 @@ fn push_each<'a, A: Allocator>(
 
 /// Sorts deliveries by node, and those of one node by message.
 ///
-/// It sorts by ranks, by that of the message first: nodes and ids are slow to compare and to move.
+/// Sorts by ranks, first by that of the message, because nodes and ids are slow to compare and to move.
 pub fn sort<A: Allocator + Copy>(deliveries: &mut Vec<&Delivery<A>, A>) -> Result<(), AllocError>
     ensures permutation { OnOk result (IsPermutation (map (λ d. d.now) deliveries.old.items) (map (λ d. d.now) deliveries.new.items)) }
     ensures sorted { OnOk result (IsSorted line_cmp (map (λ d. d.now) deliveries.new.items)) }
@@ -76,7 +76,7 @@ pub fn sort<A: Allocator + Copy>(deliveries: &mut Vec<&Delivery<A>, A>) -> Resul
     deliveries.sort_by_cached_key(|delivery| rank_of_node(&nodes, &delivery.node))
 }
 
-/// Writes a line for each delivery, in one write each. `text` is room for a line.
+/// Writes a line for each delivery, in one write each. `text` is a buffer for a line.
 pub fn write_lines<A: Allocator, W: Write>(
     text: &mut String<A>,
     deliveries: &[&Delivery<A>],
@@ -126,7 +126,7 @@ fn push_hexadecimal<A: Allocator>(text: &mut String<A>, bytes: &[u8]) -> Result<
     Ok(())
 }
 
-/// Appends the digits of up to 32 bytes together: one append for each byte is slow.
+/// Appends the digits of up to 32 bytes at once, because one append for each byte is slow.
 fn push_chunk<A: Allocator>(text: &mut String<A>, bytes: &[u8]) -> Result<(), AllocError>
     requires { length bytes.now ≤ 32 }
     ensures { OnOk result (string_bytes text.new ≡ string_bytes text.old ++ hexadecimal bytes.now) }

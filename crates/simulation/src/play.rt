@@ -1,4 +1,4 @@
-//! Playing a scenario in a simulated group.
+//! Plays a scenario in a simulated group.
 ghost use Rattle.std.specs.Prelude.{◌≡◌, ◌≢◌, None, IfOk, IfErr, IfSome, OnOk};
 ghost use Rattle.frames.specs.Content.{frame_content};
 ghost use Rattle.node_core.specs.Plum.{plum_state};
@@ -19,7 +19,7 @@ use std::fmt;
 use thiserror::Error;
 use world::{Core, Event, World, WorldError};
 
-/// The most arrivals that one action plays.
+/// The maximum number of arrivals that one action plays.
 pub const MOST_ARRIVALS: usize = 10_000;
 
 /// Why a run ended before its scenario did. Events are counted from 0.
@@ -52,7 +52,7 @@ pub enum Idle {
 }
 
 impl Idle {
-    /// Why, in words.
+    /// The reason in words.
     pub fn words(self) -> &'static str {
         match self {
             Idle::NoTimer => "the node has no such timer",
@@ -81,7 +81,7 @@ pub enum ActionError {
 }
 
 impl ActionError {
-    /// The fault of a run that halts so at this event.
+    /// The error of a run whose event with this number stopped with this error.
     fn at(self, event: usize) -> PlayError
         ensures { result ≡ fault_of event self }
     {
@@ -102,7 +102,7 @@ impl ActionError {
     }
 }
 
-/// A group of nodes, and what its next dice are drawn from.
+/// A group of nodes, and the source of its dice.
 #[derive(Drop)]
 pub struct Player<C: Core<A>, A: Allocator> {
     group: World<C, A>,
@@ -112,7 +112,7 @@ pub struct Player<C: Core<A>, A: Allocator> {
 }
 
 impl<C: Core<A>, A: Allocator + Copy> Player<C, A> {
-    /// A group without nodes, whose dice are drawn by this seed.
+    /// Creates a group without nodes, with dice drawn from this seed; without a seed all dice are zero.
     pub fn new(alloc: A, seed: Option<u64>, limits: Limits) -> Player<C, A>
         ensures rolls { rolls_in result.rolls ≡ rolls_of seed }
         ensures group { result.group ≡ empty_group limits }
@@ -124,14 +124,14 @@ impl<C: Core<A>, A: Allocator + Copy> Player<C, A> {
         }
     }
 
-    /// The group as it stands.
+    /// The group in its current state.
     pub fn group(&self) -> &World<C, A>
         ensures { result.now ≡ self.now.group }
     {
         &self.group
     }
 
-    /// How many events the group had taken when each action began, up to the last one that did.
+    /// How many events the group had taken when each action began, for the actions that have begun.
     pub fn begun(&self) -> &[usize] {
         self.begun.as_slice()
     }
@@ -172,7 +172,7 @@ impl<C: Core<A>, A: Allocator + Copy> Player<C, A> {
 }
 
 impl<A: Allocator + Copy> Player<PlumCore<A>, A> {
-    /// Plays actions in order: strictly, if so, which refuses one that does nothing.
+    /// Plays actions in order. If `is_strict`, an action that does nothing is an error.
     pub fn play(&mut self, alloc: A, actions: &[Action], is_strict: bool) -> Result<(), PlayError>
         ensures ok { OnOk result (PlaysActions plum_state PlumStarts PlumSteps MOST_ARRIVALS actions.now (record { rolls = rolls_in self.old.rolls; group = self.old.group }) (record { rolls = rolls_in self.new.rolls; group = self.new.group })) }
         ensures stopped { IfErr result (λ fault. fault ≢ PlayError.OutOfMemory → IsHalted plum_state PlumStarts PlumSteps frame_content PlumIsSpent MOST_ARRIVALS actions.now fault (record { rolls = rolls_in self.old.rolls; group = self.old.group }) self.new.group) }
@@ -200,7 +200,7 @@ impl<A: Allocator + Copy> Player<PlumCore<A>, A> {
         self.take_action(alloc, action)
     }
 
-    /// Why an action would do nothing, if the node that it is of runs and it would.
+    /// Returns why an action would do nothing although its node runs, and `None` in all other cases.
     fn idle(&self, action: &Action) -> Option<Idle>
         ensures idle { IfSome result (λ why. IsIdle plum_state why action.now self.now.group.group) }
         ensures busy { result ≡ None → (why : Idle) → ¬ IsIdle plum_state why action.now self.now.group.group }
@@ -227,7 +227,7 @@ impl<A: Allocator + Copy> Player<PlumCore<A>, A> {
         }
     }
 
-    /// Plays an action of many events.
+    /// Plays an action that consists of many events.
     fn play_many(&mut self, alloc: A, action: &Action) -> Result<(), ActionError>
         requires { event_of (rolled (rolls_in self.old.rolls)) action.now ≡ None }
         ensures ok { OnOk result (PlaysAction plum_state PlumStarts PlumSteps MOST_ARRIVALS action.now (record { rolls = rolls_in self.old.rolls; group = self.old.group }) (record { rolls = rolls_in self.new.rolls; group = self.new.group })) }
@@ -252,7 +252,7 @@ impl<A: Allocator + Copy> Player<PlumCore<A>, A> {
     }
 }
 
-/// That a node of this name runs and has not armed the timer, if so.
+/// Returns `NoTimer` if a node of this name runs and has not armed the timer.
 fn idle_timer<A: Allocator + Copy>(
     group: &World<PlumCore<A>, A>,
     node: &NodeName,
@@ -281,7 +281,7 @@ fn is_linked<A: Allocator + Copy>(core: &PlumCore<A>, peer: &NodeName) -> bool
     core.active().contains(peer)
 }
 
-/// That a node of this name runs and does not have the peer in its active view, if so.
+/// Returns `NoLink` if a node of this name runs and does not have the peer in its active view.
 fn idle_link<A: Allocator + Copy>(
     group: &World<PlumCore<A>, A>,
     node: &NodeName,
@@ -296,7 +296,7 @@ fn idle_link<A: Allocator + Copy>(
     }
 }
 
-/// The event that an action is, or `None` where it is many.
+/// The event of an action, or `None` if the action consists of many events.
 fn event_of<A: Allocator + Copy>(
     alloc: A,
     rolls: &mut Rolls,

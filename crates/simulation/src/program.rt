@@ -1,4 +1,5 @@
-//! What a program answers for a scenario that it plays: a status, and why it ended early.
+//! What the program does for a scenario that it plays: it writes the outcome, reports why the run ended early, and
+//! returns an exit status.
 ghost use Rattle.std.specs.Prelude.{◌≡◌, ◌≢◌, ◌⊎◌, false, ◌≤◌, ◌<◌, ℕ, List, Option, Err, IfSome, IsOk, OnOk};
 ghost use Rattle.node_names.specs.Limits.{Limits as Sizes};
 ghost use Rattle.simulation.specs.declared.play.TheConstants.{MOST_ARRIVALS};
@@ -21,8 +22,8 @@ use std::fmt::Display;
 use std::io;
 use std::io::{Read, Write};
 
-/// Plays the scenario of an input and writes its outcome in this form, and why it ended early to `faults`. A strict
-/// reader refuses keys that mean nothing and events that do nothing too.
+/// Plays the scenario of an input and writes its outcome in this form, and why it ended early to `faults`. Returns the
+/// program's exit status. If `is_strict`, unknown keys and events that do nothing are rejected too.
 pub fn play_input<R: Read, W: Write, F: Write>(
     alloc: Global,
     form: Form,
@@ -67,7 +68,7 @@ fn play<W: Write, F: Write>(
     play_known(alloc, form, is_strict, text, out, faults)
 }
 
-/// Plays the scenario of a text, whatever keys it has that mean nothing.
+/// Plays the scenario of a text, without looking for unknown keys.
 fn play_known<W: Write, F: Write>(
     alloc: Global,
     form: Form,
@@ -113,7 +114,7 @@ fn write_outcome<W: Write>(
     }
 }
 
-/// Writes that the input could not be read.
+/// Writes that the input could not be read, and returns the program's exit status.
 pub fn report_unread<F: Write>(error: &io::Error, faults: &mut F) -> u8
     ensures { (result ≡ 1) ⊎ (result ≡ 2) }
 {
@@ -124,7 +125,7 @@ pub fn report_unread<F: Write>(error: &io::Error, faults: &mut F) -> u8
     }
 }
 
-/// Writes why a run ended early, if it did. The number is the status that the program ends with.
+/// Writes why a run ended early, if it did, and returns the program's exit status.
 pub fn conclude<F: Write>(ended: Result<(), SimulationError>, faults: &mut F) -> u8
     ensures status { result ≤ 2 }
     ensures quiet { result ≡ 0 → (faults.new ≡ faults.old) × IsOk ended }
@@ -142,7 +143,7 @@ pub fn conclude<F: Write>(ended: Result<(), SimulationError>, faults: &mut F) ->
     }
 }
 
-/// Writes why the program ends with this status. A write that fails is a fault of the run.
+/// Writes why the program ends with this status, and returns the status, or 1 if the write fails.
 pub fn report<F: Write, D: Display + Drop>(faults: &mut F, fault: D, status: u8) -> u8
     ensures { (result ≡ status) ⊎ (result ≡ 1) }
 {
@@ -154,7 +155,7 @@ fn write_fault<F: Write, D: Display + Drop>(faults: &mut F, fault: D) -> io::Res
     faults.flush()
 }
 
-/// The status, unless the write failed.
+/// Returns the status, or 1 if the write failed.
 pub fn status_after(written: io::Result<()>, status: u8) -> u8
     ensures { (result ≡ status) ⊎ (result ≡ 1) }
 {

@@ -1,4 +1,4 @@
-//! The ranks of the nodes and messages that occur: small numbers to sort by.
+//! The ranks of nodes and messages: small numbers to sort by.
 ghost use Rattle.std.specs.Prelude.{◌≡◌, All, Contains, IsSorted, IfOk, OnOk};
 ghost use Rattle.indexmap.specs.IndexSet.{insert_key};
 ghost use Rattle.simulation.specs.Lines.{msg_id_cmp, origin_cmp};
@@ -11,10 +11,10 @@ use std::alloc::{AllocError, Allocator};
 use std::hash::{BuildHasherDefault, FoldHasher};
 use world::Delivery;
 
-/// Distinct values in their order, so that a value's place is its rank.
+/// Distinct values in ascending order, so that a value's index is its rank.
 pub type Ranks<T, A> = IndexSet<T, BuildHasherDefault<FoldHasher>, A>;
 
-/// The nodes that made these deliveries.
+/// Ranks the nodes that made these deliveries.
 pub fn nodes<A: Allocator + Copy>(
     alloc: A,
     deliveries: &[&Delivery<A>],
@@ -30,7 +30,7 @@ pub fn nodes<A: Allocator + Copy>(
     Ok(nodes)
 }
 
-/// The messages that were delivered.
+/// Ranks the messages that were delivered.
 pub fn messages<A: Allocator + Copy>(
     alloc: A,
     deliveries: &[&Delivery<A>],
@@ -46,7 +46,7 @@ pub fn messages<A: Allocator + Copy>(
     Ok(ids)
 }
 
-/// Adds a message. Most deliveries are of the message that was added last, which is seen without its hash.
+/// Adds a message. Most deliveries are of the message that was added last, which is recognized without hashing.
 fn add_message<A: Allocator + Copy>(ids: &mut Ranks<MsgId, A>, id: &MsgId) -> Result<(), AllocError>
     ensures { OnOk result (ids.new.keys ≡ insert_key same_id ids.old.keys id.now) }
 {
@@ -57,14 +57,14 @@ fn add_message<A: Allocator + Copy>(ids: &mut Ranks<MsgId, A>, id: &MsgId) -> Re
     Ok(())
 }
 
-/// The rank of a node, and 0 of one that is not there.
+/// The rank of a node, or 0 if it has none.
 pub fn rank_of_node<A: Allocator>(nodes: &Ranks<Origin, A>, node: &Origin) -> usize
     ensures { result ≡ rank_in same_origin nodes.now.keys node.now }
 {
     nodes.get_index_of(node).unwrap_or(0)
 }
 
-/// The rank of a message, and 0 of one that is not there.
+/// The rank of a message, or 0 if it has none.
 pub fn rank_of_message<A: Allocator>(ids: &Ranks<MsgId, A>, id: &MsgId) -> usize
     ensures { result ≡ rank_in same_id ids.now.keys id.now }
 {

@@ -1,4 +1,4 @@
-//! Reading a scenario's text.
+//! Reads a scenario's text.
 ghost use Rattle.std.specs.Prelude.{◌≡◌, ◌≢◌, ◌+◌, ◌<◌, ◌≤◌, length, take, IfOk, IfSome, IsErrOf, IfErr};
 ghost use Rattle.std.specs.Prelude.{None, Some, IsUtf8};
 ghost use Rattle.std.specs.IoError.{error_kind};
@@ -11,10 +11,10 @@ use std::io;
 use std::io::{ErrorKind, Read};
 use toml::Table;
 
-/// The most bytes that a scenario may have.
+/// The maximum length of a scenario in bytes.
 pub const MAX_SCENARIO_BYTES: usize = 1_048_576;
 
-/// Reads the whole input, or one byte more than a scenario may have. A read that is interrupted is made again.
+/// Reads the whole input, but at most one byte more than a scenario may have. A read that is interrupted is retried.
 pub fn read_text<R: Read>(alloc: Global, input: &mut R) -> io::Result<Vec<u8>>
     ensures text { IfOk result (λ text. IfSome (R.remaining input.old) (λ rest. text.items ≡ take (MAX_SCENARIO_BYTES + 1) rest)) }
     ensures retried { IfErr result (λ error. error_kind error ≢ ErrorKind.Interrupted) }
@@ -25,7 +25,7 @@ pub fn read_text<R: Read>(alloc: Global, input: &mut R) -> io::Result<Vec<u8>>
     Ok(text)
 }
 
-/// Reads a text as a TOML document. That it is too long is said before it is no TOML.
+/// Reads a text as a TOML document. `TooLong` is tested before `NotToml`.
 pub fn read_document(alloc: Global, text: &[u8]) -> Result<Table, ScenarioError>
     ensures short { IfOk result (λ _. length text.now ≤ MAX_SCENARIO_BYTES) }
     ensures ok { IfOk result (λ table. IsUtf8 text.now × (parse_document text.now ≡ Some (table_view table))) }

@@ -7,7 +7,7 @@ use rand_core::SeedableRng;
 use rand_pcg::Lcg128Xsl64;
 use std::marker::Model;
 
-/// What the dice of a run are drawn from: the generator of a seed, or nothing, and then all dice are zero.
+/// The source of the dice of a run: the generator of a seed, or nothing, in which case all dice are zero.
 ///
 /// A contract sees it as the generator.
 #[derive(Drop)]
@@ -25,7 +25,7 @@ impl Model for Rolls {
 }
 
 impl Rolls {
-    /// The generator of the seed, if there is one.
+    /// Creates the generator of the seed, if there is a seed.
     pub fn new(seed: Option<u64>) -> Rolls
         ensures { rolls_in result ≡ rolls_of seed }
     {
@@ -36,7 +36,7 @@ impl Rolls {
         Rolls { generator }
     }
 
-    /// The next dice.
+    /// Draws the next dice.
     pub fn roll(&mut self) -> Dice
         ensures dice { result ≡ rolled (rolls_in self.old) }
         ensures left { rolls_in self.new ≡ after_roll (rolls_in self.old) }

@@ -21,13 +21,13 @@ pub use section::Section;
 use std::alloc::Global;
 use toml::{Table, Value};
 
-/// The most events that a scenario may have.
+/// The maximum number of events in a scenario.
 pub const MOST_EVENTS: usize = 100_000;
 
 /// What a simulated group is to do.
 #[derive(Drop)]
 pub struct Scenario {
-    /// What the dice are drawn from, if they are drawn at all.
+    /// The seed of the dice; without one all dice are zero.
     pub seed: Option<u64>,
     /// The limits of every node.
     pub limits: Limits,
@@ -36,7 +36,7 @@ pub struct Scenario {
 }
 
 impl Scenario {
-    /// Reads a document as a scenario: what stands at its top first, then the limits, then each event.
+    /// Reads a document as a scenario: first the keys at its top, then the limits, then each event.
     pub fn from_document(alloc: Global, document: &Table) -> Result<Scenario, ScenarioError>
         ensures ok { IfOk result (λ scenario. Describes MOST_EVENTS (table_view document.now) scenario.seed scenario.limits scenario.actions.items) }
         ensures refused { IfErr result (λ e. e ≢ ScenarioError.OutOfMemory → (seed : Option ℕ) (sizes : Sizes) (actions : List Action) → ¬ Describes MOST_EVENTS (table_view document.now) seed sizes actions) }

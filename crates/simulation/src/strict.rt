@@ -1,4 +1,4 @@
-//! What a strict reader refuses: keys and sections that mean nothing, and events that do nothing.
+//! What strict mode rejects: keys and sections that are unknown, and events that do nothing.
 ghost use Rattle.std.specs.Prelude.{◌≡◌, ◌⊎◌, None, IfSome};
 
 use crate::play::Idle;
@@ -10,7 +10,7 @@ use std::fmt;
 use std::io::Write;
 use toml::{Table, Value};
 
-/// The keys at the top of a scenario, of one that is played and of one that is run.
+/// The keys at the top of a scenario, both of one that is simulated and of one that real nodes run.
 const TOP: [&str; 5] = ["event", "limits", "node", "seed", "ticks"];
 
 /// The keys of the limits.
@@ -25,10 +25,10 @@ const LIMITS: [&str; 8] = [
     "threshold",
 ];
 
-/// The keys of a node that is to run.
+/// The keys of a real node that is to run.
 const NODE: [&str; 6] = ["contact", "incarnation", "name", "peers", "port", "say"];
 
-/// A key that means nothing where it stands.
+/// A key that is unknown in its table.
 #[derive(Drop)]
 struct Unknown<'a> {
     place: Place,
@@ -64,8 +64,8 @@ impl fmt::Display for IdleEvent {
     }
 }
 
-/// Writes which key of a scenario means nothing, if one does, and returns the status that the program ends with then. A
-/// text that is no document is left to who reads it.
+/// Reports the first unknown key of a scenario, if there is one, and returns the exit status for it. A text that is not
+/// a TOML document is not reported here, but when it is read.
 pub fn report_unknown<F: Write>(alloc: Global, text: &[u8], faults: &mut F) -> Option<u8>
     ensures status { IfSome result (λ status. (status ≡ 1) ⊎ (status ≡ 2)) }
     ensures quiet { result ≡ None → faults.new ≡ faults.old }
@@ -78,7 +78,7 @@ pub fn report_unknown<F: Write>(alloc: Global, text: &[u8], faults: &mut F) -> O
     Some(report(faults, Unknown { place, key, line }, 2))
 }
 
-/// Writes which event of a scenario does nothing. The number is the status that the program ends with.
+/// Reports which event of a scenario does nothing, and returns the program's exit status.
 pub fn report_idle<F: Write>(
     alloc: Global,
     text: &[u8],
@@ -100,7 +100,7 @@ fn events_of(document: &Table) -> usize {
     tables(document, "event").len()
 }
 
-/// The tables at a key, or none.
+/// The tables at a key, or no tables if it is left out or not a list.
 fn tables<'a>(document: &'a Table, key: &str) -> &'a [Value] {
     match document.get(key).and_then(Value::as_array) {
         Some(values) => values.as_slice(),
@@ -108,7 +108,7 @@ fn tables<'a>(document: &'a Table, key: &str) -> &'a [Value] {
     }
 }
 
-/// The first key of a scenario that means nothing where it stands.
+/// The first key of a scenario that is unknown in its table.
 fn unknown_key(document: &Table) -> Option<(Place, &str)> {
     if let Some(key) = stranger(document, &TOP) {
         return Some((Place::Top, key));
@@ -124,7 +124,7 @@ fn unknown_key(document: &Table) -> Option<(Place, &str)> {
     }
 }
 
-/// The first key of events that means nothing.
+/// The first unknown key of events.
 fn unknown_in_events(events: &[Value]) -> Option<(Place, &str)> {
     for (number, event) in events.iter().enumerate() {
         if let Some(table) = event.as_table()
@@ -137,7 +137,7 @@ fn unknown_in_events(events: &[Value]) -> Option<(Place, &str)> {
     None
 }
 
-/// The first key of nodes that are to run that means nothing.
+/// The first unknown key of nodes that are to run.
 fn unknown_in_nodes(nodes: &[Value]) -> Option<(Place, &str)> {
     for (number, node) in nodes.iter().enumerate() {
         if let Some(table) = node.as_table()
@@ -149,7 +149,8 @@ fn unknown_in_nodes(nodes: &[Value]) -> Option<(Place, &str)> {
     None
 }
 
-/// The keys that an event may have, by what it does. What does nothing known is left to who reads the events.
+/// The keys that an event may have, by what it does. `None` if it does nothing known, which is reported when the events
+/// are read.
 fn keys_of(event: &Table) -> Option<&'static [&'static str]> {
     match event.get("do").and_then(Value::as_str)? {
         "start" => Some(&["do", "node", "incarnation", "peers", "contact"]),
@@ -164,7 +165,7 @@ fn keys_of(event: &Table) -> Option<&'static [&'static str]> {
     }
 }
 
-/// The first key of a table that is none of these.
+/// The first key of a table that is not one of the known ones.
 fn stranger<'a>(table: &'a Table, known: &[&str]) -> Option<&'a str> {
     for key in table.keys() {
         if !known.iter().any(|word| *word == key.as_str()) {

@@ -1,4 +1,4 @@
-//! The trace of a run: each step with what it sent, delivered and changed, and how the group stands at the end.
+//! Writes the trace of a run: each step with what it sent, delivered and changed, and the group's state at the end.
 ghost use Rattle.std.specs.Prelude.{ℕ, List, length, IfOk, OnOk};
 ghost use Rattle.std.specs.Io.KnownBytes.{Appends};
 ghost use Rattle.simulation.specs.Traced.{TellsGroup, TellsSteps};
@@ -16,11 +16,11 @@ use step::write_step;
 pub use stop::Stop;
 use world::World;
 
-/// The room for a step: most are shorter.
+/// The initial capacity for the text of a step; most steps are shorter.
 const STEP_ROOM: usize = 4_096;
 
-/// Writes what each event of a group's log did, why the run ended early, if it did, and how the group stands then.
-/// `begun` is how many events there were when each event of the scenario began.
+/// Writes what each event of a group's log did, why the run ended early, if it did, and the state of the group at the
+/// end. `begun` says how many events there were when each event of the scenario began.
 pub fn write_trace<A: Allocator + Copy, W: Write>(
     alloc: A,
     group: &World<PlumCore<A>, A>,
@@ -35,8 +35,8 @@ pub fn write_trace<A: Allocator + Copy, W: Write>(
     write_ending(alloc, &mut text, &run, stop, out)
 }
 
-/// Writes what each event of a group's log did, and returns the group as it stands after them. The events are played
-/// anew, to see the group before and after each. `text` is room for a step.
+/// Writes what each event of a group's log did, and returns the group after them. The events are replayed, to see the
+/// group before and after each. `text` is a buffer for a step.
 fn write_steps<A: Allocator + Copy, W: Write>(
     alloc: A,
     text: &mut String<A>,

@@ -1,4 +1,4 @@
-//! The lines that are printed of messages: whether the group is at rest for each, and its tree.
+//! The lines that are printed for messages: whether the group is at rest for each, and its tree.
 ghost use Rattle.std.specs.Prelude.{◌≡◌, [], ◌∷◌, ◌++◌, ℕ, List, map, IsPermutation, IsSorted, IfOk, OnOk, string_bytes};
 ghost use Rattle.std.specs.Io.KnownBytes.{Appends};
 ghost use Rattle.node_names.specs.Order.{id_cmp};
@@ -12,7 +12,7 @@ use std::io::Write;
 use trace_text::push_origin;
 use world::{Core, Delivery, World};
 
-/// The messages that were broadcast, each as its own origin delivered it, in the order of their ids.
+/// Returns the messages that were broadcast, that is, delivered by their own origin, in the order of their ids.
 pub fn broadcasts<A: Allocator + Copy>(
     alloc: A,
     deliveries: &[&Delivery<A>],
@@ -25,7 +25,7 @@ pub fn broadcasts<A: Allocator + Copy>(
     Ok(ids)
 }
 
-/// The same in the order of the deliveries.
+/// The messages that their own origin delivered, in the order of the deliveries.
 fn own_deliveries<A: Allocator + Copy>(
     alloc: A,
     deliveries: &[&Delivery<A>],
@@ -39,7 +39,7 @@ fn own_deliveries<A: Allocator + Copy>(
     Ok(ids)
 }
 
-/// Appends the id of a delivery by the message's own origin.
+/// Appends the id of a delivery, if the message's own origin made it.
 fn push_own<A: Allocator + Copy>(
     ids: &mut Vec<MsgId, A>,
     delivery: &Delivery<A>,
@@ -52,7 +52,7 @@ fn push_own<A: Allocator + Copy>(
     Ok(())
 }
 
-/// Writes the lines of each message, in one write each. `text` is room for them.
+/// Writes the lines of each message, in one write each. `text` is a buffer for them.
 pub fn write_trees<C: Core<A>, A: Allocator + Copy, W: Write>(
     alloc: A,
     text: &mut String<A>,

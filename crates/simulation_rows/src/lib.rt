@@ -1,4 +1,4 @@
-//! A scenario that is played while memory is refused, a read fails or a write fails, each in turn, as tests.
+//! Tests of a scenario that is played while an allocation, a read or a write fails, each in turn.
 #![tactic(auto)]
 
 #[cfg(test)]

@@ -1,10 +1,10 @@
-//! Frames as texts.
+//! Frames as text.
 use crate::letters::push_letters;
 use frames::{Body, BodyOf, Frame};
 use std::alloc::{AllocError, Allocator};
 use std::fmt::Write;
 
-/// Appends what a frame says.
+/// Appends a frame's body.
 fn push_body<A: Allocator>(text: &mut String, body: &Body<A>) -> Result<(), AllocError> {
     match body {
         BodyOf::Gossip { id, round, payload } => {
@@ -16,7 +16,7 @@ fn push_body<A: Allocator>(text: &mut String, body: &Body<A>) -> Result<(), Allo
     }
 }
 
-/// Appends a frame: who sent it, its number, and what it says.
+/// Appends a frame: its sender, its number and its body.
 pub fn push_frame<A: Allocator>(text: &mut String, frame: &Frame<A>) -> Result<(), AllocError> {
     write!(text, "{}#{} ", frame.sender(), frame.number())?;
     push_body(text, frame.body())

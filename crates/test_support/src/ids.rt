@@ -1,9 +1,9 @@
-//! Runs and messages of a node's first incarnation.
+//! Origins and messages of a node's first incarnation.
 ghost use Rattle.std.specs.Prelude.{◌≡◌};
 
 use node_names::{Incarnation, MsgId, NodeName, Origin};
 
-/// The first incarnation of a name.
+/// Returns the origin of a name's first incarnation.
 pub fn first_run(name: NodeName) -> Origin
     ensures name { result.name ≡ name }
     ensures incarnation { result.incarnation.0 ≡ 1 }
@@ -14,7 +14,7 @@ pub fn first_run(name: NodeName) -> Origin
     }
 }
 
-/// The message with this number of a name's first incarnation.
+/// Returns the id of message number `seq` of a name's first incarnation.
 pub fn message(name: NodeName, seq: u64) -> MsgId
     ensures name { result.origin.name ≡ name }
     ensures incarnation { result.origin.incarnation.0 ≡ 1 }

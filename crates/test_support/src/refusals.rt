@@ -1,28 +1,28 @@
-//! Calls with one of their allocations refused.
+//! Calls that have one of their allocations refused.
 use refusing_allocator::RefusingAllocator;
 
-/// More allocations than any call has.
+/// More allocations than any call makes.
 const MANY: u64 = 1_000;
 
-/// Has no allocation refused from now on. Whether the refusal that was asked for last has been given.
+/// Stops refusing allocations. Returns whether the refusal that was last requested has taken place.
 pub fn stop_refusing(heap: &RefusingAllocator) -> bool {
     let is_spent = heap.is_spent();
     heap.refuse(0);
     is_spent
 }
 
-/// Why a call failed, if it did.
+/// Returns the call's error, if it failed.
 ///
-/// A function that names the type of what was refused takes the prover a minute where that is a node, and next to
-/// nothing here.
+/// A function that names the type `T` takes the prover a minute if `T` is a node. Here, where `T` is generic, it takes
+/// next to nothing.
 pub fn refusal_of<T: Drop, E: Drop>(answer: Result<T, E>) -> Option<E> {
     answer.err()
 }
 
-/// Makes a call while the allocation with this number is refused, and makes it again if it failed. Whether there is such
-/// an allocation, or none if the call fails otherwise.
+/// Makes a call while allocation number `n` is refused, and makes it again if it failed. Returns whether the call has
+/// such an allocation, or `None` if the call fails in any other way.
 ///
-/// The call answers why it failed, if it did, and `is_expected` whether a refused allocation leads to that.
+/// The call returns its error, if it failed. `is_expected` returns whether a refused allocation leads to that error.
 pub fn retry<E: Drop, F: FnMut() -> Option<E>, W: FnOnce(E) -> bool>(
     heap: &RefusingAllocator,
     n: u64,
@@ -42,11 +42,11 @@ pub fn retry<E: Drop, F: FnMut() -> Option<E>, W: FnOnce(E) -> bool>(
     is_right.then_some(is_spent)
 }
 
-/// Makes a call once for each of its allocations, which is refused, and at last with none refused. How many there are,
-/// or none if an answer is wrong.
+/// Makes a call once for each of its allocations, with that allocation refused, and a last time with none refused.
+/// Returns the number of allocations, or `None` if an answer is wrong.
 ///
-/// The call is given the number of the allocation that it has refused. It answers whether there is such an allocation,
-/// or none if something is wrong.
+/// The call is given the number of the allocation that it must have refused. It returns whether there is such an
+/// allocation, or `None` if something is wrong.
 pub fn sweep<E: Drop, F: FnMut(u64) -> Result<Option<bool>, E>>(
     mut call: F,
 ) -> Result<Option<u64>, E>
@@ -62,8 +62,8 @@ pub fn sweep<E: Drop, F: FnMut(u64) -> Result<Option<bool>, E>>(
     Ok(None)
 }
 
-/// Sweeps so many calls, each of which is given its place and the number of the allocation that it has refused. How many
-/// allocations they have together, or none if an answer is wrong.
+/// Sweeps `count` calls, each of which is given its place and the number of the allocation that it must have refused.
+/// Returns the number of allocations of all calls together, or `None` if an answer is wrong.
 pub fn sweep_each<E: Drop, F: FnMut(usize, u64) -> Result<Option<bool>, E>>(
     count: usize,
     mut call: F,

@@ -1,4 +1,5 @@
-//! The cell of a running node as tests: what it answers, what comes out of its links, and where memory runs out.
+//! Tests of the cell of a running node: what it answers, what comes out of its links, and what happens if memory runs
+//! out.
 #![tactic(auto)]
 
 #[cfg(test)]

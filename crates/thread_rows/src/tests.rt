@@ -1,4 +1,4 @@
-//! The tests by what they are of, and what they share.
+//! The tests, grouped by what they test, and what they share.
 mod calls;
 mod downs;
 mod node;

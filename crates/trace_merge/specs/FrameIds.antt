@@ -1,4 +1,4 @@
--- What `==` computes of what frames are known by.
+-- What `==` computes for frame ids.
 use Rattle.std.specs.Prelude.{◌≡◌, ◌&&◌, ℕ, Bool, List, Some, IsSome, nat_eq, slice_get}
 use Rattle.std.specs.Map.{lookup}
 use Rattle.std.specs.Bool.{Decides}
@@ -11,7 +11,7 @@ use Rattle.world.specs.declared.packet.Packet.{Packet}
 use Rattle.frames.specs.Frame.{Frame}
 use Rattle.trace_merge.specs.declared.frame_index.FrameId.{FrameId}
 
--- whether two frames are known by the same sender and number
+-- whether two frame ids have the same sender and number
 abbrev pub same_frame_id : FrameId → FrameId → Bool
 same_frame_id a b = same_origin a.sender b.sender && nat_eq a.number b.number
 
@@ -22,11 +22,11 @@ same_frame_id-Decides a b =
     (λ e. (ap (λ (id : FrameId). id.sender) e, ap (λ (id : FrameId). id.number) e))
     (Decides-and _ _ (same_origin-Decides a.sender b.sender) (unsigned_Decides a.number b.number))
 
--- what the frame of a packet is known by
+-- the frame id of a packet
 abbrev pub id_of : Packet Frame → FrameId
 id_of packet = record { sender = packet.sender; number = packet.note.number }
 
--- The frames of all these packets are found, and what is found is the packet with that frame.
+-- The frames of all these packets are found, and the number that is found is that of the packet with the frame.
 pub record AreFound (sent : List (Packet Frame)) (numbers : List (FrameId × ℕ)) : Type 0 where
   pub found : (packet : Packet Frame) → IsOneOf packet sent → IsSome (lookup (same_frame_id (id_of packet)) numbers)
   pub told : (id : FrameId) (n : ℕ) → lookup (same_frame_id id) numbers ≡ Some n → (packet : Packet Frame) × (slice_get sent n ≡ Some packet) × (id_of packet ≡ id)

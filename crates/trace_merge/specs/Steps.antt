@@ -1,4 +1,4 @@
--- What a step of a trace is, and what playing it does.
+-- Steps of a trace, and what playing them does.
 use Rattle.std.specs.Prelude.{◌≡◌, ◌<◌, ℕ, Bool, true, false, List, Some, set, slice_get}
 use Rattle.world.specs.Stimulus.{Stimulus}
 use Rattle.world.specs.Trace.{Trace}
@@ -6,7 +6,7 @@ use Rattle.world.specs.declared.stimulus.StimulusOf.TheVariants.{Broadcast, Arri
 use Rattle.frames.specs.Frame.{Frame}
 use Rattle.trace_merge.specs.Merging.{IsHeld, IsMerging, Merge, place_at, remaining}
 
--- The stimulus is no packet.
+-- The stimulus is not the arrival of a packet.
 abbrev pub IsNoArrival : Stimulus Frame → Type 0
 IsNoArrival (Arrive sender note dice) = ⊥
 IsNoArrival (Broadcast payload) = Unit {0}
@@ -15,7 +15,7 @@ IsNoArrival Flush = Unit {0}
 IsNoArrival (Down peer dice) = Unit {0}
 IsNoArrival (Shuffle dice) = Unit {0}
 
--- The trace at a place was played on, so that it stands here.
+-- The trace at index `at` was played on, up to `place`.
 pub record GoesOn (traces : List (Trace Frame)) (at place : ℕ) (old new : Merge) : Type 0 where
   pub limits : new.world.limits ≡ old.world.limits
   pub places : new.places ≡ set old.places at (Some place)
@@ -27,7 +27,7 @@ pub record Advances (traces : List (Trace Frame)) (old new : Merge) : Type 0 whe
   pub merging : IsMerging old.world.limits traces new
   pub falls : remaining traces new.places < remaining traces old.places
 
--- Nothing was played of the trace at a place, which can't be played on.
+-- Nothing was played of the trace at index `at`, which cannot be played any further.
 pub record Rests (traces : List (Trace Frame)) (at : ℕ) (old new : Merge) : Type 0 where
   pub same : new ≡ old
   pub held : (t : Trace Frame) → slice_get traces at ≡ Some t → IsHeld traces old.places t (place_at old.places at)

@@ -16,7 +16,7 @@ use node_names::{Dice, NodeName, Origin};
 use std::alloc::Allocator;
 use world::{EventOf, Packet, Step, StimulusOf, Trace};
 
-/// Whether a packet is this frame, and goes to this name.
+/// Whether a packet carries this frame and goes to this name.
 fn is_its<A: Allocator>(packet: &Packet<Frame<A>>, to: &NodeName, note: &Frame<A>) -> bool
     ensures { Decides result ((packet.now.to ≡ to.now) × (packet.now.note ≡ note.now)) }
 {
@@ -24,14 +24,14 @@ fn is_its<A: Allocator>(packet: &Packet<Frame<A>>, to: &NodeName, note: &Frame<A
 }
 
 impl<A: Allocator + Copy> Merging<A> {
-    /// The number of the packet with this frame, if it is sent.
+    /// The number of the packet with this frame, if it was sent.
     fn find(&self, id: &FrameId) -> Option<usize>
         ensures { result ≡ lookup (same_frame_id id.now) self.now.frames }
     {
         self.frames.find(id)
     }
 
-    /// Whether the packet of this number is this frame, and goes to this name.
+    /// Whether the packet of this number carries this frame and goes to this name.
     fn has_sent(&self, number: usize, to: &NodeName, note: &Frame<A>) -> bool
         ensures { (packet : Sent Said) → slice_get self.now.world.group.sent number ≡ Some packet → Decides result ((packet.to ≡ to.now) × (packet.note ≡ note.now)) }
     {
@@ -41,7 +41,7 @@ impl<A: Allocator + Copy> Merging<A> {
         }
     }
 
-    /// Plays the arrival of a frame, which is the step of a trace, if the frame is sent. Returns whether it is.
+    /// Plays the step of a trace that is the arrival of a frame, if the frame was sent. Returns whether it was.
     pub(crate) fn take_arrival(
         &mut self,
         traces: &[Trace<Frame<A>, A>],

@@ -1,4 +1,4 @@
-//! Runs of which two traces are given.
+//! Finds runs that have two traces.
 ghost use Rattle.std.specs.Prelude.{IfNone, IfOk, IfSome};
 ghost use Rattle.trace_merge.specs.Merging.{AreDistinct, IsDoubled};
 
@@ -12,7 +12,7 @@ use world::Trace;
 /// The runs of the traces so far.
 type Seen<A> = IndexSet<Origin, BuildHasherDefault<FoldHasher>, A>;
 
-/// The run of the first trace that is of the same run as an earlier one.
+/// Returns the run of the first trace that is of the same run as an earlier one.
 pub(crate) fn first_doubled<A: Allocator + Copy>(
     alloc: A,
     traces: &[Trace<Frame<A>, A>],

@@ -1,4 +1,4 @@
-//! Why traces are refused.
+//! The errors of projecting and merging traces.
 use node_names::Origin;
 use std::alloc::AllocError;
 use thiserror::Error;
@@ -9,7 +9,7 @@ pub enum ProjectFault {
     /// The run was never started.
     #[error("no such run was started")]
     UnknownOrigin,
-    /// An allocation is refused.
+    /// An allocation failed.
     #[error("out of memory")]
     OutOfMemory,
 }
@@ -25,24 +25,24 @@ impl From<AllocError> for ProjectFault {
     }
 }
 
-/// Why traces are not those of one run of a group. A place is a step's number in its trace, from 0, and 0 for the
-/// start.
+/// Why traces cannot be merged into one run of a group. A place is a step's index in its trace, counted from 0; it is
+/// also 0 for the start.
 #[derive(Clone, Copy, Debug, PartialEq, Eq, Error)]
 pub enum MergeFault {
-    /// Two traces are of this run of a node.
+    /// Two of the traces are of this run of a node.
     #[error("M4 {origin}")]
     Doubled { origin: Origin },
-    /// No trace can be played on, and this is the first that is not played out: it waits for a frame that no trace
-    /// sends, or for an earlier run of its name.
+    /// No trace can be played any further, and this is the first one that is not finished: it waits for a frame that no
+    /// trace sends, or for an earlier run of its name to finish.
     #[error("M1 {origin} {place}")]
     Stuck { origin: Origin, place: usize },
-    /// The step is the arrival of a frame that its sender sent otherwise, or to another name.
+    /// The step is the arrival of a frame whose sender sent it with other contents or to another name.
     #[error("M2 {origin} {place}")]
     Unlike { origin: Origin, place: usize },
-    /// The start or the step is none that a node makes.
+    /// No node would make this start or this step.
     #[error("M3 {origin} {place}")]
     NotARun { origin: Origin, place: usize },
-    /// An allocation is refused.
+    /// An allocation failed.
     #[error("out of memory")]
     OutOfMemory,
 }

@@ -1,4 +1,4 @@
-//! Where sent frames are found.
+//! An index of the sent frames.
 ghost use Rattle.std.specs.Prelude.{◌≡◌, [], Some, OnOk, if◌then◌else◌};
 ghost use Rattle.std.specs.Map.{lookup};
 ghost use Rattle.trace_merge.specs.FrameIds.{same_frame_id};
@@ -9,21 +9,21 @@ use node_names::Origin;
 use std::alloc::{AllocError, Allocator};
 use std::hash::{BuildHasherDefault, FoldHasher};
 
-/// What a frame is known by: who sent it, and its number among the frames of that run.
+/// Identifies a frame: the run that sent it, and its number among the frames of that run.
 #[derive(Clone, Copy, Debug, PartialEq, Eq, Hash)]
 pub(crate) struct FrameId {
     pub(crate) sender: Origin,
     pub(crate) number: u64,
 }
 
-/// The numbers among all sent packets of those with these frames.
+/// Maps each frame to the number of its packet among all sent packets.
 #[derive(Drop)]
 pub(crate) struct FrameIndex<A: Allocator> {
     numbers: IndexMap<FrameId, usize, BuildHasherDefault<FoldHasher>, A>,
 }
 
 impl<A: Allocator + Copy> FrameIndex<A> {
-    /// An index of nothing.
+    /// Creates an empty index.
     pub(crate) fn new(alloc: A) -> FrameIndex<A>
         ensures { result.numbers.entries ≡ [] }
     {

@@ -7,7 +7,7 @@ use node_names::{Listed, NodeName};
 use std::alloc::{AllocError, Allocator};
 use world::{Entry, Out, Packet, Wire, copy_deliveries};
 
-/// The packets from one number up to another.
+/// The packets with the numbers from `first` up to but not including `end`.
 fn between<N>(sent: &[Packet<N>], first: usize, end: usize) -> &[Packet<N>]
     ensures { result.now ≡ take (end - first) (drop first sent.now) }
 {
@@ -17,14 +17,14 @@ fn between<N>(sent: &[Packet<N>], first: usize, end: usize) -> &[Packet<N>]
     later.get(..end.saturating_sub(first)).unwrap_or(later)
 }
 
-/// A copy of what a packet says, and to whom.
+/// Copies a packet's frame, together with the receiver.
 fn said<A: Allocator + Copy>(packet: &Packet<Frame<A>>) -> Result<(NodeName, Frame<A>), AllocError>
     ensures { IfOk result (λ send. send ≡ said packet.now) }
 {
     Ok((packet.to, packet.note.copy()?))
 }
 
-/// Copies of the packets, each as what it says and to whom.
+/// Copies the packets' frames, each together with its receiver.
 fn sends_of<A: Allocator + Copy>(
     alloc: A,
     packets: &[Packet<Frame<A>>],
@@ -38,7 +38,7 @@ fn sends_of<A: Allocator + Copy>(
     Ok(sends)
 }
 
-/// A copy of what an event sent and delivered, the next event's packets having the number `end`.
+/// Copies what an event sent and delivered. `end` is the number of the next event's first packet.
 pub(crate) fn output_of<A: Allocator + Copy>(
     alloc: A,
     entry: &Entry<A>,

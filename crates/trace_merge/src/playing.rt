@@ -1,4 +1,4 @@
-//! How a trace is played as far as it goes.
+//! Plays traces as far as they go.
 ghost use Rattle.std.specs.Prelude.{◌≡◌, ◌<◌, suc, Ok, None, Some, true, false, IfErr, IfOk, OnOk, length, slice_get};
 ghost use Rattle.world.specs.Group.{Group};
 ghost use Rattle.frames.specs.Frame.{Frame as Said};
@@ -16,7 +16,7 @@ use node_names::NodeName;
 use std::alloc::{AllocError, Allocator};
 use world::{Event, EventOf, Step, Stimulus, StimulusOf, Trace};
 
-/// The event by which the core of this name takes a stimulus that is no packet.
+/// The event that gives a stimulus, which must not be an arrival, to the core of this name.
 fn event_of<A: Allocator + Copy>(
     name: NodeName,
     stimulus: &Stimulus<Frame<A>, A>,
@@ -71,7 +71,7 @@ impl<A: Allocator + Copy> Merging<A> {
 }
 
 impl<A: Allocator + Copy> Merging<A> {
-    /// Plays what comes next of the trace at a place, its start or a step, unless that must wait. Returns whether it
+    /// Plays what comes next in the trace at index `at`, its start or a step, unless that must wait. Returns whether it
     /// was played.
     fn play_one(
         &mut self,
@@ -96,7 +96,7 @@ impl<A: Allocator + Copy> Merging<A> {
         }
     }
 
-    /// Starts a trace, unless an earlier run of its name is to be played out first. Returns whether it was started.
+    /// Starts a trace, unless an earlier run of its name must finish first. Returns whether it was started.
     fn start_ready(
         &mut self,
         alloc: A,
@@ -145,7 +145,7 @@ impl<A: Allocator + Copy> Merging<A> {
         }
     }
 
-    /// Goes over all traces once, and plays each as far as it goes. Returns whether anything was played.
+    /// Visits all traces once, and plays each as far as it goes. Returns whether anything was played.
     fn pass(&mut self, alloc: A, traces: &[Trace<Frame<A>, A>]) -> Result<bool, MergeFault>
         requires distinct { AreDistinct traces.now }
         requires merging { IsMerging self.old.world.limits traces.now self.old }
@@ -161,7 +161,7 @@ impl<A: Allocator + Copy> Merging<A> {
         Ok(moved)
     }
 
-    /// Goes over the traces again and again, until none can be played on.
+    /// Visits the traces again and again, until none can be played any further.
     pub(crate) fn play_all(
         &mut self,
         alloc: A,

@@ -1,4 +1,4 @@
-//! The trace of one run of a node, read off a group's log.
+//! Extracts the trace of one run of a node from a group's log.
 ghost use Rattle.std.specs.Prelude.{◌≡◌, ◌⊎◌, Some, None, IfOk, IfErr, OnOk, length, option_copied, reverse};
 ghost use Rattle.world.specs.History.{started_by};
 ghost use Rattle.world.specs.Plan.{stimulus_by};
@@ -13,7 +13,7 @@ use node_names::{Dice, Incarnation, NodeName, Origin};
 use std::alloc::{AllocError, Allocator};
 use world::{Entry, EventOf, KeptEvent, Packet, Step, Stimulus, StimulusOf, Trace, Wire, World};
 
-/// The packet that was sent under the number, if there is a number.
+/// The packet that was sent with the number, if there is a number.
 fn sent_under<N>(sent: &[Packet<N>], number: Option<usize>) -> Option<&Packet<N>>
     ensures { option_copied result ≡ sent_under sent.now number }
 {
@@ -35,7 +35,7 @@ fn stepped_name<N, A: Allocator>(sent: &[Packet<N>], entry: &Entry<A>) -> Option
     }
 }
 
-/// What the arrival of a packet is to the core that it steps.
+/// The stimulus that the arrival of a packet is to the core that it steps.
 fn arrival<A: Allocator + Copy>(
     packet: &Packet<Frame<A>>,
     dice: Dice,
@@ -49,7 +49,7 @@ fn arrival<A: Allocator + Copy>(
     })
 }
 
-/// What an event is to the core that it steps, if it steps one.
+/// The stimulus that an event is to the core that it steps, if it steps one.
 fn stimulus_of<A: Allocator + Copy>(
     sent: &[Packet<Frame<A>>],
     event: &KeptEvent<A>,
@@ -74,7 +74,7 @@ fn stimulus_of<A: Allocator + Copy>(
     })
 }
 
-/// Whether a run was the last that its name had started.
+/// Whether a run was the last one that its name had started.
 fn is_last(origin: &Origin, last: Option<Incarnation>) -> bool
     ensures { result ≡ is_last origin.now last }
 {
@@ -84,7 +84,7 @@ fn is_last(origin: &Origin, last: Option<Incarnation>) -> bool
     }
 }
 
-/// Whether it is this name.
+/// Whether the other name, if there is one, is this name.
 fn is_name(name: &NodeName, other: Option<NodeName>) -> bool
     ensures { result ≡ is_name name.now other }
 {
@@ -111,7 +111,7 @@ fn push_step<A: Allocator + Copy>(
     trace.push(Step { stimulus, out })
 }
 
-/// Adds the step that an event makes to the trace, if it is the run's.
+/// Adds the step that an event makes to the trace, if the event steps this run.
 fn step_on<A: Allocator + Copy>(
     alloc: A,
     trace: &mut Option<Trace<Frame<A>, A>>,
@@ -131,7 +131,7 @@ fn step_on<A: Allocator + Copy>(
     }
 }
 
-/// Begins the trace anew if an event is the run's start.
+/// Begins a new trace if an event is the run's start.
 fn start_on<A: Allocator + Copy>(
     alloc: A,
     trace: &mut Option<Trace<Frame<A>, A>>,
@@ -162,7 +162,7 @@ fn start_on<A: Allocator + Copy>(
     Ok(())
 }
 
-/// The incarnation that the name has started last, after an event.
+/// The incarnation that the name started last, after an event.
 fn last_after<A: Allocator>(
     name: &NodeName,
     event: &KeptEvent<A>,
@@ -184,13 +184,13 @@ fn last_after<A: Allocator>(
 #[derive(Drop)]
 struct Found<A: Allocator> {
     origin: Origin,
-    /// The incarnation that its name has started last.
+    /// The incarnation that its name started last.
     last: Option<Incarnation>,
     trace: Option<Trace<Frame<A>, A>>,
 }
 
 impl<A: Allocator + Copy> Found<A> {
-    /// Takes the next entry of the log, behind which so many packets have been sent.
+    /// Takes the next entry of the log, after which `end` packets have been sent.
     fn take(
         &mut self,
         alloc: A,
@@ -211,7 +211,7 @@ impl<A: Allocator + Copy> Found<A> {
     }
 }
 
-/// The number of the first packet of the next entry, or of all packets where there is none.
+/// The number of the next entry's first packet, or the number of all packets if there is no next entry.
 fn first_number<A: Allocator>(all: usize, later: &[Entry<A>]) -> usize
     ensures { result ≡ first_number all later.now }
 {
@@ -221,7 +221,7 @@ fn first_number<A: Allocator>(all: usize, later: &[Entry<A>]) -> usize
     }
 }
 
-/// The trace of the run in a log.
+/// Finds the trace of the run in a log.
 fn find<A: Allocator + Copy>(
     alloc: A,
     origin: Origin,
@@ -243,7 +243,7 @@ fn find<A: Allocator + Copy>(
     Ok(trace)
 }
 
-/// What one run of a node did in a group: how it started, and each step with what it sent and delivered.
+/// Returns what one run of a node did in a group: how it started, and each step with what it sent and delivered.
 ///
 /// `UnknownOrigin`: the run was never started.
 pub fn project<A: Allocator + Copy>(

@@ -10,14 +10,14 @@ use node_names::Origin;
 use std::alloc::Allocator;
 use world::Trace;
 
-/// Whether the first run is an earlier one of the other's name.
+/// Whether the first run is an earlier run of the same name as the other.
 fn is_earlier(one: &Origin, other: &Origin) -> bool
     ensures { Decides result (IsEarlier one.now other.now) }
 {
     one.name == other.name && one.incarnation.0 < other.incarnation.0
 }
 
-/// Whether a trace is of an earlier run of the name, and is not played out.
+/// Whether a trace is of an earlier run of the name and is not finished.
 fn is_awaited<A: Allocator>(
     trace: &Trace<Frame<A>, A>,
     place: Option<usize>,
@@ -29,7 +29,7 @@ fn is_awaited<A: Allocator>(
     is_earlier(&trace.origin(), origin) && !is_out(trace, place)
 }
 
-/// Whether all earlier runs of the name are played out.
+/// Whether all earlier runs of the name are finished.
 pub(crate) fn is_ready<A: Allocator>(
     traces: &[Trace<Frame<A>, A>],
     places: &[Option<usize>],

@@ -1,4 +1,4 @@
-//! How a packet comes to be in flight.
+//! Puts packets into flight.
 ghost use Rattle.std.specs.Prelude.{◌≡◌, ◌<◌, Some, IfErr, IfOk, IfSome, OnOk, length, slice_get};
 ghost use Rattle.trace_merge.specs.Merging.{IsMerging};
 
@@ -8,8 +8,8 @@ use frames::Frame;
 use std::alloc::Allocator;
 use world::{EventOf, Trace, WorldError};
 
-/// Where the packet of this number is in flight, if it is. The numbers in flight rise, as long as each packet that is
-/// put there once more arrives next.
+/// The place in flight of the packet of this number, if it is in flight. The numbers in flight are ascending as long as
+/// each packet that is put there again arrives next.
 fn place_of(flight: &[usize], number: usize) -> Option<usize>
     ensures { IfSome result (λ place. slice_get flight.now place ≡ Some number) }
 {
@@ -22,7 +22,7 @@ fn place_of(flight: &[usize], number: usize) -> Option<usize>
 }
 
 impl<A: Allocator + Copy> Merging<A> {
-    /// Puts a packet into flight that was sent, unless it is there. Returns its place there.
+    /// Puts a packet that was sent into flight again, unless it is in flight. Returns its place in flight.
     pub(crate) fn fly(
         &mut self,
         traces: &[Trace<Frame<A>, A>],

@@ -1,4 +1,4 @@
-//! Whether what a group did is what a trace says.
+//! Compares what a group did with what a trace says.
 ghost use Rattle.std.specs.Prelude.{◌≡◌, map};
 ghost use Rattle.std.specs.Bool.{Decides};
 ghost use Rattle.trace_merge.specs.Projection.{said};
@@ -8,14 +8,14 @@ use node_names::NodeName;
 use std::alloc::Allocator;
 use world::{Delivery, Packet};
 
-/// Whether a packet says, and to whom, what a send says.
+/// Whether a packet has the same receiver and frame as a send.
 fn is_send<A: Allocator>(packet: &Packet<Frame<A>>, send: &(NodeName, Frame<A>)) -> bool
     ensures { Decides result (said packet.now ≡ send.now) }
 {
     packet.to == send.0 && same_frame(&packet.note, &send.1)
 }
 
-/// Whether the packets say, and to whom, what these sends say.
+/// Whether the packets have the same receivers and frames as the sends.
 pub(crate) fn same_sends<A: Allocator>(
     packets: &[Packet<Frame<A>>],
     sends: &[(NodeName, Frame<A>)],

@@ -1,4 +1,4 @@
-//! How the run of a trace starts.
+//! Starts the run of a trace.
 ghost use Rattle.std.specs.Prelude.{◌≡◌, [], Some, None, IfErr, IfOk, OnOk, map, set, slice_get};
 ghost use Rattle.std.specs.Bool.{Decides};
 ghost use Rattle.trace_merge.specs.Merging.{AreDistinct, IsMerging, IsReady, Refuses, place_at, start_of};
@@ -29,7 +29,7 @@ fn start_of<A: Allocator + Copy>(
     })
 }
 
-/// Whether these packets are what an opening sends, and it delivers nothing.
+/// Whether these packets are what an opening sends, and the opening delivers nothing.
 fn is_opening<A: Allocator>(packets: &[Packet<Frame<A>>], opening: &Out<Frame<A>, A>) -> bool
     ensures { Decides result ((map said packets.now ≡ opening.now.sends) × (opening.now.deliveries ≡ [])) }
 {
@@ -37,7 +37,7 @@ fn is_opening<A: Allocator>(packets: &[Packet<Frame<A>>], opening: &Out<Frame<A>
 }
 
 impl<A: Allocator + Copy> Merging<A> {
-    /// Starts the run of the trace at a place of the list, all earlier runs of whose name are played out.
+    /// Starts the run of the trace at index `at`. All earlier runs of its name must be finished.
     pub(crate) fn start(
         &mut self,
         alloc: A,

@@ -1,4 +1,4 @@
-//! How a step of a trace is played.
+//! Plays a step of a trace.
 ghost use Rattle.std.specs.Prelude.{◌≡◌, ◌<◌, ◌≤◌, ◌++◌, [], ◌∷◌, List, suc, Some, IfErr, IfSome, OnOk, length, map, set, slice_get};
 ghost use Rattle.std.specs.Bool.{Decides};
 ghost use Rattle.world.specs.Entry.{Entry as Kept};
@@ -14,7 +14,7 @@ use node_names::NodeName;
 use std::alloc::Allocator;
 use world::{Delivery, Entry, Event, Out, Packet, Step, Trace};
 
-/// Whether these packets and deliveries are an output.
+/// Whether these packets and deliveries are those of an output.
 fn is_output<A: Allocator>(
     packets: &[Packet<Frame<A>>],
     given: &[Delivery<A>],
@@ -46,12 +46,12 @@ fn last_given<A: Allocator>(log: &[Entry<A>]) -> &[Delivery<A>]
     }
 }
 
-/// Tells that a number has 64 bits.
+/// Ensures that a number has at most 64 bits.
 fn tell(_number: u64)
     ensures { _number ≤ u64.MAX }
 {}
 
-/// Tells that the frames' numbers have 64 bits.
+/// Ensures that the frames' numbers have at most 64 bits.
 fn tell_numbers<A: Allocator>(sends: &[(NodeName, Frame<A>)])
     ensures { AreShort sends.now }
 {
@@ -60,7 +60,7 @@ fn tell_numbers<A: Allocator>(sends: &[(NodeName, Frame<A>)])
     }
 }
 
-/// Tells that the messages' numbers have 64 bits.
+/// Ensures that the messages' numbers have at most 64 bits.
 fn tell_messages<A: Allocator>(given: &[Delivery<A>])
     ensures { AreFew given.now }
 {
@@ -69,35 +69,35 @@ fn tell_messages<A: Allocator>(given: &[Delivery<A>])
     }
 }
 
-/// Tells that the numbers of the messages that an output delivers have 64 bits.
+/// Ensures that the numbers of the messages that an output delivers have at most 64 bits.
 fn tell_given<A: Allocator>(out: &Out<Frame<A>, A>)
     ensures { AreFew out.now.deliveries }
 {
     tell_messages(out.deliveries.as_slice());
 }
 
-/// Tells that the numbers of the messages that a step delivered have 64 bits.
+/// Ensures that the numbers of the messages that a step delivered have at most 64 bits.
 fn tell_delivered<A: Allocator>(step: &Step<Frame<A>, A>)
     ensures { AreFew step.now.out.deliveries }
 {
     tell_given(&step.out);
 }
 
-/// Tells that the numbers of all frames that an output sends have 64 bits.
+/// Ensures that the numbers of all frames that an output sends have at most 64 bits.
 fn tell_opening<A: Allocator>(opening: &Out<Frame<A>, A>)
     ensures { AreShort opening.now.sends }
 {
     tell_numbers(opening.sends.as_slice());
 }
 
-/// Tells that the numbers of all frames that a step sends have 64 bits.
+/// Ensures that the numbers of all frames that a step sends have at most 64 bits.
 fn tell_sent<A: Allocator>(step: &Step<Frame<A>, A>)
     ensures { AreShort step.now.out.sends }
 {
     tell_opening(&step.out);
 }
 
-/// Tells that the numbers of all frames that the step at a place sends have 64 bits.
+/// Ensures that the numbers of all frames that the step at index `at` sends have at most 64 bits.
 fn tell_step<A: Allocator>(trace: &Trace<Frame<A>, A>, at: usize)
     requires { at < length trace.now.steps }
     ensures { IfSome (slice_get trace.now.steps at) (λ step. AreShort step.out.sends) }
@@ -107,7 +107,8 @@ fn tell_step<A: Allocator>(trace: &Trace<Frame<A>, A>, at: usize)
     }
 }
 
-/// Tells that the numbers of all frames that a trace sends in its opening and its first steps have 64 bits.
+/// Ensures that the numbers of all frames that a trace sends in its opening and its first `count` steps have at most
+/// 64 bits.
 fn tell_all<A: Allocator>(trace: &Trace<Frame<A>, A>, count: usize)
     requires { count ≤ length trace.now.steps }
     ensures { AreShort (sent_within count trace.now) }
@@ -118,7 +119,7 @@ fn tell_all<A: Allocator>(trace: &Trace<Frame<A>, A>, count: usize)
     }
 }
 
-/// The place behind this one.
+/// The place after this one.
 fn after<A: Allocator>(trace: &Trace<Frame<A>, A>, place: usize) -> usize
     requires { place < length trace.now.steps }
     ensures { result ≡ suc place }
@@ -128,7 +129,7 @@ fn after<A: Allocator>(trace: &Trace<Frame<A>, A>, place: usize) -> usize
 }
 
 impl<A: Allocator + Copy> Merging<A> {
-    /// Plays the step of a trace by an event that is it.
+    /// Plays the step of a trace as the event that gives its stimulus to the core.
     pub(crate) fn take_step(
         &mut self,
         traces: &[Trace<Frame<A>, A>],

@@ -1,4 +1,4 @@
-//! Traces that can't be played on.
+//! Traces that cannot be played any further.
 ghost use Rattle.std.specs.Prelude.{◌≡◌, IfNone, IfSome};
 ghost use Rattle.std.specs.Bool.{Decides};
 ghost use Rattle.trace_merge.specs.Held.{AreHeld, AreOut};
@@ -9,7 +9,7 @@ use node_names::Origin;
 use std::alloc::Allocator;
 use world::Trace;
 
-/// Whether a trace is played out.
+/// Whether a trace is finished.
 pub(crate) fn is_out<A: Allocator>(trace: &Trace<Frame<A>, A>, place: Option<usize>) -> bool
     ensures { Decides result (IsOut trace.now place) }
 {
@@ -19,7 +19,7 @@ pub(crate) fn is_out<A: Allocator>(trace: &Trace<Frame<A>, A>, place: Option<usi
     }
 }
 
-/// How far the trace at a place of the list is played.
+/// How many steps of the trace at index `at` are played; `None` if it is not started.
 pub(crate) fn place_at(places: &[Option<usize>], at: usize) -> Option<usize>
     ensures { result ≡ place_at places.now at }
 {
@@ -29,7 +29,7 @@ pub(crate) fn place_at(places: &[Option<usize>], at: usize) -> Option<usize>
     }
 }
 
-/// The first trace that is not played out: its run, and how far it is played.
+/// The first trace that is not finished: its run, and how many of its steps are played.
 pub(crate) fn first_left<A: Allocator>(
     traces: &[Trace<Frame<A>, A>],
     places: &[Option<usize>],

@@ -1,4 +1,4 @@
--- A dash where a list that was appended has no item.
+-- A dash if a list that was appended has no items.
 use Rattle.std.proofs.Common.{◌≡◌, ℕ, ◌<◌, ◌∙◌, false, Bool, List, [], ◌∷◌, ◌++◌, length, codes, nat_eq, if◌then◌else◌, ap, refl, append-nil, length-append, arith}
 use Rattle.std.proofs.lemmas.Bool.{eq-eqb}
 use Rattle.std.proofs.lemmas.Bool.Decides.{nat_tests}

@@ -16,11 +16,11 @@ use Rattle.node_core.specs.Plum.{Plum}
 unfoldable pub is_kind : ℕ → Frame → Bool
 is_kind kind frame = nat_eq (number_of (kind_of frame.body)) kind
 
--- how many packets have the kind of this number
+-- how many packets are of the kind with this number
 abbrev pub kind_count : ℕ → List (Packet Frame) → ℕ
 kind_count kind sent = count_by (λ p. is_kind kind p.note) sent
 
--- a kind's word and count, if there are any
+-- a kind's word and count, if there are any packets of it
 abbrev pub count_item : List ℕ → ℕ → List ℕ
 count_item word zero = []
 count_item word (suc n) = codes " " ++ (word ++ (codes " " ++ decimal (suc n)))
@@ -36,7 +36,7 @@ membership_items sent =
     ++ (count_item (codes "SHUFFLE") (kind_count 6 sent)
     ++ count_item (codes "SHUFFLEREPLY") (kind_count 7 sent))))))
 
--- those of Plumtree's kinds
+-- the packets of Plumtree's kinds
 abbrev pub gossip_items : List (Packet Frame) → List ℕ
 gossip_items sent =
     count_item (codes "GOSSIP") (kind_count 8 sent)
@@ -45,7 +45,7 @@ gossip_items sent =
     ++ (count_item (codes "PRUNE") (kind_count 11 sent)
     ++ count_item (codes "GRAFT_PEER") (kind_count 12 sent))))
 
--- the line of the packets of each kind that was sent
+-- the line of how many packets of each kind were sent
 abbrev pub kinds_line : List (Packet Frame) → List ℕ
 kinds_line sent = codes "packets" ++ (membership_items sent ++ (gossip_items sent ++ codes "\n"))
 
@@ -57,7 +57,7 @@ copies_of id sent = count_by (λ p. is_carried id (frame_content p.note).carried
 abbrev pub announcements_in : MsgId → List (MsgId × ℕ) → ℕ
 announcements_in id entries = count_by (λ entry. same_id id entry.0) entries
 
--- how many announcements of the message packets have
+-- how many announcements of the message the packets have
 abbrev pub announcements_of : MsgId → List (Packet Frame) → ℕ
 announcements_of id sent = sum_by (λ p. announcements_in id (frame_content p.note).announced) sent
 
@@ -65,7 +65,7 @@ announcements_of id sent = sum_by (λ p. announcements_in id (frame_content p.no
 abbrev pub spread_line : MsgId → ℕ → ℕ → List ℕ
 spread_line id copies announcements = codes "  " ++ (msg_id_text id ++ (codes " copies " ++ (decimal copies ++ (codes " announcements " ++ decimal announcements))))
 
--- how a message spread, but for its tree
+-- how a message spread, except for its tree
 abbrev pub spread_text : MsgId → List (Packet Frame) → List ℕ
 spread_text id sent = spread_line id (copies_of id sent) (announcements_of id sent)
 
@@ -74,18 +74,18 @@ abbrev pub depth_text : ℕ → ℕ → List ℕ
 depth_text greatest mean = codes " depth " ++ (decimal greatest ++ (codes " mean " ++ (decimal (mean / 100) ++ (codes "." ++ (decimal (mean / 10 % 10) ++ (decimal (mean % 10) ++ codes "\n"))))))
 
 module _ (sent : List (Packet Frame)) where
-  -- The text tells how a message spread, and a depth, whatever that is.
+  -- The text says how a message spread, and gives some depth.
   pub record TellsSpread (id : MsgId) (text : List ℕ) : Type 0 where
     pub greatest : ℕ
     pub mean : ℕ
     pub written : text ≡ spread_text id sent ++ depth_text greatest mean
 
-  -- The text tells that of messages, one after the other.
+  -- The text says this of the messages, one after the other.
   abbrev pub TellsSpreads : List MsgId → List ℕ → Type 0
   TellsSpreads [] text = text ≡ []
   TellsSpreads (id ∷ ids) text = (first : List ℕ) × (rest : List ℕ) × TellsSpread id first × TellsSpreads ids rest × (text ≡ first ++ rest)
 
--- The text tells how many packets of each kind were sent in a group, and how each of these messages spread.
+-- The text says how many packets of each kind were sent in a group, and how each of these messages spread.
 pub record TellsSummary (group : Logged Plum Frame) (ids : List MsgId) (text : List ℕ) : Type 0 where
   pub spreads : List ℕ
   pub told : TellsSpreads group.group.sent ids spreads

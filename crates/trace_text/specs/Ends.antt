@@ -1,4 +1,4 @@
--- How the end of a run is told: the nodes, and what became of each message.
+-- How the end of a run is printed: the nodes, and what became of each message.
 use Rattle.std.specs.Prelude.{ℕ, Bool, true, false, List, [], ◌∷◌, ◌++◌, Option, Some, None, codes, slice_get, if◌then◌else◌}
 use Rattle.std.specs.List.{list_any}
 use Rattle.std.specs.Option.{option_map_or}
@@ -25,7 +25,7 @@ abbrev pub state_text : Option Plum → List ℕ
 state_text None = codes " stopped"
 state_text (Some core) = parts_text (parts_of core)
 
--- the line of a node, by its last run
+-- the line of a node, with its current or last run
 abbrev pub node_line : NodeState Plum → List ℕ
 node_line node = codes "node " ++ (origin_text (origin_of node) ++ (state_text node.core ++ codes "\n"))
 
@@ -40,7 +40,7 @@ nodes_text group = node_lines group.group.nodes
 
 -- ---- a message
 
--- the word of whether a group is at rest
+-- the word that says whether a group is at rest
 abbrev pub rest_word : Bool → List ℕ
 rest_word true = codes "yes"
 rest_word false = codes "no"
@@ -53,12 +53,12 @@ rest_line id rest = codes "message " ++ (msg_id_text id ++ (codes " rest " ++ (r
 abbrev pub lacks_line : Origin → List ℕ
 lacks_line node = codes "  lacks " ++ (origin_text node ++ codes "\n")
 
--- the line of a node that runs, unless one of the branches is that run's
+-- the line of a running node, unless one of the branches is that of its run
 abbrev pub lacking_line : List Branch → Origin → Option Plum → List ℕ
 lacking_line branches node None = []
 lacking_line branches node (Some core) = if list_any (λ b. same_origin b.node node) branches then [] else lacks_line node
 
--- the lines of the nodes that run and have not delivered the message, in their order
+-- the lines of the running nodes that have not delivered the message, in their order
 abbrev pub lacking_lines : List Branch → List (NodeState Plum) → List ℕ
 lacking_lines branches [] = []
 lacking_lines branches (node ∷ nodes) = lacking_line branches (origin_of node) node.core ++ lacking_lines branches nodes
@@ -71,11 +71,11 @@ in_flight_line place packet = codes "  in flight " ++ (packet_text place packet 
 abbrev pub flying_line : MsgId → ℕ → Packet Frame → List ℕ
 flying_line id place packet = if is_silent id (frame_content packet.note) then [] else in_flight_line place packet
 
--- the line of the packet at a place among all that were ever sent, if there is one
+-- the line of the packet at a place among all packets ever sent, if there is one
 abbrev pub flying_at : MsgId → List (Packet Frame) → ℕ → List ℕ
 flying_at id sent place = option_map_or (λ (packet : Packet Frame). flying_line id place packet) (slice_get sent place) []
 
--- the lines of those in flight, in their order
+-- the lines of the packets in flight, in their order
 abbrev pub flying_lines : MsgId → List (Packet Frame) → List ℕ → List ℕ
 flying_lines id sent [] = []
 flying_lines id sent (place ∷ places) = flying_at id sent place ++ flying_lines id sent places
@@ -89,12 +89,12 @@ abbrev pub queued_by : MsgId → Origin → List (Name × MsgId × ℕ) → List
 queued_by id node [] = []
 queued_by id node (entry ∷ entries) = queued_line id node entry ++ queued_by id node entries
 
--- those of a node, if it runs
+-- the lines of the announcements of a node, if it runs
 abbrev pub queued_at : MsgId → Origin → Option Plum → List ℕ
 queued_at id node None = []
 queued_at id node (Some core) = queued_by id node (plum_state core).queued
 
--- those of all nodes, in their order
+-- the lines of the announcements of all nodes, in their order
 abbrev pub queued_lines : MsgId → List (NodeState Plum) → List ℕ
 queued_lines id [] = []
 queued_lines id (node ∷ nodes) = queued_at id (origin_of node) node.core ++ queued_lines id nodes
@@ -108,18 +108,18 @@ abbrev pub timers_by : MsgId → Origin → List MsgId → List ℕ
 timers_by id node [] = []
 timers_by id node (timed ∷ timers) = timer_line id node timed ++ timers_by id node timers
 
--- those of a node, if it runs
+-- the lines of the timers of a node, if it runs
 abbrev pub timers_at : MsgId → Origin → Option Plum → List ℕ
 timers_at id node None = []
 timers_at id node (Some core) = timers_by id node (plum_state core).timers
 
--- those of all nodes, in their order
+-- the lines of the timers of all nodes, in their order
 abbrev pub timer_lines : MsgId → List (NodeState Plum) → List ℕ
 timer_lines id [] = []
 timer_lines id (node ∷ nodes) = timers_at id (origin_of node) node.core ++ timer_lines id nodes
 
--- what became of a message in a group: whether it is at rest for it, who runs and has not delivered it, and what is
--- under way
+-- what became of a message in a group: whether the group is at rest for it, which running nodes have not delivered it,
+-- and which packets in flight, queued announcements and timers are about it
 abbrev pub message_text : Logged Plum Frame → MsgId → Bool → List Branch → List ℕ
 message_text group id rest branches =
     rest_line id rest

@@ -1,4 +1,4 @@
--- How events are told, and which node each one touches.
+-- How events are printed, and which node each one touches.
 use Rattle.std.specs.Prelude.{ℕ, List, ◌++◌, Option, Some, None, codes, length, option_map, slice_get}
 use Rattle.std.specs.Fmt.{decimal}
 use Rattle.std.specs.Option.{option_and_then}
@@ -25,7 +25,8 @@ use Rattle.trace_text.specs.Parts.{Parts, parts_in}
 abbrev pub start_words : Name → Incarnation → List Name → Option Name → List ℕ
 start_words name incarnation peers contact = codes "start " ++ (name ++ (codes "/" ++ (decimal incarnation.0 ++ (codes " | peers:" ++ (names_text peers ++ (codes " | contact:" ++ maybe_name contact))))))
 
--- words, what an event says of a packet, and that packet, by its place among all that were ever sent
+-- the words, the place or number by which the event names a packet, and that packet, by its place among all packets
+-- ever sent
 abbrev pub naming_words : List ℕ → ℕ → List (Packet Frame) → Option ℕ → List ℕ
 naming_words words said sent number = words ++ (decimal said ++ (codes ":" ++ packet_at sent number))
 
@@ -33,7 +34,7 @@ naming_words words said sent number = words ++ (decimal said ++ (codes ":" ++ pa
 abbrev pub fire_words : Name → MsgId → List ℕ
 fire_words name id = codes "fire " ++ (name ++ (codes " " ++ msg_id_text id))
 
--- an event in words; the packet that it named stands at this place among all that were ever sent
+-- an event in words; `number` is the place of the packet that it named among all packets ever sent
 abbrev pub event_words : List (Packet Frame) → Option ℕ → Event → List ℕ
 event_words sent number (Start name incarnation peers contact) = start_words name incarnation peers contact
 event_words sent number (Broadcast name payload) = codes "broadcast by " ++ (name ++ (codes " length " ++ decimal (length payload)))
@@ -46,17 +47,18 @@ event_words sent number (Shuffle name dice) = codes "shuffle " ++ name
 event_words sent number (Down name peer dice) = codes "down " ++ (name ++ (codes " " ++ peer))
 event_words sent number (Stop name) = codes "stop " ++ name
 
--- the line of the event of an entry
+-- the line of an entry's event
 abbrev pub event_line : List (Packet Frame) → Entry → List ℕ
 event_line sent entry = event_words sent entry.packet entry.event ++ codes "\n"
 
 -- ---- the node that it touches
 
--- to whom the packet of this number goes
+-- the receiver of the packet of this number
 abbrev pub receiver_of : List (Packet Frame) → Option ℕ → Option Name
 receiver_of sent number = option_map (λ (packet : Packet Frame). packet.to) (option_and_then (slice_get sent) number)
 
--- the name that an event touches, where the packet that it named has this number; what is lost or repeated touches none
+-- the name that an event touches, if the packet that it named has this number; losing or repeating a packet touches no
+-- node
 abbrev pub touched_by : {P L D : Type 0} → List (Packet Frame) → Option ℕ → EventOf P L D → Option Name
 touched_by sent number (Arrive place dice) = receiver_of sent number
 touched_by sent number (Start name incarnation peers contact) = Some name
@@ -69,7 +71,7 @@ touched_by sent number (Shuffle name dice) = Some name
 touched_by sent number (Down name peer dice) = Some name
 touched_by sent number (Stop name) = Some name
 
--- the number of the packet that an event would name: the one at its place of the flight
+-- the number of the packet that an event would name: the one at its place in flight
 abbrev pub number_by : {P L D : Type 0} → List ℕ → EventOf P L D → Option ℕ
 number_by flight (Arrive place dice) = slice_get flight place
 number_by flight (Start name incarnation peers contact) = None

@@ -1,15 +1,15 @@
--- How lists of names and ids are told: each item after a blank, and a dash where there is none.
+-- How lists of names and ids are printed: each item after a space, and a dash if there are no items.
 use Rattle.std.specs.Prelude.{ℕ, List, [], ◌∷◌, ◌++◌, Option, Some, None, codes}
 use Rattle.node_names.specs.Ids.{msg_id_text}
 use Rattle.node_names.specs.NodeName.{Name}
 use Rattle.node_names.specs.declared.ids.MsgId.{MsgId}
 
--- items, or a dash where they are no text
+-- the items, or a dash if they are empty
 abbrev pub or_dash : List ℕ → List ℕ
 or_dash [] = codes " -"
 or_dash (byte ∷ bytes) = byte ∷ bytes
 
--- a name after a blank
+-- a name after a space
 abbrev pub name_item : Name → List ℕ
 name_item name = codes " " ++ name
 
@@ -22,12 +22,12 @@ name_items (name ∷ names) = name_item name ++ name_items names
 abbrev pub names_text : List Name → List ℕ
 names_text names = or_dash (name_items names)
 
--- a name that there may be
+-- a name after a space, or a dash if there is no name
 abbrev pub maybe_name : Option Name → List ℕ
 maybe_name None = codes " -"
 maybe_name (Some name) = name_item name
 
--- an id after a blank
+-- an id after a space
 abbrev pub id_item : MsgId → List ℕ
 id_item id = codes " " ++ msg_id_text id
 

@@ -1,4 +1,4 @@
--- How packets are told.
+-- How packets are printed.
 use Rattle.std.specs.Prelude.{ℕ, ◌+◌, Bool, true, false, List, [], ◌∷◌, ◌++◌, Option, Some, None, codes, length, slice_get}
 use Rattle.std.specs.Fmt.{decimal}
 use Rattle.std.specs.Option.{option_map_or}
@@ -14,7 +14,7 @@ use Rattle.trace_text.specs.Names.{names_text}
 abbrev pub announcement_text : MsgId → ℕ → List ℕ
 announcement_text id round = msg_id_text id ++ (codes "@" ++ decimal round)
 
--- an announcement after a blank
+-- an announcement after a space
 abbrev pub announcement_item : MsgId × ℕ → List ℕ
 announcement_item entry = codes " " ++ announcement_text entry.0 entry.1
 
@@ -23,12 +23,12 @@ abbrev pub announcement_items : List (MsgId × ℕ) → List ℕ
 announcement_items [] = []
 announcement_items (entry ∷ entries) = announcement_item entry ++ announcement_items entries
 
--- the word of a priority
+-- a priority as a word
 abbrev pub priority_word : Bool → List ℕ
 priority_word true = codes "high"
 priority_word false = codes "low"
 
--- the word of an answer
+-- an answer as a word
 abbrev pub reply_word : Bool → List ℕ
 reply_word true = codes "accepted"
 reply_word false = codes "refused"
@@ -37,7 +37,7 @@ reply_word false = codes "refused"
 abbrev pub gossip_text : MsgId → ℕ → ℕ → List ℕ
 gossip_text id round size = codes "GOSSIP " ++ (msg_id_text id ++ (codes " round " ++ (decimal round ++ (codes " length " ++ decimal size))))
 
--- what a frame says: its kind and its fields
+-- the contents of a frame: its kind and its fields
 abbrev pub body_text : Body → List ℕ
 body_text Join = codes "JOIN"
 body_text (ForwardJoin new ttl) = codes "FORWARDJOIN " ++ (new ++ (codes " ttl " ++ decimal ttl))
@@ -52,16 +52,16 @@ body_text (Graft id round) = codes "GRAFT " ++ (msg_id_text id ++ (codes " round
 body_text Prune = codes "PRUNE"
 body_text GraftPeer = codes "GRAFT_PEER"
 
--- a packet: its place among all that were ever sent, which run sent it, to whom, the number of its frame, and what it
--- says
+-- a packet: its place among all packets ever sent, the run that sent it, its receiver, the number of its frame, and its
+-- contents
 abbrev pub packet_text : ℕ → Packet Frame → List ℕ
 packet_text place packet = codes "packet " ++ (decimal place ++ (codes " " ++ (origin_text packet.sender ++ (codes " -> " ++ (packet.to ++ (codes " #" ++ (decimal packet.note.number ++ (codes " " ++ body_text packet.note.body))))))))
 
--- a packet after a blank
+-- a packet after a space
 abbrev pub packet_item : ℕ → Packet Frame → List ℕ
 packet_item place packet = codes " " ++ packet_text place packet
 
--- the packet at a place among all that were ever sent, after a blank; nothing where there is no place or no packet
+-- a space and the packet at a place among all packets ever sent; nothing if there is no place or no packet
 abbrev pub packet_at : List (Packet Frame) → Option ℕ → List ℕ
 packet_at sent None = []
 packet_at sent (Some place) = option_map_or (λ (packet : Packet Frame). packet_item place packet) (slice_get sent place) []
@@ -70,7 +70,7 @@ packet_at sent (Some place) = option_map_or (λ (packet : Packet Frame). packet_
 abbrev pub sent_line : ℕ → Packet Frame → List ℕ
 sent_line place packet = codes "  " ++ (packet_text place packet ++ codes "\n")
 
--- the lines of packets, each once and in their order; the first stands at this place among all that were ever sent
+-- the lines of packets, each once and in their order; `first` is the place of the first one among all packets ever sent
 abbrev pub sent_lines : ℕ → List (Packet Frame) → List ℕ
 sent_lines first [] = []
 sent_lines first (packet ∷ packets) = sent_line first packet ++ sent_lines (first + 1) packets

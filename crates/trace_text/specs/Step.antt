@@ -1,4 +1,4 @@
--- How a step of a run is told: an event and what came of it.
+-- How a step of a run is printed: an event and its effects.
 use Rattle.std.specs.Prelude.{ℕ, ◌+◌, List, [], ◌∷◌, ◌++◌, Option, Some, None, codes, drop, length}
 use Rattle.std.specs.Fmt.{decimal}
 use Rattle.node_names.specs.Ids.{origin_text, msg_id_text}
@@ -14,7 +14,7 @@ use Rattle.trace_text.specs.Events.{event_line, touched_by}
 use Rattle.trace_text.specs.Packets.{sent_lines}
 use Rattle.trace_text.specs.Parts.{Parts, changes_text, parts_of}
 
--- the line of a delivery: where, which message, and how long it is
+-- the line of a delivery: the run that delivered, the message's id, and the length of its payload
 abbrev pub delivery_line : Delivery → List ℕ
 delivery_line d = codes "  deliver " ++ (origin_text d.node ++ (codes " " ++ (msg_id_text d.id ++ (codes " length " ++ (decimal (length d.payload) ++ codes "\n")))))
 
@@ -23,12 +23,12 @@ abbrev pub delivery_lines : List Delivery → List ℕ
 delivery_lines [] = []
 delivery_lines (d ∷ ds) = delivery_line d ++ delivery_lines ds
 
--- the line of these changes of a run of a node, none where nothing changed
+-- the line of the changes of a run of a node; no line if nothing changed
 abbrev pub line_of_changes : Origin → List ℕ → List ℕ
 line_of_changes node [] = []
 line_of_changes node (byte ∷ bytes) = codes "  " ++ (origin_text node ++ ((byte ∷ bytes) ++ codes "\n"))
 
--- the line of what changed since these parts at a node, none where it does not run
+-- the line of what changed at a node since its state was `old`; no line if it does not run
 abbrev pub change_line : Parts → Option Plum → List ℕ
 change_line old None = []
 change_line old (Some core) = line_of_changes (plum_state core).me (changes_text old (parts_of core))
@@ -38,22 +38,22 @@ abbrev pub change_under : Parts → Option Name → List (NodeState Plum) → Li
 change_under old None nodes = []
 change_under old (Some name) nodes = change_line old (core_of name nodes)
 
--- a place of the flight, and which of all packets flies there
+-- a place in flight, and the number of the packet in that place
 abbrev pub flight_item : ℕ → ℕ → List ℕ
 flight_item place number = codes " " ++ (decimal place ++ (codes ":" ++ decimal number))
 
--- places of the flight from this one on
+-- the places in flight from this one on
 abbrev pub flight_items : ℕ → List ℕ → List ℕ
 flight_items place [] = []
 flight_items place (number ∷ numbers) = flight_item place number ++ flight_items (place + 1) numbers
 
--- the line of the flight, none where nothing flies
+-- the line of the packets in flight; no line if there are none
 abbrev pub flight_line : List ℕ → List ℕ
 flight_line [] = []
 flight_line (number ∷ numbers) = codes "  flight" ++ (flight_items 0 (number ∷ numbers) ++ codes "\n")
 
--- an event, where these are the parts of the node that it touches before it and the group is the one after it: its
--- line, the deliveries, the packets that it sent, what changed, and the flight
+-- an event: its line, the deliveries, the packets that it sent, what changed, and the packets in flight; `before` are
+-- the parts of the node that it touches before the event, and `after` is the group after it
 abbrev pub step_text : Parts → Logged Plum Frame → Entry → List ℕ
 step_text before after entry =
     event_line after.group.sent entry

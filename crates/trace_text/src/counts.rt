@@ -1,4 +1,4 @@
-//! How many packets there are.
+//! Counts packets.
 ghost use Rattle.std.specs.Prelude.{◌≡◌, ◌≤◌, length, sum_by};
 ghost use Rattle.trace_text.specs.Counts.{announcements_in, announcements_of, copies_of, is_kind, kind_count};
 
@@ -42,7 +42,7 @@ pub fn count_copies<A: Allocator + Copy>(sent: &[Packet<Frame<A>>], id: &MsgId) 
     count
 }
 
-/// How many announcements of the message packets have.
+/// How many announcements of the message the packets have.
 pub fn count_announcements<A: Allocator + Copy>(sent: &[Packet<Frame<A>>], id: &MsgId) -> u128
     ensures { result ≡ announcements_of id.now sent.now }
 {

@@ -1,4 +1,4 @@
-//! How deep the tree of a message is.
+//! The depth of a message's tree.
 use at_rest::Branch;
 use indexmap::IndexMap;
 use node_names::Origin;
@@ -8,16 +8,16 @@ use std::hash::{BuildHasherDefault, FoldHasher};
 /// The depth of each run's branch.
 type Depths<A> = IndexMap<Origin, u64, BuildHasherDefault<FoldHasher>, A>;
 
-/// The greatest depth of the branches of a tree, and the mean depth of those that have a parent, in hundredths and
-/// rounded down.
+/// The greatest depth of the branches of a tree, and the mean depth of those that have a parent, in hundredths
+/// (rounded down).
 #[derive(Clone, Copy)]
 pub struct Depth {
     pub greatest: u64,
     pub mean: u64,
 }
 
-/// The depth of a tree. The branch of the origin has the depth 0, and any other has one more than that of its parent.
-/// No clause says that these numbers are right.
+/// Returns the depth of a tree. The origin's branch has depth 0, and any other branch is one deeper than its parent's.
+/// No contract states that these numbers are right.
 pub fn depth_of<A: Allocator + Copy>(alloc: A, branches: &[Branch]) -> Result<Depth, AllocError> {
     let mut depths = IndexMap::new(alloc);
     let mut greatest: u64 = 0;
@@ -33,7 +33,7 @@ pub fn depth_of<A: Allocator + Copy>(alloc: A, branches: &[Branch]) -> Result<De
     Ok(Depth { greatest, mean })
 }
 
-/// The depth of a branch, where these are the depths of those before it.
+/// The depth of a branch, given the depths of the branches before it.
 fn branch_depth<A: Allocator + Copy>(depths: &Depths<A>, branch: &Branch) -> u64 {
     let Some(parent) = branch.parent else {
         return 0;

@@ -1,4 +1,4 @@
-//! Events in words.
+//! Prints events in words.
 ghost use Rattle.std.specs.Prelude.{◌≡◌, ◌++◌, OnOk, string_bytes};
 ghost use Rattle.trace_text.specs.Events.{event_line, event_words, fire_words, naming_words, start_words};
 
@@ -9,7 +9,7 @@ use node_names::{Incarnation, MsgId, NodeName};
 use std::alloc::{AllocError, Allocator};
 use world::{Entry, EventOf, KeptEvent, Packet};
 
-/// Appends the line of the event of an entry.
+/// Appends the line of an entry's event.
 pub fn push_event<A: Allocator>(
     text: &mut String<A>,
     sent: &[Packet<Frame<A>>],
@@ -54,7 +54,7 @@ fn push_words<A: Allocator>(
     }
 }
 
-/// Appends these words, what the event says of a packet, and that packet.
+/// Appends the words, the place or number by which the event names a packet, and that packet.
 fn push_naming<A: Allocator>(
     text: &mut String<A>,
     words: &str,

@@ -1,4 +1,4 @@
-//! The texts of a trace: each step of a simulated run, the end of the run, and what it cost.
+//! The texts of a trace: each step of a simulated run, the end of the run, and a summary of what it cost.
 #![tactic(auto)]
 
 mod counts;

@@ -15,8 +15,8 @@ use node_names::{MsgId, NodeName, Origin};
 use std::alloc::{AllocError, Allocator};
 use world::{Core, NodeState, Packet, World};
 
-/// Appends the lines of a message with these branches: whether the group is at rest for it, which nodes run and have
-/// not delivered it, and what of it is in flight, queued or timed.
+/// Appends the lines of a message with these branches: whether the group is at rest for it, which running nodes have
+/// not delivered it, and which packets in flight, queued announcements and timers are about it.
 pub fn push_message<A: Allocator + Copy>(
     text: &mut String<A>,
     world: &World<PlumCore<A>, A>,
@@ -54,7 +54,7 @@ fn rest_word(is_resting: bool) -> &'static str
     if is_resting { "yes" } else { "no" }
 }
 
-/// Appends the lines of the nodes that run and have not delivered the message with these branches.
+/// Appends the lines of the running nodes that have not delivered the message with these branches.
 fn push_lacking<A: Allocator>(
     text: &mut String<A>,
     branches: &[Branch],
@@ -92,7 +92,7 @@ fn push_lacks<A: Allocator>(text: &mut String<A>, node: &Origin) -> Result<(), A
     text.push('\n')
 }
 
-/// Whether one of the deliveries is this run's.
+/// Whether one of the deliveries was made by this run.
 fn has_delivered(branches: &[Branch], node: &Origin) -> bool
     ensures { result ≡ list_any (λ b. same_origin b.node node.now) branches.now }
 {
@@ -114,7 +114,7 @@ fn push_flying<A: Allocator + Copy>(
     Ok(())
 }
 
-/// Appends the line of the packet at this place among all that were ever sent, if there is one and it is about the
+/// Appends the line of the packet at this place among all packets ever sent, if there is one and it is about the
 /// message.
 fn push_flying_at<A: Allocator + Copy>(
     text: &mut String<A>,
@@ -172,7 +172,7 @@ fn push_queued<A: Allocator + Copy>(
     Ok(())
 }
 
-/// Appends those of a node, if it runs.
+/// Appends the lines of the announcements that a node has queued, if it runs.
 fn push_queued_at<A: Allocator + Copy>(
     text: &mut String<A>,
     id: &MsgId,
@@ -187,7 +187,7 @@ fn push_queued_at<A: Allocator + Copy>(
     }
 }
 
-/// Appends the lines of those announcements of a run of a node that are of the message.
+/// Appends the lines of the announcements queued by a run of a node that are of the message.
 fn push_queued_by<A: Allocator>(
     text: &mut String<A>,
     id: &MsgId,
@@ -235,7 +235,7 @@ fn push_timers<A: Allocator + Copy>(
     Ok(())
 }
 
-/// Appends those of a node, if it runs.
+/// Appends the lines of the timers that a node has, if it runs.
 fn push_timers_at<A: Allocator + Copy>(
     text: &mut String<A>,
     id: &MsgId,
@@ -250,7 +250,7 @@ fn push_timers_at<A: Allocator + Copy>(
     }
 }
 
-/// Appends the lines of those timers of a run of a node that are for the message.
+/// Appends the lines of the timers of a run of a node that are for the message.
 fn push_timers_by<A: Allocator>(
     text: &mut String<A>,
     id: &MsgId,

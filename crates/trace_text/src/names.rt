@@ -1,4 +1,4 @@
-//! Names and ids, and lists of them.
+//! Prints names and ids, and lists of them.
 ghost use Rattle.std.specs.Prelude.{◌≡◌, ◌++◌, [], codes, length, OnOk, nat_eq, string_bytes, if◌then◌else◌};
 ghost use Rattle.std.specs.Fmt.{decimal};
 ghost use Rattle.node_names.specs.Ids.{msg_id_text, origin_text};
@@ -7,7 +7,8 @@ ghost use Rattle.trace_text.specs.Names.{id_item, id_items, maybe_name, name_ite
 use node_names::{MsgId, NodeName, Origin};
 use std::alloc::{AllocError, Allocator};
 
-/// Appends an origin as it is displayed, part by part: a trace is mostly origins, and a nested format is slow.
+/// Appends an origin as `Display` prints it, part by part: a trace consists mostly of origins, and nested formatting is
+/// slow.
 pub fn push_origin<A: Allocator>(text: &mut String<A>, origin: &Origin) -> Result<(), AllocError>
     ensures { OnOk result (string_bytes text.new ≡ string_bytes text.old ++ origin_text origin.now) }
 {
@@ -16,7 +17,7 @@ pub fn push_origin<A: Allocator>(text: &mut String<A>, origin: &Origin) -> Resul
     push_number(text, origin.incarnation.0)
 }
 
-/// Appends an id as it is displayed.
+/// Appends an id as `Display` prints it.
 pub fn push_id<A: Allocator>(text: &mut String<A>, id: &MsgId) -> Result<(), AllocError>
     ensures { OnOk result (string_bytes text.new ≡ string_bytes text.old ++ msg_id_text id.now) }
 {
@@ -39,7 +40,7 @@ pub fn push_end<A: Allocator>(text: &mut String<A>) -> Result<(), AllocError>
     text.push('\n')
 }
 
-/// Appends a dash if the text is no longer than it was: if a list that was appended had no item.
+/// Appends a dash if the text is no longer than `start`, that is, if the list that was appended has no items.
 pub fn push_dash_at<A: Allocator>(text: &mut String<A>, start: usize) -> Result<(), AllocError>
     ensures { OnOk result (string_bytes text.new ≡ string_bytes text.old ++ (if nat_eq (length (string_bytes text.old)) start then codes " -" else [])) }
 {
@@ -59,7 +60,7 @@ pub fn push_names<A: Allocator>(text: &mut String<A>, names: &[NodeName]) -> Res
     push_dash_at(text, start)
 }
 
-/// Appends each of these names after a blank.
+/// Appends each of these names after a space.
 fn push_name_items<A: Allocator>(text: &mut String<A>, names: &[NodeName]) -> Result<(), AllocError>
     ensures { OnOk result (string_bytes text.new ≡ string_bytes text.old ++ name_items names.now) }
 {
@@ -69,7 +70,7 @@ fn push_name_items<A: Allocator>(text: &mut String<A>, names: &[NodeName]) -> Re
     Ok(())
 }
 
-/// Appends a name after a blank.
+/// Appends a name after a space.
 pub fn push_name_item<A: Allocator>(text: &mut String<A>, name: &NodeName) -> Result<(), AllocError>
     ensures { OnOk result (string_bytes text.new ≡ string_bytes text.old ++ name_item name.now) }
 {
@@ -77,7 +78,7 @@ pub fn push_name_item<A: Allocator>(text: &mut String<A>, name: &NodeName) -> Re
     text.push_str(name.as_str())
 }
 
-/// Appends a name after a blank, or a dash.
+/// Appends a name after a space, or a dash.
 pub fn push_maybe_name<A: Allocator>(
     text: &mut String<A>,
     name: &Option<NodeName>,
@@ -100,7 +101,7 @@ pub fn push_ids<A: Allocator>(text: &mut String<A>, ids: &[MsgId]) -> Result<(),
     push_dash_at(text, start)
 }
 
-/// Appends each of these ids after a blank.
+/// Appends each of these ids after a space.
 fn push_id_items<A: Allocator>(text: &mut String<A>, ids: &[MsgId]) -> Result<(), AllocError>
     ensures { OnOk result (string_bytes text.new ≡ string_bytes text.old ++ id_items ids.now) }
 {
@@ -110,7 +111,7 @@ fn push_id_items<A: Allocator>(text: &mut String<A>, ids: &[MsgId]) -> Result<()
     Ok(())
 }
 
-/// Appends an id after a blank.
+/// Appends an id after a space.
 fn push_id_item<A: Allocator>(text: &mut String<A>, id: &MsgId) -> Result<(), AllocError>
     ensures { OnOk result (string_bytes text.new ≡ string_bytes text.old ++ id_item id.now) }
 {

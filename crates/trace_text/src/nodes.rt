@@ -1,4 +1,4 @@
-//! The nodes at the end of a run.
+//! Prints the nodes at the end of a run.
 ghost use Rattle.std.specs.Prelude.{◌≡◌, ◌++◌, OnOk, string_bytes};
 ghost use Rattle.world.specs.Group.{origin_of};
 ghost use Rattle.trace_text.specs.Ends.{node_line, node_lines, nodes_text, state_text};
@@ -64,7 +64,7 @@ fn push_state<A: Allocator + Copy>(
     }
 }
 
-/// Which run of a node this is, or was.
+/// The current or last run of a node.
 pub fn run_of<C>(node: &NodeState<C>) -> Origin
     ensures { result ≡ origin_of node.now }
 {

@@ -1,4 +1,4 @@
-//! Packets, and what they say.
+//! Prints packets and their contents.
 ghost use Rattle.std.specs.Prelude.{◌≡◌, ◌++◌, drop, OnOk, Some, string_bytes};
 ghost use Rattle.frames.specs.declared.body.BodyOf.TheVariants as body;
 ghost use Rattle.trace_text.specs.Packets.{announcement_item, announcement_items, announcement_text, body_text, gossip_text, packet_at, packet_item, packet_text, priority_word, reply_word, sent_line, sent_lines};
@@ -9,7 +9,7 @@ use node_names::{MsgId, NodeName};
 use std::alloc::{AllocError, Allocator};
 use world::Packet;
 
-/// Appends a packet, which stands at this place among all that were ever sent.
+/// Appends the packet that has this place among all packets ever sent.
 pub fn push_packet<A: Allocator>(
     text: &mut String<A>,
     place: usize,
@@ -25,7 +25,7 @@ pub fn push_packet<A: Allocator>(
     push_body(text, packet.note.body())
 }
 
-/// Appends what a frame says.
+/// Appends the contents of a frame.
 fn push_body<A: Allocator>(text: &mut String<A>, body: &Body<A>) -> Result<(), AllocError>
     ensures { OnOk result (string_bytes text.new ≡ string_bytes text.old ++ body_text body.now) }
 {
@@ -81,7 +81,7 @@ fn push_reply<A: Allocator>(text: &mut String<A>, accepted: bool) -> Result<(), 
     push_reply_word(text, accepted)
 }
 
-/// Appends the word of an answer.
+/// Appends an answer as a word.
 fn push_reply_word<A: Allocator>(text: &mut String<A>, accepted: bool) -> Result<(), AllocError>
     ensures { OnOk result (string_bytes text.new ≡ string_bytes text.old ++ reply_word accepted) }
 {
@@ -137,7 +137,7 @@ fn push_ihave<A: Allocator>(
     push_announcement_items(text, entries)
 }
 
-/// Appends each of these announcements after a blank.
+/// Appends each of these announcements after a space.
 fn push_announcement_items<A: Allocator>(
     text: &mut String<A>,
     entries: &[(MsgId, u32)],
@@ -150,7 +150,7 @@ fn push_announcement_items<A: Allocator>(
     Ok(())
 }
 
-/// Appends an announcement after a blank.
+/// Appends an announcement after a space.
 fn push_announcement_item<A: Allocator>(
     text: &mut String<A>,
     entry: &(MsgId, u32),
@@ -182,8 +182,7 @@ fn push_graft<A: Allocator>(text: &mut String<A>, id: &MsgId, round: u32) -> Res
     write!(text, " round {round}")
 }
 
-/// Appends the packet at a place among all that were ever sent, after a blank; nothing where there is no place or no
-/// packet.
+/// Appends a space and the packet at a place among all packets ever sent; nothing if there is no place or no packet.
 pub fn push_packet_at<A: Allocator>(
     text: &mut String<A>,
     sent: &[Packet<Frame<A>>],
@@ -197,7 +196,7 @@ pub fn push_packet_at<A: Allocator>(
     }
 }
 
-/// Appends the packet at this place after a blank, if there is one.
+/// Appends the packet at this place after a space, if there is one.
 fn push_maybe_packet<A: Allocator>(
     text: &mut String<A>,
     sent: &[Packet<Frame<A>>],
@@ -211,7 +210,7 @@ fn push_maybe_packet<A: Allocator>(
     }
 }
 
-/// Appends a packet after a blank.
+/// Appends a packet after a space.
 fn push_packet_item<A: Allocator>(
     text: &mut String<A>,
     place: usize,
@@ -223,7 +222,7 @@ fn push_packet_item<A: Allocator>(
     push_packet(text, place, packet)
 }
 
-/// Appends a line for each packet from this one on among all that were ever sent.
+/// Appends a line for each packet from this one on, of all packets ever sent.
 pub fn push_sent<A: Allocator>(
     text: &mut String<A>,
     first: usize,

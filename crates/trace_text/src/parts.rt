@@ -1,4 +1,4 @@
-//! The parts of a node's state.
+//! Prints the parts of a node's state.
 ghost use Rattle.std.specs.Prelude.{◌≡◌, ◌++◌, OnOk, IfOk, string_bytes, codes};
 ghost use Rattle.trace_text.specs.Names.{id_items, name_items, or_dash};
 ghost use Rattle.trace_text.specs.Parts.{changed, is_of, member_item, member_items, queue_item, queue_items, want_item, want_items};
@@ -52,7 +52,7 @@ fn push_members<A: Allocator>(
     push_dash_at(text, start)
 }
 
-/// Appends each member of the kind after a blank.
+/// Appends each member of the kind after a space.
 fn push_member_items<A: Allocator>(
     text: &mut String<A>,
     kind: PeerKind,
@@ -66,7 +66,7 @@ fn push_member_items<A: Allocator>(
     Ok(())
 }
 
-/// Appends a member after a blank, if it is of the kind.
+/// Appends a member after a space, if it is of the kind.
 fn push_member_item<A: Allocator>(
     text: &mut String<A>,
     kind: PeerKind,
@@ -80,7 +80,7 @@ fn push_member_item<A: Allocator>(
     Ok(())
 }
 
-/// Whether a peer is of the first kind.
+/// Whether two kinds are the same.
 fn is_of(kind: PeerKind, other: PeerKind) -> bool
     ensures { result ≡ is_of kind other }
 {
@@ -116,7 +116,7 @@ fn push_queue<A: Allocator>(
     push_dash_at(text, start)
 }
 
-/// Appends each of these announcements after a blank, and to whom it is.
+/// Appends each of these announcements with its receiver, after a space.
 fn push_queue_items<A: Allocator>(
     text: &mut String<A>,
     queued: &[(NodeName, MsgId, u32)],
@@ -129,7 +129,7 @@ fn push_queue_items<A: Allocator>(
     Ok(())
 }
 
-/// Appends an announcement after a blank, and to whom it is.
+/// Appends an announcement with its receiver, after a space.
 fn push_queue_item<A: Allocator>(
     text: &mut String<A>,
     entry: &(NodeName, MsgId, u32),
@@ -168,7 +168,7 @@ fn push_wants<A: Allocator>(
     push_dash_at(text, start)
 }
 
-/// Appends each of these announcements after a blank, and by whom it is.
+/// Appends each of these announcements with its sender, after a space.
 fn push_want_items<A: Allocator>(
     text: &mut String<A>,
     wants: &[(MsgId, NodeName, u32)],
@@ -181,7 +181,7 @@ fn push_want_items<A: Allocator>(
     Ok(())
 }
 
-/// Appends an announcement after a blank, and by whom it is.
+/// Appends an announcement with its sender, after a space.
 fn push_want_item<A: Allocator>(
     text: &mut String<A>,
     entry: &(MsgId, NodeName, u32),
@@ -211,7 +211,7 @@ pub fn push_part<A: Allocator>(text: &mut String<A>, part: &String<A>) -> Result
     text.push_str(part.as_str())
 }
 
-/// Appends the new text of a part, if it is another one than the old.
+/// Appends the new text of a part, if it differs from the old one.
 pub fn push_changed<A: Allocator>(
     text: &mut String<A>,
     old: &String<A>,

@@ -1,4 +1,4 @@
-//! A step of a run: an event and what came of it.
+//! Prints a step of a run: an event and its effects.
 ghost use Rattle.std.specs.Prelude.{◌≡◌, ◌++◌, OnOk, Some, string_bytes};
 ghost use Rattle.world.specs.Group.{core_of};
 ghost use Rattle.trace_text.specs.Step.{change_line, change_under, delivery_line, delivery_lines, flight_item, flight_items, flight_line, line_of_changes, step_text};
@@ -13,7 +13,7 @@ use std::alloc::{AllocError, Allocator};
 use world::{Core, Delivery, Entry, World};
 
 /// Appends the lines of an event: the event in words, each delivery, each packet that it sent, what changed at the node
-/// that it touched, and the flight after it. `before` are the parts of that node before the event.
+/// that it touched, and the packets in flight after it. `before` are the parts of that node before the event.
 pub fn push_step<A: Allocator + Copy>(
     alloc: A,
     text: &mut String<A>,
@@ -59,7 +59,7 @@ fn push_delivery<A: Allocator>(
     write!(text, " length {length}\n")
 }
 
-/// Appends the line of what changed since these parts at the node of this name, if there is a name.
+/// Appends the line of what changed at the node of this name since its state was `before`, if there is a name.
 fn push_change_under<A: Allocator + Copy>(
     alloc: A,
     text: &mut String<A>,
@@ -75,7 +75,7 @@ fn push_change_under<A: Allocator + Copy>(
     }
 }
 
-/// Appends the line of what changed since these parts at the node of this name, if it runs.
+/// Appends the line of what changed at the node of this name since its state was `before`, if the node runs.
 fn push_change_at<A: Allocator + Copy>(
     alloc: A,
     text: &mut String<A>,
@@ -91,7 +91,7 @@ fn push_change_at<A: Allocator + Copy>(
     }
 }
 
-/// Appends the line of what changed since these parts at a node that runs.
+/// Appends the line of what changed at a running node since its state was `before`.
 fn push_change<A: Allocator + Copy>(
     alloc: A,
     text: &mut String<A>,
@@ -106,7 +106,7 @@ fn push_change<A: Allocator + Copy>(
     push_changes(text, &core.me(), changes.as_str())
 }
 
-/// Appends the line of these changes of a run of a node, if there are any.
+/// Appends the line of the changes of a run of a node, if there are any.
 fn push_changes<A: Allocator>(
     text: &mut String<A>,
     node: &Origin,
@@ -123,7 +123,7 @@ fn push_changes<A: Allocator>(
     text.push('\n')
 }
 
-/// Appends the line of the flight, if anything flies.
+/// Appends the line of the packets in flight, if there are any.
 fn push_flight<A: Allocator>(text: &mut String<A>, flight: &[usize]) -> Result<(), AllocError>
     ensures { OnOk result (string_bytes text.new ≡ string_bytes text.old ++ flight_line flight.now) }
 {
@@ -135,7 +135,7 @@ fn push_flight<A: Allocator>(text: &mut String<A>, flight: &[usize]) -> Result<(
     text.push('\n')
 }
 
-/// Appends each place of the flight, and which of all packets flies there.
+/// Appends each place in flight, and the number of the packet in that place.
 fn push_flight_items<A: Allocator>(text: &mut String<A>, flight: &[usize]) -> Result<(), AllocError>
     ensures { OnOk result (string_bytes text.new ≡ string_bytes text.old ++ flight_items 0 flight.now) }
 {
@@ -145,7 +145,7 @@ fn push_flight_items<A: Allocator>(text: &mut String<A>, flight: &[usize]) -> Re
     Ok(())
 }
 
-/// Appends a place of the flight, and which of all packets flies there.
+/// Appends a place in flight, and the number of the packet in that place.
 fn push_flight_item<A: Allocator>(
     text: &mut String<A>,
     place: usize,

@@ -1,4 +1,4 @@
-//! What a run cost: how many packets of each kind were sent, and how each message spread.
+//! Prints what a run cost: how many packets of each kind were sent, and how each message spread.
 ghost use Rattle.std.specs.Prelude.{◌≡◌, ◌++◌, ℕ, List, OnOk, string_bytes};
 ghost use Rattle.trace_text.specs.Counts.{count_item, depth_text, gossip_items, kind_count, kinds_line, membership_items, spread_line, spread_text, TellsSpread, TellsSpreads, TellsSummary};
 
@@ -13,8 +13,8 @@ use std::alloc::{AllocError, Allocator};
 use world::{Packet, World};
 
 /// Appends the lines of a summary: how many packets of each kind were sent, and for each message how many packets
-/// carried it, how many announcements of it were sent, and how deep its tree is. No clause says that the depths are
-/// right.
+/// carried it, how many announcements of it were sent, and how deep its tree is. No contract states that the depths
+/// are right.
 pub fn push_summary<A: Allocator + Copy>(
     text: &mut String<A>,
     world: &World<PlumCore<A>, A>,
@@ -98,7 +98,7 @@ fn push_gossip<A: Allocator>(
     push_kind(text, "GRAFT_PEER", 12, sent)
 }
 
-/// Appends the word of a kind and how many packets have its number, if any has.
+/// Appends the word for a kind and how many packets are of the kind, if there are any.
 fn push_kind<A: Allocator>(
     text: &mut String<A>,
     word: &str,
@@ -127,7 +127,7 @@ fn push_spread<A: Allocator + Copy>(
     push_spread_line(text, id, copies, announcements)
 }
 
-/// Appends how often a message was carried and announced, by these counts.
+/// Appends how often a message was carried and announced, given these counts.
 fn push_spread_line<A: Allocator>(
     text: &mut String<A>,
     id: &MsgId,
@@ -141,8 +141,8 @@ fn push_spread_line<A: Allocator>(
     write!(text, " copies {copies} announcements {announcements}")
 }
 
-/// Appends the greatest depth of a tree's branches, and the mean of those that have a parent. No clause says that these
-/// numbers are right.
+/// Appends the greatest depth of a tree's branches, and the mean depth of those that have a parent. No contract states
+/// that these numbers are right.
 fn push_depth<A: Allocator + Copy>(
     text: &mut String<A>,
     branches: &[Branch],
@@ -153,7 +153,7 @@ fn push_depth<A: Allocator + Copy>(
     push_depth_text(text, depth.greatest, depth.mean)
 }
 
-/// Appends a greatest depth, and a mean that is told in hundredths.
+/// Appends a greatest depth, and a mean that is given in hundredths.
 fn push_depth_text<A: Allocator>(
     text: &mut String<A>,
     greatest: u64,

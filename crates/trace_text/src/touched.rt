@@ -1,4 +1,4 @@
-//! The state of the node that an event touches, as it is told.
+//! The printed state of the node that an event touches.
 ghost use Rattle.std.specs.Prelude.{◌≡◌, ◌++◌, None, OnOk, IfOk, string_bytes};
 ghost use Rattle.world.specs.Group.{core_of};
 ghost use Rattle.trace_text.specs.Events.{number_by, parts_under, receiver_of, touched_by, touched_parts};
@@ -37,8 +37,8 @@ impl<A: Allocator> Model for Touched<A> {
 }
 
 impl<A: Allocator + Copy> Touched<A> {
-    /// The parts of the node that an event will touch, as they are in this group before it. Those of one that does not
-    /// run are empty.
+    /// Prints the parts of the node that an event will touch, as they are in this group before the event. The lists are
+    /// empty if the node does not run.
     pub fn new(
         alloc: A,
         before: &World<PlumCore<A>, A>,
@@ -51,7 +51,7 @@ impl<A: Allocator + Copy> Touched<A> {
         Touched::under(alloc, before, &name)
     }
 
-    /// The parts of the node of this name, if there is a name.
+    /// Prints the parts of the node of this name, if there is a name.
     fn under(
         alloc: A,
         world: &World<PlumCore<A>, A>,
@@ -65,7 +65,7 @@ impl<A: Allocator + Copy> Touched<A> {
         }
     }
 
-    /// The parts of the node of this name.
+    /// Prints the parts of the node of this name.
     fn named(
         alloc: A,
         world: &World<PlumCore<A>, A>,
@@ -79,14 +79,14 @@ impl<A: Allocator + Copy> Touched<A> {
         }
     }
 
-    /// The parts of a node that does not run.
+    /// Prints the parts of a node that does not run.
     fn empty(alloc: A) -> Result<Touched<A>, AllocError>
         ensures { IfOk result (λ touched. touched ≡ parts_in None) }
     {
         Touched::from_lists(alloc, &[], &[], &[], &[], &[], &[])
     }
 
-    /// The parts of a node that runs.
+    /// Prints the parts of a running node.
     pub(crate) fn of_core(alloc: A, core: &PlumCore<A>) -> Result<Touched<A>, AllocError>
         ensures { IfOk result (λ touched. touched ≡ parts_of core.now) }
     {
@@ -101,7 +101,7 @@ impl<A: Allocator + Copy> Touched<A> {
         )
     }
 
-    /// The parts of a node with these views, peers, announcements and timers.
+    /// Prints the parts of a node with these views, peers, announcements and timers.
     fn from_lists(
         alloc: A,
         active: &[NodeName],
@@ -139,7 +139,7 @@ impl<A: Allocator> Touched<A> {
         push_part(text, &self.timers)
     }
 
-    /// Appends the parts that are others in `new`, as they are there.
+    /// Appends the parts that differ in `new`, as they are in `new`.
     pub(crate) fn push_changes(
         &self,
         new: &Touched<A>,
@@ -157,7 +157,7 @@ impl<A: Allocator> Touched<A> {
     }
 }
 
-/// The number of the packet that an event would name: the one at its place of the flight.
+/// The number of the packet that an event would name: the one at its place in flight.
 fn number_by<P, L, D>(flight: &[usize], event: &EventOf<P, L, D>) -> Option<usize>
     ensures { result ≡ number_by flight.now event.now }
 {
@@ -167,8 +167,8 @@ fn number_by<P, L, D>(flight: &[usize], event: &EventOf<P, L, D>) -> Option<usiz
     }
 }
 
-/// The name that an event touches, where the packet that it named has this number. What is lost or repeated touches
-/// none.
+/// The name that an event touches, if the packet that it named has this number. Losing or repeating a packet touches no
+/// node.
 pub fn touched_by<P, L, D, A: Allocator>(
     sent: &[Packet<Frame<A>>],
     number: Option<usize>,
@@ -189,7 +189,7 @@ pub fn touched_by<P, L, D, A: Allocator>(
     }
 }
 
-/// To whom the packet of this number goes.
+/// The receiver of the packet of this number.
 fn receiver_of<A: Allocator>(sent: &[Packet<Frame<A>>], number: Option<usize>) -> Option<NodeName>
     ensures { result ≡ receiver_of sent.now number }
 {

@@ -22,14 +22,14 @@ impl Inbox {
         }
     }
 
-    /// Puts messages last.
+    /// Appends messages.
     fn put<R: Wait>(&self, rt: &R, mut batch: Vec<Delivery>) -> Result<(), AllocError> {
         self.messages.lock(rt).append(&mut batch)?;
         self.came.notify_all();
         Ok(())
     }
 
-    /// Waits until there are so many messages.
+    /// Waits until there are at least `count` messages.
     pub(crate) fn wait_for<R: Wait>(&self, rt: &R, count: usize) {
         let _ = self
             .came
@@ -60,7 +60,7 @@ pub(crate) struct ToInbox<R: Wait + Drop> {
 
 impl<R: Wait + Drop> Handed<Vec<Delivery>> for ToInbox<R> {
     fn take(&mut self, batch: Vec<Delivery>) {
-        // A batch for which there is no memory is lost, and whoever waits for it waits on.
+        // A batch for which there is no memory is lost, and a thread that waits for it keeps waiting.
         let _ = self.inbox.put(&self.rt, batch);
     }
 }

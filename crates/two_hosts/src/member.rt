@@ -1,4 +1,4 @@
-//! A node with one link to another, and one from it.
+//! A node with one link to another node, and one from it.
 use crate::inbox::{Inbox, ToInbox};
 use anyhow::{Result, bail};
 use bytes::Bytes;
@@ -13,10 +13,10 @@ use std::sync::{Arc, Wait};
 use std::thread::Threads;
 use world::{Core, Out};
 
-/// How many frames wait for a link at most.
+/// The most frames that wait for a link.
 const RING: usize = 64;
 
-/// How many steps a node makes at most.
+/// The most steps that a node makes.
 const STEPS: usize = 1_000;
 
 /// A running node, all that belongs to it, and its inbox.
@@ -28,7 +28,7 @@ pub(crate) struct Member {
     inbox: Arc<Inbox, Global>,
 }
 
-/// A node that has started with one peer and makes no step yet.
+/// Makes a node that has started with one peer and makes no step yet.
 fn start_host(
     alloc: Global,
     me: &str,
@@ -78,7 +78,7 @@ impl Member {
         })
     }
 
-    /// Broadcasts a payload by the first port.
+    /// Broadcasts a payload through the first port.
     pub(crate) fn broadcast<R: Wait>(&mut self, rt: &R, payload: Bytes) -> Result<()> {
         if let Some(port) = self.ports.first_mut() {
             port.broadcast(rt, payload)?;
@@ -86,7 +86,7 @@ impl Member {
         Ok(())
     }
 
-    /// Waits until the node has delivered so many messages.
+    /// Waits until the node has delivered at least `count` messages.
     pub(crate) fn wait_for<R: Wait>(&self, rt: &R, count: usize) {
         self.inbox.wait_for(rt, count);
     }
@@ -96,7 +96,7 @@ impl Member {
         self.host.stop(rt);
     }
 
-    /// Closes the node, and answers what it delivered.
+    /// Closes the node, and returns what it delivered.
     pub(crate) fn close<R: Threads + Wait>(self, rt: &R) -> Result<Arc<Inbox, Global>> {
         let Member {
             host,

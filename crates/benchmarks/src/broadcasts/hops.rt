@@ -1,4 +1,4 @@
-//! How far messages go, and how many packets they take, where nodes swap branches for shorter ones.
+//! How far messages go, and how many packets they take, when nodes swap branches for shorter ones.
 use crate::broadcasts::overlay::{NODES, name_of, started};
 use anyhow::Result;
 use bytes::Bytes;
@@ -17,14 +17,14 @@ const BROADCASTS: usize = 64;
 /// What some broadcasts took.
 #[derive(Clone, Copy)]
 struct Taken {
-    /// The links on the longest way of each, added up.
+    /// The sum of the links on the longest path of each broadcast.
     links: usize,
-    /// The longest way of all.
+    /// The links on the longest path of all broadcasts.
     longest: usize,
     packets: usize,
 }
 
-/// Lets all packets arrive that are in flight, the oldest first. How many messages are delivered.
+/// Lets all packets arrive that are in flight, the oldest first. Returns how many messages are delivered.
 fn arrive_all(group: &mut World<PlumCore>) -> Result<usize, WorldError> {
     let mut delivered = 0usize;
     for _ in 0..group.flight().len() {
@@ -37,7 +37,7 @@ fn arrive_all(group: &mut World<PlumCore>) -> Result<usize, WorldError> {
     Ok(delivered)
 }
 
-/// Has all nodes announce what waits.
+/// Has all nodes send their queued announcements.
 fn flush_all(group: &mut World<PlumCore>) -> Result<()> {
     for place in 0..NODES {
         let name = name_of(place)?;
@@ -46,8 +46,8 @@ fn flush_all(group: &mut World<PlumCore>) -> Result<()> {
     Ok(())
 }
 
-/// Broadcasts at the node at this place. Each packet takes a unit of time, and each node announces what waits once a
-/// unit. After how many units the last node has the message.
+/// Broadcasts at the node at this place. Each packet takes a unit of time, and each node sends its queued announcements
+/// once a unit. Returns the number of units after which the last node has the message.
 fn broadcast(group: &mut World<PlumCore>, place: usize, payload: &Bytes) -> Result<usize> {
     group.apply(EventOf::Broadcast {
         name: name_of(place)?,
@@ -66,7 +66,7 @@ fn broadcast(group: &mut World<PlumCore>, place: usize, payload: &Bytes) -> Resu
     Ok(last)
 }
 
-/// Makes broadcasts, each so many places further than the one before.
+/// Makes broadcasts, each `step` places further than the one before.
 fn broadcast_all(
     group: &mut World<PlumCore>,
     place: usize,
@@ -92,7 +92,7 @@ fn broadcast_all(
     Ok(taken)
 }
 
-/// Prints what broadcasts took.
+/// Prints what the broadcasts took.
 fn tell(rt: &impl Print, senders: &str, taken: &Taken) -> Result<()> {
     let links = taken.links.saturating_mul(10) / BROADCASTS;
     let packets = taken.packets / BROADCASTS;
@@ -105,7 +105,7 @@ fn tell(rt: &impl Print, senders: &str, taken: &Taken) -> Result<()> {
     Ok(())
 }
 
-/// A node makes the tree, another makes broadcasts, and then all do in turn, with this threshold.
+/// Has a node make the tree, then another make broadcasts, and then all nodes in turn, with this threshold.
 pub(crate) fn measure(
     rt: &impl Print,
     alloc: Global,

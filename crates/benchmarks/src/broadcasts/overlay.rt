@@ -8,7 +8,7 @@ use world::{EventOf, World};
 /// How many nodes there are, in a ring.
 pub(crate) const NODES: usize = 64;
 
-/// How far on a node's peers are: its neighbours in the ring, two that are further, and the one that is farthest.
+/// How far away a node's peers are round the ring: its neighbours, two that are further, and the one that is farthest.
 const STEPS: [usize; 5] = [1, 63, 8, 56, 32];
 
 /// The name of the node at this place, counted round the ring.
@@ -27,7 +27,7 @@ fn peers_of(alloc: Global, place: usize) -> Result<Listed<NodeName>> {
     Ok(peers)
 }
 
-/// The group with all nodes started within these limits.
+/// Makes a group with all nodes started within these limits.
 pub(crate) fn started(alloc: Global, limits: Limits) -> Result<World<PlumCore>> {
     let mut group = World::new(alloc, limits);
     for place in 0..NODES {

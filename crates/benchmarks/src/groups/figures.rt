@@ -6,27 +6,27 @@ use std::alloc::{AllocError, Global};
 use std::time::Duration;
 use world::Delivery;
 
-/// What is measured of a run, whose first message makes the tree and is not counted. Times are in microseconds.
+/// What is measured of a run. Its first message makes the tree and is not counted. Times are in microseconds.
 #[derive(Clone, Copy)]
 pub(crate) struct Figures {
     pub(crate) broadcasts: usize,
     pub(crate) deliveries: usize,
     /// From the first broadcast to the last delivery.
     pub(crate) micros: u64,
-    /// From a message's broadcast to a delivery of it, the origin's own among them: the middle one.
+    /// The median time from a message's broadcast to a delivery of it. Deliveries at the origin count too.
     pub(crate) each: u64,
-    /// From a message's broadcast to the last delivery of it: the middle one.
+    /// The median time from a message's broadcast to its last delivery.
     pub(crate) last: u64,
-    /// The longest of both.
+    /// The longest time from a message's broadcast to a delivery of it.
     pub(crate) greatest: u64,
 }
 
 /// How long messages took, in microseconds.
 #[derive(Drop)]
 struct Latencies {
-    /// To each node that delivered one.
+    /// To each node that delivered a message.
     each: Vec<u64>,
-    /// To the last node, of each message, in order.
+    /// To the last node, for each message, in order.
     last: Vec<u64>,
 }
 
@@ -35,8 +35,8 @@ fn micros_of(time: Duration) -> u64 {
     u64::try_from(time.as_micros()).unwrap_or(u64::MAX)
 }
 
-/// The place of a message among those that are counted. All are of one node, which numbers them from 1 in their order,
-/// and the first is not counted.
+/// The place of a message among those that are counted. All are from one node, which numbers them from 1 in order, and
+/// the first is not counted.
 fn place_of(id: &MsgId) -> Option<usize> {
     usize::try_from(id.seq.checked_sub(2)?).ok()
 }
@@ -60,7 +60,7 @@ fn counted(ran: &RunReport) -> &[Stamp] {
 }
 
 impl Latencies {
-    /// No message took any time.
+    /// Starts with no time for each message.
     fn new(alloc: Global, messages: usize) -> Result<Latencies, AllocError> {
         Ok(Latencies {
             each: Vec::new(alloc),
@@ -83,14 +83,14 @@ impl Latencies {
         Ok(self.each.push(latency)?)
     }
 
-    /// Puts the shortest first.
+    /// Sorts the times, the shortest first.
     fn sort(&mut self) -> Result<(), AllocError> {
         self.each.sort()?;
         self.last.sort()
     }
 }
 
-/// How long each message took to each node and to the last, the shortest first.
+/// How long each message took to each node and to the last one, the shortest times first.
 fn take_latencies(alloc: Global, ran: &RunReport) -> Result<Latencies, AllocError> {
     let broadcasts = counted(ran);
     let mut latencies = Latencies::new(alloc, broadcasts.len())?;
@@ -114,7 +114,7 @@ fn span(broadcasts: &[Stamp], times: &[Duration]) -> u64 {
     end.saturating_sub(start)
 }
 
-/// The one of these, of which the least is first, that so many of a hundred are below or at.
+/// The `percent`th percentile of an ascending list, or 0 if the list is empty.
 fn percentile(sorted: &[u64], percent: usize) -> u64 {
     let place = sorted.len().saturating_mul(percent) / 100;
     match sorted.get(place.min(sorted.len().saturating_sub(1))) {
@@ -137,7 +137,7 @@ pub(crate) fn measured(alloc: Global, ran: &RunReport) -> Result<Figures> {
     })
 }
 
-/// How many deliveries are of a message that the node had delivered before.
+/// How many deliveries are of a message that the node had already delivered.
 pub(crate) fn repeated(deliveries: &[Delivery]) -> usize {
     let mut count: usize = 0;
     for (place, delivery) in deliveries.iter().enumerate() {

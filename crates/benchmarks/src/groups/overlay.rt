@@ -1,4 +1,4 @@
-//! A connected overlay in which each node has five peers at most.
+//! A connected overlay in which each node has at most five peers.
 use anyhow::Result;
 use bytes::Bytes;
 use loopback::Member;
@@ -12,7 +12,7 @@ pub(crate) struct Group {
     pub(crate) messages: usize,
     /// The bytes of each message.
     pub(crate) bytes: usize,
-    /// After how many ticks the nodes are stopped.
+    /// The number of ticks after which the nodes are stopped.
     pub(crate) ticks: u32,
 }
 
@@ -22,8 +22,8 @@ fn name_of(place: usize) -> Result<NodeName, NameFault> {
     NodeName::parse(&[b'n', digit(place / 100), digit(place / 10), digit(place)])
 }
 
-/// How far on in the ring a node's peers are: its neighbours, two that are further, and the one that is farthest, where
-/// two nodes are that to each other.
+/// How far away a node's peers are round the ring: its neighbours, two that are further, and the one that is farthest,
+/// if two nodes are farthest from each other.
 fn steps_of(nodes: usize) -> [usize; 5] {
     let chord = (nodes / 8).max(2);
     let farthest = if nodes % 2 == 0 { nodes / 2 } else { 1 };
@@ -32,7 +32,7 @@ fn steps_of(nodes: usize) -> [usize; 5] {
     [1, back, chord, far_back, farthest]
 }
 
-/// Puts the name of the node that is so much further round the ring last, unless it is there or is the node's own.
+/// Appends the name of the node that is `step` places further round the ring, unless it is there or is the node's own.
 fn push_peer(peers: &mut Vec<NodeName>, nodes: usize, place: usize, step: usize) -> Result<()> {
     let peer = place.saturating_add(step).checked_rem(nodes).unwrap_or(0);
     let name = name_of(peer)?;
@@ -51,7 +51,7 @@ fn peers_of(alloc: Global, nodes: usize, place: usize) -> Result<Vec<NodeName>> 
     Ok(peers)
 }
 
-/// Puts a message last so many times.
+/// Appends a message `count` times.
 fn push_texts(texts: &mut Vec<Bytes>, payload: &Bytes, count: usize) -> Result<(), AllocError> {
     for _ in 0..count {
         texts.push(payload.clone()?)?;
@@ -59,7 +59,7 @@ fn push_texts(texts: &mut Vec<Bytes>, payload: &Bytes, count: usize) -> Result<(
     Ok(())
 }
 
-/// So many messages of so many bytes.
+/// Makes `count` messages of `bytes` bytes.
 fn texts(alloc: Global, count: usize, bytes: usize) -> Result<Vec<Bytes>, AllocError> {
     let payload = Bytes::from_vec(vec![in alloc; b'x'; bytes]?)?;
     let mut texts = Vec::new(alloc);
@@ -67,7 +67,7 @@ fn texts(alloc: Global, count: usize, bytes: usize) -> Result<Vec<Bytes>, AllocE
     Ok(texts)
 }
 
-/// The node at this place, with a port so much above the first one.
+/// The node at this place, with this port.
 fn member(alloc: Global, group: &Group, place: usize, port: u16) -> Result<Member> {
     let count = if place == 0 { group.messages } else { 0 };
     Ok(Member {

@@ -6,8 +6,8 @@ use std::io::Print;
 use std::rt::Files;
 use std::time::{Clock, Duration, Instant};
 
-/// For so many turns of five milliseconds nothing is done before and after what is measured, so that whoever reads the
-/// lines that are printed there has the time to look at the process.
+/// For this many turns of five milliseconds nothing is done before and after what is measured, so that whoever reads
+/// the lines that are printed then has time to look at the process.
 const PAUSE: u32 = 4;
 
 /// How long a tick takes, in milliseconds.
@@ -28,29 +28,29 @@ enum Stage {
     Over,
 }
 
-/// The part of a run that is measured. It lets the first message be broadcast alone, which makes the tree, and the
-/// others once all nodes have delivered it. When all have delivered all messages, or the ticks are over, it ends the
-/// run. It prints the lines `warm` and `over` before and after what is measured.
+/// The part of a run that is measured. It lets the first message, which makes the tree, be broadcast alone, and the
+/// others once all nodes have delivered it. When all nodes have delivered all messages, or the ticks are over, it ends
+/// the run. It prints the lines `warm` and `over` before and after what is measured.
 #[derive(Drop)]
 pub(crate) struct Phase<R: Drop> {
     rt: R,
     nodes: usize,
-    /// How many deliveries there are in the end.
+    /// How many deliveries there are at the end.
     wanted: usize,
-    /// When it began, where the clock can be read, and how long it may take.
+    /// When it began, if the clock can be read, and how long it may take.
     start: Option<Instant>,
     limit: Duration,
     stage: Stage,
-    /// For how many turns nothing is done yet.
+    /// For how many more turns nothing is done.
     pause: u32,
-    /// What the process had used before the second message, where it can be read.
+    /// What the process had used before the second message, if that can be read.
     begin: Option<Usage>,
     /// What it had used after the last delivery.
     end: Option<Usage>,
 }
 
 impl<R: Clock + Drop> Phase<R> {
-    /// That of a run of this group which is to begin.
+    /// Makes the phase of a run of this group that is about to begin.
     pub(crate) fn new(rt: R, group: &Group) -> Phase<R> {
         let start = Instant::now(&rt).ok();
         Phase {
@@ -74,7 +74,7 @@ impl<R: Clock + Drop> Phase<R> {
         }
     }
 
-    /// What the process used in it, and what memory and threads it had at the end, once it is over.
+    /// What the process used in the phase, and what memory and threads it had at the end, once the phase is over.
     pub(crate) fn used(&self) -> Option<Usage> {
         let end = self.end?;
         Some(Usage {
@@ -87,7 +87,7 @@ impl<R: Clock + Drop> Phase<R> {
 }
 
 impl<R: AllocGlobal + Print + Files + Drop> Phase<R> {
-    /// Goes on to this stage, and prints the word. Where it can't be printed, nobody looks.
+    /// Goes on to this stage, and prints the word. A failure to print it is ignored, since no one reads it then.
     fn enter(&mut self, stage: Stage, word: &str) {
         self.stage = stage;
         self.pause = PAUSE;

@@ -1,4 +1,4 @@
-//! A group that runs where ports are free.
+//! Runs a group at free ports.
 use crate::groups::overlay::{Group, members};
 use anyhow::{Result, bail};
 use loopback::{Machine, Plan, RunError, RunReport, Watch, run};
@@ -8,13 +8,13 @@ use std::alloc::Global;
 /// The first port that is tried.
 const FIRST_PORT: u16 = 20_000;
 
-/// How far apart are the first ports of two attempts: more than a group has nodes.
+/// The distance between the first ports of two attempts: more than a group has nodes.
 const APART: u16 = 100;
 
-/// How often a run is tried.
+/// How many times a run is tried.
 const ATTEMPTS: u16 = 100;
 
-/// Runs a group with ports from this one on. There is none where one of them is taken.
+/// Runs a group with ports from this one on. Returns `None` if one of them is taken.
 fn run_at<R, V>(
     rt: R,
     alloc: Global,

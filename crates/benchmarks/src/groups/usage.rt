@@ -1,18 +1,18 @@
-//! What this process has used so far, as the system tells.
+//! What this process has used so far, as the system says.
 use anyhow::{Result, bail};
 use std::fs;
 use std::rt::Files;
 
-/// How long one of the steps is in which the system counts processor time, in milliseconds.
+/// The length of the steps in which the system counts processor time, in milliseconds.
 const STEP: u64 = 10;
 
-/// At which places among the words of `/proc/self/stat` the times as a user and in the system stand.
+/// The places of user time and system time among the words of `/proc/self/stat`.
 const TIMES: [usize; 2] = [13, 14];
 
 /// What a process has used.
 #[derive(Clone, Copy, Debug)]
 pub(crate) struct Usage {
-    /// The processor time of all threads, those that have ended too, in milliseconds.
+    /// The processor time of all threads, including those that have ended, in milliseconds.
     pub(crate) processor: u64,
     /// The memory that it has, in KiB.
     pub(crate) memory: u64,
@@ -21,7 +21,7 @@ pub(crate) struct Usage {
     pub(crate) threads: u64,
 }
 
-/// The number that is the word at this place.
+/// Reads the word at this place as a number.
 fn number_at(text: &str, place: usize) -> Result<u64> {
     match text.split_whitespace().nth(place) {
         Some(word) => Ok(word.parse()?),
@@ -29,7 +29,7 @@ fn number_at(text: &str, place: usize) -> Result<u64> {
     }
 }
 
-/// The number that stands behind this name at the front of a line.
+/// Reads the number that follows this name at the start of a line.
 fn number_of(text: &str, name: &str) -> Result<u64> {
     for line in text.lines() {
         if let Some(rest) = line.strip_prefix(name) {

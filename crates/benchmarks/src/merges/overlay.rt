@@ -11,7 +11,7 @@ pub(crate) fn name_of(place: usize) -> Result<NodeName, NameFault> {
     NodeName::parse(&[b'n', digit(place / 100), digit(place / 10), digit(place)])
 }
 
-/// Puts the name of the node that is so much further round the ring last.
+/// Appends the name of the node that is `step` places further round the ring.
 fn push_peer(peers: &mut Listed<NodeName>, nodes: usize, place: usize, step: usize) -> Result<()> {
     let peer = place.saturating_add(step).checked_rem(nodes).unwrap_or(0);
     peers.push(name_of(peer)?)?;

@@ -1,8 +1,8 @@
-//! What is played before the traces are read off.
+//! What is played before the traces are taken.
 use crate::words::size;
 use anyhow::Result;
 
-/// Which packet of those in flight arrives next.
+/// Which packet in flight arrives next.
 #[derive(Clone, Copy)]
 pub(crate) enum Place {
     Oldest,
@@ -22,7 +22,7 @@ pub(crate) struct Plan {
     pub(crate) waiting: usize,
 }
 
-/// The place of this name. It is the oldest where there is none.
+/// The place of this name. It is the oldest if there is no name.
 fn place_of(word: Option<&String>) -> Place {
     match word {
         Some(word) if word.as_str() == "newest" => Place::Newest,
@@ -32,7 +32,7 @@ fn place_of(word: Option<&String>) -> Place {
 }
 
 impl Plan {
-    /// The plan of a program's arguments.
+    /// Reads the plan from a program's arguments.
     pub(crate) fn parse(words: &[String]) -> Result<Plan> {
         Ok(Plan {
             nodes: size(words, 2, 64)?,

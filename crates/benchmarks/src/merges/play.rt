@@ -1,4 +1,4 @@
-//! Broadcasts in a group, each by the next node, and arrivals.
+//! Broadcasts in a group, each by the next node, and the arrivals of their packets.
 use crate::merges::overlay::{empty, name_of, start_all};
 use crate::merges::plan::{Place, Plan};
 use anyhow::Result;
@@ -16,7 +16,7 @@ const MANY: usize = 1_000_000_000;
 /// The bytes of each message.
 const LENGTH: usize = 100;
 
-/// The place of the flight at which a packet arrives next.
+/// The place in flight of the packet that arrives next.
 fn place_in(flight: &[usize], rng: &mut Lcg128Xsl64, place: Place) -> usize {
     let count = flight.len();
     match place {
@@ -29,7 +29,7 @@ fn place_in(flight: &[usize], rng: &mut Lcg128Xsl64, place: Place) -> usize {
     }
 }
 
-/// Lets packets arrive until no more than so many are in flight.
+/// Lets packets arrive until at most `waiting` are in flight.
 fn arrive_down_to(
     group: &mut World<PlumCore>,
     rng: &mut Lcg128Xsl64,
@@ -47,7 +47,7 @@ fn arrive_down_to(
     Ok(())
 }
 
-/// Broadcasts a message at the node at this place, and lets packets arrive until no more than so many are in flight.
+/// Broadcasts a message at the node at this place, and lets packets arrive until at most `waiting` are in flight.
 fn broadcast(
     group: &mut World<PlumCore>,
     rng: &mut Lcg128Xsl64,
@@ -84,7 +84,7 @@ fn play(
     Ok(())
 }
 
-/// The group that is played as planned.
+/// Plays a group according to the plan.
 pub(crate) fn played(alloc: Global, plan: &Plan) -> Result<World<PlumCore>> {
     let mut group = empty(alloc);
     let mut rng = Lcg128Xsl64::seed_from_u64(1);

@@ -19,7 +19,7 @@ pub(crate) struct Sent {
     pub(crate) micros: u64,
 }
 
-/// The first run of the node of this name.
+/// The first incarnation of the node of this name.
 pub(crate) fn first_run(name: &str) -> Result<Origin> {
     Ok(Origin {
         name: NodeName::parse(name.as_bytes())?,
@@ -27,17 +27,17 @@ pub(crate) fn first_run(name: &str) -> Result<Origin> {
     })
 }
 
-/// What is broadcast.
+/// The payload of every broadcast.
 pub(crate) fn payload(alloc: Global) -> Result<Bytes, AllocError> {
     Ok(Bytes::from_vec(vec![in alloc; b'x'; LENGTH]?)?)
 }
 
-/// A peer asks to be taken into the active view, as its first frame.
+/// The first frame of a peer: it asks to be taken into the active view.
 pub(crate) fn request(peer: Origin) -> Result<Frame> {
     Ok(Frame::new(peer, 1, Body::Neighbor { high: true })?)
 }
 
-/// The message of this number as its origin sends it, or passes it on in a frame of its own.
+/// The message of this number as its origin sends it, or as another node passes it on in a frame of its own.
 pub(crate) fn message(sender: Origin, origin: Origin, seq: u64, payload: &Bytes) -> Result<Frame> {
     let id = MsgId { origin, seq };
     let payload = payload.clone()?;

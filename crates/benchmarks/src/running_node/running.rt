@@ -1,4 +1,4 @@
-//! A node that runs, with four links each way.
+//! A running node, with four links each way.
 use crate::running_node::draining::{Counting, drain};
 use crate::running_node::messages::{PEERS, Sent, first_run, message, payload, request, size};
 use crate::running_node::tally::Tally;
@@ -37,7 +37,7 @@ struct Running {
     written: Arc<Tally, Global>,
 }
 
-/// Starts a node without peers, to which those of the list have links.
+/// Starts a node without peers, with links to the nodes of these names.
 fn start(
     alloc: Global,
     names: &[NodeName],
@@ -58,7 +58,7 @@ fn start_drain<R: Threads + Wait + Copy + Send + Drop + 'static>(
 }
 
 impl Running {
-    /// A node whose frames are drained.
+    /// Starts a node whose frames are drained.
     fn start<R: Threads + Wait + Copy + Send + Drop + 'static>(
         rt: R,
         alloc: Global,
@@ -102,7 +102,7 @@ impl Running {
         Ok(())
     }
 
-    /// Lets the node broadcast so many messages.
+    /// Lets the node broadcast `count` messages.
     fn broadcast<R: Wait>(&mut self, rt: &R, payload: &Bytes, count: u64) -> Result<()> {
         for port in self.ports.iter_mut() {
             for _ in 0..count {
@@ -112,7 +112,7 @@ impl Running {
         Ok(())
     }
 
-    /// Ends the node.
+    /// Closes the node.
     fn close<R: Threads + Wait>(self, rt: &R) -> Result<()> {
         let Running {
             host,
@@ -137,7 +137,7 @@ fn put<R: Wait + Drop>(alloc: Global, writer: &mut PipeWriter<R>, frame: &Frame)
     Ok(())
 }
 
-/// A stream of the requests of all peers, and the end of it that is still open.
+/// A stream of the requests of all peers, and its writing end, which is still open.
 fn requests<R: Wait + Copy + Drop>(rt: R, alloc: Global) -> Result<(PipeReader<R>, PipeWriter<R>)> {
     let (reader, mut writer) = new_pipe(rt, alloc)?;
     for peer in PEERS {
@@ -146,7 +146,7 @@ fn requests<R: Wait + Copy + Drop>(rt: R, alloc: Global) -> Result<(PipeReader<R
     Ok((reader, writer))
 }
 
-/// Writes the message of this number of a peer into a pipe.
+/// Writes a peer's message of this number into a pipe.
 fn put_message<R: Wait + Drop>(
     alloc: Global,
     writer: &mut PipeWriter<R>,
@@ -157,7 +157,7 @@ fn put_message<R: Wait + Drop>(
     put(alloc, writer, &message(*peer, *peer, seq, payload)?)
 }
 
-/// Writes so many messages of a peer into a pipe.
+/// Writes `count` messages of a peer into a pipe.
 fn put_messages<R: Wait + Drop>(
     alloc: Global,
     writer: &mut PipeWriter<R>,
@@ -171,7 +171,8 @@ fn put_messages<R: Wait + Drop>(
     Ok(())
 }
 
-/// How many bytes the node writes, once it has taken the requests, broadcast so many messages and passed so many on.
+/// How many bytes the node writes once it has taken the requests, broadcast `held` messages and passed on `passed`
+/// others.
 fn bytes_out(alloc: Global, payload: &Bytes, held: u64, passed: u64) -> Result<u64> {
     let me = first_run(ME)?;
     let reply = Frame::new(me, 1, Body::NeighborReply { accepted: true })?;
@@ -184,7 +185,7 @@ fn bytes_out(alloc: Global, payload: &Bytes, held: u64, passed: u64) -> Result<u
     Ok(replies.saturating_add(gossip.saturating_mul(gossips)))
 }
 
-/// Lets a node take its peers, and then broadcast so many messages. The stream of the peers' requests stays open.
+/// Lets a node take its peers, and then broadcast `held` messages. The stream of the peers' requests stays open.
 fn prepare<R: Threads + Wait + Copy + Send + Drop + 'static>(
     rt: R,
     alloc: Global,
@@ -203,7 +204,7 @@ fn prepare<R: Threads + Wait + Copy + Send + Drop + 'static>(
     Ok(())
 }
 
-/// A stream of so many messages of each peer. The streams stay open.
+/// Makes a stream of `share` messages for each peer. The streams stay open.
 fn streams<R: Wait + Copy + Drop>(
     rt: R,
     alloc: Global,
@@ -221,8 +222,8 @@ fn streams<R: Wait + Copy + Drop>(
     Ok(readers)
 }
 
-/// Lets a node read streams, and waits until it has delivered so many messages and written so many bytes. Returns how
-/// many microseconds that took.
+/// Lets a node read streams, and waits until it has delivered `delivered` messages and written `written` bytes. Returns
+/// how many microseconds that took.
 fn pass<R: Clock + Threads + Wait + Copy + Send + Drop + 'static>(
     rt: R,
     node: &mut Running,
@@ -239,10 +240,11 @@ fn pass<R: Clock + Threads + Wait + Copy + Send + Drop + 'static>(
     Ok(u64::try_from(start.elapsed(&rt)?.as_micros()).unwrap_or(u64::MAX))
 }
 
-/// Lets a node read so many messages of its peers, which it delivers and passes on, once it has broadcast so many
+/// Lets a node read `count` messages of its peers, which it delivers and passes on, after it has broadcast `held`
 /// others.
 ///
-/// A stream that ends takes the peer down that wrote to it last, so all stay open until the node is stopped.
+/// When a stream ends, the node takes the peer that wrote to it last to be down. So all stay open until the node is
+/// stopped.
 pub(crate) fn run<R: Clock + Threads + Wait + Copy + Send + Drop + 'static>(
     rt: R,
     alloc: Global,

@@ -1,7 +1,7 @@
-//! A count that threads add to and one waits for.
+//! A count that threads add to and that a thread can wait for.
 use std::sync::{Condvar, Mutex, Wait};
 
-/// How much there has been so far.
+/// The count so far.
 #[derive(Drop)]
 pub(crate) struct Tally {
     count: Mutex<u64>,
@@ -9,7 +9,7 @@ pub(crate) struct Tally {
 }
 
 impl Tally {
-    /// Nothing yet.
+    /// Starts at 0.
     pub(crate) fn new() -> Tally {
         Tally {
             count: Mutex::new(0),
@@ -17,7 +17,7 @@ impl Tally {
         }
     }
 
-    /// Adds so much.
+    /// Adds `more` to the count.
     pub(crate) fn add<R: Wait>(&self, rt: &R, more: u64) {
         let mut count = self.count.lock(rt);
         *count = count.saturating_add(more);
@@ -25,7 +25,7 @@ impl Tally {
         self.changed.notify_all();
     }
 
-    /// Waits until there has been so much.
+    /// Waits until the count is at least `wanted`.
     pub(crate) fn wait_for<R: Wait>(&self, rt: &R, wanted: u64) {
         let _ = self
             .changed

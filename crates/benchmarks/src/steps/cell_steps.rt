@@ -14,13 +14,13 @@ use world::{Core, Out, Stimulus};
 /// How many frames a link has room for.
 const RING: usize = 1 << 10;
 
-/// How many steps are timed together: no more than a link has room for.
+/// How many steps are timed together: at most as many as a link has room for.
 const BATCH: usize = 1_000;
 
-/// How many steps the node makes at most.
+/// The most steps that the node makes.
 const STEPS: usize = 1 << 24;
 
-/// A cell whose core has just started, without peers.
+/// Makes a cell whose core has just started, without peers.
 pub(crate) fn start(alloc: Global) -> Result<NodeCell<PlumCore>> {
     let me = first_run(b"a")?;
     let mut opening = Out::new(alloc);
@@ -36,7 +36,7 @@ fn open_links(cell: &mut NodeCell<PlumCore>, outlets: &mut Vec<Outlet>) -> Resul
     Ok(())
 }
 
-/// Opens so many links to others, which send nothing and get nothing.
+/// Opens `count` links to other names, which send nothing and get nothing.
 fn open_idle(cell: &mut NodeCell<PlumCore>, outlets: &mut Vec<Outlet>, count: u64) -> Result<()> {
     for number in 0..count {
         outlets.push(cell.open_link(origin(number)?.name, RING)?)?;
@@ -95,7 +95,7 @@ pub(crate) fn fill(
     apply_all(cell, &mut outlets, stimuli)
 }
 
-/// Lets a cell take the next stimuli, a thousand at most. How many nanoseconds that took.
+/// Lets a cell take the next stimuli, at most `BATCH` of them. Returns how many nanoseconds that took.
 fn time_batch<R: Clock>(
     rt: &R,
     cell: &mut NodeCell<PlumCore>,
@@ -113,7 +113,7 @@ fn time_batch<R: Clock>(
     Ok(u64::try_from(start.elapsed(rt)?.as_nanos()).unwrap_or(u64::MAX))
 }
 
-/// Times how a cell takes stimuli. The links are emptied between, which is not timed.
+/// Times how a cell takes stimuli. The links are emptied in between, which is not timed.
 fn time_steps<R: Clock>(
     rt: &R,
     cell: &mut NodeCell<PlumCore>,
@@ -134,7 +134,7 @@ fn time_steps<R: Clock>(
     })
 }
 
-/// Opens the links of a cell, so many of them beside those to its peers, and times how it takes stimuli.
+/// Opens the links of a cell, `idle` of them besides those to its peers, and times how it takes stimuli.
 fn time_linked<R: Clock>(
     rt: &R,
     alloc: Global,
@@ -148,7 +148,7 @@ fn time_linked<R: Clock>(
     time_steps(rt, cell, &mut outlets, stimuli)
 }
 
-/// Lets a cell with links to four peers, and so many to others, take so many messages of one of the peers.
+/// Lets a cell with links to four peers, and `idle` others, take `count` messages of one of the peers.
 pub(crate) fn step_cell<R: Clock>(rt: &R, alloc: Global, count: u64, idle: u64) -> Result<Taken> {
     let stimuli = arrivals(alloc, count)?;
     lend(

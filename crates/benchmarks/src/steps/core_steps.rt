@@ -10,7 +10,7 @@ use std::time::{Clock, Instant};
 use test_support::lend;
 use world::{Core, Out, Stimulus};
 
-/// A node without peers that holds so many of the messages that it delivered last, or all for 0.
+/// Makes a node without peers that holds the last `keep` of the messages that it delivered, or all for 0.
 fn start(alloc: Global, keep: u32) -> Result<PlumCore> {
     let me = first_run(b"a")?;
     let mut opening = Out::new(alloc);
@@ -51,7 +51,7 @@ fn time_steps<R: Clock>(
     })
 }
 
-/// Lets a core take so many messages of one of four peers.
+/// Lets a core take `count` messages of one of four peers.
 pub(crate) fn step_core<R: Clock>(rt: &R, alloc: Global, count: u64) -> Result<Taken> {
     let stimuli = arrivals(alloc, count)?;
     lend(start(alloc, 0)?, |core| {
@@ -59,7 +59,7 @@ pub(crate) fn step_core<R: Clock>(rt: &R, alloc: Global, count: u64) -> Result<T
     })
 }
 
-/// Lets a core take the message of this number, of each origin.
+/// Lets a core take each origin's message of this number.
 fn see_round(
     alloc: Global,
     core: &mut PlumCore,
@@ -74,7 +74,7 @@ fn see_round(
     Ok(())
 }
 
-/// Lets a core take so many rounds of messages.
+/// Lets a core take `rounds` rounds of messages.
 fn see_rounds(alloc: Global, core: &mut PlumCore, rounds: u64) -> Result<()> {
     let sender = first_run(b"p")?;
     let payload = payload(alloc, 1)?;
@@ -84,7 +84,7 @@ fn see_rounds(alloc: Global, core: &mut PlumCore, rounds: u64) -> Result<()> {
     Ok(())
 }
 
-/// Times how a core takes so many rounds of messages.
+/// Times how a core takes `rounds` rounds of messages.
 fn time_rounds<R: Clock>(rt: &R, alloc: Global, core: &mut PlumCore, rounds: u64) -> Result<Taken> {
     let start = Instant::now(rt)?;
     see_rounds(alloc, core, rounds)?;
@@ -96,8 +96,8 @@ fn time_rounds<R: Clock>(rt: &R, alloc: Global, core: &mut PlumCore, rounds: u64
     })
 }
 
-/// Lets a core without peers take so many messages of one byte, of 64 origins in turn, of which it holds the last
-/// `keep`, or all for 0.
+/// Lets a core without peers take `count` messages of one byte, of 64 origins in turn. It holds the last `keep` of
+/// them, or all for 0.
 pub(crate) fn see_all<R: Clock>(rt: &R, alloc: Global, count: u64, keep: u32) -> Result<Taken> {
     lend(start(alloc, keep)?, |core| {
         time_rounds(rt, alloc, core, count / ORIGINS)

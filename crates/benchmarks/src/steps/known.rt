@@ -13,7 +13,7 @@ fn know(ids: &mut KnownIds, id: &MsgId) -> Result<(), AllocError> {
     Ok(())
 }
 
-/// Makes the message of this number known, of each origin.
+/// Makes each origin's message of this number known.
 fn know_round(ids: &mut KnownIds, origins: &[Origin], seq: u64) -> Result<(), AllocError> {
     for origin in origins {
         know(
@@ -27,7 +27,7 @@ fn know_round(ids: &mut KnownIds, origins: &[Origin], seq: u64) -> Result<(), Al
     Ok(())
 }
 
-/// Makes the messages of so many numbers known, but for each that `gap` divides.
+/// Makes the messages of `rounds` numbers known, except for those whose number `gap` divides.
 fn know_rounds(
     ids: &mut KnownIds,
     origins: &[Origin],
@@ -52,7 +52,7 @@ fn origins(alloc: Global) -> Result<Vec<Origin>> {
     Ok(origins)
 }
 
-/// Makes so many messages known, of 64 origins in turn, but for those whose number `gap` divides.
+/// Makes `count` messages known, of 64 origins in turn, except for those whose number `gap` divides.
 pub(crate) fn know_all<R: Clock>(rt: &R, alloc: Global, count: u64, gap: u64) -> Result<Taken> {
     let origins = origins(alloc)?;
     let mut ids = KnownIds::new(alloc);

@@ -9,7 +9,7 @@ use world::{Stimulus, StimulusOf};
 /// The names of the node's peers.
 pub(crate) const PEERS: [&str; 4] = ["p", "q", "r", "s"];
 
-/// How many nodes broadcast what a node has seen.
+/// How many nodes broadcast the messages that a node has seen.
 pub(crate) const ORIGINS: u64 = 64;
 
 /// How many messages came in, how many frames went out, and how long that took.
@@ -20,7 +20,7 @@ pub(crate) struct Taken {
     pub(crate) nanos: u64,
 }
 
-/// The first run of the node of this name.
+/// The first incarnation of the node of this name.
 pub(crate) fn first_run(name: &[u8]) -> Result<Origin> {
     Ok(Origin {
         name: NodeName::parse(name)?,
@@ -33,17 +33,17 @@ fn digit(number: u64) -> u8 {
     b'0' + (number % 10) as u8
 }
 
-/// The origin of this number, of 100.
+/// The origin of this number, which is below 100.
 pub(crate) fn origin(number: u64) -> Result<Origin> {
     first_run(&[b'n', digit(number / 10), digit(number)])
 }
 
-/// A payload of so many bytes.
+/// A payload of `length` bytes.
 pub(crate) fn payload(alloc: Global, length: usize) -> Result<Bytes, AllocError> {
     Ok(Bytes::from_vec(vec![in alloc; b'x'; length]?)?)
 }
 
-/// A frame arrives from its sender.
+/// The arrival of a frame from its sender.
 fn arrival(note: Frame) -> Stimulus<Frame> {
     StimulusOf::Arrive {
         sender: note.sender(),
@@ -52,12 +52,12 @@ fn arrival(note: Frame) -> Stimulus<Frame> {
     }
 }
 
-/// A peer asks to be taken into the active view, as its first frame.
+/// The arrival of a peer's first frame, which asks to be taken into the active view.
 pub(crate) fn request(peer: Origin) -> Result<Stimulus<Frame>> {
     Ok(arrival(Frame::new(peer, 1, Body::Neighbor { high: true })?))
 }
 
-/// The message of this number arrives from its origin, or from one that passes it on.
+/// The arrival of the message of this number from its origin, or from a node that passes it on.
 pub(crate) fn message(
     sender: Origin,
     origin: Origin,
@@ -72,7 +72,7 @@ pub(crate) fn message(
     Ok(arrival(Frame::new(sender, seq.saturating_add(1), body)?))
 }
 
-/// The requests of all peers, and then so many messages of the first.
+/// The requests of all peers, and then `count` messages of the first.
 pub(crate) fn arrivals(alloc: Global, count: u64) -> Result<Vec<Stimulus<Frame>>> {
     let mut stimuli = Vec::new(alloc);
     for peer in PEERS {
@@ -82,7 +82,7 @@ pub(crate) fn arrivals(alloc: Global, count: u64) -> Result<Vec<Stimulus<Frame>>
     Ok(stimuli)
 }
 
-/// Adds so many messages of the first peer.
+/// Appends `count` messages of the first peer.
 fn push_messages(stimuli: &mut Vec<Stimulus<Frame>>, payload: &Bytes, count: u64) -> Result<()> {
     let peer = first_run(b"p")?;
     for k in 0..count {

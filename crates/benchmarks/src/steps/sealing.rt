@@ -26,8 +26,8 @@ fn time_part<R: Clock>(rt: &R, cell: &mut NodeCell<PlumCore>) -> Result<Taken> {
     })
 }
 
-/// Times how long a cell takes to hand out what it did when so many messages had come, if none of it was handed out
-/// before, or all of it was.
+/// Times how long a cell takes to hand out its steps after `count` messages came. If `is_again` is set, all of them
+/// were handed out before, and otherwise none.
 pub(crate) fn seal<R: Clock>(rt: &R, alloc: Global, count: u64, is_again: bool) -> Result<Taken> {
     let stimuli = arrivals(alloc, count)?;
     lend(start(alloc)?, |cell| {

@@ -5,7 +5,7 @@ use frames::{Body, Frame, encode};
 use node_names::{Incarnation, Listed, MsgId, NodeName, Origin};
 use std::alloc::Global;
 
-/// Frames, and the bytes that they stand as.
+/// Frames, and their bytes.
 #[derive(Drop)]
 pub(crate) struct Stream {
     pub(crate) name: &'static str,
@@ -37,7 +37,7 @@ fn push(alloc: Global, stream: &mut Stream, body: Body) -> Result<()> {
     Ok(())
 }
 
-/// Puts three frames of 40 bytes each last, of three kinds.
+/// Appends three frames of 40 bytes each, of three kinds.
 fn push_short(alloc: Global, stream: &mut Stream) -> Result<()> {
     let new = NodeName::parse(b"fourteen-bytes")?;
     let origin = NodeName::parse(b"origin")?;
@@ -58,7 +58,7 @@ fn push_short(alloc: Global, stream: &mut Stream) -> Result<()> {
     )
 }
 
-/// Puts a GOSSIP of 32,768 bytes last.
+/// Appends a GOSSIP frame of 32,768 bytes.
 fn push_long(alloc: Global, stream: &mut Stream) -> Result<()> {
     let id = MsgId {
         origin: sender()?,

@@ -7,7 +7,7 @@ use std::alloc::{AllocError, Global};
 /// More rounds than any count of bytes needs.
 const MANY_ROUNDS: u64 = u64::MAX;
 
-/// More frames than a piece ends.
+/// More frames than end in one piece.
 const MANY_FRAMES: usize = 200;
 
 /// How many bytes and frames went through.
@@ -38,7 +38,7 @@ fn write_once(alloc: Global, stream: &Stream, through: &mut Through) -> Result<(
     Ok(())
 }
 
-/// Writes the frames, at least once, and until so many bytes are written.
+/// Writes the frames at least once, and until `enough` bytes are written.
 pub(crate) fn write(alloc: Global, stream: &Stream, enough: u64) -> Result<Through> {
     let mut through = Through::NOTHING;
     for _ in 0..MANY_ROUNDS {
@@ -50,7 +50,7 @@ pub(crate) fn write(alloc: Global, stream: &Stream, enough: u64) -> Result<Throu
     Ok(through)
 }
 
-/// Takes the whole frames out of a cutter, and returns how many they are.
+/// Takes the whole frames out of a cutter, and returns their number.
 fn take_frames(cutter: &mut Cutter) -> Result<u64, FrameFault> {
     let mut frames = 0u64;
     for _ in 0..MANY_FRAMES {
@@ -77,7 +77,7 @@ fn cut_once(
     Ok(())
 }
 
-/// Cuts the stream, at least once, and until so many bytes are cut.
+/// Cuts the stream at least once, and until `enough` bytes are cut.
 pub(crate) fn cut(alloc: Global, stream: &Stream, size: usize, enough: u64) -> Result<Through> {
     let mut cutter = Cutter::new(alloc);
     let mut through = Through::NOTHING;

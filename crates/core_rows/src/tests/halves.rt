@@ -1,6 +1,6 @@
-//! Steps of a node in two halves: what is prepared is what a step gives, preparing changes nothing, and advancing
-//! leaves what the step leaves. Each allocation of the second half is refused in turn: the node is then as before, and
-//! the step can be made again.
+//! Steps of a node in two halves: preparing gives what a step gives and changes nothing, and advancing leaves what a
+//! step leaves. Each allocation of the second half is refused in turn: the node is then unchanged, and the step can be
+//! taken again.
 use crate::tests::named::{id, name};
 use crate::tests::texts::{Group, push_core, push_out};
 use bytes::Bytes;
@@ -15,37 +15,37 @@ use std::test::Fail;
 use test_support::{lend, stop_refusing};
 use world::{Core, CoreError, Out, Prepared, Stimulus, StimulusOf, StimulusRef, Wire, WorldError};
 
-/// More allocations than a half has.
+/// More allocations than either half makes.
 const MANY: u64 = 60;
 
 /// A step of a node.
 #[derive(Clone, Copy)]
 struct Case {
     name: &'static str,
-    /// Runs that happen before, one behind the other.
+    /// Runs that happen before, one after another.
     before: &'static [&'static [Act]],
-    /// Who takes the step.
+    /// The node that takes the step.
     node: &'static str,
-    /// What makes it step. What arrives is the packet at this place of the flight, and stays there.
+    /// What makes it step. An arrival brings the packet at this place of the flight, and the packet stays there.
     act: Act,
     /// A message that is asked about.
     message: Id,
     /// What the step delivers and sends.
     given: &'static str,
-    /// What the node's readers answer before it.
+    /// What the node's readers show before the step.
     stood: &'static str,
-    /// What they answer after it.
+    /// What the node's readers show after the step.
     left: &'static str,
 }
 
-/// Three nodes know each other.
+/// Three nodes that know each other.
 const CORNERS: &[Act] = &[
     Act::Start("a", 1, "b c"),
     Act::Start("b", 1, "a c"),
     Act::Start("c", 1, "a b"),
 ];
 
-/// In a line a's shuffle walks on to c, which takes a into its passive view.
+/// In a line, a's shuffle walks on to c, which takes a into its passive view.
 const WALK: &[Act] = &[
     Act::Start("a", 1, "b"),
     Act::Start("b", 1, "a c"),
@@ -148,12 +148,13 @@ const CASES: &[Case] = &[
     },
 ];
 
-/// All cases. The table is named here alone, since a function that names it is proved over the whole of it.
+/// Returns all cases. Only this function names the table, since a function that names it needs a proof about the whole
+/// table.
 fn cases() -> &'static [Case] {
     CASES
 }
 
-/// The packet at this place of the flight, as it comes.
+/// Returns the arrival of the packet at this place of the flight.
 fn arrival<A: Allocator + Copy>(
     rt: &impl Abort,
     world: &Group<A>,
@@ -171,7 +172,7 @@ fn arrival<A: Allocator + Copy>(
     })
 }
 
-/// What makes a node step.
+/// Returns what makes a node step.
 fn stimulus<A: Allocator + Copy>(
     rt: &impl Abort,
     alloc: A,
@@ -194,7 +195,7 @@ fn stimulus<A: Allocator + Copy>(
     }
 }
 
-/// Whether a step gave this.
+/// Whether a step gave `wanted`.
 fn is_given<A: Allocator>(
     text: &mut String,
     out: &Out<Frame<A>, A>,
@@ -205,7 +206,7 @@ fn is_given<A: Allocator>(
     Ok(text.as_str() == wanted)
 }
 
-/// Whether the readers of a core answer this.
+/// Whether the readers of a core show `wanted`.
 fn is_shown<A: Allocator + Copy>(
     text: &mut String,
     core: &PlumCore<A>,
@@ -217,7 +218,7 @@ fn is_shown<A: Allocator + Copy>(
     Ok(text.as_str() == wanted)
 }
 
-/// Whether a step gave this, and the readers of the core answer that.
+/// Whether a step gave `given`, and the readers of the core show `shown`.
 fn is_left<A: Allocator + Copy>(
     text: &mut String,
     core: &PlumCore<A>,
@@ -229,7 +230,7 @@ fn is_left<A: Allocator + Copy>(
     Ok(is_given(text, out, given)? && is_shown(text, core, message, shown)?)
 }
 
-/// Prepares a step, and does not take it.
+/// Prepares a step without taking it.
 fn prepare<A: Allocator + Copy>(
     core: &PlumCore<A>,
     stimulus: &StimulusRef<'_, Frame<A>, A>,
@@ -239,7 +240,7 @@ fn prepare<A: Allocator + Copy>(
     Ok(())
 }
 
-/// Does so into an empty output. Whether it gives what it should and leaves the core as it was.
+/// Prepares a step into an empty output. Returns whether that gives what it should and leaves the core as it was.
 fn is_prepared<A: Allocator + Copy>(
     text: &mut String,
     core: &PlumCore<A>,
@@ -252,7 +253,7 @@ fn is_prepared<A: Allocator + Copy>(
     Ok(is_left(text, core, out, message, case.given, case.stood)?)
 }
 
-/// Takes a step, whose output takes the place of what was there. Whether it gives and leaves what it should.
+/// Takes a step, whose output replaces what was in `out`. Returns whether it gives and leaves what it should.
 fn is_stepped<A: Allocator + Copy>(
     text: &mut String,
     core: &mut PlumCore<A>,
@@ -267,8 +268,8 @@ fn is_stepped<A: Allocator + Copy>(
     Ok(is_left(text, core, out, message, case.given, case.left)?)
 }
 
-/// Prepares a step, and advances while the allocation with this number is refused. Whether there is such an allocation,
-/// and whether the core refuses to advance.
+/// Prepares a step, and advances while allocation number `n` is refused. Returns whether there is such an allocation,
+/// and whether the core failed to advance.
 fn try_advance<A: Allocator + Copy>(
     heap: &RefusingAllocator,
     core: &mut PlumCore<A>,
@@ -283,8 +284,8 @@ fn try_advance<A: Allocator + Copy>(
     Ok((is_spent, answer.is_err()))
 }
 
-/// Does so, and takes the step again if it is refused. Whether there is such an allocation, or none if something is
-/// wrong.
+/// Calls `try_advance`, and takes the step again if the core failed to advance. Returns whether there is such an
+/// allocation, or `None` if something is wrong.
 fn refuse_allocation<A: Allocator + Copy>(
     heap: &RefusingAllocator,
     text: &mut String,
@@ -305,8 +306,8 @@ fn refuse_allocation<A: Allocator + Copy>(
     Ok((is_right && is_refused == is_spent).then_some(is_spent))
 }
 
-/// At 0 takes the step at once, and else refuses an allocation of its second half. Whether there is more to try, or
-/// none if something is wrong.
+/// Takes the whole step if `n` is 0, and otherwise refuses allocation number `n` of its second half. Returns whether
+/// there is more to try, or `None` if something is wrong.
 fn try_step<A: Allocator + Copy>(
     heap: &RefusingAllocator,
     text: &mut String,
@@ -325,7 +326,7 @@ fn try_step<A: Allocator + Copy>(
     }
 }
 
-/// Does so with a copy.
+/// Calls `try_step` with a copy of the core.
 fn try_copy<A: Allocator + Copy>(
     heap: &RefusingAllocator,
     text: &mut String,
@@ -342,8 +343,8 @@ fn try_copy<A: Allocator + Copy>(
     })
 }
 
-/// Takes the step at once, then refuses each allocation of the second half in turn, and at last none. How many there
-/// are, or none if something is wrong.
+/// Takes the whole step, then refuses each allocation of the second half in turn, and finally refuses none. Returns the
+/// number of allocations, or `None` if something is wrong.
 fn sweep<A: Allocator + Copy>(
     heap: &RefusingAllocator,
     text: &mut String,
@@ -380,7 +381,7 @@ fn sweep_step<A: Allocator + Copy>(
     }
 }
 
-/// Does so with an output of its own.
+/// Calls `sweep_step` with a fresh output.
 fn sweep_alone<A: Allocator + Copy>(
     heap: &RefusingAllocator,
     alloc: A,
@@ -411,7 +412,7 @@ fn sweep_node<A: Allocator + Copy>(
     sweep_alone(heap, alloc, text, core, &stimulus, &message, case)
 }
 
-/// Does so in a group in which what happens before a case is played.
+/// Plays what happens before a case, and then calls `sweep_node`.
 fn sweep_group<A: Allocator + Copy>(
     rt: &impl Abort,
     heap: &RefusingAllocator,
@@ -425,7 +426,7 @@ fn sweep_group<A: Allocator + Copy>(
     Ok(sweep_node(rt, heap, alloc, text, world, case)?)
 }
 
-/// Does so in a fresh group.
+/// Calls `sweep_group` with a fresh group.
 fn sweep_case<A: Allocator + Copy>(
     rt: &impl Abort,
     heap: &RefusingAllocator,

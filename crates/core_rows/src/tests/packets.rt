@@ -1,4 +1,4 @@
-//! What packets say, as texts.
+//! What packets say, as text.
 use frames::{Body, BodyOf, Frame};
 use node_names::{MsgId, NodeName};
 use std::alloc::{AllocError, Allocator};
@@ -21,7 +21,7 @@ fn push_names(text: &mut String, names: &[NodeName]) -> Result<(), AllocError> {
     Ok(())
 }
 
-/// Appends what a packet about membership says.
+/// Appends the body of a packet about membership.
 fn push_membership<A: Allocator>(text: &mut String, body: &Body<A>) -> Result<(), AllocError> {
     match body {
         BodyOf::Join => write!(text, "JOIN"),
@@ -39,7 +39,7 @@ fn push_membership<A: Allocator>(text: &mut String, body: &Body<A>) -> Result<()
     }
 }
 
-/// Appends what a packet says.
+/// Appends the body of a packet.
 fn push_body<A: Allocator>(text: &mut String, body: &Body<A>) -> Result<(), AllocError> {
     match body {
         BodyOf::Gossip { id, round, .. } => write!(text, "GOSSIP {id} {round}"),
@@ -54,7 +54,7 @@ fn push_body<A: Allocator>(text: &mut String, body: &Body<A>) -> Result<(), Allo
     }
 }
 
-/// Appends a packet: its number, who sent it to whom, and what it says.
+/// Appends a packet: its number, its sender, its receiver and its body.
 fn push_packet<A: Allocator>(
     text: &mut String,
     number: usize,
@@ -65,7 +65,7 @@ fn push_packet<A: Allocator>(
     write!(text, "; ")
 }
 
-/// Appends packets that a step sends: their numbers among their sender's, whom they go to, and what they say.
+/// Appends packets that a step sends: their numbers among their sender's packets, their receivers and their bodies.
 pub(crate) fn push_sends<A: Allocator>(
     text: &mut String,
     sends: &[(NodeName, Frame<A>)],
@@ -78,7 +78,7 @@ pub(crate) fn push_sends<A: Allocator>(
     Ok(())
 }
 
-/// Appends the packets from the first of these on.
+/// Appends these packets from number `first` on.
 pub(crate) fn push_packets<A: Allocator>(
     text: &mut String,
     packets: &[Packet<Frame<A>>],

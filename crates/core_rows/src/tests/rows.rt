@@ -1,25 +1,25 @@
 //! Runs of small groups of Plumtree nodes, with what each event gives and leaves worked out by hand.
 use group_events::{Act, Id};
 
-/// An event, what it gives, the nodes' views after it, and what stands then.
+/// An event, what it gives, the nodes' views after it, and the state that `push_standing` writes after it.
 pub(crate) type Turn = (Act, &'static str, &'static str, &'static str);
 
-/// A message, and what is told of it at the end of a run: its tree, and who holds it.
+/// A message, and what is said about it at the end of a run: its tree, and which nodes hold it.
 pub(crate) type Told = (Id, &'static str);
 
-/// A run of a group under the standard limits, but for the threshold and the number of payloads that a node keeps.
+/// A run of a group under the standard limits, except for the threshold and the number of payloads that a node keeps.
 #[derive(Clone, Copy)]
 pub(crate) struct Row {
-    /// How much longer a branch must be than an announced way to be swapped for it, and 0 where none is.
+    /// By how many links a branch must be longer than an announced path to be swapped for it; 0 for never.
     pub(crate) threshold: u32,
-    /// How many of the messages that it delivered last a node holds, and 0 where it holds all.
+    /// How many of its last delivered messages a node holds; 0 for all.
     pub(crate) keep: u32,
     /// Two messages that are asked about at the end.
     pub(crate) first: Told,
     pub(crate) second: Told,
-    /// What happens first, which another row compares.
+    /// The turns that come first, which are also the turns of another row.
     pub(crate) before: &'static [Turn],
-    /// What happens then.
+    /// The turns that come then.
     pub(crate) turns: &'static [Turn],
     /// How many packets were sent in all.
     pub(crate) sent: usize,
@@ -44,7 +44,8 @@ const LINE: &str = "a: b /; b: a c /; c: b /; ";
 /// Both views of two nodes.
 const PAIR: &str = "a: b /; b: a /; ";
 
-/// Three nodes know each other. What one gets twice prunes a link, and the next message is announced over that.
+/// Three nodes know each other. A message that a node gets twice prunes a link, and the next message is announced over
+/// that link.
 const TRIANGLE: Row = Row {
     threshold: 0,
     keep: 0,
@@ -72,7 +73,7 @@ const TRIANGLE: Row = Row {
             CORNERS,
             "1 2 | | a/1/1 ",
         ),
-        // c has the message from b, and then once more from a; a has its own back from c.
+        // c gets the message from b, and then again from a; a gets its own message back from c.
         (
             Act::Arrive(1),
             "c delivers a/1/1 m; #3 c to a GOSSIP a/1/1 2; ",
@@ -131,7 +132,7 @@ const TRIANGLE: Row = Row {
     is_swept: true,
 };
 
-/// In a line a repeated packet makes c lazy to b, so that c hears of the next message, waits, and asks for it.
+/// In a line, a repeated packet makes c a lazy peer of b, so c hears of the next message, waits, and asks for it.
 pub(crate) const ASKING: &[Turn] = &[
     (Act::Start("a", 1, "b"), "", "a: b /; ", "| | "),
     (Act::Start("b", 1, "a c"), "", "a: b /; b: a c /; ", "| | "),
@@ -196,7 +197,7 @@ const LAZY: Row = Row {
     is_swept: true,
 };
 
-/// The message comes, after a timer that found nobody else to ask.
+/// The message arrives after a timer that found no one else to ask.
 const LAZY_REPAIR: Row = Row {
     threshold: 0,
     keep: 0,
@@ -218,7 +219,7 @@ const LAZY_REPAIR: Row = Row {
     is_swept: true,
 };
 
-/// The announcement comes once more after its timer was dropped, and arms it again.
+/// The announcement arrives again after its timer was dropped, and arms the timer again.
 const REPEATED_ANNOUNCEMENT: Row = Row {
     threshold: 0,
     keep: 0,
@@ -248,7 +249,7 @@ const REPEATED_ANNOUNCEMENT: Row = Row {
     is_swept: false,
 };
 
-/// A node joins at another, they exchange messages and names, and their link fails.
+/// A node joins through another one, they exchange messages and names, and their link fails.
 const JOIN: Row = Row {
     threshold: 0,
     keep: 0,
@@ -298,7 +299,7 @@ const JOIN: Row = Row {
     is_swept: true,
 };
 
-/// A loss on the only way keeps the message from b for good, and nobody waits for it.
+/// A loss on the only path keeps the message from b for good, and no one waits for it.
 const ONE_PEER: Row = Row {
     threshold: 0,
     keep: 0,
@@ -321,7 +322,7 @@ const ONE_PEER: Row = Row {
     is_swept: false,
 };
 
-/// Two nodes say hello.
+/// One of two nodes broadcasts a greeting to the other.
 const HELLO: Row = Row {
     threshold: 0,
     keep: 0,
@@ -354,7 +355,7 @@ const ROWS: &[Row] = &[
     HELLO,
 ];
 
-/// All rows without a threshold that hold all messages.
+/// Returns all rows that have no threshold and hold all messages.
 pub(crate) fn rows() -> &'static [Row] {
     ROWS
 }

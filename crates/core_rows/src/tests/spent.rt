@@ -1,4 +1,4 @@
-//! A node that has no number left for a packet, or none for a message.
+//! A node that has no number left for a frame, or none for a message.
 ghost use Rattle.std.specs.Prelude.{IsTrue, not};
 ghost use Rattle.node_names.specs.Same.{same_name};
 
@@ -15,15 +15,15 @@ use std::test::Fail;
 use test_support::{first_run, lend, stop_refusing};
 use world::{Core, CoreError, Out, Stimulus, StimulusOf};
 
-/// More allocations than any step has.
+/// More allocations than any step makes.
 const MANY: u64 = 200;
 
-/// A node `a` that has spent frame numbers.
+/// A node `a` that has used up some frame numbers.
 #[derive(Clone, Copy)]
 struct Case {
-    /// How many it has spent.
+    /// How many it has used up.
     spent: u64,
-    /// Whether it starts at `b` as a contact, which is refused, or else with `b` as its peer.
+    /// Whether it starts with `b` as its contact, which is refused, or otherwise with `b` as its peer.
     is_joining: bool,
     /// How many broadcasts it accepts, each of which sends a packet.
     accepted: usize,
@@ -52,12 +52,13 @@ const CASES: &[Case] = &[
     },
 ];
 
-/// All cases. The table is named here alone, since a function that names it is proved over the whole of it.
+/// Returns all cases. Only this function names the table, since a function that names it needs a proof about the whole
+/// table.
 fn cases() -> &'static [Case] {
     CASES
 }
 
-/// Two names that differ, the first in its first incarnation.
+/// Returns two names that differ, the first one in its first incarnation.
 fn pair(rt: &impl Abort) -> (Origin, NodeName)
     ensures { IsTrue (not (same_name result.0.name result.1)) }
 {
@@ -88,7 +89,7 @@ fn broadcast<A: Allocator + Copy>(alloc: A) -> Result<Stimulus<Frame<A>, A>, All
     Ok(StimulusOf::Broadcast(Bytes::copy_from_slice(alloc, b"x")?))
 }
 
-/// Whether the answer is a refusal for want of a number, or, if an allocation was refused, of memory.
+/// Whether the answer is that no number is left, or, if an allocation was refused, that memory ran out.
 fn is_refusal(answer: Result<(), CoreError>, is_spent: bool) -> bool {
     match answer {
         Err(CoreError::SeqSpent) => true,
@@ -97,7 +98,7 @@ fn is_refusal(answer: Result<(), CoreError>, is_spent: bool) -> bool {
     }
 }
 
-/// Compares what a core and its output show with what they did before the broadcast that is refused.
+/// Compares what a core and its output show with what they showed before the refused broadcast.
 fn compare<A: Allocator + Copy>(
     rt: &impl Abort,
     core: &PlumCore<A>,
@@ -113,7 +114,8 @@ fn compare<A: Allocator + Copy>(
     assert!(rt; out.deliveries.len() == accepted);
 }
 
-/// Takes a step whose allocation with this number is refused, and which is refused in any case. Whether it had so many.
+/// Takes a step while allocation number `n` is refused. The step fails in any case. Returns whether there is such an
+/// allocation.
 fn refuse_step<A: Allocator + Copy>(
     rt: &impl Abort,
     heap: &RefusingAllocator,
@@ -129,7 +131,7 @@ fn refuse_step<A: Allocator + Copy>(
     is_spent
 }
 
-/// Refuses each allocation of a step in turn, and then the step itself.
+/// Takes a step that always fails, with each of its allocations refused in turn, and finally with none refused.
 fn sweep<A: Allocator + Copy>(
     rt: &impl Abort,
     heap: &RefusingAllocator,
@@ -149,7 +151,7 @@ fn sweep<A: Allocator + Copy>(
     assert!(rt; is_over);
 }
 
-/// Takes a step so many times.
+/// Takes a step `times` times.
 fn accept<A: Allocator + Copy>(
     rt: &impl Abort,
     core: &mut PlumCore<A>,
@@ -162,7 +164,7 @@ fn accept<A: Allocator + Copy>(
     }
 }
 
-/// Broadcasts as often as that is accepted, and once more.
+/// Makes the broadcasts that are accepted, and then one that is refused.
 fn sweep_core<A: Allocator + Copy>(
     rt: &impl Abort,
     heap: &RefusingAllocator,
@@ -238,7 +240,7 @@ fn refuses_what_needs_a_spent_number(rt: HostRuntime) -> Result<(), Fail> {
     Ok(sweep_cases(&rt, &heap, &heap, cases())?)
 }
 
-/// Starts `a` with `b` as its peer, where the numbers of its messages are spent and those of its frames are not.
+/// Starts `a` with `b` as its peer. It has no number left for a message, but has numbers for frames.
 fn start_mute<A: Allocator + Copy>(
     rt: &impl Abort,
     alloc: A,
@@ -257,8 +259,8 @@ fn start_mute<A: Allocator + Copy>(
     )
 }
 
-/// Whether a broadcast is refused for want of a number, by both halves at once and by the first alone, though the very
-/// next allocation is refused.
+/// Whether a broadcast is refused because no number is left, both as a whole step and when it is only prepared, even
+/// though the very next allocation would be refused.
 fn is_mute<A: Allocator + Copy>(
     heap: &RefusingAllocator,
     core: &mut PlumCore<A>,
@@ -273,7 +275,7 @@ fn is_mute<A: Allocator + Copy>(
     matches!(stepped, Err(CoreError::SeqSpent)) && matches!(prepared, Err(CoreError::SeqSpent))
 }
 
-/// Whether a node that started refuses a broadcast so, and is as it was.
+/// Whether a started node refuses a broadcast because no number is left, and is unchanged.
 fn is_started_mute<A: Allocator + Copy>(
     rt: &impl Abort,
     heap: &RefusingAllocator,
@@ -287,7 +289,7 @@ fn is_started_mute<A: Allocator + Copy>(
     is_mute
 }
 
-/// Starts such a node. Whether it does so.
+/// Calls `is_started_mute` with a node that it starts.
 fn is_refused_mute<A: Allocator + Copy>(
     rt: &impl Abort,
     heap: &RefusingAllocator,

@@ -1,5 +1,5 @@
-//! Rows in which each allocation is refused in turn: the refusal is as out of memory, all readers answer as before the
-//! refused event, and the event made again answers as if nothing had been refused.
+//! Rows in which each allocation is refused in turn: the event fails as out of memory, all readers show what they
+//! showed before it, and the event made again gives what it would have given had nothing been refused.
 use crate::tests::play::{apply, asked, compare, compare_whole, event, happen, limits, play};
 use crate::tests::rows::{Row, Turn, rows};
 use crate::tests::texts::{Group, push_whole};
@@ -13,7 +13,8 @@ use std::test::Fail;
 use test_support::{lend, stop_refusing, sweep_each};
 use world::WorldError;
 
-/// Plays an event whose allocation with this number is refused. Whether it had so many, and whether it was refused.
+/// Plays an event while allocation number `n` is refused. Returns whether there is such an allocation, and whether the
+/// event fails.
 fn try_event<A: Allocator + Copy>(
     rt: &impl Abort,
     heap: &RefusingAllocator,
@@ -32,8 +33,8 @@ fn try_event<A: Allocator + Copy>(
     Ok((is_spent, answer.is_err()))
 }
 
-/// Plays an event whose allocation with this number is refused, and makes it again if it is refused. Whether it had so
-/// many.
+/// Plays an event while allocation number `n` is refused, and again if it failed. Returns whether there is such an
+/// allocation.
 fn refuse_event<A: Allocator + Copy>(
     rt: &impl Abort,
     heap: &RefusingAllocator,
@@ -54,7 +55,7 @@ fn refuse_event<A: Allocator + Copy>(
     Ok(is_spent)
 }
 
-/// Does so, and compares what the event gives and leaves.
+/// Calls `refuse_event`, and compares what the event gives and leaves with what it should.
 fn sweep_turn<A: Allocator + Copy>(
     rt: &impl Abort,
     heap: &RefusingAllocator,
@@ -83,7 +84,8 @@ fn sweep_turn<A: Allocator + Copy>(
     Ok(is_spent)
 }
 
-/// Plays turns up to one, and refuses its event's allocation with this number. Whether it had so many.
+/// Plays the first turns, and refuses allocation number `n` of the next one's event. Returns whether there is such an
+/// allocation.
 fn sweep_world<A: Allocator + Copy>(
     rt: &impl Abort,
     heap: &RefusingAllocator,
@@ -104,7 +106,7 @@ fn sweep_world<A: Allocator + Copy>(
     }
 }
 
-/// Does so in a fresh group.
+/// Calls `sweep_world` with a fresh group.
 fn sweep_event<A: Allocator + Copy>(
     rt: &impl Abort,
     heap: &RefusingAllocator,
@@ -123,7 +125,7 @@ fn sweep_event<A: Allocator + Copy>(
     })
 }
 
-/// Refuses each allocation of each of a row's own events in turn. How many they have, or none if that has no end.
+/// Refuses in turn each allocation of each of a row's own events. Returns their number, or `None` if that does not end.
 fn sweep_row<A: Allocator + Copy>(
     rt: &impl Abort,
     heap: &RefusingAllocator,
@@ -143,7 +145,7 @@ fn sweep_row<A: Allocator + Copy>(
     })
 }
 
-/// Does so for all rows that are swept. How many allocations they have.
+/// Sweeps all rows that are marked as swept. Returns their number of allocations.
 fn sweep_rows<A: Allocator + Copy>(
     rt: &impl Abort,
     heap: &RefusingAllocator,

@@ -1,4 +1,4 @@
-//! What a group and its nodes show, as texts.
+//! What a group and its nodes show, as text.
 use crate::tests::packets::{push_packets, push_sends};
 use at_rest::{Branch, is_at_rest, tree};
 use frames::Frame;
@@ -57,7 +57,7 @@ fn push_views_of<A: Allocator + Copy>(
     write!(text, "; ")
 }
 
-/// Appends the views of the nodes that run: the active one, and, behind a stroke, the passive one.
+/// Appends the views of the running nodes: the active view and, after a slash, the passive view.
 pub(crate) fn push_views<A: Allocator + Copy>(
     text: &mut String,
     nodes: &[NodeState<PlumCore<A>>],
@@ -78,7 +78,7 @@ fn push_numbers(text: &mut String, numbers: &[usize]) -> Result<(), AllocError> 
     Ok(())
 }
 
-/// Appends the announcements that a node is to send.
+/// Appends the announcements that a node has queued.
 fn push_queued(
     text: &mut String,
     node: &NodeName,
@@ -90,7 +90,7 @@ fn push_queued(
     Ok(())
 }
 
-/// Appends the announcements that a node has heard.
+/// Appends the announcements that a node has received.
 fn push_wants(
     text: &mut String,
     node: &NodeName,
@@ -110,7 +110,7 @@ fn push_timers(text: &mut String, node: &NodeName, timers: &[MsgId]) -> Result<(
     Ok(())
 }
 
-/// Appends what waits at a node.
+/// Appends what waits at a node: its announcements and timers.
 fn push_waiting_at<A: Allocator + Copy>(
     text: &mut String,
     core: &PlumCore<A>,
@@ -121,7 +121,7 @@ fn push_waiting_at<A: Allocator + Copy>(
     push_timers(text, &node, core.timers())
 }
 
-/// Appends what waits at the nodes that run.
+/// Appends what waits at the running nodes.
 fn push_waiting<A: Allocator + Copy>(
     text: &mut String,
     nodes: &[NodeState<PlumCore<A>>],
@@ -134,7 +134,7 @@ fn push_waiting<A: Allocator + Copy>(
     Ok(())
 }
 
-/// Appends those of these messages that the group is not at rest for.
+/// Appends those of these messages for which the group is not at rest.
 fn push_restless<A: Allocator + Copy>(
     text: &mut String,
     world: &Group<A>,
@@ -148,8 +148,8 @@ fn push_restless<A: Allocator + Copy>(
     Ok(())
 }
 
-/// Appends what stands between events: the numbers of the packets in flight, what waits at the nodes, and those of
-/// these messages that the group is not at rest for.
+/// Appends the state between events: the numbers of the packets in flight, what waits at the nodes, and those of these
+/// messages for which the group is not at rest.
 pub(crate) fn push_standing<A: Allocator + Copy>(
     text: &mut String,
     world: &Group<A>,
@@ -162,7 +162,7 @@ pub(crate) fn push_standing<A: Allocator + Copy>(
     push_restless(text, world, ids)
 }
 
-/// Appends the payload that a node holds of a message that it has delivered.
+/// Appends the payload that a node holds of a message, if the node has delivered it.
 fn push_held_at<A: Allocator + Copy>(
     text: &mut String,
     core: &PlumCore<A>,
@@ -178,7 +178,7 @@ fn push_held_at<A: Allocator + Copy>(
     write!(text, " ")
 }
 
-/// Appends who holds a message, and the payload that it holds.
+/// Appends the nodes that have a message, with the payload that each holds.
 fn push_held<A: Allocator + Copy>(
     text: &mut String,
     nodes: &[NodeState<PlumCore<A>>],
@@ -220,7 +220,7 @@ fn push_tree<A: Allocator + Copy>(
     push_branches(text, branches.as_slice())
 }
 
-/// Appends the tree of a message, and who holds it.
+/// Appends the tree of a message, and the nodes that have it.
 pub(crate) fn push_told<A: Allocator + Copy>(
     text: &mut String,
     alloc: A,
@@ -232,7 +232,7 @@ pub(crate) fn push_told<A: Allocator + Copy>(
     push_held(text, world.nodes(), id)
 }
 
-/// Appends all of these, and who holds each of two messages.
+/// Appends what the last event gave, the views, the state between events, and the nodes that have each of two messages.
 pub(crate) fn push_whole<A: Allocator + Copy>(
     text: &mut String,
     world: &Group<A>,
@@ -277,7 +277,7 @@ pub(crate) fn push_out<A: Allocator>(
     push_sends(text, out.sends.as_slice())
 }
 
-/// Appends the peers of a core's gossip.
+/// Appends the peers of a core's gossip, each with whether it is eager or lazy.
 fn push_peers<A: Allocator>(text: &mut String, core: &PlumCore<A>) -> Result<(), AllocError> {
     for (name, kind) in core.peers().members() {
         let kind = if kind.is_eager() { "eager" } else { "lazy" };
@@ -286,8 +286,7 @@ fn push_peers<A: Allocator>(text: &mut String, core: &PlumCore<A>) -> Result<(),
     Ok(())
 }
 
-/// Appends what a core's readers answer: its views, what waits at it, its gossip's peers, and what it holds of a
-/// message.
+/// Appends what a core's readers show: its views, what waits at it, its gossip's peers, and what it holds of a message.
 pub(crate) fn push_core<A: Allocator + Copy>(
     text: &mut String,
     core: &PlumCore<A>,

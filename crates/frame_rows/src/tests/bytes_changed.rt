@@ -1,4 +1,4 @@
-//! Frames whose bytes are cut short, or changed one at a time. What comes of each is worked out by hand from
+//! Frames whose bytes are cut short, or changed one at a time. The result of each was worked out by hand from
 //! docs/frames.md.
 ghost use Rattle.std.specs.Prelude.{◌<◌};
 
@@ -27,7 +27,7 @@ fn fronts_of_a_gossip(rt: HostRuntime) -> Result<(), Fail> {
     Ok(())
 }
 
-/// The body is cut, and its length says so: the last field that it begins is cut off, or the next one is missing.
+/// The body is cut short, and the length word says so: its last field is cut off, or the next one is missing.
 #[test]
 fn bodies_cut_short(rt: HostRuntime) -> Result<(), Fail> {
     let mut bytes = PRUNE;
@@ -39,12 +39,12 @@ fn bodies_cut_short(rt: HostRuntime) -> Result<(), Fail> {
     Ok(())
 }
 
-/// A place of PRUNE, the first and the last of some bytes that are put there, and the fault that each of them makes.
+/// A place in PRUNE, the first and the last of a range of bytes to put there, and the fault that each of them causes.
 type Change = (usize, u8, u8, FrameFault);
 
-/// Every other byte, at these places and all others, makes a frame of the same length.
+/// The faults of changed bytes. Every other byte, at these places and at all others, makes a frame of the same length.
 const FAULTS: &[Change] = &[
-    // The length, behind which 20 bytes stand. 128 at its third byte makes 32,788, and no body is longer than 32,876.
+    // The length, which 20 bytes follow. 128 as its third byte makes 32,788, and no body is longer than 32,876.
     (0, 1, 255, FrameFault::TooLong),
     (1, 1, 255, FrameFault::TooLong),
     (2, 1, 128, FrameFault::Short),
@@ -55,30 +55,30 @@ const FAULTS: &[Change] = &[
     (4, 0, 0, FrameFault::BadVersion),
     (4, 2, 2, FrameFault::BadKind),
     (4, 3, 255, FrameFault::BadVersion),
-    // The kind. JOIN and DISCONNECT, 1 and 5, have no fields either, and all others some.
+    // The kind. JOIN and DISCONNECT, 1 and 5, have no fields either; all other kinds have some.
     (5, 0, 0, FrameFault::BadKind),
     (5, 2, 4, FrameFault::BadField),
     (5, 6, 10, FrameFault::BadField),
     (5, 12, 255, FrameFault::BadKind),
-    // The length of the name. The second of the 17 bytes behind it is 0, which no name has.
+    // The length of the name. The second of the 17 bytes after it is 0, which no name contains.
     (6, 0, 0, FrameFault::BadName),
     (6, 2, 17, FrameFault::BadName),
     (6, 18, 32, FrameFault::BadField),
     (6, 33, 255, FrameFault::BadName),
-    // The name: all but the hyphen, the digits and the letters.
+    // The name: all bytes but the hyphen, the digits and the lower-case letters.
     (7, 0, b',', FrameFault::BadName),
     (7, b'.', b'/', FrameFault::BadName),
     (7, b':', b'`', FrameFault::BadName),
     (7, b'{', 255, FrameFault::BadName),
-    // The number, of which the other bytes are 0.
+    // The number, whose other bytes are 0.
     (23, 0, 0, FrameFault::BadField),
 ];
 
-/// How many changes make a frame: two kinds, the 37 bytes of names but `a`, and all changes of the eight bytes of the
-/// incarnation and of the number but the one that makes it 0.
+/// How many changes make a frame: two kinds, the 37 bytes of names except `a`, all changes of the eight bytes of the
+/// incarnation, and all changes of the eight bytes of the number except the one that makes the number 0.
 const MADE: u32 = 2 + 36 + 8 * 255 + 8 * 255 - 1;
 
-/// What PRUNE is read as with this byte at this place.
+/// Returns what PRUNE must be read as with this byte at this place.
 fn read_with(at: usize, byte: u8) -> Result<usize, FrameFault> {
     for (place, first, last, fault) in FAULTS {
         if *place == at && *first <= byte && byte <= *last {
@@ -88,7 +88,7 @@ fn read_with(at: usize, byte: u8) -> Result<usize, FrameFault> {
     Ok(24)
 }
 
-/// Whether bytes are read as this: a fault, or a frame of such a length that is written as it stood.
+/// Whether bytes are read as `wanted`: a fault, or a frame of that length whose encoding is the bytes that were read.
 fn is_read_as<A: Allocator + Copy>(
     alloc: A,
     bytes: &[u8],
@@ -103,7 +103,7 @@ fn is_read_as<A: Allocator + Copy>(
     }
 }
 
-/// Puts each byte at a place of PRUNE. How many other than its own make a frame.
+/// Puts each byte at a place in PRUNE. Returns how many bytes other than the original one make a frame.
 fn check_place(rt: &impl Abort, alloc: Global, at: usize) -> u32
     requires { at < 24 }
 {

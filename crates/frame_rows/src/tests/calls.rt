@@ -1,4 +1,4 @@
-//! A pump and a drain over memory, each called once while one allocation is refused, or none.
+//! A pump and a drain in memory, each called once while one allocation, or none, is refused.
 use crate::tests::compare::end_of_frame;
 use crate::tests::doubles::{Kept, PRUNE, Same, count_given, prunes};
 use bytes::Bytes;
@@ -9,8 +9,8 @@ use std::alloc::{AllocError, Allocator};
 use std::io::Read;
 use test_support::stop_refusing;
 
-/// What a pump is called with: a tape, the pieces in which it is read, the call that fails, how many frames the sink
-/// takes, and the turns.
+/// The arguments of a pump: a tape, the sizes of the pieces in which it is read, the read that fails, the number of
+/// frames that the sink takes, and the number of turns.
 #[derive(Clone, Copy)]
 pub(crate) struct PumpCall<'a> {
     pub(crate) bytes: &'a [u8],
@@ -20,7 +20,7 @@ pub(crate) struct PumpCall<'a> {
     pub(crate) turns: u64,
 }
 
-/// What came of it.
+/// The outcome of a pump.
 #[derive(Clone, Copy)]
 pub(crate) struct Pumped {
     pub(crate) end: LinkEnd,
@@ -28,9 +28,9 @@ pub(crate) struct Pumped {
     pub(crate) is_refused: bool,
     /// How many frames the sink took.
     pub(crate) frames: usize,
-    /// Whether they are the tape's first ones.
+    /// Whether they are the tape's first frames.
     pub(crate) is_front: bool,
-    /// How many bytes one more read gives, of a buffer of 100.
+    /// How many bytes one more read gives, into a buffer of 100 bytes.
     pub(crate) rest: usize,
 }
 
@@ -46,13 +46,13 @@ fn are_front<A: Allocator + Copy>(alloc: A, stream: &[u8], frames: &[Frame<A>]) 
     true
 }
 
-/// How many bytes one more read gives.
+/// Returns how many bytes one more read gives.
 fn read_rest<A: Allocator>(reader: &mut TapeReader<A>) -> usize {
     let mut rest = [0; 100];
     reader.read(&mut rest).unwrap_or(0)
 }
 
-/// Pumps while the allocation with this number is refused.
+/// Pumps while allocation number `n` is refused.
 fn pump_between<A: Allocator + Copy>(
     heap: &RefusingAllocator,
     alloc: A,
@@ -75,7 +75,8 @@ fn pump_between<A: Allocator + Copy>(
     }
 }
 
-/// Does so to a fresh sink. It has room for all frames of a row, so that its allocations are not among those refused.
+/// Pumps to a fresh sink, as above. The sink has room for all frames of a row, so that none of its allocations is
+/// refused.
 fn pump_to_sink<A: Allocator + Copy>(
     heap: &RefusingAllocator,
     alloc: A,
@@ -93,7 +94,7 @@ fn pump_to_sink<A: Allocator + Copy>(
     Ok(pump_between(heap, alloc, reader, cutter, &mut sink, call, n))
 }
 
-/// Does so by a fresh cutter too.
+/// Pumps to a fresh sink through a fresh cutter, as above.
 fn pump_from_reader<A: Allocator + Copy>(
     heap: &RefusingAllocator,
     alloc: A,
@@ -105,7 +106,7 @@ fn pump_from_reader<A: Allocator + Copy>(
     pump_to_sink(heap, alloc, reader, &mut cutter, call, n)
 }
 
-/// Makes a call of a pump, of which the allocation with this number is refused.
+/// Makes a call of a pump whose allocation number `n` is refused.
 pub(crate) fn call_pump<A: Allocator + Copy>(
     heap: &RefusingAllocator,
     alloc: A,
@@ -118,8 +119,8 @@ pub(crate) fn call_pump<A: Allocator + Copy>(
     pump_from_reader(heap, alloc, &mut reader, call, n)
 }
 
-/// What a drain of two PRUNEs is called with: how many bytes the writer takes a call, the call that fails, and the
-/// frames.
+/// The arguments of a drain of two PRUNEs: how many bytes the writer takes per call, the write that fails, and the
+/// limit of frames.
 #[derive(Clone, Copy)]
 pub(crate) struct DrainCall {
     pub(crate) most: usize,
@@ -127,7 +128,7 @@ pub(crate) struct DrainCall {
     pub(crate) frames: u32,
 }
 
-/// What came of it.
+/// The outcome of a drain.
 #[derive(Clone, Copy)]
 pub(crate) struct Drained {
     pub(crate) answer: Result<u64, LinkEnd>,
@@ -137,11 +138,11 @@ pub(crate) struct Drained {
     pub(crate) gave: usize,
     /// How many bytes the writer has.
     pub(crate) len: usize,
-    /// Whether they are the first ones of PRUNEs.
+    /// Whether they are the first bytes of PRUNEs in a row.
     pub(crate) is_front: bool,
 }
 
-/// Whether bytes are a front of PRUNEs.
+/// Whether bytes are a prefix of PRUNEs in a row.
 fn are_prunes(written: &[u8]) -> bool {
     for item in written.chunks(24) {
         if PRUNE.get(..item.len()) != Some(item) {
@@ -151,7 +152,7 @@ fn are_prunes(written: &[u8]) -> bool {
     true
 }
 
-/// What came of a drain of this source, which wrote these bytes.
+/// Returns the outcome of a drain of this source, which wrote these bytes.
 pub(crate) fn drained_of<A: Allocator>(
     answer: Result<u64, LinkEnd>,
     is_refused: bool,
@@ -167,7 +168,7 @@ pub(crate) fn drained_of<A: Allocator>(
     }
 }
 
-/// Drains while the allocation with this number is refused.
+/// Drains while allocation number `n` is refused.
 fn drain_between<A: Allocator + Copy, B: Allocator>(
     heap: &RefusingAllocator,
     source: &mut Same<A>,
@@ -181,7 +182,7 @@ fn drain_between<A: Allocator + Copy, B: Allocator>(
     drained_of(answer, is_refused, source, writer.as_slice())
 }
 
-/// Does so into a fresh writer.
+/// Drains into a fresh writer, as above.
 fn drain_from_source<A: Allocator + Copy, B: Allocator>(
     heap: &RefusingAllocator,
     source: &mut Same<A>,
@@ -193,8 +194,8 @@ fn drain_from_source<A: Allocator + Copy, B: Allocator>(
     drain_between(heap, source, &mut writer, call.frames, n)
 }
 
-/// Makes a call of a drain, of which the allocation with this number is refused. The source and the writer have heaps
-/// of their own.
+/// Makes a call of a drain whose allocation number `n` is refused. The source and the writer each have a heap of their
+/// own.
 pub(crate) fn call_drain<A: Allocator + Copy, B: Allocator>(
     heap: &RefusingAllocator,
     sources: A,

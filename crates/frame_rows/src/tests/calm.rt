@@ -1,4 +1,4 @@
-//! Calls that take no memory: they succeed where the next allocation is refused, and leave the refusal unspent.
+//! Calls that allocate nothing: they succeed while the next allocation is refused, and leave the refusal unspent.
 use bytes::Bytes;
 use frames::{Body, Cutter, Frame, FrameFault};
 use node_names::{Listed, MsgId, NodeName, Origin};
@@ -13,17 +13,17 @@ fn name(rt: &impl Abort) -> NodeName {
     NodeName::parse(b"a").expect(rt, "a name")
 }
 
-/// The run a/1.
+/// Returns the origin a/1.
 fn origin(rt: &impl Abort) -> Origin {
     first_run(name(rt))
 }
 
-/// The id a/1/1.
+/// Returns the id a/1/1.
 fn id(rt: &impl Abort) -> MsgId {
     message(name(rt), 1)
 }
 
-/// Whether a frame is about messages.
+/// Whether a frame carries, announces or asks for a message.
 fn is_about_messages<A: Allocator + Copy>(frame: &Frame<A>) -> bool {
     let is_carrier = frame.carried().is_some();
     let is_announcement = !frame.announced().is_empty();
@@ -31,7 +31,7 @@ fn is_about_messages<A: Allocator + Copy>(frame: &Frame<A>) -> bool {
     is_carrier || is_announcement || is_request
 }
 
-/// Whether a frame of a/1, number 7, was made, and tells what it is of.
+/// Whether a frame from a/1, number 7, was made, and its readers tell what it is.
 fn is_told<A: Allocator + Copy>(
     rt: &impl Abort,
     made: &Result<Frame<A>, FrameFault>,
@@ -47,8 +47,8 @@ fn is_told<A: Allocator + Copy>(
     is_sender && is_number && is_kind && is_other
 }
 
-/// Makes a frame, reads it, and takes it apart. Whether all of that went as it should while the next allocation was
-/// refused.
+/// Makes a frame, reads it, and takes it apart, all while the next allocation is refused. Returns whether that went as
+/// it should and nothing was allocated.
 fn is_calm<A: Allocator + Copy>(
     rt: &impl Abort,
     heap: &RefusingAllocator,
@@ -65,7 +65,7 @@ fn is_calm<A: Allocator + Copy>(
     is_told && !is_spent
 }
 
-/// A SHUFFLEREPLY with two names.
+/// Checks a SHUFFLEREPLY with two names.
 fn are_names_calm<A: Allocator + Copy>(
     rt: &impl Abort,
     heap: &RefusingAllocator,
@@ -76,7 +76,7 @@ fn are_names_calm<A: Allocator + Copy>(
     Ok(is_calm(rt, heap, Body::ShuffleReply { names }, true))
 }
 
-/// An IHAVE with one announcement.
+/// Checks an IHAVE with one announcement.
 fn are_entries_calm<A: Allocator + Copy>(
     rt: &impl Abort,
     heap: &RefusingAllocator,
@@ -86,7 +86,7 @@ fn are_entries_calm<A: Allocator + Copy>(
     Ok(is_calm(rt, heap, Body::IHave { entries }, false))
 }
 
-/// A GOSSIP of two bytes.
+/// Checks a GOSSIP with a payload of two bytes.
 fn is_payload_calm<A: Allocator + Copy>(
     rt: &impl Abort,
     heap: &RefusingAllocator,
@@ -101,7 +101,7 @@ fn is_payload_calm<A: Allocator + Copy>(
     Ok(is_calm(rt, heap, gossip, false))
 }
 
-/// Whether a cutter is made while the next allocation is refused.
+/// Whether making a cutter allocates nothing.
 fn is_cutter_calm<A: Allocator + Copy>(heap: &RefusingAllocator, alloc: A) -> bool {
     heap.refuse(1);
     let left = Cutter::new(alloc).left();

@@ -1,5 +1,5 @@
-//! Reading and writing a frame, each allocation of a call refused in turn: the refusal is as out of memory, and the
-//! call made again answers as if nothing had been refused.
+//! Reading and writing a frame, with each allocation of a call refused in turn: the call fails as out of memory, and
+//! when made again it returns what it would have returned had nothing been refused.
 use crate::tests::compare::{is_written, read_as, write_gossip};
 use crate::tests::rows::{Row, rows};
 use frames::{Frame, FrameFault, decode, encode};
@@ -9,13 +9,13 @@ use std::test::Fail;
 use test_support::stop_refusing;
 use world::Wire;
 
-/// More allocations than any call has.
+/// More allocations than any call makes.
 const MANY: u64 = 40;
 
-/// Reads bytes while the allocation with this number is refused, and again. Whether there is such an allocation, or
-/// none if an answer is wrong.
+/// Reads bytes while allocation number `n` is refused, and then once more. Returns whether there is such an allocation,
+/// or `None` if an answer is wrong.
 ///
-/// Where the bytes have a fault, it is told, whatever was refused.
+/// If the bytes have a fault, that fault is returned whether or not an allocation is refused.
 fn refuse_decode<A: Allocator + Copy>(
     heap: &RefusingAllocator,
     alloc: A,
@@ -36,8 +36,8 @@ fn refuse_decode<A: Allocator + Copy>(
     (is_right && is_again).then_some(is_spent)
 }
 
-/// Writes a frame while the allocation with this number is refused, and again. Whether there is such an allocation, or
-/// none if an answer is wrong.
+/// Writes a frame while allocation number `n` is refused, and then once more. Returns whether there is such an
+/// allocation, or `None` if an answer is wrong.
 fn refuse_encode<A: Allocator + Copy>(
     heap: &RefusingAllocator,
     alloc: A,
@@ -53,7 +53,7 @@ fn refuse_encode<A: Allocator + Copy>(
     (is_right && is_again).then_some(is_spent)
 }
 
-/// Copies a frame. Whether the copy is equal to it, or none if an allocation was refused.
+/// Copies a frame. Returns whether the copy equals it, or `None` if an allocation was refused.
 fn is_copied<A: Allocator + Copy>(frame: &Frame<A>) -> Option<bool> {
     match frame.copy() {
         Ok(copy) => Some(copy == *frame),
@@ -61,8 +61,8 @@ fn is_copied<A: Allocator + Copy>(frame: &Frame<A>) -> Option<bool> {
     }
 }
 
-/// Copies a frame while the allocation with this number is refused, and again. Whether there is such an allocation, or
-/// none if an answer is wrong.
+/// Copies a frame while allocation number `n` is refused, and then once more. Returns whether there is such an
+/// allocation, or `None` if an answer is wrong.
 fn refuse_copy<A: Allocator + Copy>(
     heap: &RefusingAllocator,
     frame: &Frame<A>,
@@ -76,7 +76,7 @@ fn refuse_copy<A: Allocator + Copy>(
     (is_right && is_again).then_some(is_spent)
 }
 
-/// Refuses each allocation of reading in turn. How many there are, or none if an answer is wrong.
+/// Refuses each allocation of reading in turn. Returns their number, or `None` if an answer is wrong.
 fn sweep_decode<A: Allocator + Copy>(
     heap: &RefusingAllocator,
     alloc: A,
@@ -91,8 +91,8 @@ fn sweep_decode<A: Allocator + Copy>(
     None
 }
 
-/// Refuses each allocation of writing and copying in turn. How many the one has that has more, or none if an answer is
-/// wrong.
+/// Refuses each allocation of writing and of copying in turn. Returns the greater of the two numbers of allocations, or
+/// `None` if an answer is wrong.
 fn sweep_frame<A: Allocator + Copy>(
     heap: &RefusingAllocator,
     alloc: A,
@@ -109,7 +109,7 @@ fn sweep_frame<A: Allocator + Copy>(
     None
 }
 
-/// Does so with the frame that bytes begin with.
+/// Calls `sweep_frame` with the first frame of the bytes.
 fn sweep_first<A: Allocator + Copy>(
     heap: &RefusingAllocator,
     alloc: A,
@@ -121,8 +121,8 @@ fn sweep_first<A: Allocator + Copy>(
     }
 }
 
-/// All three calls of a stream's first frame. How many allocations the one has that has most, or none if an answer is
-/// wrong.
+/// Sweeps the reading, the writing and the copying of a stream's first frame. Returns the greatest of the three numbers
+/// of allocations, or `None` if an answer is wrong.
 fn sweep<A: Allocator + Copy>(
     heap: &RefusingAllocator,
     alloc: A,
@@ -137,8 +137,8 @@ fn sweep<A: Allocator + Copy>(
     Some(of_reading.max(of_frame))
 }
 
-/// All three calls of each frame of a row, and the reading of what follows. How many allocations there are, or none if
-/// an answer is wrong.
+/// Sweeps each frame of a row, and the reading of the bytes that follow. Returns the sum of the numbers of allocations,
+/// or `None` if an answer is wrong.
 fn sweep_row<A: Allocator + Copy>(heap: &RefusingAllocator, alloc: A, row: &Row) -> Option<u64> {
     let mut at = 0usize;
     let mut allocations = 0u64;
@@ -152,7 +152,7 @@ fn sweep_row<A: Allocator + Copy>(heap: &RefusingAllocator, alloc: A, row: &Row)
     Some(allocations.saturating_add(of_rest))
 }
 
-/// A GOSSIP with the longest payload, and one with a longer.
+/// Sweeps a GOSSIP with the longest payload, and one whose payload is a byte longer.
 fn sweep_longest<A: Allocator + Copy>(
     heap: &RefusingAllocator,
     alloc: A,
@@ -174,8 +174,8 @@ fn each_allocation_of_the_codec(rt: HostRuntime) -> Result<(), Fail> {
         assert!(rt; allocations.is_some(), "at {}", row.name);
         refused = refused.saturating_add(allocations.unwrap_or(0));
     }
-    // Eight frames are written with two allocations each, their bytes and the count of their owners, and no other call
-    // of them has more. Two rows make room for a list before they tell their fault.
+    // Writing each of the eight frames takes two allocations, one for the bytes and one for the count of their owners,
+    // and reading or copying takes no more. Two rows allocate a list before they return their fault.
     assert!(rt; refused == 18, "other allocations were refused: {refused}");
     Ok(())
 }

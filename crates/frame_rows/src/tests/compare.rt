@@ -1,8 +1,8 @@
-//! Comparing frames with bytes.
+//! Compares frames with bytes.
 use frames::{Frame, FrameFault, decode, encode};
 use std::alloc::{AllocError, Allocator};
 
-/// Whether a frame is written as these bytes.
+/// Whether a frame's encoding is these bytes.
 pub(crate) fn is_written<A: Allocator + Copy>(alloc: A, frame: &Frame<A>, bytes: &[u8]) -> bool {
     match encode(alloc, frame) {
         Ok(written) => written.as_slice() == bytes,
@@ -10,7 +10,7 @@ pub(crate) fn is_written<A: Allocator + Copy>(alloc: A, frame: &Frame<A>, bytes:
     }
 }
 
-/// What bytes are read as, without the frame.
+/// Reads a frame, and returns only its length or its fault.
 pub(crate) fn read_as<A: Allocator + Copy>(alloc: A, bytes: &[u8]) -> Result<usize, FrameFault> {
     match decode(alloc, bytes) {
         Ok((_, len)) => Ok(len),
@@ -18,7 +18,7 @@ pub(crate) fn read_as<A: Allocator + Copy>(alloc: A, bytes: &[u8]) -> Result<usi
     }
 }
 
-/// Whether bytes are read as this frame, so many bytes long.
+/// Whether bytes are read as this frame, `len` bytes long.
 pub(crate) fn is_read<A: Allocator + Copy>(
     alloc: A,
     bytes: &[u8],
@@ -31,14 +31,14 @@ pub(crate) fn is_read<A: Allocator + Copy>(
     }
 }
 
-/// Where a part ends that a stream has at this place, or none if it does not have it there.
+/// Returns where a part ends that begins at this place of a stream, or `None` if it does not begin there.
 fn end_of_part(stream: &[u8], at: usize, part: &[u8]) -> Option<usize> {
     let end = at.saturating_add(part.len());
     let is_there = stream.get(at..end) == Some(part);
     is_there.then_some(end)
 }
 
-/// Where a frame ends that a stream has at this place, or none if it does not have it there.
+/// Returns where a frame ends that begins at this place of a stream, or `None` if it does not begin there.
 pub(crate) fn end_of_frame<A: Allocator + Copy>(
     alloc: A,
     stream: &[u8],
@@ -51,7 +51,8 @@ pub(crate) fn end_of_frame<A: Allocator + Copy>(
     }
 }
 
-/// Writes a GOSSIP of a/1, number 1, with a payload of so many bytes behind these counts, in place of what was there.
+/// Replaces `bytes` with a GOSSIP from a/1, number 1, with this length word, this payload count and a payload of `len`
+/// bytes.
 pub(crate) fn write_gossip<A: Allocator>(
     bytes: &mut Vec<u8, A>,
     word: &[u8],

@@ -1,5 +1,5 @@
-//! Cutting a stream into frames, each allocation of each call refused in turn: the refusal is as out of memory, the
-//! cutter is as it was, and the call made again answers as if nothing had been refused.
+//! Cutting a stream into frames, with each allocation of each call refused in turn: the call fails as out of memory,
+//! the cutter is unchanged, and the call made again returns what it would have returned had nothing been refused.
 use crate::tests::compare::end_of_frame;
 use crate::tests::rows::{Row, rows};
 use frames::{Cutter, Frame, FrameFault};
@@ -8,24 +8,24 @@ use std::alloc::Allocator;
 use std::test::Fail;
 use test_support::stop_refusing;
 
-/// More allocations than any call has, and more pieces and frames than any row.
+/// More than the allocations of any call, and than the pieces and frames of any row.
 const MANY: u64 = 120;
 
-/// How far a row was played.
+/// How far a row has been played.
 #[derive(Clone, Copy)]
 struct SoFar {
     /// How many frames were given.
     frames: usize,
-    /// How many bytes they are.
+    /// How many bytes those frames have.
     bytes: usize,
     /// The fault that was met.
     fault: Option<FrameFault>,
-    /// Whether a call had so many allocations that one was refused.
+    /// Whether a call made enough allocations for one to be refused.
     is_refused: bool,
 }
 
-/// Feeds a piece while the allocation with this number is refused, and again if it is. Whether there is such an
-/// allocation, or none if an answer is wrong.
+/// Feeds a piece while allocation number `n` is refused, and again if it was refused. Returns whether there is such an
+/// allocation, or `None` if an answer is wrong.
 fn feed_refused<A: Allocator + Copy>(
     heap: &RefusingAllocator,
     cutter: &mut Cutter<A>,
@@ -46,7 +46,7 @@ fn feed_refused<A: Allocator + Copy>(
     (is_right && is_longer).then_some(is_spent)
 }
 
-/// Compares a frame with the next one of the row.
+/// Compares a frame with the next one of the row. Returns `None` if they differ.
 fn is_next<A: Allocator + Copy>(
     alloc: A,
     row: &Row,
@@ -61,7 +61,7 @@ fn is_next<A: Allocator + Copy>(
     is_length.then_some(true)
 }
 
-/// Compares what the cutter answered with the row. Whether it gave a frame, or none if that is a wrong one.
+/// Compares the cutter's answer with the row. Returns whether it gave a frame, or `None` if that is a wrong one.
 fn is_given<A: Allocator + Copy>(
     alloc: A,
     row: &Row,
@@ -78,7 +78,7 @@ fn is_given<A: Allocator + Copy>(
     }
 }
 
-/// Asks for a frame while the allocation with this number is refused. Whether one is given, or none if that is a wrong
+/// Asks for a frame while allocation number `n` is refused. Returns whether one is given, or `None` if it is a wrong
 /// one, and whether there is such an allocation.
 fn next_refused<A: Allocator + Copy>(
     heap: &RefusingAllocator,
@@ -94,8 +94,8 @@ fn next_refused<A: Allocator + Copy>(
     (is_given(alloc, row, &answer, so_far), is_spent)
 }
 
-/// Does so, and again if it is refused. Whether a frame is given, or none if an answer is wrong. A fault may be told
-/// although a allocation was refused.
+/// Asks for a frame as above, and again if that was refused. Returns whether a frame is given, or `None` if an answer
+/// is wrong. A frame's fault may be returned even if an allocation was refused.
 fn take_frame<A: Allocator + Copy>(
     heap: &RefusingAllocator,
     alloc: A,
@@ -121,7 +121,7 @@ fn take_frame<A: Allocator + Copy>(
     next_refused(heap, alloc, cutter, row, so_far, 0).0
 }
 
-/// Takes the frames that are whole. Whether they come to an end, or none if an answer is wrong.
+/// Takes the frames that are whole. Returns `Some(true)` once there are no more, or `None` if an answer is wrong.
 fn take_frames<A: Allocator + Copy>(
     heap: &RefusingAllocator,
     alloc: A,
@@ -138,15 +138,15 @@ fn take_frames<A: Allocator + Copy>(
     None
 }
 
-/// Whether a row was played to its end.
+/// Whether a row was played correctly to its end.
 fn is_end(row: &Row, so_far: &SoFar, left: usize) -> bool {
     let is_fault = so_far.fault == row.fault;
     let rest = row.bytes.len().saturating_sub(so_far.bytes);
     is_fault && so_far.frames == row.frames.len() && left == rest
 }
 
-/// Feeds a row in pieces of this size, and refuses the allocation with this number of each call. Whether a call has so
-/// many, or none if an answer is wrong.
+/// Feeds a row in pieces of `size` bytes, and refuses allocation number `n` of each call. Returns whether some call has
+/// `n` allocations, or `None` if an answer is wrong.
 fn play_pieces<A: Allocator + Copy>(
     heap: &RefusingAllocator,
     alloc: A,
@@ -169,7 +169,7 @@ fn play_pieces<A: Allocator + Copy>(
     is_end(row, &so_far, cutter.left()).then_some(so_far.is_refused)
 }
 
-/// Does so with a fresh cutter.
+/// Plays a row with a fresh cutter, as above.
 fn sweep_pieces<A: Allocator + Copy>(
     heap: &RefusingAllocator,
     alloc: A,
@@ -181,7 +181,8 @@ fn sweep_pieces<A: Allocator + Copy>(
     play_pieces(heap, alloc, &mut cutter, row, size, n)
 }
 
-/// Refuses each allocation in turn. How many the call has that has most, or none if an answer is wrong.
+/// Refuses each allocation in turn. Returns the number of allocations of the call that makes the most, or `None` if an
+/// answer is wrong.
 fn sweep_size<A: Allocator + Copy>(
     heap: &RefusingAllocator,
     alloc: A,
@@ -196,7 +197,7 @@ fn sweep_size<A: Allocator + Copy>(
     None
 }
 
-/// Does so with pieces of three sizes.
+/// Sweeps a row in pieces of three sizes, and adds up the numbers.
 fn sweep_row<A: Allocator + Copy>(heap: &RefusingAllocator, alloc: A, row: &Row) -> Option<u64> {
     let of_bytes = sweep_size(heap, alloc, row, 1)?;
     let of_fives = sweep_size(heap, alloc, row, 5)?;

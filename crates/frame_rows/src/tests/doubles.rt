@@ -1,4 +1,4 @@
-//! A sink and a source.
+//! A sink and a source for tests.
 ghost use Rattle.std.specs.Prelude.{◌≤◌, length};
 
 use bytes::Bytes;
@@ -6,10 +6,10 @@ use frames::Frame;
 use links::{Sink, Source};
 use std::alloc::{AllocError, Allocator};
 
-/// PRUNE of a/1, number 2.
+/// PRUNE from a/1, number 2.
 pub(crate) const PRUNE: [u8; 24] = *b"\0\0\0\x14\x01\x0b\x01a\0\0\0\0\0\0\0\x01\0\0\0\0\0\0\0\x02";
 
-/// A sink that takes so many frames.
+/// A sink that takes at most `most` frames.
 #[derive(Drop)]
 pub(crate) struct Kept<A: Allocator> {
     pub(crate) frames: Vec<Frame<A>, A>,
@@ -31,7 +31,7 @@ impl<A: Allocator> Sink<Frame<A>> for Kept<A> {
     }
 }
 
-/// A source that gives an item so many times, each time a copy of its own.
+/// A source that gives an item `left` more times, each time a separate copy.
 #[derive(Drop)]
 pub(crate) struct Same<A: Allocator> {
     alloc: A,
@@ -41,7 +41,7 @@ pub(crate) struct Same<A: Allocator> {
     ghost short: { length item ≤ 32880 },
 }
 
-/// A source of two PRUNEs, with room to keep both.
+/// Makes a source of two PRUNEs, with room to keep both.
 pub(crate) fn prunes<A: Allocator + Copy>(alloc: A) -> Result<Same<A>, AllocError> {
     let item = Bytes::copy_from_slice(alloc, &PRUNE)?;
     let gave = Vec::with_capacity(alloc, 2)?;
@@ -53,7 +53,7 @@ pub(crate) fn prunes<A: Allocator + Copy>(alloc: A) -> Result<Same<A>, AllocErro
     })
 }
 
-/// How many items a source gave.
+/// Returns how many items a source gave.
 pub(crate) fn count_given<A: Allocator>(source: &Same<A>) -> usize {
     source.gave.len()
 }

@@ -1,4 +1,4 @@
-//! How pumps and drains end, each allocation refused in turn.
+//! How pumps and drains end, with each allocation refused in turn.
 use crate::tests::calls::{DrainCall, PumpCall};
 use crate::tests::doubles::PRUNE;
 use crate::tests::linking::{DrainRow, PumpRow, Refused, sweep_drain, sweep_pump};
@@ -77,7 +77,7 @@ const PUMPS: &[PumpRow] = &[
         frames: 0,
         rest: 0,
     },
-    // The first piece has the version.
+    // The first piece contains the version.
     PumpRow {
         name: "version 3",
         call: PumpCall {
@@ -103,7 +103,7 @@ fn pumps(rt: HostRuntime) -> Result<(), Fail> {
     Ok(())
 }
 
-/// Two PRUNEs to a writer that takes ten bytes a call.
+/// Two PRUNEs to a writer that takes ten bytes per call.
 const ALL: DrainCall = DrainCall {
     most: 10,
     fails: None,
@@ -141,7 +141,7 @@ const DRAINS: &[DrainRow] = &[
     },
 ];
 
-/// Refuses each allocation of the source and then of the writer. How many there are, or none if an answer is wrong.
+/// Refuses each allocation of the source and then of the writer. Returns their number, or `None` if an answer is wrong.
 fn sweep_both<A: Allocator + Copy, B: Allocator + Copy>(
     heap: &RefusingAllocator,
     refusing: A,

@@ -1,4 +1,4 @@
-//! Reads and writes of which one fails, each in turn: the call ends there, and says what went through before.
+//! Reads and writes of which each fails in turn: the call ends there, and reports what went through before.
 use crate::tests::calls::{DrainCall, Drained, PumpCall, call_drain, call_pump, drained_of};
 use crate::tests::doubles::{Same, prunes};
 use crate::tests::stalling::StallingWriter;
@@ -12,8 +12,8 @@ const THREE: [u8; 72] = *b"\0\0\0\x14\x01\x0b\x01a\0\0\0\0\0\0\0\x01\0\0\0\0\0\0
     \0\0\0\x14\x01\x0b\x01a\0\0\0\0\0\0\0\x01\0\0\0\0\0\0\0\x02\
     \0\0\0\x14\x01\x0b\x01a\0\0\0\0\0\0\0\x01\0\0\0\0\0\0\0\x02";
 
-/// Pumps three PRUNEs byte by byte until a read fails, after so many bytes. Whether the sink has the whole frames of
-/// these, and the reader all other bytes.
+/// Pumps three PRUNEs byte by byte until a read fails, after `bytes` bytes. Returns whether the sink has the frames
+/// that are whole in these, and the reader still has all other bytes.
 fn ends_after<A: Allocator + Copy>(
     heap: &RefusingAllocator,
     alloc: A,
@@ -44,11 +44,11 @@ fn failing_reads(rt: HostRuntime) -> Result<(), Fail> {
     Ok(())
 }
 
-/// How many bytes go out before a write fails, and how many items the source has given then, of two PRUNEs to a writer
-/// that takes ten bytes a call. The first write fails in the first row, the second in the second, and so on.
+/// How many bytes go out before a write fails, and how many items the source has given by then, when two PRUNEs go to a
+/// writer that takes ten bytes per call. The first write fails in the first row, the second in the second, and so on.
 const WRITES: &[(usize, usize)] = &[(0, 1), (10, 1), (20, 1), (24, 2), (34, 2), (44, 2)];
 
-/// Whether a drain ended at a write, after so many bytes, which the writer has, of so many items.
+/// Whether a drain ended at a write, after `bytes` bytes, which the writer has, with `gave` items given by the source.
 fn is_cut_off(drained: &Drained, bytes: usize, gave: usize) -> bool {
     let end = LinkEnd::WriteFault {
         bytes: bytes as u64,
@@ -58,7 +58,7 @@ fn is_cut_off(drained: &Drained, bytes: usize, gave: usize) -> bool {
     is_end && are_counts && drained.is_front
 }
 
-/// Drains two PRUNEs into a writer that fails at the call of this number, from 0.
+/// Drains two PRUNEs into a writer that fails at call number `write`, counted from 0.
 fn drain_to_failing<A: Allocator + Copy>(
     heap: &RefusingAllocator,
     alloc: A,
@@ -82,7 +82,7 @@ fn failing_writes(rt: HostRuntime) -> Result<(), Fail> {
     Ok(())
 }
 
-/// Drains a source into a fresh writer that takes no byte at the call of this number, from 0.
+/// Drains a source into a fresh writer that takes no byte at call number `write`, counted from 0.
 fn drain_source_to_stalling<A: Allocator + Copy>(
     alloc: A,
     source: &mut Same<A>,

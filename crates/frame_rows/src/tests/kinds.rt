@@ -1,4 +1,4 @@
-//! Each kind of frame as bytes and back, and each fault of bytes that are no frame.
+//! Each kind of frame written to bytes and read back, and each fault of bytes that are not a frame.
 use crate::tests::compare::{is_read, is_written, read_as, write_gossip};
 use crate::tests::doubles::PRUNE;
 use bytes::Bytes;
@@ -9,11 +9,11 @@ use std::process::Abort;
 use std::test::Fail;
 use test_support::{first_run, message};
 
-/// PRUNE of a/1, number 2, and then GOSSIP of a/1, number 1: a/1/1, round 0, without payload.
+/// PRUNE from a/1, number 2, and then GOSSIP from a/1, number 1: a/1/1, round 0, without payload.
 const BOTH: [u8; 74] = *b"\0\0\0\x14\x01\x0b\x01a\0\0\0\0\0\0\0\x01\0\0\0\0\0\0\0\x02\
     \0\0\0\x2e\x01\x08\x01a\0\0\0\0\0\0\0\x01\0\0\0\0\0\0\0\x01\x01a\0\0\0\0\0\0\0\x01\0\0\0\0\0\0\0\x01\0\0\0\0\0\0\0\0";
 
-/// GRAFT without an id of a/1, number 3.
+/// GRAFT without an id, from a/1, number 3.
 const GRAFT_PEER: [u8; 24] = *b"\0\0\0\x14\x02\x0c\x01a\0\0\0\0\0\0\0\x01\0\0\0\0\0\0\0\x03";
 
 fn name(rt: &impl Abort, bytes: &[u8]) -> NodeName {
@@ -28,8 +28,8 @@ fn id(rt: &impl Abort) -> MsgId {
     message(name(rt, b"a"), 1)
 }
 
-/// Writes a frame of a/1, number 1, of a kind and with fields, in place of what was there; the length of the body is
-/// that of a small frame.
+/// Replaces `bytes` with a frame from a/1, number 1, of this kind and with these fields. The length word is right for a
+/// small frame.
 fn write_small(bytes: &mut Vec<u8>, kind: u8, fields: &[u8]) -> Result<(), AllocError> {
     let len = (fields.len() % 200) as u8 + 20;
     bytes.clear();
@@ -38,7 +38,7 @@ fn write_small(bytes: &mut Vec<u8>, kind: u8, fields: &[u8]) -> Result<(), Alloc
     bytes.extend_from_slice(fields)
 }
 
-/// Whether each front of bytes is too short.
+/// Whether each proper prefix of the bytes is too short for a frame.
 fn are_fronts_short(alloc: Global, bytes: &[u8]) -> bool {
     for len in 0..bytes.len() {
         if read_as(alloc, &bytes[..len]) != Err(FrameFault::Short) {
@@ -48,8 +48,8 @@ fn are_fronts_short(alloc: Global, bytes: &[u8]) -> bool {
     true
 }
 
-/// Whether a frame was made that is written as these bytes, is read with more behind them, and is not read of a front
-/// of them.
+/// Whether a frame was made whose encoding is these bytes, that is read from them with more bytes behind them, and that
+/// is not read from a proper prefix of them.
 fn is_both_ways(
     alloc: Global,
     bytes: &mut Vec<u8>,
@@ -66,7 +66,7 @@ fn is_both_ways(
     Ok(is_written && are_short && is_read)
 }
 
-/// Makes a frame of this kind, which stands as these fields, and checks it both ways.
+/// Makes a frame of this kind, whose fields are encoded as `fields`, and checks its encoding and decoding.
 fn check_kind(
     rt: &impl Abort,
     alloc: Global,
@@ -82,7 +82,7 @@ fn check_kind(
     Ok(())
 }
 
-/// The kinds of the membership that have no list.
+/// Checks the kinds of the membership that have no list.
 fn check_joins(rt: &impl Abort, alloc: Global, bytes: &mut Vec<u8>) -> Result<(), AllocError> {
     let forward = Body::ForwardJoin {
         new: name(rt, b"c-2"),
@@ -145,7 +145,7 @@ fn check_ihave(rt: &impl Abort, alloc: Global, bytes: &mut Vec<u8>) -> Result<()
     check_kind(rt, alloc, bytes, Body::IHave { entries }, 9, fields)
 }
 
-/// The kinds of the broadcast that have neither a payload nor a list.
+/// Checks the kinds of the broadcast that have neither a payload nor a list.
 fn check_graft(rt: &impl Abort, alloc: Global, bytes: &mut Vec<u8>) -> Result<(), AllocError> {
     let graft = Body::Graft {
         id: id(rt),
@@ -187,7 +187,7 @@ fn prune_frame(rt: HostRuntime) -> Result<(), Fail> {
     Ok(())
 }
 
-/// Whether a cutter meets this fault, with so many bytes left.
+/// Whether a cutter meets this fault with `left` bytes left.
 fn is_met(cutter: &mut Cutter, fault: FrameFault, left: usize) -> bool {
     let is_met = match cutter.next() {
         Ok(Some(_)) => false,
@@ -197,7 +197,7 @@ fn is_met(cutter: &mut Cutter, fault: FrameFault, left: usize) -> bool {
     is_met && cutter.left() == left
 }
 
-/// Whether a cutter that is fed these bytes meets this fault, again and again.
+/// Whether a cutter that is fed these bytes meets this fault, and meets it again when asked again.
 fn is_met_twice(alloc: Global, bytes: &[u8], fault: FrameFault) -> Result<bool, AllocError> {
     let mut cutter = Cutter::new(alloc);
     cutter.feed(bytes)?;
@@ -206,7 +206,7 @@ fn is_met_twice(alloc: Global, bytes: &[u8], fault: FrameFault) -> Result<bool, 
     Ok(is_first && is_again)
 }
 
-/// Bytes whose first fault is this one: decoded, and fed to a cutter.
+/// Checks bytes whose first fault is this one: they are decoded, and fed to a cutter.
 fn check_fault(
     rt: &impl Abort,
     alloc: Global,
@@ -279,7 +279,7 @@ const FIELD_FAULTS: &[(u8, &[u8], FrameFault)] = &[
     ),
 ];
 
-/// A small frame of a kind and with fields whose first fault is this one.
+/// Checks a small frame of this kind and with these fields, whose first fault is this one.
 fn check_fields(
     rt: &impl Abort,
     alloc: Global,
@@ -299,7 +299,7 @@ fn malformed_fields(rt: HostRuntime) -> Result<(), Fail> {
     Ok(())
 }
 
-/// Whether a frame was made that is written as these bytes, or refused as it should be.
+/// Whether a frame was made whose encoding is these bytes, or was refused as it should be.
 fn is_made(
     alloc: Global,
     bytes: &[u8],
@@ -312,7 +312,7 @@ fn is_made(
     }
 }
 
-/// Makes a GOSSIP of the payload that these bytes end with, and writes it. Whether that went as it should.
+/// Makes a GOSSIP with the payload that these bytes end with, and writes it. Returns whether that went as it should.
 fn is_gossip(
     rt: &impl Abort,
     alloc: Global,
@@ -329,7 +329,7 @@ fn is_gossip(
     Ok(is_made(alloc, bytes, &made, wanted))
 }
 
-/// A GOSSIP with a payload of so many bytes, behind this length word: decoded, and made and encoded.
+/// Checks a GOSSIP with this length word and a payload of `len` bytes: it is decoded, and made and encoded.
 fn check_gossip(
     rt: &impl Abort,
     alloc: Global,
@@ -385,7 +385,7 @@ fn is_refused(rt: &impl Abort, number: u64, body: Body, fault: FrameFault) -> bo
     }
 }
 
-/// Number 0 is refused, of a frame and of a message.
+/// Whether number 0 is refused, both as a frame's and as a message's.
 fn are_zeros_refused(rt: &impl Abort) -> bool {
     let zero = MsgId {
         origin: origin(rt),
@@ -397,14 +397,14 @@ fn are_zeros_refused(rt: &impl Abort) -> bool {
     is_join && is_graft
 }
 
-/// Nine names are refused.
+/// Whether nine names are refused.
 fn are_names_refused(rt: &impl Abort, alloc: Global) -> Result<bool, AllocError> {
     let names = Listed::from_vec(vec![in alloc; name(rt, b"b"); 9]?);
     let reply = Body::ShuffleReply { names };
     Ok(is_refused(rt, 1, reply, FrameFault::BadCount))
 }
 
-/// Announcements of message 0 are refused, even where there are too many.
+/// Whether announcements of message 0 are refused as such, even if there are also too many of them.
 fn are_entries_refused(rt: &impl Abort, alloc: Global) -> Result<bool, AllocError> {
     let zero = MsgId {
         origin: origin(rt),
@@ -415,7 +415,7 @@ fn are_entries_refused(rt: &impl Abort, alloc: Global) -> Result<bool, AllocErro
     Ok(is_refused(rt, 1, ihave, FrameFault::BadField))
 }
 
-/// An IHAVE without announcements is refused.
+/// Whether an IHAVE without announcements is refused.
 fn is_none_refused(rt: &impl Abort, alloc: Global) -> bool {
     let entries = Listed::new(alloc);
     is_refused(rt, 1, Body::IHave { entries }, FrameFault::BadCount)
@@ -440,7 +440,7 @@ fn gives(cutter: &mut Cutter) -> Result<bool, FrameFault> {
     }
 }
 
-/// Feeds a PRUNE byte by byte. Whether the cutter gives no frame before its end.
+/// Feeds a PRUNE byte by byte. Returns whether the cutter gives no frame before the last byte.
 fn is_fed(cutter: &mut Cutter) -> Result<bool, AllocError> {
     let mut is_right = true;
     for at in 0..24 {
@@ -468,7 +468,7 @@ fn push_frame(alloc: Global, given: &mut Vec<u8>, frame: &Frame) -> Result<(), A
     given.extend_from_slice(written.as_slice())
 }
 
-/// Appends the bytes of the cutter's next frame. How many it gave.
+/// Appends the bytes of the cutter's next frame. Returns how many frames it gave.
 fn push_next(alloc: Global, cutter: &mut Cutter, given: &mut Vec<u8>) -> Result<u32, AllocError> {
     match cutter.next() {
         Ok(Some(frame)) => {
@@ -479,7 +479,7 @@ fn push_next(alloc: Global, cutter: &mut Cutter, given: &mut Vec<u8>) -> Result<
     }
 }
 
-/// Asks three times, and appends the bytes of the frames. How many there were.
+/// Asks the cutter three times, and appends the bytes of its frames. Returns how many there were.
 fn push_three(alloc: Global, cutter: &mut Cutter, given: &mut Vec<u8>) -> Result<u32, AllocError> {
     let mut count = 0u32;
     for _ in 0..3 {
@@ -489,7 +489,7 @@ fn push_three(alloc: Global, cutter: &mut Cutter, given: &mut Vec<u8>) -> Result
     Ok(count)
 }
 
-/// Feeds a stream of two frames in pieces of this size. Whether what is given is the stream.
+/// Feeds a stream of two frames in pieces of this size. Returns whether the frames that come out are the stream.
 fn are_pieces(
     alloc: Global,
     cutter: &mut Cutter,
@@ -506,7 +506,7 @@ fn are_pieces(
     Ok(is_given && count == 2 && cutter.left() == 0)
 }
 
-/// Does so with a fresh cutter.
+/// Checks a piece size with a fresh cutter.
 fn is_size(alloc: Global, given: &mut Vec<u8>, size: usize) -> Result<bool, AllocError> {
     let mut cutter = Cutter::new(alloc);
     given.clear();

@@ -1,6 +1,6 @@
-//! Reading frames from a stream and writing them to one, each allocation refused in turn: the end is as out of memory,
-//! and what the sink took or the writer has is a front of the whole. The call in which no allocation is left to refuse
-//! ends as its row says.
+//! Reading frames from a stream and writing them to one, with each allocation refused in turn: the call ends as out of
+//! memory, and what the sink took or the writer has is a prefix of the whole. The call in which no allocation is left
+//! to refuse ends as its row says.
 use crate::tests::calls::{DrainCall, Drained, PumpCall, Pumped, call_drain, call_pump};
 use crate::tests::rows::{Row, rows};
 use links::LinkEnd;
@@ -8,10 +8,10 @@ use refusing_allocator::RefusingAllocator;
 use std::alloc::{AllocError, Allocator};
 use std::test::Fail;
 
-/// More allocations than any call has.
+/// More allocations than any call makes.
 const MANY: u64 = 120;
 
-/// A call of a pump, its end, and how many frames the sink took and bytes are left for one more read.
+/// A call of a pump, its end, how many frames the sink took, and how many bytes one more read gives.
 #[derive(Clone, Copy)]
 pub(crate) struct PumpRow {
     pub(crate) name: &'static str,
@@ -21,8 +21,8 @@ pub(crate) struct PumpRow {
     pub(crate) rest: usize,
 }
 
-/// Whether a pump ended as its row says, or as out of memory if an allocation was refused. The fault of a frame may be
-/// told even then.
+/// Whether a pump ended as its row says, or as out of memory if an allocation was refused. A frame's fault may be
+/// returned even then.
 fn is_pumped(row: &PumpRow, pumped: &Pumped) -> bool {
     let are_counts = pumped.frames == row.frames && pumped.rest == row.rest;
     let is_whole = pumped.end == row.end && are_counts;
@@ -35,7 +35,7 @@ fn is_pumped(row: &PumpRow, pumped: &Pumped) -> bool {
     is_end && pumped.is_front
 }
 
-/// Pumps while each allocation of the cutter is refused in turn. How many there are, or none if an answer is wrong.
+/// Pumps while each allocation of the cutter is refused in turn. Returns their number, or `None` if an answer is wrong.
 pub(crate) fn sweep_pump<A: Allocator + Copy>(
     heap: &RefusingAllocator,
     alloc: A,
@@ -53,7 +53,7 @@ pub(crate) fn sweep_pump<A: Allocator + Copy>(
     Ok(None)
 }
 
-/// The end of a stream that is read in whole.
+/// Returns how a pump ends that reads the whole stream.
 fn end_of(row: &Row) -> LinkEnd {
     match row.fault {
         Some(fault) => LinkEnd::Frame(fault),
@@ -67,7 +67,7 @@ fn end_of(row: &Row) -> LinkEnd {
     }
 }
 
-/// A pump that reads a stream in whole.
+/// Makes a pump's row that reads the whole stream.
 fn pump_of(row: &Row) -> PumpRow {
     PumpRow {
         name: row.name,
@@ -97,7 +97,7 @@ fn each_allocation_of_a_pump(rt: HostRuntime) -> Result<(), Fail> {
     Ok(())
 }
 
-/// A call of a drain, its answer, and how many bytes the writer has then.
+/// A call of a drain, its answer, and how many bytes the writer has afterwards.
 #[derive(Clone, Copy)]
 pub(crate) struct DrainRow {
     pub(crate) call: DrainCall,
@@ -112,8 +112,8 @@ pub(crate) enum Refused {
     Writer,
 }
 
-/// Whether a drain ended at a refused allocation: after all that the source gave, or within it where the writer's call
-/// failed.
+/// Whether a drain ended at a refused allocation: after everything that the source gave if the source was refused, or
+/// within it if a call of the writer failed.
 fn is_cut_off(drained: &Drained, refused: Refused) -> bool {
     let given = drained.gave.saturating_mul(24);
     let bytes = drained.len as u64;
@@ -135,7 +135,8 @@ fn is_drained(row: &DrainRow, drained: &Drained, refused: Refused) -> bool {
     is_end && drained.is_front
 }
 
-/// Drains while each allocation of the one is refused in turn. How many there are, or none if an answer is wrong.
+/// Drains while each allocation of the source or of the writer, as `refused` says, is refused in turn. Returns their
+/// number, or `None` if an answer is wrong.
 pub(crate) fn sweep_drain<A: Allocator + Copy, B: Allocator + Copy>(
     heap: &RefusingAllocator,
     sources: A,

@@ -6,12 +6,12 @@ use std::alloc::Allocator;
 use std::test::Fail;
 use test_support::stop_refusing;
 
-/// Feeds a frame and takes it. Whether it is whole, and nothing is left.
+/// Feeds a frame and takes it. Returns whether it comes out and nothing is left.
 fn is_cut<A: Allocator + Copy>(cutter: &mut Cutter<A>, frame: &[u8]) -> bool {
     cutter.feed(frame).is_ok() && matches!(cutter.next(), Ok(Some(_))) && cutter.left() == 0
 }
 
-/// Does so as often as this. Whether each time it is whole.
+/// Feeds and takes a frame `times` times. Returns whether it comes out each time and nothing is left.
 fn are_cut<A: Allocator + Copy>(cutter: &mut Cutter<A>, frame: &[u8], times: u32) -> bool {
     for _ in 0..times {
         if !is_cut(cutter, frame) {
@@ -21,8 +21,8 @@ fn are_cut<A: Allocator + Copy>(cutter: &mut Cutter<A>, frame: &[u8], times: u32
     true
 }
 
-/// Whether a frame that takes no memory of its own is cut a thousand times more once three were, and no call has an
-/// allocation then.
+/// Whether a frame that takes no memory of its own is cut a thousand more times, after the first three, without any
+/// allocation.
 fn takes_no_more(heap: &RefusingAllocator, frame: &[u8]) -> bool {
     let mut cutter = Cutter::new(heap);
     let is_begun = are_cut(&mut cutter, frame, 3);

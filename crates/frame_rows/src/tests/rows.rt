@@ -1,7 +1,7 @@
 //! Streams of bytes, with the frames in them worked out by hand.
 use frames::FrameFault;
 
-/// A stream, the lengths of the frames that it begins with, and the fault of what comes then, if it has one.
+/// A stream, the lengths of the frames that it begins with, and the fault of the bytes after them, if they have one.
 #[derive(Clone, Copy)]
 pub(crate) struct Row {
     pub(crate) name: &'static str,
@@ -10,12 +10,12 @@ pub(crate) struct Row {
     pub(crate) fault: Option<FrameFault>,
 }
 
-/// All rows, which are a constant of this function alone, since each function that names them is proved about them.
+/// Returns all rows. Only this function names the constant, since each function that names it needs a proof about it.
 pub(crate) fn rows() -> &'static [Row] {
     ROWS
 }
 
-// All frames are of a/1. Those without another word have number 1.
+// The sender is a/1 unless the row's name says otherwise. Frames with fields have number 1.
 const ROWS: &[Row] = &[
     Row {
         name: "PRUNE, number 2",
@@ -117,7 +117,7 @@ const ROWS: &[Row] = &[
         frames: &[],
         fault: Some(FrameFault::BadCount),
     },
-    // Room for the names is made before the second is judged, and its fault is told even so.
+    // The list for the names is allocated before the second name is checked; its fault is reported all the same.
     Row {
         name: "SHUFFLEREPLY with the names b and B",
         bytes: b"\0\0\0\x19\x01\x07\x01a\0\0\0\0\0\0\0\x01\0\0\0\0\0\0\0\x01\x02\x01b\x01B",

@@ -8,7 +8,7 @@ use std::alloc::Allocator;
 use std::io;
 use std::io::Write;
 
-/// A writer over memory that takes at most so many bytes a call, and none at the call of this number, from 0.
+/// A writer to memory that takes a limited number of bytes per call, and none at call number `stalls`, counted from 0.
 #[derive(Drop)]
 pub(crate) struct StallingWriter<A: Allocator> {
     tape: TapeWriter<A>,
@@ -27,7 +27,7 @@ impl<A: Allocator> StallingWriter<A> {
         }
     }
 
-    /// The bytes that were written.
+    /// Returns the bytes that were written.
     pub(crate) fn as_slice(&self) -> &[u8] {
         self.tape.as_slice()
     }

@@ -1,11 +1,11 @@
-//! Calls of a node's gossip written by letters and numbers.
+//! Calls of a node's gossip, written with letters and numbers.
 use crate::tests::named::{Id, id, name};
 use bytes::Bytes;
 use gossip_core::{Effects, Gossip, GossipFault};
 use std::alloc::{AllocError, Allocator};
 use std::process::Abort;
 
-/// A call in letters and numbers. Nodes have names of one letter. What has no references is cheap to prove.
+/// A call in letters and numbers. The names of nodes have one letter. A type without references is cheap to prove.
 #[derive(Clone, Copy)]
 pub(crate) enum Act {
     /// The node broadcasts a letter, or an empty payload.
@@ -25,12 +25,12 @@ pub(crate) enum Act {
     Down(u8),
 }
 
-/// Whether the call takes no memory.
+/// Whether the call allocates nothing.
 pub(crate) fn takes_none(act: &Act) -> bool {
     matches!(act, Act::OnGraftPeer(_) | Act::OnPrune(_) | Act::Down(_))
 }
 
-/// The letter that the call brings.
+/// Returns the letter that the call brings.
 fn letter_of(act: &Act) -> Option<u8> {
     match *act {
         Act::Broadcast(letter) => letter,
@@ -39,7 +39,7 @@ fn letter_of(act: &Act) -> Option<u8> {
     }
 }
 
-/// The payload that the call brings.
+/// Returns the payload that the call brings.
 pub(crate) fn payload<A: Allocator + Copy>(alloc: A, act: &Act) -> Result<Bytes<A>, AllocError> {
     match letter_of(act) {
         Some(letter) => Bytes::copy_from_slice(alloc, &[letter]),
@@ -47,7 +47,7 @@ pub(crate) fn payload<A: Allocator + Copy>(alloc: A, act: &Act) -> Result<Bytes<
     }
 }
 
-/// A broadcast whose id is left aside.
+/// Broadcasts, and discards the message's id.
 fn broadcast<A: Allocator + Copy>(
     gossip: &mut Gossip<A>,
     payload: &Bytes<A>,
@@ -73,7 +73,7 @@ fn on_gossip<A: Allocator + Copy>(
     gossip.on_gossip(&sender, &message, round, payload, out)
 }
 
-/// A packet with one announcement.
+/// Brings a packet with one announcement.
 fn on_ihave<A: Allocator + Copy>(
     rt: &impl Abort,
     gossip: &mut Gossip<A>,
@@ -99,7 +99,7 @@ fn on_graft<A: Allocator + Copy>(
     gossip.on_graft(&sender, &message, round, out)
 }
 
-/// A packet that asks for messages and for none in particular takes no memory.
+/// Brings a packet that asks for messages but for none in particular, which allocates nothing.
 fn on_graft_peer<A: Allocator + Copy>(
     rt: &impl Abort,
     gossip: &mut Gossip<A>,
@@ -109,7 +109,7 @@ fn on_graft_peer<A: Allocator + Copy>(
     Ok(())
 }
 
-/// A packet that asks for announcements takes no memory.
+/// Brings a packet that asks for announcements only, which allocates nothing.
 fn on_prune<A: Allocator + Copy>(
     rt: &impl Abort,
     gossip: &mut Gossip<A>,
@@ -119,7 +119,7 @@ fn on_prune<A: Allocator + Copy>(
     Ok(())
 }
 
-/// A link that fails takes no memory.
+/// Reports that a link failed, which allocates nothing.
 fn down<A: Allocator + Copy>(
     rt: &impl Abort,
     gossip: &mut Gossip<A>,
@@ -153,7 +153,7 @@ fn up<A: Allocator + Copy>(
     gossip.up(&name(rt, peer))
 }
 
-/// A call that gives nothing.
+/// Makes a call that gives nothing.
 fn hear<A: Allocator + Copy>(
     rt: &impl Abort,
     gossip: &mut Gossip<A>,
@@ -169,7 +169,7 @@ fn hear<A: Allocator + Copy>(
     }
 }
 
-/// A call other than a broadcast.
+/// Makes a call other than a broadcast.
 fn call_with<A: Allocator + Copy>(
     rt: &impl Abort,
     gossip: &mut Gossip<A>,
@@ -192,7 +192,7 @@ fn is_broadcast(act: &Act) -> bool {
     matches!(act, Act::Broadcast(_))
 }
 
-/// The answer of a call that is refused only where an allocation is.
+/// Converts the answer of a call that fails only if an allocation is refused.
 fn in_memory(answer: Result<(), AllocError>) -> Result<(), GossipFault> {
     match answer {
         Ok(()) => Ok(()),

@@ -1,4 +1,4 @@
-//! Calls of announcements and timers, worked out by hand, and each of their allocations refused in turn.
+//! Calls of announcements and timers, worked out by hand, also with each of their allocations refused in turn.
 use crate::tests::named::{Id, id, name};
 use crate::tests::texts::push_missing;
 use missing::Missing;
@@ -20,10 +20,10 @@ enum Act {
     Down(u8),
 }
 
-/// A call, what it gives, and what the readers answer after it.
+/// A call, what it gives, and what the readers show after it.
 type Turn = (Act, &'static str, &'static str);
 
-/// Calls before one, and those from it on.
+/// The calls before one, and those from it on.
 type Parts<'a> = (&'a [Turn], &'a [Turn]);
 
 const A1: Id = (b'a', 1);
@@ -58,20 +58,21 @@ const TURNS: &[Turn] = &[
     (Act::Got(A2), "", "a/1/1:c:3 | a/1/1 "),
 ];
 
-/// All calls. The table is named here alone, since a function that names it is proved over the whole of it.
+/// Returns all calls. Only this function names the table, since a function that names it needs a proof about the whole
+/// table.
 fn turns() -> &'static [Turn] {
     TURNS
 }
 
-/// What the readers answer before any call.
+/// What the readers show before any call.
 const START: &str = "| ";
 
-/// Whether the call takes no memory.
+/// Whether the call allocates nothing.
 fn takes_none(act: &Act) -> bool {
     !matches!(act, Act::Announce(..))
 }
 
-/// What the readers answer after these calls.
+/// Returns what the readers show after these calls.
 fn left(turns: &[Turn]) -> &'static str {
     match turns.last() {
         Some(turn) => turn.2,
@@ -79,7 +80,7 @@ fn left(turns: &[Turn]) -> &'static str {
     }
 }
 
-/// Whether the readers answer so. What they answer otherwise is the text.
+/// Whether the readers show `wanted`. Leaves what they show in the text.
 fn is_shown<A: Allocator>(
     text: &mut String,
     missing: &Missing<A>,
@@ -90,7 +91,7 @@ fn is_shown<A: Allocator>(
     Ok(text.as_str() == wanted)
 }
 
-/// Announces, and appends whether a timer was armed.
+/// Announces a message, and appends whether that armed a timer.
 fn announce<A: Allocator + Copy>(
     rt: &impl Abort,
     text: &mut String,
@@ -104,7 +105,7 @@ fn announce<A: Allocator + Copy>(
     write!(text, "{is_armed}")
 }
 
-/// Takes who announced first, and appends that.
+/// Takes the first announcer of a message, and appends it with its round.
 fn take_first<A: Allocator>(
     rt: &impl Abort,
     text: &mut String,
@@ -117,7 +118,7 @@ fn take_first<A: Allocator>(
     }
 }
 
-/// Appends whether a timer is armed, which fires.
+/// Lets a message's timer fire, and appends whether it is armed.
 fn armed<A: Allocator>(
     rt: &impl Abort,
     text: &mut String,
@@ -136,7 +137,7 @@ fn lose<A: Allocator>(rt: &impl Abort, missing: &mut Missing<A>, peer: u8) {
     missing.down(&name(rt, peer));
 }
 
-/// Makes the call, and writes what it gives in place of what the text said.
+/// Makes a call, and replaces the text with what it gives.
 fn call<A: Allocator + Copy>(
     rt: &impl Abort,
     text: &mut String,
@@ -154,7 +155,7 @@ fn call<A: Allocator + Copy>(
     Ok(())
 }
 
-/// Whether a call that was not refused gave what the text should say, and left this.
+/// Whether a call that was not refused gave `given` and left `shown`.
 fn is_left<A: Allocator>(
     text: &mut String,
     missing: &Missing<A>,
@@ -167,7 +168,7 @@ fn is_left<A: Allocator>(
     is_shown(text, missing, shown)
 }
 
-/// Makes a call. Whether it gives and leaves what it should.
+/// Makes a call. Returns whether it gives and leaves what it should.
 fn is_turn<A: Allocator + Copy>(
     rt: &impl Abort,
     text: &mut String,
@@ -178,7 +179,7 @@ fn is_turn<A: Allocator + Copy>(
     is_left(text, missing, turn.1, turn.2)
 }
 
-/// Makes calls. Whether each of them does so.
+/// Makes calls. Returns whether each gives and leaves what it should.
 fn are_turns<A: Allocator + Copy>(
     rt: &impl Abort,
     text: &mut String,
@@ -213,8 +214,8 @@ fn plays_calls(rt: HostRuntime) -> Result<(), Fail> {
     Ok(lend(text, |text| play(&rt, rt.alloc(), text))?)
 }
 
-/// Makes a call while the allocation with this number is refused. Whether there is such an allocation, and whether it
-/// is refused.
+/// Makes a call while allocation number `n` is refused. Returns whether there is such an allocation, and whether the
+/// call fails.
 fn try_call<A: Allocator + Copy>(
     rt: &impl Abort,
     heap: &RefusingAllocator,
@@ -229,8 +230,8 @@ fn try_call<A: Allocator + Copy>(
     (is_spent, is_refused)
 }
 
-/// Makes a call again that was refused. Whether it takes memory, its refusal left what stood, and it gives and leaves
-/// what it should now.
+/// Makes a refused call again. Returns whether it is a call that allocates, its refusal left everything as it was, and
+/// it now gives and leaves what it should.
 fn is_turn_again<A: Allocator + Copy>(
     rt: &impl Abort,
     text: &mut String,
@@ -245,8 +246,8 @@ fn is_turn_again<A: Allocator + Copy>(
     is_turn(rt, text, missing, turn)
 }
 
-/// Makes a call while the allocation with this number is refused, and again if it is refused. Whether there is such an
-/// allocation, or none if an answer is wrong.
+/// Makes a call while allocation number `n` is refused, and again if it failed. Returns whether there is such an
+/// allocation, or `None` if an answer is wrong.
 fn refuse_call<A: Allocator + Copy>(
     rt: &impl Abort,
     heap: &RefusingAllocator,
@@ -265,8 +266,8 @@ fn refuse_call<A: Allocator + Copy>(
     Ok(is_right.then_some(is_spent))
 }
 
-/// Makes the calls up to one, and refuses its allocation with this number. Whether there is such an allocation, or none
-/// if an answer is wrong.
+/// Makes the first calls, and refuses allocation number `n` of the next one. Returns whether there is such an
+/// allocation, or `None` if an answer is wrong.
 fn sweep_parts<A: Allocator + Copy>(
     rt: &impl Abort,
     heap: &RefusingAllocator,
@@ -283,7 +284,7 @@ fn sweep_parts<A: Allocator + Copy>(
     }
 }
 
-/// Does so from nothing, which takes no memory.
+/// Calls `sweep_parts` with an empty table. Making that allocates nothing.
 fn sweep_call<A: Allocator + Copy>(
     rt: &impl Abort,
     heap: &RefusingAllocator,
@@ -324,7 +325,7 @@ fn each_allocation_of_each_call(rt: HostRuntime) -> Result<(), Fail> {
     Ok(())
 }
 
-/// Whether a copy is right: there is none if an allocation was refused, and its readers answer so otherwise.
+/// Whether a copy is right: there is one exactly if no allocation was refused, and its readers show `wanted`.
 fn is_copy<A: Allocator>(
     text: &mut String,
     copy: &Result<Missing<A>, AllocError>,
@@ -340,8 +341,8 @@ fn is_copy<A: Allocator>(
     }
 }
 
-/// Copies what calls left while the allocation with this number is refused. Whether there is such an allocation, or none
-/// if the copy is wrong.
+/// Copies what calls left, while allocation number `n` is refused. Returns whether there is such an allocation, or
+/// `None` if the copy is wrong.
 fn refuse_copy<A: Allocator + Copy>(
     heap: &RefusingAllocator,
     text: &mut String,
@@ -356,8 +357,8 @@ fn refuse_copy<A: Allocator + Copy>(
     Ok(is_right.then_some(is_spent))
 }
 
-/// Makes calls, and refuses each allocation of a copy of what they leave in turn. How many it has, or none if a copy is
-/// wrong.
+/// Makes calls, and refuses in turn each allocation of a copy of what they leave. Returns their number, or `None` if a
+/// copy is wrong.
 fn sweep_left<A: Allocator + Copy>(
     rt: &impl Abort,
     heap: &RefusingAllocator,
@@ -371,7 +372,7 @@ fn sweep_left<A: Allocator + Copy>(
     sweep(|n| refuse_copy(heap, text, missing, left(turns), n))
 }
 
-/// Makes them from nothing.
+/// Calls `sweep_left` with an empty table.
 fn sweep_left_from_start<A: Allocator + Copy>(
     rt: &impl Abort,
     heap: &RefusingAllocator,
@@ -386,7 +387,7 @@ fn sweep_left_from_start<A: Allocator + Copy>(
     )
 }
 
-/// A copy of what all but the last two calls leave.
+/// Refuses each allocation of a copy of what all calls but the last two leave.
 #[test]
 fn each_allocation_of_a_copy(rt: HostRuntime) -> Result<(), Fail> {
     let heap = RefusingAllocator::new(rt.alloc());

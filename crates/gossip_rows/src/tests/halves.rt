@@ -1,4 +1,5 @@
-//! The rows played in two halves, an answer and a take, with each allocation of each half refused in turn.
+//! The rows, with each call played in two halves, an answer and a take, and each allocation of each half refused in
+//! turn.
 ghost use Rattle.std.specs.Prelude.{◌≡◌, IsTrue};
 ghost use Rattle.gossip_core.specs.Refusals.{CanTake};
 ghost use Rattle.gossip_core.specs.Table.{lent};
@@ -18,10 +19,10 @@ use std::process::Abort;
 use std::test::Fail;
 use test_support::{lend, stop_refusing};
 
-/// More allocations than any half has.
+/// More allocations than any half makes.
 const MANY: u64 = 50;
 
-/// The announcement that the call brings, or another where it brings none.
+/// Returns the announcement that the call brings, or some other one if it brings none.
 fn entries(rt: &impl Abort, act: &Act) -> [(MsgId, u32); 1] {
     match *act {
         Act::OnIHave(_, message, round) => [(id(rt, message), round)],
@@ -29,7 +30,7 @@ fn entries(rt: &impl Abort, act: &Act) -> [(MsgId, u32); 1] {
     }
 }
 
-/// The call as a value.
+/// Returns the call as a value.
 fn call_of<'a, A: Allocator>(
     rt: &impl Abort,
     act: &Act,
@@ -72,8 +73,8 @@ fn call_of<'a, A: Allocator>(
     }
 }
 
-/// Whether a call is answered as it should be, or refused as out of memory if an allocation was refused, and what stood
-/// is left.
+/// Whether a call is answered as it should be, or fails as out of memory if an allocation was refused, and the node is
+/// left as it was.
 fn is_answered<A: Allocator + Copy>(
     text: &mut String,
     ids: &[MsgId],
@@ -91,7 +92,7 @@ fn is_answered<A: Allocator + Copy>(
     Ok(is_right && answer.is_err() == is_refused)
 }
 
-/// Answers while the allocation with this number is refused. Whether there is such an allocation.
+/// Answers a call while allocation number `n` is refused. Returns whether there is such an allocation.
 fn refuse_answer<A: Allocator + Copy>(
     rt: &impl Abort,
     heap: &RefusingAllocator,
@@ -114,7 +115,7 @@ fn refuse_answer<A: Allocator + Copy>(
     Ok(is_spent)
 }
 
-/// Refuses each allocation of an answer in turn. How many it has.
+/// Refuses each allocation of an answer in turn. Returns their number.
 fn sweep_answer<A: Allocator + Copy>(
     rt: &impl Abort,
     heap: &RefusingAllocator,
@@ -134,7 +135,7 @@ fn sweep_answer<A: Allocator + Copy>(
     Ok(MANY)
 }
 
-/// Takes a call. Whether it is not refused, and leaves what it should.
+/// Takes a call. Returns whether it succeeds and leaves what it should.
 fn is_taken<A: Allocator + Copy>(
     text: &mut String,
     ids: &[MsgId],
@@ -150,8 +151,8 @@ fn is_taken<A: Allocator + Copy>(
     is_shown(text, ids, gossip, wanted)
 }
 
-/// Takes a call that was refused. Whether the refusal left what stood, and the call is not refused now, and leaves what
-/// it should.
+/// Takes a refused call again. Returns whether the refusal left the node as it was, and the call now succeeds and
+/// leaves what it should.
 fn is_taken_again<A: Allocator + Copy>(
     text: &mut String,
     ids: &[MsgId],
@@ -168,8 +169,8 @@ fn is_taken_again<A: Allocator + Copy>(
     is_taken(text, ids, gossip, call, wanted)
 }
 
-/// Takes a call while the allocation with this number is refused. Whether there is such an allocation, and whether the
-/// call is refused.
+/// Takes a call while allocation number `n` is refused. Returns whether there is such an allocation, and whether the
+/// call fails.
 fn try_take<A: Allocator + Copy>(
     heap: &RefusingAllocator,
     gossip: &mut Gossip<A>,
@@ -185,7 +186,7 @@ fn try_take<A: Allocator + Copy>(
     (is_spent, answer.is_err())
 }
 
-/// Takes a call while the allocation with this number is refused, and again if it is refused. Whether there is such an
+/// Takes a call while allocation number `n` is refused, and again if it failed. Returns whether there is such an
 /// allocation.
 fn refuse_take<A: Allocator + Copy>(
     rt: &impl Abort,
@@ -210,7 +211,7 @@ fn refuse_take<A: Allocator + Copy>(
     Ok(is_spent)
 }
 
-/// Does so with a copy.
+/// Calls `refuse_take` with a copy of the node.
 fn refuse_take_of_copy<A: Allocator + Copy>(
     rt: &impl Abort,
     heap: &RefusingAllocator,
@@ -228,7 +229,7 @@ fn refuse_take_of_copy<A: Allocator + Copy>(
     refuse_take(rt, heap, text, ids, &mut copy, call, stood, turn, n)
 }
 
-/// Refuses each allocation of a take in turn. How many it has.
+/// Refuses each allocation of a take in turn. Returns their number.
 fn sweep_take<A: Allocator + Copy>(
     rt: &impl Abort,
     heap: &RefusingAllocator,
@@ -250,14 +251,14 @@ fn sweep_take<A: Allocator + Copy>(
     Ok(MANY)
 }
 
-/// Whether the call can be taken: its answer is not refused.
+/// Whether the call can be taken, which is so if it is answered without an error.
 fn can_take<A: Allocator + Copy>(gossip: &Gossip<A>, call: &Call<'_, A>) -> bool
     ensures { IsTrue result → CanTake gossip.now (lent call.now) }
 {
     gossip.answer(call).is_ok()
 }
 
-/// Refuses each allocation of the two halves of a call in turn, and takes it. How many they have.
+/// Refuses in turn each allocation of the two halves of a call, and then takes the call. Returns their number.
 fn sweep_call<A: Allocator + Copy>(
     rt: &impl Abort,
     heap: &RefusingAllocator,
@@ -277,7 +278,7 @@ fn sweep_call<A: Allocator + Copy>(
     Ok(answered.saturating_add(taken))
 }
 
-/// Does so with this payload.
+/// Sweeps a row's call with this payload.
 fn sweep_with<A: Allocator + Copy>(
     rt: &impl Abort,
     heap: &RefusingAllocator,
@@ -293,7 +294,7 @@ fn sweep_with<A: Allocator + Copy>(
     sweep_call(rt, heap, text, ids, gossip, &call, stood, turn)
 }
 
-/// Does so with a payload of its own.
+/// Sweeps a row's call with a payload that it makes.
 fn sweep_turn<A: Allocator + Copy>(
     rt: &impl Abort,
     heap: &RefusingAllocator,
@@ -308,7 +309,7 @@ fn sweep_turn<A: Allocator + Copy>(
     sweep_with(rt, heap, text, ids, gossip, &payload, stood, turn)
 }
 
-/// Does so with each call of a row. How many allocations they have.
+/// Sweeps each call of a row. Returns how many allocations they have.
 fn sweep_turns<A: Allocator + Copy>(
     rt: &impl Abort,
     heap: &RefusingAllocator,
@@ -327,7 +328,7 @@ fn sweep_turns<A: Allocator + Copy>(
     Ok(refused)
 }
 
-/// Does so at a fresh node.
+/// Sweeps a row at a fresh node.
 fn sweep_row<A: Allocator + Copy>(
     rt: &impl Abort,
     heap: &RefusingAllocator,
@@ -342,7 +343,7 @@ fn sweep_row<A: Allocator + Copy>(
     })
 }
 
-/// Sweeps rows, each of which has allocations.
+/// Sweeps rows, each of which has more than five allocations.
 fn sweep_rows<A: Allocator + Copy>(
     rt: &impl Abort,
     heap: &RefusingAllocator,

@@ -8,7 +8,7 @@ use std::process::Abort;
 use std::test::Fail;
 use test_support::{lend, stop_refusing};
 
-/// Broadcasts an empty message as often as this. Whether each is known then.
+/// Broadcasts an empty message `times` times. Returns whether each broadcast succeeds.
 fn are_known<A: Allocator + Copy>(
     gossip: &mut Gossip<A>,
     payload: &Bytes<A>,
@@ -23,8 +23,8 @@ fn are_known<A: Allocator + Copy>(
     true
 }
 
-/// Whether a node without peers that keeps ten payloads has broadcast a thousand messages more once it made fifty, and
-/// no call has an allocation then.
+/// Whether a node without peers that keeps ten payloads allocates nothing for a thousand more broadcasts, once it has
+/// made fifty.
 fn takes_no_more<A: Allocator + Copy>(
     heap: &RefusingAllocator,
     alloc: A,
@@ -38,7 +38,7 @@ fn takes_no_more<A: Allocator + Copy>(
     is_begun && goes_on && !stop_refusing(heap)
 }
 
-/// A node without peers that keeps ten payloads.
+/// Makes a node without peers that keeps ten payloads.
 fn start<A: Allocator + Copy>(rt: &impl Abort, alloc: A) -> Result<Gossip<A>, AllocError> {
     Gossip::new_tuned(alloc, origin(rt, b'a'), &[], 0, 0, 10)
 }

@@ -1,5 +1,5 @@
-//! Rows of nodes that forget payloads. They stand apart from the other rows since a function that names a table costs
-//! by all of its rows.
+//! Rows of nodes that forget payloads. They are apart from the other rows since a proof about a function that names a
+//! table costs more for each row of the table.
 use crate::tests::act::Act;
 use crate::tests::rows::{A1, A2, A3, A5, C1, Row, Tuning, Turn};
 
@@ -13,7 +13,7 @@ const KEEPS_TWO: Tuning = Tuning {
     keep: 2,
 };
 
-/// A message whose payload was forgotten is known, and who asks for it is eager and gets nothing.
+/// A message whose payload was forgotten stays known. A peer that asks for it becomes eager and gets nothing.
 const FORGOTTEN: &[Turn] = &[
     (
         Act::OnGossip(b'a', A1, 0, Some(b'm')),
@@ -62,7 +62,7 @@ fn forgotten() -> &'static [Turn] {
     FORGOTTEN
 }
 
-/// Of the messages that were delivered the last two are held, in whatever order their numbers are.
+/// Only the last two delivered messages are held, whatever the order of their numbers.
 const LAST_TWO: &[Turn] = &[
     (
         Act::OnGossip(b'a', A3, 0, Some(b'm')),
@@ -105,7 +105,7 @@ fn last_two() -> &'static [Turn] {
     LAST_TWO
 }
 
-/// All of them.
+/// Returns all of these rows.
 pub(crate) fn kept_rows() -> [Row; 2] {
     [
         Row {

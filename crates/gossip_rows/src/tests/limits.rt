@@ -1,4 +1,4 @@
-//! What a node refuses, and how much a frame takes.
+//! What a node refuses, and how much fits into a frame.
 use crate::tests::named::{id, name, origin};
 use crate::tests::play::start;
 use bytes::Bytes;
@@ -10,25 +10,25 @@ use std::process::Abort;
 use std::test::Fail;
 use test_support::lend;
 
-/// How many bytes a payload has, and what its broadcast answers: the number of the message, or the refusal.
+/// The number of bytes of a payload, and what its broadcast returns: the message's number, or the refusal.
 type Case = (usize, Result<u64, GossipFault>);
 
 const BROADCASTS: [Case; 4] = [
     (32_769, Err(GossipFault::PayloadTooLong)),
     (32_768, Ok(u64::MAX)),
     (32_768, Err(GossipFault::SeqSpent)),
-    // A payload that is too long is told before numbers that are used up.
+    // A payload that is too long is reported before numbers that are used up.
     (32_769, Err(GossipFault::PayloadTooLong)),
 ];
 
-/// So many zeros.
+/// Makes `count` zeros.
 fn zeros<A: Allocator + Copy>(alloc: A, count: usize) -> Result<Bytes<A>, AllocError> {
     let mut bytes = Vec::new(alloc);
     bytes.resize(count, 0u8)?;
     Ok(Bytes::from_vec(bytes)?)
 }
 
-/// A node without peers that has broadcast so many messages.
+/// Makes a node without peers that has broadcast `spent` messages.
 fn lone<A: Allocator + Copy>(
     rt: &impl Abort,
     alloc: A,
@@ -37,7 +37,7 @@ fn lone<A: Allocator + Copy>(
     Gossip::new(alloc, origin(rt, b'a'), &[], spent)
 }
 
-/// Whether a broadcast answers this.
+/// Whether a broadcast returns `wanted`.
 fn is_answer<A: Allocator + Copy>(
     gossip: &mut Gossip<A>,
     payload: &Bytes<A>,
@@ -50,7 +50,7 @@ fn is_answer<A: Allocator + Copy>(
     }
 }
 
-/// Whether a broadcast of so many zeros answers this.
+/// Whether a broadcast of `count` zeros returns `wanted`.
 fn is_answer_to_zeros<A: Allocator + Copy>(
     alloc: A,
     gossip: &mut Gossip<A>,
@@ -62,7 +62,7 @@ fn is_answer_to_zeros<A: Allocator + Copy>(
     Ok(is_answer(gossip, &payload, out, wanted))
 }
 
-/// Whether broadcasts answer so at a node without peers, and nothing is sent.
+/// Whether broadcasts return what they should at a node without peers, and nothing is sent.
 fn are_answers<A: Allocator + Copy>(
     alloc: A,
     gossip: &mut Gossip<A>,
@@ -77,12 +77,13 @@ fn are_answers<A: Allocator + Copy>(
     Ok(out.sends.is_empty())
 }
 
-/// Whether the node knows of its own messages the last one alone.
+/// Whether the last of the node's own messages is the only one of them that it knows.
 fn knows_last_alone<A: Allocator>(rt: &impl Abort, gossip: &Gossip<A>) -> bool {
     gossip.span(&origin(rt, b'a')) == (0, 1) && !gossip.knows(&id(rt, (b'a', 1)))
 }
 
-/// Whether they do so, and the node knows the last one alone then.
+/// Whether broadcasts return what they should, and the last message is then the only one of its own that the node
+/// knows.
 fn are_last_answers<A: Allocator + Copy>(
     rt: &impl Abort,
     alloc: A,
@@ -94,7 +95,7 @@ fn are_last_answers<A: Allocator + Copy>(
     Ok(are_right && knows_last_alone(rt, gossip))
 }
 
-/// Does so at a node that can broadcast one message more.
+/// Checks broadcasts at a node that can broadcast one more message.
 fn are_last_answers_of_lone<A: Allocator + Copy>(
     rt: &impl Abort,
     alloc: A,
@@ -112,7 +113,7 @@ fn refuses_long_payloads_and_spent_numbers(rt: HostRuntime) -> Result<(), Fail> 
     Ok(())
 }
 
-/// Broadcasts a payload into these effects. Whether it is not sent at once.
+/// Broadcasts a payload into these effects. Returns whether nothing is sent at once.
 fn is_silent<A: Allocator + Copy>(
     gossip: &mut Gossip<A>,
     payload: &Bytes<A>,
@@ -122,7 +123,7 @@ fn is_silent<A: Allocator + Copy>(
     Ok(out.sends.is_empty())
 }
 
-/// Does so with effects of its own.
+/// Broadcasts a payload, as above, with fresh effects.
 fn waits<A: Allocator + Copy>(
     alloc: A,
     gossip: &mut Gossip<A>,
@@ -131,7 +132,7 @@ fn waits<A: Allocator + Copy>(
     lend(Effects::new(alloc), |out| is_silent(gossip, payload, out))
 }
 
-/// Broadcasts so many empty payloads. Whether none of them is sent at once.
+/// Broadcasts `count` empty payloads. Returns whether none of them is sent at once.
 fn wait<A: Allocator + Copy>(
     alloc: A,
     gossip: &mut Gossip<A>,
@@ -146,7 +147,7 @@ fn wait<A: Allocator + Copy>(
     Ok(true)
 }
 
-/// Appends how many announcements each packet has, after its receiver.
+/// Appends the receiver of each packet and how many announcements the packet has.
 fn push_lengths<A: Allocator>(text: &mut String, out: &Effects<A>) -> Result<(), AllocError> {
     for (to, body) in out.sends.as_slice() {
         if let BodyOf::IHave { entries } = body {
@@ -156,7 +157,7 @@ fn push_lengths<A: Allocator>(text: &mut String, out: &Effects<A>) -> Result<(),
     Ok(())
 }
 
-/// Flushes into these effects, and appends these lengths.
+/// Flushes into these effects, and appends the lengths of the packets.
 fn push_flushed_into<A: Allocator + Copy>(
     text: &mut String,
     gossip: &mut Gossip<A>,
@@ -166,7 +167,7 @@ fn push_flushed_into<A: Allocator + Copy>(
     push_lengths(text, out)
 }
 
-/// Does so with effects of its own.
+/// Flushes, as above, with fresh effects.
 fn push_flushed<A: Allocator + Copy>(
     alloc: A,
     text: &mut String,
@@ -176,7 +177,8 @@ fn push_flushed<A: Allocator + Copy>(
     lend(out, |out| push_flushed_into(text, gossip, out))
 }
 
-/// Has announcements of 65 messages wait for both peers, and flushes. Whether these are the lengths.
+/// Queues announcements of 65 messages for both peers, and flushes. Returns whether the packets have the lengths in
+/// `wanted`.
 fn are_cut<A: Allocator + Copy>(
     rt: &impl Abort,
     alloc: A,
@@ -193,7 +195,7 @@ fn are_cut<A: Allocator + Copy>(
     Ok(text.as_str() == wanted)
 }
 
-/// Does so at a fresh node.
+/// Checks the lengths of the packets at a fresh node.
 fn are_cut_at_start<A: Allocator + Copy>(
     rt: &impl Abort,
     alloc: A,

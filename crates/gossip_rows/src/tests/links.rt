@@ -1,4 +1,5 @@
-//! Links that go down and come up in one call, worked out by hand, and each allocation of the call refused in turn.
+//! Links that go down and come up in one call, worked out by hand, also with each allocation of the call refused in
+//! turn.
 use crate::tests::act::Act;
 use crate::tests::named::{Id, name};
 use crate::tests::play::{are_turns, asked, is_shown, left, start};
@@ -13,7 +14,7 @@ use test_support::{lend, stop_refusing, sweep};
 
 const A1: Id = (b'a', 1);
 
-/// `b` is lazy and has announced a message, and one waits for it.
+/// `b` is lazy and has announced a message, and an announcement is queued for it.
 const BEFORE: &[Turn] = &[
     (Act::OnPrune(b'b'), "", "a+ b- | | | | "),
     (
@@ -28,25 +29,26 @@ const BEFORE: &[Turn] = &[
     ),
 ];
 
-/// What the readers answer after `b` and the stranger `z` went down, and then `d`, `b` and `a` came up.
+/// What the readers show after `b` and the stranger `z` went down, and then `d`, `b` and `a` came up.
 const AFTER: &str = "a+ d+ b+ | | | a/1/1 | c/1/1=n ";
 
-/// The calls before. The table is named here alone, since a function that names it is proved over the whole of it.
+/// Returns the calls before. Only this function names the table, since a function that names it needs a proof about the
+/// whole table.
 fn before() -> &'static [Turn] {
     BEFORE
 }
 
-/// Who goes down.
+/// Returns the peers whose links go down.
 fn downs(rt: &impl Abort) -> [NodeName; 2] {
     [name(rt, b'b'), name(rt, b'z')]
 }
 
-/// Who comes up.
+/// Returns the peers whose links come up.
 fn ups(rt: &impl Abort) -> [NodeName; 3] {
     [name(rt, b'd'), name(rt, b'b'), name(rt, b'a')]
 }
 
-/// Whether the call is not refused, and leaves this.
+/// Makes the call. Returns whether it succeeds and leaves what it should.
 fn is_relinked<A: Allocator + Copy>(
     rt: &impl Abort,
     text: &mut String,
@@ -59,8 +61,8 @@ fn is_relinked<A: Allocator + Copy>(
     is_shown(text, ids, gossip, AFTER)
 }
 
-/// Makes the call while the allocation with this number is refused. Whether there is such an allocation, and whether
-/// the call is refused.
+/// Makes the call while allocation number `n` is refused. Returns whether there is such an allocation, and whether the
+/// call fails.
 fn try_relink<A: Allocator + Copy>(
     rt: &impl Abort,
     heap: &RefusingAllocator,
@@ -72,8 +74,8 @@ fn try_relink<A: Allocator + Copy>(
     (stop_refusing(heap), is_refused)
 }
 
-/// Makes the call while the allocation with this number is refused, and again if it is refused. Whether there is such
-/// an allocation, or none if an answer is wrong.
+/// Makes the call while allocation number `n` is refused, and again if it failed. Returns whether there is such an
+/// allocation, or `None` if an answer is wrong.
 fn refuse<A: Allocator + Copy>(
     rt: &impl Abort,
     heap: &RefusingAllocator,
@@ -92,7 +94,7 @@ fn refuse<A: Allocator + Copy>(
     Ok((is_right && is_refused == is_spent).then_some(is_spent))
 }
 
-/// Makes the calls before, and does so.
+/// Makes the calls before, and then calls `refuse`.
 fn refuse_after<A: Allocator + Copy>(
     rt: &impl Abort,
     heap: &RefusingAllocator,
@@ -108,7 +110,7 @@ fn refuse_after<A: Allocator + Copy>(
     refuse(rt, heap, text, ids, gossip, left(turns), n)
 }
 
-/// Makes them at a fresh node.
+/// Calls `refuse_after` with a fresh node.
 fn refuse_from_start<A: Allocator + Copy>(
     rt: &impl Abort,
     heap: &RefusingAllocator,

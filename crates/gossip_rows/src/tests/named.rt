@@ -1,4 +1,4 @@
-//! Names and ids written as letters and numbers.
+//! Names and ids, written as letters and numbers.
 ghost use Rattle.std.specs.List.{IsDistinct};
 ghost use Rattle.node_names.specs.Same.{same_name};
 
@@ -6,15 +6,15 @@ use node_names::{MsgId, NodeName, Origin};
 use std::process::Abort;
 use test_support::{first_run, message};
 
-/// A message by the name of its origin, whose incarnation is 1, and its number.
+/// A message, given by the name of its origin, whose incarnation is 1, and its number.
 pub(crate) type Id = (u8, u64);
 
-/// The name of this letter.
+/// Returns the name that consists of this letter.
 pub(crate) fn name(rt: &impl Abort, letter: u8) -> NodeName {
     NodeName::parse(&[letter]).expect(rt, "a name")
 }
 
-/// The names of two letters that differ.
+/// Returns the names of two letters that differ.
 pub(crate) fn pair(rt: &impl Abort, one: u8, other: u8) -> [NodeName; 2]
     ensures { IsDistinct same_name result }
 {
@@ -24,12 +24,12 @@ pub(crate) fn pair(rt: &impl Abort, one: u8, other: u8) -> [NodeName; 2]
     [one, other]
 }
 
-/// The first incarnation of this name.
+/// Returns the origin of the first incarnation of this letter's name.
 pub(crate) fn origin(rt: &impl Abort, letter: u8) -> Origin {
     first_run(name(rt, letter))
 }
 
-/// The id of the message.
+/// Returns the id of a message.
 pub(crate) fn id(rt: &impl Abort, id: Id) -> MsgId {
     message(name(rt, id.0), id.1)
 }

@@ -1,4 +1,4 @@
-//! Calls of peer sets, worked out by hand, and each of their allocations refused in turn.
+//! Calls of peer sets, worked out by hand, also with each of their allocations refused in turn.
 ghost use Rattle.std.specs.Prelude.{◌≡◌};
 ghost use Rattle.peer_sets.specs.Queue.{has_entry_of};
 
@@ -26,13 +26,13 @@ enum Act {
     Flush,
 }
 
-/// A call, what it gives, and what the readers answer after it.
+/// A call, what it gives, and what the readers show after it.
 type Turn = (Act, &'static str, &'static str);
 
-/// Calls before one, and those from it on.
+/// The calls before one, and those from it on.
 type Parts<'a> = (&'a [Turn], &'a [Turn]);
 
-/// Calls of peer sets of `b` and `c`.
+/// Calls of peer sets with the members `b` and `c`.
 const TURNS: &[Turn] = &[
     (Act::MakeLazy(b'c'), "true", "b+ c- | "),
     (Act::Queue(b'c', (b'a', 1), 0), "", "b+ c- | c:a/1/1:0 "),
@@ -88,26 +88,27 @@ const TURNS: &[Turn] = &[
     ),
 ];
 
-/// All calls. The table is named here alone, since a function that names it is proved over the whole of it.
+/// Returns all calls. Only this function names the table, since a function that names it needs a proof about the whole
+/// table.
 fn turns() -> &'static [Turn] {
     TURNS
 }
 
-/// What the readers answer before any call.
+/// What the readers show before any call.
 const START: &str = "b+ c+ | ";
 
-/// Whether the call takes no memory.
+/// Whether the call allocates nothing.
 fn takes_none(act: &Act) -> bool {
     matches!(act, Act::Down(_) | Act::MakeEager(_) | Act::MakeLazy(_))
 }
 
-/// Peer sets of `b` and `c`.
+/// Makes peer sets with the members `b` and `c`.
 fn start<A: Allocator + Copy>(rt: &impl Abort, alloc: A) -> Result<PeerSets<A>, AllocError> {
     let names = pair(rt, b'b', b'c');
     PeerSets::new(alloc, &names)
 }
 
-/// What the readers answer after these calls.
+/// Returns what the readers show after these calls.
 fn left(turns: &[Turn]) -> &'static str {
     match turns.last() {
         Some(turn) => turn.2,
@@ -115,7 +116,7 @@ fn left(turns: &[Turn]) -> &'static str {
     }
 }
 
-/// Whether the readers answer so. What they answer otherwise is the text.
+/// Whether the readers show `wanted`. Leaves what they show in the text.
 fn is_shown<A: Allocator>(
     text: &mut String,
     peers: &PeerSets<A>,
@@ -142,14 +143,14 @@ fn queue<A: Allocator + Copy>(
     peers.queue(&peer, &message, round)
 }
 
-/// Whether an announcement of the message waits.
+/// Whether an announcement of the message is queued.
 fn waits<A: Allocator>(peers: &PeerSets<A>, message: &MsgId) -> bool
     ensures { result ≡ has_entry_of message.now peers.now.queued }
 {
     peers.queued().iter().any(|entry| *message == entry.1)
 }
 
-/// Queues announcements for the lazy members, unless one of the message waits.
+/// Queues announcements for the lazy members, unless one of this message is already queued.
 fn queue_lazy<A: Allocator + Copy>(
     rt: &impl Abort,
     peers: &mut PeerSets<A>,
@@ -176,7 +177,7 @@ fn relink<A: Allocator + Copy>(
     peers.relink(&downs, &ups)
 }
 
-/// Appends what waited for each peer.
+/// Appends what was queued for each peer.
 fn push_batches<A: Allocator>(
     text: &mut String,
     batches: &[(NodeName, Listed<(MsgId, u32), A>)],
@@ -189,7 +190,7 @@ fn push_batches<A: Allocator>(
     Ok(())
 }
 
-/// Flushes, and appends what waited.
+/// Flushes, and appends what was queued.
 fn flush<A: Allocator + Copy>(
     text: &mut String,
     peers: &mut PeerSets<A>,
@@ -237,7 +238,7 @@ fn make_lazy<A: Allocator + Copy>(
     write!(text, "{is_found}")
 }
 
-/// Makes the call, and writes what it gives in place of what the text said.
+/// Makes a call, and replaces the text with what it gives.
 fn call<A: Allocator + Copy>(
     rt: &impl Abort,
     text: &mut String,
@@ -257,7 +258,7 @@ fn call<A: Allocator + Copy>(
     }
 }
 
-/// Whether a call that was not refused gave what the text should say, and left this.
+/// Whether a call that was not refused gave `given` and left `shown`.
 fn is_left<A: Allocator>(
     text: &mut String,
     peers: &PeerSets<A>,
@@ -270,7 +271,7 @@ fn is_left<A: Allocator>(
     is_shown(text, peers, shown)
 }
 
-/// Makes a call. Whether it is not refused, and gives and leaves what it should.
+/// Makes a call. Returns whether it succeeds, and gives and leaves what it should.
 fn is_turn<A: Allocator + Copy>(
     rt: &impl Abort,
     text: &mut String,
@@ -281,7 +282,7 @@ fn is_turn<A: Allocator + Copy>(
     is_left(text, peers, turn.1, turn.2)
 }
 
-/// Makes calls. Whether each of them does so.
+/// Makes calls. Returns whether each succeeds, and gives and leaves what it should.
 fn are_turns<A: Allocator + Copy>(
     rt: &impl Abort,
     text: &mut String,
@@ -314,8 +315,8 @@ fn plays_calls(rt: HostRuntime) -> Result<(), Fail> {
     Ok(lend(text, |text| play(&rt, rt.alloc(), text))?)
 }
 
-/// Makes a call while the allocation with this number is refused. Whether there is such an allocation, and whether it
-/// is refused.
+/// Makes a call while allocation number `n` is refused. Returns whether there is such an allocation, and whether the
+/// call fails.
 fn try_call<A: Allocator + Copy>(
     rt: &impl Abort,
     heap: &RefusingAllocator,
@@ -330,8 +331,8 @@ fn try_call<A: Allocator + Copy>(
     (is_spent, is_refused)
 }
 
-/// Makes a call again that was refused. Whether it takes memory, its refusal left what stood, and it gives and leaves
-/// what it should now.
+/// Makes a refused call again. Returns whether it is a call that allocates, its refusal left everything as it was, and
+/// it now gives and leaves what it should.
 fn is_turn_again<A: Allocator + Copy>(
     rt: &impl Abort,
     text: &mut String,
@@ -346,8 +347,8 @@ fn is_turn_again<A: Allocator + Copy>(
     is_turn(rt, text, peers, turn)
 }
 
-/// Makes a call while the allocation with this number is refused, and again if it is refused. Whether there is such an
-/// allocation, or none if an answer is wrong.
+/// Makes a call while allocation number `n` is refused, and again if it failed. Returns whether there is such an
+/// allocation, or `None` if an answer is wrong.
 fn refuse_call<A: Allocator + Copy>(
     rt: &impl Abort,
     heap: &RefusingAllocator,
@@ -366,8 +367,8 @@ fn refuse_call<A: Allocator + Copy>(
     Ok(is_right.then_some(is_spent))
 }
 
-/// Makes the calls up to one, and refuses its allocation with this number. Whether there is such an allocation, or none
-/// if an answer is wrong.
+/// Makes the first calls, and refuses allocation number `n` of the next one. Returns whether there is such an
+/// allocation, or `None` if an answer is wrong.
 fn sweep_parts<A: Allocator + Copy>(
     rt: &impl Abort,
     heap: &RefusingAllocator,
@@ -384,7 +385,7 @@ fn sweep_parts<A: Allocator + Copy>(
     }
 }
 
-/// Does so from fresh peer sets.
+/// Calls `sweep_parts` with fresh peer sets.
 fn sweep_call<A: Allocator + Copy>(
     rt: &impl Abort,
     heap: &RefusingAllocator,
@@ -419,7 +420,7 @@ fn each_allocation_of_each_call(rt: HostRuntime) -> Result<(), Fail> {
     Ok(())
 }
 
-/// Whether a copy is right: there is none if an allocation was refused, and its readers answer so otherwise.
+/// Whether a copy is right: there is one exactly if no allocation was refused, and its readers show `wanted`.
 fn is_copy<A: Allocator>(
     text: &mut String,
     copy: &Result<PeerSets<A>, AllocError>,
@@ -435,8 +436,8 @@ fn is_copy<A: Allocator>(
     }
 }
 
-/// Copies what calls left while the allocation with this number is refused. Whether there is such an allocation, or none
-/// if the copy is wrong.
+/// Copies what calls left, while allocation number `n` is refused. Returns whether there is such an allocation, or
+/// `None` if the copy is wrong.
 fn refuse_copy<A: Allocator + Copy>(
     heap: &RefusingAllocator,
     text: &mut String,
@@ -451,8 +452,8 @@ fn refuse_copy<A: Allocator + Copy>(
     Ok(is_right.then_some(is_spent))
 }
 
-/// Makes calls, and refuses each allocation of a copy of what they leave in turn. How many it has, or none if a copy is
-/// wrong.
+/// Makes calls, and refuses in turn each allocation of a copy of what they leave. Returns their number, or `None` if a
+/// copy is wrong.
 fn sweep_left<A: Allocator + Copy>(
     rt: &impl Abort,
     heap: &RefusingAllocator,
@@ -466,7 +467,7 @@ fn sweep_left<A: Allocator + Copy>(
     sweep(|n| refuse_copy(heap, text, peers, left(turns), n))
 }
 
-/// Makes them at fresh peer sets.
+/// Calls `sweep_left` with fresh peer sets.
 fn sweep_left_from_start<A: Allocator + Copy>(
     rt: &impl Abort,
     heap: &RefusingAllocator,
@@ -478,7 +479,7 @@ fn sweep_left_from_start<A: Allocator + Copy>(
     lend(peers, |peers| sweep_left(rt, heap, text, peers, turns))
 }
 
-/// A copy of what the first eight calls leave.
+/// Refuses each allocation of a copy of what the first eight calls leave.
 #[test]
 fn each_allocation_of_a_copy(rt: HostRuntime) -> Result<(), Fail> {
     let heap = RefusingAllocator::new(rt.alloc());
@@ -497,7 +498,7 @@ fn can_start<A: Allocator + Copy>(rt: &impl Abort, alloc: A) -> bool {
     start(rt, alloc).is_ok()
 }
 
-/// Peer sets are not made without memory.
+/// Peer sets cannot be made without memory.
 #[test]
 fn refused_starts(rt: HostRuntime) {
     let heap = RefusingAllocator::new(rt.alloc());

@@ -1,4 +1,4 @@
-//! Playing the rows call by call.
+//! Plays the rows call by call.
 use crate::tests::act::{call, payload};
 use crate::tests::kept_rows::kept_rows;
 use crate::tests::named::{id, origin, pair};
@@ -13,12 +13,12 @@ use std::process::Abort;
 use std::test::Fail;
 use test_support::lend;
 
-/// The messages that the readers are asked about.
+/// Returns the messages that the readers are asked about.
 pub(crate) fn asked(rt: &impl Abort) -> [MsgId; 8] {
     ASKED.map(|message| id(rt, message))
 }
 
-/// The node `c` with the peers `a` and `b`.
+/// Makes the node `c` with the peers `a` and `b`.
 pub(crate) fn start<A: Allocator + Copy>(
     rt: &impl Abort,
     alloc: A,
@@ -27,7 +27,7 @@ pub(crate) fn start<A: Allocator + Copy>(
     Gossip::new(alloc, origin(rt, b'c'), &peers, 0)
 }
 
-/// The same node, tuned so.
+/// Makes the same node with this tuning.
 pub(crate) fn start_tuned<A: Allocator + Copy>(
     rt: &impl Abort,
     alloc: A,
@@ -41,7 +41,7 @@ pub(crate) fn start_tuned<A: Allocator + Copy>(
     Gossip::new_tuned(alloc, me, &peers, 0, tuning.threshold, tuning.keep)
 }
 
-/// Whether the readers answer so. What they answer otherwise is the text.
+/// Whether the readers show `wanted`. Leaves what they show in the text.
 pub(crate) fn is_shown<A: Allocator>(
     text: &mut String,
     ids: &[MsgId],
@@ -52,7 +52,7 @@ pub(crate) fn is_shown<A: Allocator>(
     Ok(text.as_str() == wanted)
 }
 
-/// Whether a call gave and left this. What it gave or left otherwise is the text.
+/// Whether a call gave `given` and left `shown`. Leaves the last text that was compared in `text`.
 pub(crate) fn is_left<A: Allocator>(
     text: &mut String,
     ids: &[MsgId],
@@ -68,7 +68,7 @@ pub(crate) fn is_left<A: Allocator>(
     is_shown(text, ids, gossip, shown)
 }
 
-/// Makes a call. Whether it is not refused, and gives and leaves what it should.
+/// Makes a call. Returns whether it succeeds, and gives and leaves what it should.
 pub(crate) fn is_call<A: Allocator + Copy>(
     rt: &impl Abort,
     text: &mut String,
@@ -83,7 +83,7 @@ pub(crate) fn is_call<A: Allocator + Copy>(
     Ok(is_right && answer.is_ok())
 }
 
-/// Makes a call with this payload and effects of its own. Whether it does so.
+/// Calls `is_call` with this payload and fresh effects.
 fn is_alone<A: Allocator + Copy>(
     rt: &impl Abort,
     alloc: A,
@@ -100,7 +100,7 @@ fn is_alone<A: Allocator + Copy>(
     )
 }
 
-/// Makes a call with a payload of its own too. Whether it does so.
+/// Calls `is_call` with a fresh payload and fresh effects.
 fn is_turn<A: Allocator + Copy>(
     rt: &impl Abort,
     alloc: A,
@@ -113,7 +113,7 @@ fn is_turn<A: Allocator + Copy>(
     is_alone(rt, alloc, text, ids, gossip, turn, &payload)
 }
 
-/// Makes calls. Whether each of them does so.
+/// Makes calls. Returns whether each succeeds, and gives and leaves what it should.
 pub(crate) fn are_turns<A: Allocator + Copy>(
     rt: &impl Abort,
     alloc: A,
@@ -130,7 +130,7 @@ pub(crate) fn are_turns<A: Allocator + Copy>(
     Ok(true)
 }
 
-/// What the readers answer after these calls.
+/// Returns what the readers show after these calls.
 pub(crate) fn left(turns: &[Turn]) -> &'static str {
     match turns.last() {
         Some(turn) => turn.2,
@@ -138,7 +138,7 @@ pub(crate) fn left(turns: &[Turn]) -> &'static str {
     }
 }
 
-/// Whether a copy is of the same run and number as what was copied, and its readers answer so.
+/// Whether a copy has the same origin and number as what was copied, and its readers show `wanted`.
 fn is_copy<A: Allocator + Copy>(
     text: &mut String,
     ids: &[MsgId],
@@ -152,7 +152,7 @@ fn is_copy<A: Allocator + Copy>(
     Ok(is_same_run && is_same_number && is_right)
 }
 
-/// Whether it is copied so.
+/// Copies a node. Returns whether the copy is right.
 fn is_copied<A: Allocator + Copy>(
     text: &mut String,
     ids: &[MsgId],
@@ -163,7 +163,7 @@ fn is_copied<A: Allocator + Copy>(
     lend(copy, |copy| is_copy(text, ids, copy, gossip, wanted))
 }
 
-/// Whether these messages are held.
+/// Whether exactly the messages in `wanted` are held.
 pub(crate) fn is_held<A: Allocator>(
     text: &mut String,
     gossip: &Gossip<A>,
@@ -173,7 +173,7 @@ pub(crate) fn is_held<A: Allocator>(
     Ok(text.as_str() == wanted)
 }
 
-/// Plays a row, and copies what it leaves. Whether all is as it should.
+/// Plays a row, and copies what it leaves. Returns whether everything is as it should be.
 fn is_row<A: Allocator + Copy>(
     rt: &impl Abort,
     alloc: A,
@@ -191,7 +191,7 @@ fn is_row<A: Allocator + Copy>(
     is_held(text, gossip, row.held)
 }
 
-/// Does so at a fresh node.
+/// Plays a row at a fresh node.
 fn is_row_from_start<A: Allocator + Copy>(
     rt: &impl Abort,
     alloc: A,

@@ -2,10 +2,10 @@
 use crate::tests::act::Act;
 use crate::tests::named::Id;
 
-/// A call, what it gives, and what the readers answer after it.
+/// A call, what it gives, and what the readers show after it.
 pub(crate) type Turn = (Act, &'static str, &'static str);
 
-/// Calls in a row.
+/// A series of calls.
 #[derive(Clone, Copy)]
 pub(crate) struct Row {
     pub(crate) name: &'static str,
@@ -15,12 +15,12 @@ pub(crate) struct Row {
     pub(crate) held: &'static str,
 }
 
-/// How a node is tuned.
+/// The tuning of a node.
 #[derive(Clone, Copy)]
 pub(crate) struct Tuning {
-    /// By how many links a way must be shorter for a branch to be swapped; 0 for never.
+    /// By how many links a path must be shorter for a branch to be swapped; 0 for never.
     pub(crate) threshold: u32,
-    /// How many of the messages that were delivered last are held; 0 for all.
+    /// How many of the last delivered messages are held; 0 for all.
     pub(crate) keep: u32,
 }
 
@@ -29,7 +29,7 @@ pub(crate) const PLAIN: Tuning = Tuning {
     keep: 0,
 };
 
-/// What the readers answer before any call.
+/// What the readers show before any call.
 pub(crate) const START: &str = "a+ b+ | | | | ";
 
 pub(crate) const A1: Id = (b'a', 1);
@@ -47,7 +47,7 @@ const C7: Id = (b'c', 7);
 /// The messages that the readers are asked about.
 pub(crate) const ASKED: [Id; 8] = [A1, A2, A3, A5, (b'b', 1), C1, (b'c', 2), C7];
 
-/// A message is announced, asked for, comes twice, and another goes out.
+/// A message is announced, is asked for and arrives twice, and another one goes out.
 const REPAIR: &[Turn] = &[
     (
         Act::OnIHave(b'a', A1, 0),
@@ -91,7 +91,7 @@ fn repair() -> &'static [Turn] {
     REPAIR
 }
 
-/// Strangers are answered and heard, and do not become members.
+/// Strangers are answered and their packets are handled, but they do not become members.
 const STRANGERS: &[Turn] = &[
     (
         Act::OnGossip(b'z', A1, 4_294_967_295, Some(b'm')),
@@ -104,7 +104,7 @@ const STRANGERS: &[Turn] = &[
         "a+ b+ | | | | a/1/1=m ",
     ),
     (Act::OnIHave(b'z', A2, 0), "", "a+ b+ | | | | a/1/1=m "),
-    // Known messages and those of the node's own run are not wanted.
+    // Known messages and those of the node's own incarnation are not asked for.
     (Act::OnIHave(b'a', A1, 3), "", "a+ b+ | | | | a/1/1=m "),
     (Act::OnIHave(b'a', C7, 0), "", "a+ b+ | | | | a/1/1=m "),
     (
@@ -118,7 +118,7 @@ const STRANGERS: &[Turn] = &[
         "to z gossip a/1/1 5 m; ",
         "a+ b+ | | | | a/1/1=m ",
     ),
-    // What is not held is not answered; the asking member is eager all the same.
+    // A request for a message that is not held gets no answer; the asking member becomes eager all the same.
     (Act::OnPrune(b'b'), "", "a+ b- | | | | a/1/1=m "),
     (Act::OnGraft(b'b', A2, 5), "", "a+ b+ | | | | a/1/1=m "),
 ];
@@ -127,7 +127,7 @@ fn strangers() -> &'static [Turn] {
     STRANGERS
 }
 
-/// Announcers are asked one after the other, and what is about a lost peer goes.
+/// Announcers are asked one after another, and everything about a lost peer is dropped.
 const ANNOUNCERS: &[Turn] = &[
     (
         Act::OnIHave(b'a', A1, 1),
@@ -177,7 +177,7 @@ fn announcers() -> &'static [Turn] {
     ANNOUNCERS
 }
 
-/// A lazy peer that is asked, or brings a message, is eager again.
+/// A lazy peer that is asked for a message, or brings one, becomes eager again.
 const LAZY: &[Turn] = &[
     (Act::OnPrune(b'a'), "", "a- b+ | | | | "),
     (Act::OnPrune(b'b'), "", "a- b- | | | | "),
@@ -218,7 +218,7 @@ fn lazy() -> &'static [Turn] {
     LAZY
 }
 
-/// Messages come out of their order, and one of them twice.
+/// Messages arrive out of order, and one of them twice.
 const GAPS: &[Turn] = &[
     (
         Act::OnGossip(b'a', A1, 0, Some(b'm')),
@@ -251,9 +251,9 @@ fn gaps() -> &'static [Turn] {
     GAPS
 }
 
-/// The rows of nodes that neither swap branches nor forget payloads. The calls of each row are named in a function of
-/// their own, since a function that names a table costs by all of its references, and twice as many cost four times as
-/// much.
+/// Returns the rows of nodes that neither swap branches nor forget payloads. The calls of each row are named in a
+/// separate function, since the proof of a function that names a table costs more for each of the table's references:
+/// twice as many cost four times as much.
 pub(crate) fn rows() -> [Row; 5] {
     [
         Row {

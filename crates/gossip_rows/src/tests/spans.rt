@@ -1,4 +1,4 @@
-//! What is known of an origin, as a span of its numbers, and each allocation of adding an id refused in turn.
+//! What is known of an origin, as a span of its numbers, also with each allocation of adding an id refused in turn.
 use crate::tests::named::{id, name, origin};
 use crate::tests::play::start;
 use bytes::Bytes;
@@ -11,10 +11,10 @@ use std::process::Abort;
 use std::test::Fail;
 use test_support::{lend, stop_refusing, sweep_each};
 
-/// A message of `a` by its number, whether it was not known before, and the span of `a` after it.
+/// A message of `a`, given by its number, whether it was unknown before, and the span of `a` after it.
 type Step = (u64, bool, (u64, usize));
 
-/// Steps before one, and those from it on.
+/// The steps before one, and those from it on.
 type Parts<'a> = (&'a [Step], &'a [Step]);
 
 const STEPS: &[Step] = &[
@@ -23,21 +23,22 @@ const STEPS: &[Step] = &[
     (2, true, (3, 0)),
     (5, true, (3, 1)),
     (3, false, (3, 1)),
-    // 0 stands before all.
+    // 0 comes before all other numbers.
     (0, true, (3, 1)),
     (0, false, (3, 1)),
-    // Numbers past the gap keep their order, and some follow when it is closed.
+    // Numbers past the gap keep their order, and some of them follow when it is closed.
     (9, true, (3, 2)),
     (7, true, (3, 3)),
     (7, false, (3, 3)),
     (4, true, (5, 2)),
     (6, true, (7, 1)),
-    // Behind the greatest number there is none.
+    // No number follows the greatest one.
     (u64::MAX, true, (7, 2)),
     (8, true, (9, 1)),
 ];
 
-/// All steps. The table is named here alone, since a function that names it is proved over the whole of it.
+/// Returns all steps. Only this function names the table, since a function that names it needs a proof about the whole
+/// table.
 fn steps() -> &'static [Step] {
     STEPS
 }
@@ -47,7 +48,7 @@ fn is_span<A: Allocator>(rt: &impl Abort, gossip: &Gossip<A>, wanted: &(u64, usi
     gossip.span(&origin(rt, b'a')) == *wanted && gossip.span(&origin(rt, b'b')) == (0, 0)
 }
 
-/// Whether a copy says the same.
+/// Whether a copy shows the same.
 fn is_span_of_copy<A: Allocator + Copy>(
     rt: &impl Abort,
     gossip: &Gossip<A>,
@@ -57,7 +58,7 @@ fn is_span_of_copy<A: Allocator + Copy>(
     Ok(lend(copy, |copy| is_span(rt, copy, wanted)))
 }
 
-/// Brings a message. Whether it is delivered.
+/// Brings a message. Returns whether it is delivered.
 fn deliver<A: Allocator + Copy>(
     gossip: &mut Gossip<A>,
     sender: &NodeName,
@@ -79,7 +80,8 @@ fn is_in_span<A: Allocator>(
     gossip.knows(message) && is_span(rt, gossip, wanted)
 }
 
-/// Brings a message. Whether it is delivered if it is new, and known then, with the span that it should leave.
+/// Brings a message. Returns whether it is delivered exactly if it is new, and is then known, with the span that it
+/// should leave.
 fn is_delivered<A: Allocator + Copy>(
     rt: &impl Abort,
     gossip: &mut Gossip<A>,
@@ -94,7 +96,7 @@ fn is_delivered<A: Allocator + Copy>(
     Ok(is_right && is_span_of_copy(rt, gossip, &step.2)?)
 }
 
-/// Brings a message with a payload and effects of its own. Whether it does so.
+/// Calls `is_delivered` with a fresh payload and fresh effects.
 fn is_step<A: Allocator + Copy>(
     rt: &impl Abort,
     alloc: A,
@@ -108,7 +110,7 @@ fn is_step<A: Allocator + Copy>(
     })
 }
 
-/// Brings messages to a node that knows none. Whether each of them does so.
+/// Brings messages to a node that knows none. Returns whether each leaves what it should.
 fn are_steps<A: Allocator + Copy>(
     rt: &impl Abort,
     alloc: A,
@@ -122,7 +124,7 @@ fn are_steps<A: Allocator + Copy>(
     Ok(are_right)
 }
 
-/// Does so at a fresh node.
+/// Calls `are_steps` with a fresh node.
 fn are_steps_from_start<A: Allocator + Copy>(
     rt: &impl Abort,
     alloc: A,
@@ -157,7 +159,7 @@ fn add_all<A: Allocator + Copy>(
     Ok(())
 }
 
-/// The span that these steps leave.
+/// Returns the span that these steps leave.
 fn left(steps: &[Step]) -> (u64, usize) {
     match steps.last() {
         Some(step) => step.2,
@@ -165,7 +167,7 @@ fn left(steps: &[Step]) -> (u64, usize) {
     }
 }
 
-/// Whether an id is known, with this span of its origin.
+/// Whether an id is known or not, as `wanted` says, and its origin has this span.
 fn is_known<A: Allocator>(
     known: &KnownIds<A>,
     id: &MsgId,
@@ -175,8 +177,8 @@ fn is_known<A: Allocator>(
     known.contains(id) == wanted && known.span(&id.origin) == *span
 }
 
-/// Makes room for an id while the allocation with this number is refused. Whether there is such an allocation, and
-/// whether that is refused.
+/// Makes room for an id while allocation number `n` is refused. Returns whether there is such an allocation, and
+/// whether the call fails.
 fn try_room<A: Allocator + Copy>(
     heap: &RefusingAllocator,
     known: &mut KnownIds<A>,
@@ -188,7 +190,7 @@ fn try_room<A: Allocator + Copy>(
     (stop_refusing(heap), is_refused)
 }
 
-/// Adds an id. Whether it is known then, with this span of its origin.
+/// Adds an id. Returns whether it is then known, and its origin has this span.
 fn is_added<A: Allocator + Copy>(
     known: &mut KnownIds<A>,
     message: &MsgId,
@@ -198,8 +200,8 @@ fn is_added<A: Allocator + Copy>(
     Ok(is_known(known, message, true, wanted))
 }
 
-/// Adds an id while the allocation with this number is refused, and then without. Whether there is such an allocation,
-/// or none if an answer is wrong.
+/// Makes room for an id while allocation number `n` is refused, and then adds it with nothing refused. Returns whether
+/// there is such an allocation, or `None` if an answer is wrong.
 fn refuse_add<A: Allocator + Copy>(
     rt: &impl Abort,
     heap: &RefusingAllocator,
@@ -215,7 +217,8 @@ fn refuse_add<A: Allocator + Copy>(
     Ok((is_right && is_refused == is_spent).then_some(is_spent))
 }
 
-/// Adds the ids up to one, and does so with that. Whether there is such an allocation.
+/// Adds the first ids, and calls `refuse_add` with the next one. Returns whether there is such an allocation, or `None`
+/// if an answer is wrong.
 fn refuse_step<A: Allocator + Copy>(
     rt: &impl Abort,
     heap: &RefusingAllocator,
@@ -230,7 +233,7 @@ fn refuse_step<A: Allocator + Copy>(
     }
 }
 
-/// Does so from nothing.
+/// Calls `refuse_step` with an empty set of ids.
 fn refuse_step_from_nothing<A: Allocator + Copy>(
     rt: &impl Abort,
     heap: &RefusingAllocator,

@@ -1,5 +1,5 @@
-//! The rows with each allocation refused in turn: the refusal is for memory, everything is as it was before the refused
-//! call, and the call made again answers as if nothing had been refused.
+//! The rows with each allocation refused in turn: the call fails as out of memory, everything is as it was before it,
+//! and the call made again gives what it would have given had nothing been refused.
 use crate::tests::act::{call, payload, takes_none};
 use crate::tests::kept_rows::kept_rows;
 use crate::tests::play::{are_turns, asked, is_call, is_left, is_shown, left, start, start_tuned};
@@ -14,13 +14,13 @@ use std::process::Abort;
 use std::test::Fail;
 use test_support::{lend, stop_refusing};
 
-/// More allocations than any call has.
+/// More allocations than any call makes.
 const MANY: u64 = 100;
 
-/// Calls before one, and those from it on.
+/// The calls before one, and those from it on.
 type Parts<'a> = (&'a [Turn], &'a [Turn]);
 
-/// Whether a call was refused as out of memory. Otherwise it was not refused.
+/// Whether a call failed as out of memory. Stops the test if it failed otherwise.
 fn is_refused(rt: &impl Abort, answer: &Result<(), GossipFault>) -> bool {
     match answer {
         Ok(()) => false,
@@ -31,8 +31,8 @@ fn is_refused(rt: &impl Abort, answer: &Result<(), GossipFault>) -> bool {
     }
 }
 
-/// Makes a call while the allocation with this number is refused. Whether there is such an allocation, and whether it
-/// is refused.
+/// Makes a call while allocation number `n` is refused. Returns whether there is such an allocation, and whether the
+/// call fails.
 fn try_call<A: Allocator + Copy>(
     rt: &impl Abort,
     heap: &RefusingAllocator,
@@ -48,8 +48,8 @@ fn try_call<A: Allocator + Copy>(
     (is_spent, is_refused(rt, &answer))
 }
 
-/// Makes a call again that was refused. Whether it takes memory, its refusal gave nothing and left what stood, and it
-/// gives and leaves what it should now.
+/// Makes a refused call again. Returns whether it is a call that allocates, its refusal gave nothing and left
+/// everything as it was, and it now gives and leaves what it should.
 fn is_call_again<A: Allocator + Copy>(
     rt: &impl Abort,
     text: &mut String,
@@ -67,7 +67,7 @@ fn is_call_again<A: Allocator + Copy>(
     is_call(rt, text, ids, gossip, turn, payload, out)
 }
 
-/// Makes a call while the allocation with this number is refused, and again if it is refused. Whether there is such an
+/// Makes a call while allocation number `n` is refused, and again if it failed. Returns whether there is such an
 /// allocation.
 fn refuse_call<A: Allocator + Copy>(
     rt: &impl Abort,
@@ -92,7 +92,7 @@ fn refuse_call<A: Allocator + Copy>(
     Ok(is_spent)
 }
 
-/// Does so with this payload and effects of its own.
+/// Calls `refuse_call` with this payload and fresh effects.
 fn refuse_alone<A: Allocator + Copy>(
     rt: &impl Abort,
     heap: &RefusingAllocator,
@@ -111,7 +111,7 @@ fn refuse_alone<A: Allocator + Copy>(
     })
 }
 
-/// Does so with a payload of its own too.
+/// Calls `refuse_call` with a fresh payload and fresh effects.
 fn refuse_turn<A: Allocator + Copy>(
     rt: &impl Abort,
     heap: &RefusingAllocator,
@@ -127,7 +127,7 @@ fn refuse_turn<A: Allocator + Copy>(
     refuse_alone(rt, heap, alloc, text, ids, gossip, stood, turn, &payload, n)
 }
 
-/// Whether a copy is right: there is none if an allocation was refused, and its readers answer so otherwise.
+/// Whether a copy is right: there is one exactly if no allocation was refused, and its readers show `wanted`.
 fn is_copy<A: Allocator>(
     text: &mut String,
     ids: &[MsgId],
@@ -144,8 +144,8 @@ fn is_copy<A: Allocator>(
     }
 }
 
-/// Copies while the allocation with this number is refused. Whether there is such an allocation, and whether the copy
-/// is right.
+/// Copies a node while allocation number `n` is refused. Returns whether there is such an allocation, and whether the
+/// copy is right.
 fn try_copy<A: Allocator + Copy>(
     heap: &RefusingAllocator,
     text: &mut String,
@@ -161,7 +161,7 @@ fn try_copy<A: Allocator + Copy>(
     (is_spent, is_right)
 }
 
-/// Does so with what a row leaves. Whether there is such an allocation.
+/// Copies what a row leaves, and checks the copy. Returns whether there is such an allocation.
 fn refuse_copy<A: Allocator + Copy>(
     rt: &impl Abort,
     heap: &RefusingAllocator,
@@ -176,8 +176,8 @@ fn refuse_copy<A: Allocator + Copy>(
     Ok(is_spent)
 }
 
-/// Plays the calls of a row up to one, and refuses its allocation with this number. Whether there is such an
-/// allocation.
+/// Plays the first calls of a row, and refuses allocation number `n` of the next one, or of a copy if there is no next
+/// one. Returns whether there is such an allocation.
 fn sweep_parts<A: Allocator + Copy>(
     rt: &impl Abort,
     heap: &RefusingAllocator,
@@ -197,7 +197,7 @@ fn sweep_parts<A: Allocator + Copy>(
     }
 }
 
-/// Does so at a fresh node.
+/// Calls `sweep_parts` with a fresh node.
 fn sweep_call<A: Allocator + Copy>(
     rt: &impl Abort,
     heap: &RefusingAllocator,
@@ -214,7 +214,7 @@ fn sweep_call<A: Allocator + Copy>(
     })
 }
 
-/// Refuses each allocation of one call in turn. How many it has.
+/// Refuses each allocation of one call in turn. Returns their number.
 fn sweep<A: Allocator + Copy>(
     rt: &impl Abort,
     heap: &RefusingAllocator,
@@ -233,7 +233,7 @@ fn sweep<A: Allocator + Copy>(
     Ok(MANY)
 }
 
-/// Refuses each allocation of each call of a row, and of the copy of what the row leaves, in turn. How many they have.
+/// Refuses in turn each allocation of each call of a row, and of the copy of what the row leaves. Returns their number.
 fn sweep_row<A: Allocator + Copy>(
     rt: &impl Abort,
     heap: &RefusingAllocator,
@@ -251,7 +251,7 @@ fn sweep_row<A: Allocator + Copy>(
     Ok(refused)
 }
 
-/// Sweeps rows, each of which has allocations.
+/// Sweeps rows, each of which has more than five allocations.
 fn sweep_rows<A: Allocator + Copy>(
     rt: &impl Abort,
     heap: &RefusingAllocator,
@@ -292,7 +292,7 @@ fn can_start<A: Allocator + Copy>(rt: &impl Abort, alloc: A) -> bool {
     lend(start(rt, alloc), |started| started.is_ok())
 }
 
-/// A node is not made without memory for its peers.
+/// A node cannot be made without memory for its peers.
 #[test]
 fn refused_starts(rt: HostRuntime) {
     let heap = RefusingAllocator::new(rt.alloc());

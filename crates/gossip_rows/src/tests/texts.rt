@@ -1,4 +1,4 @@
-//! What readers answer, as texts.
+//! What the readers return, as text.
 use bytes::Bytes;
 use frames::{Body, BodyOf};
 use gossip_core::{Effects, Gossip};
@@ -9,7 +9,7 @@ use std::alloc::{AllocError, Allocator};
 use std::fmt::Write;
 use test_support::push_letters;
 
-/// Appends the members, with `+` for eager ones.
+/// Appends the members, with `+` for eager and `-` for lazy ones.
 fn push_members<A: Allocator>(text: &mut String, peers: &PeerSets<A>) -> Result<(), AllocError> {
     for (name, _) in peers.members() {
         let mark = if peers.is_eager(name) { '+' } else { '-' };
@@ -18,7 +18,7 @@ fn push_members<A: Allocator>(text: &mut String, peers: &PeerSets<A>) -> Result<
     Ok(())
 }
 
-/// Appends announcements that wait.
+/// Appends the queued announcements.
 fn push_queued(text: &mut String, queued: &[(NodeName, MsgId, u32)]) -> Result<(), AllocError> {
     for (peer, id, round) in queued {
         write!(text, "{peer}:{id}:{round} ")?;
@@ -26,7 +26,7 @@ fn push_queued(text: &mut String, queued: &[(NodeName, MsgId, u32)]) -> Result<(
     Ok(())
 }
 
-/// Appends announcements that came.
+/// Appends the announcements that arrived.
 fn push_wants(text: &mut String, wants: &[(MsgId, NodeName, u32)]) -> Result<(), AllocError> {
     for (id, peer, round) in wants {
         write!(text, "{id}:{peer}:{round} ")?;
@@ -42,7 +42,7 @@ fn push_ids(text: &mut String, ids: &[MsgId]) -> Result<(), AllocError> {
     Ok(())
 }
 
-/// Appends what the readers of peer sets answer: the members, and what waits for them.
+/// Appends what the readers of peer sets return: the members, and what is queued for them.
 pub(crate) fn push_peers<A: Allocator>(
     text: &mut String,
     peers: &PeerSets<A>,
@@ -52,7 +52,7 @@ pub(crate) fn push_peers<A: Allocator>(
     push_queued(text, peers.queued())
 }
 
-/// Appends what the readers of announcements answer: these, and the armed ids.
+/// Appends what the readers of missing messages return: the announcements, and the armed ids.
 pub(crate) fn push_missing<A: Allocator>(
     text: &mut String,
     missing: &Missing<A>,
@@ -81,7 +81,7 @@ fn push_gossip<A: Allocator>(
     push_letters(text, payload.as_slice())
 }
 
-/// Appends what a packet says.
+/// Appends a packet's body.
 fn push_body<A: Allocator>(text: &mut String, body: &Body<A>) -> Result<(), AllocError> {
     match body {
         BodyOf::Gossip { id, round, payload } => push_gossip(text, id, *round, payload),
@@ -120,7 +120,7 @@ fn push_delivery<A: Allocator>(
     text.push_str("; ")
 }
 
-/// Writes what a call gave in place of what the text said: the delivery, and each packet with its receiver.
+/// Replaces the text with what a call gave: the delivery, and each packet with its receiver.
 pub(crate) fn write_given<A: Allocator>(
     text: &mut String,
     effects: &Effects<A>,
@@ -132,7 +132,7 @@ pub(crate) fn write_given<A: Allocator>(
     push_sends(text, effects.sends.as_slice())
 }
 
-/// Appends a message that is known, and its payload.
+/// Appends a known message and its payload, if that is held.
 fn push_known<A: Allocator>(
     text: &mut String,
     gossip: &Gossip<A>,
@@ -159,7 +159,7 @@ fn push_messages<A: Allocator>(
     Ok(())
 }
 
-/// Writes the ids of the messages that are held in place of what the text said.
+/// Replaces the text with the ids of the messages that are held.
 pub(crate) fn write_held<A: Allocator>(
     text: &mut String,
     gossip: &Gossip<A>,
@@ -168,7 +168,7 @@ pub(crate) fn write_held<A: Allocator>(
     push_ids(text, gossip.held())
 }
 
-/// Writes what the readers answer in place of what the text said: members, queue, wants, timers, and those of these
+/// Replaces the text with what the readers return: the members, the queue, the wants, the timers, and those of these
 /// messages that are known.
 pub(crate) fn write_shown<A: Allocator>(
     text: &mut String,

@@ -1,5 +1,5 @@
-//! Rows of nodes that swap branches. They stand apart from the other rows since a function that names a table costs by
-//! all of its rows.
+//! Rows of nodes that swap branches. They are apart from the other rows since a proof about a function that names a
+//! table costs more for each row of the table.
 use crate::tests::act::Act;
 use crate::tests::rows::{A1, A2, PLAIN, Row, Tuning, Turn};
 
@@ -13,7 +13,8 @@ const GREATEST_THRESHOLD: Tuning = Tuning {
     keep: 0,
 };
 
-/// What b brings was announced by a, by a way that was shorter by the threshold, and takes a branch from b to a.
+/// The message that b brings was announced by a, whose path was shorter by the threshold, so a takes b's place as the
+/// branch.
 const SHORTCUT: &[Turn] = &[
     (
         Act::OnIHave(b'a', A1, 1),
@@ -46,7 +47,7 @@ fn shortcut() -> &'static [Turn] {
     SHORTCUT
 }
 
-/// A way that is shorter by less than the threshold changes nothing.
+/// A path that is shorter by less than the threshold changes nothing.
 const NO_SHORTCUT: &[Turn] = &[
     (
         Act::OnIHave(b'a', A1, 1),
@@ -64,7 +65,7 @@ fn no_shortcut() -> &'static [Turn] {
     NO_SHORTCUT
 }
 
-/// A stranger has no branch, and who announced first is not passed by itself.
+/// A stranger has no branch, and the first announcer does not take a branch from itself.
 const NO_BRANCH: &[Turn] = &[
     (
         Act::OnIHave(b'a', A1, 1),
@@ -97,7 +98,7 @@ fn no_branch() -> &'static [Turn] {
     NO_BRANCH
 }
 
-/// Who announced first takes the place, lazy as it is, and not who announced a still shorter way later.
+/// The first announcer takes the branch even though it is lazy, and not a later announcer with a still shorter path.
 const LAZY_SHORTCUT: &[Turn] = &[
     (Act::OnPrune(b'a'), "", "a- b+ | | | | "),
     (
@@ -149,7 +150,7 @@ fn greatest() -> &'static [Turn] {
     GREATEST
 }
 
-/// Without a threshold no way is too long.
+/// Without a threshold no path is too long.
 const UNTUNED: &[Turn] = &[
     (
         Act::OnIHave(b'a', A1, 0),
@@ -167,7 +168,7 @@ fn untuned() -> &'static [Turn] {
     UNTUNED
 }
 
-/// All of them.
+/// Returns all of these rows.
 pub(crate) fn tuned_rows() -> [Row; 6] {
     [
         Row {

@@ -18,17 +18,17 @@ use std::time::{Clock, Duration};
 use test_support::first_run;
 use world::{StimulusOf, Trace};
 
-/// What the reader's dice are drawn from.
+/// The seed of the generator of the reader's dice.
 const SEED: u64 = 7;
 
-/// The bytes of a JOIN from the node of this name.
+/// Returns the bytes of a JOIN from the node with this name.
 fn join_from(rt: &impl Abort, alloc: Global, text: &str) -> Result<Bytes, AllocError> {
     let sender = first_run(name(rt, text));
     let frame = Frame::new(sender, 1, Body::Join).expect(rt, "a frame");
     encode(alloc, &frame)
 }
 
-/// The dice of the step at this place, if a frame arrived there or a link went down.
+/// Returns the dice of the step at this place, if a frame arrived or a link went down in it.
 fn dice_at(trace: &Trace<Frame>, place: usize) -> Option<Dice> {
     match &trace.step(place)?.stimulus {
         StimulusOf::Arrive { dice, .. } => Some(*dice),
@@ -37,13 +37,13 @@ fn dice_at(trace: &Trace<Frame>, place: usize) -> Option<Dice> {
     }
 }
 
-/// Whether the first three steps have the first dice that are drawn, one after the other.
+/// Whether the first three steps have the first three dice that are drawn, in order.
 fn has_drawn_dice(trace: &Trace<Frame>) -> bool {
     let mut generator = Lcg128Xsl64::seed_from_u64(SEED);
     (0..3).all(|place| dice_at(trace, place) == Some(Dice::draw(&mut generator)))
 }
 
-/// Waits until a worker has ended. Whether it has.
+/// Waits until a worker has ended. Returns whether it has.
 pub(crate) fn waits_for_end<R: Clock>(rt: &R, worker: &Worker) -> bool {
     for _ in 0..LOOKS {
         if worker.has_ended() {
@@ -54,7 +54,7 @@ pub(crate) fn waits_for_end<R: Clock>(rt: &R, worker: &Worker) -> bool {
     false
 }
 
-/// Has a node's reader take one frame, and closes the node. Whether the dice of its steps are the reader's.
+/// Lets a node's reader take one frame, and closes the node. Returns whether the dice of its steps are the reader's.
 fn draws<R, C>(rt: R, alloc: Global, node: Started<C>) -> Result<bool, HostError>
 where
     R: Threads + Wait + Clock + Abort + Copy + Send + Drop + 'static,
@@ -74,8 +74,8 @@ where
     Ok(has_ended && closed.is_some_and(|closed| has_drawn_dice(&closed.trace)))
 }
 
-/// A JOIN comes from a node to which no link is open, so that a Down follows it, and then its link ends, which is
-/// another Down: all three steps have the next dice of the reader's generator.
+/// A JOIN arrives from a node to which no link is open, so a Down follows it, and then its link ends, which is another
+/// Down. All three steps have the next dice of the reader's generator.
 #[test]
 fn a_reader_draws_all_dice(rt: HostRuntime) -> Result<(), Fail> {
     let alloc = rt.alloc();

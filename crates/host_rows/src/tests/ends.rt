@@ -1,4 +1,4 @@
-//! How nodes end that have no links.
+//! How nodes without links end.
 use crate::tests::node::{Started, start_alone};
 use bytes::Bytes;
 use node_core::PlumCore;
@@ -9,7 +9,7 @@ use std::sync::Wait;
 use std::test::Fail;
 use std::thread::Threads;
 
-/// Broadcasts by a port.
+/// Broadcasts through a port.
 pub(crate) fn broadcast<R: Wait, C: NodeCore<A> + Drop, A: Allocator + Copy>(
     rt: &R,
     alloc: A,
@@ -19,7 +19,7 @@ pub(crate) fn broadcast<R: Wait, C: NodeCore<A> + Drop, A: Allocator + Copy>(
     port.broadcast(rt, payload)
 }
 
-/// Broadcasts once by each port.
+/// Broadcasts once through each port.
 pub(crate) fn broadcast_by_each<R: Wait, C: NodeCore<A> + Drop, A: Allocator + Copy>(
     rt: &R,
     alloc: A,
@@ -31,7 +31,7 @@ pub(crate) fn broadcast_by_each<R: Wait, C: NodeCore<A> + Drop, A: Allocator + C
     Ok(())
 }
 
-/// Closes a node. What it leaves, if that is as it should be.
+/// Closes a node. Returns what it leaves, if the close succeeds.
 pub(crate) fn close<R: Threads + Wait, C: NodeCore<Global> + Drop>(
     rt: &R,
     host: Host<C>,
@@ -41,7 +41,7 @@ pub(crate) fn close<R: Threads + Wait, C: NodeCore<Global> + Drop>(
     host.close(rt, ports, workers).ok()
 }
 
-/// Broadcasts by a node's first port, stops the node and broadcasts again. Why it refuses, if it does.
+/// Broadcasts through a node's first port, stops the node and broadcasts again. Returns the error if it refuses.
 fn refused_after_stop<R: Wait, C: NodeCore<Global> + Drop>(
     rt: &R,
     alloc: Global,
@@ -55,7 +55,7 @@ fn refused_after_stop<R: Wait, C: NodeCore<Global> + Drop>(
     Ok(broadcast(rt, alloc, port).err())
 }
 
-/// Closes a node without workers. Whether it made one step and handed nothing out.
+/// Closes a node without workers. Returns whether it made one step and handed out no delivery.
 fn leaves_one_step<R: Threads + Wait, C: NodeCore<Global> + Drop>(
     rt: &R,
     alloc: Global,
@@ -83,7 +83,7 @@ fn ends_after_stop<R: Threads + Wait, C: NodeCore<Global> + Drop>(
     Ok(matches!(refused?, Some(HostError::Closed)) && is_left)
 }
 
-/// After the stop a port is refused, and the node closes with what was broadcast before.
+/// After the stop, a port is refused, and the node closes with what was broadcast before.
 #[test]
 fn stopped_host(rt: HostRuntime) -> Result<(), Fail> {
     let node = start_alone(&rt, rt.alloc(), "a", 1)?;
@@ -91,7 +91,7 @@ fn stopped_host(rt: HostRuntime) -> Result<(), Fail> {
     Ok(())
 }
 
-/// Whether a node hands out a part that begins at this place and has so many steps.
+/// Whether a node hands out a part that begins at place `first` and has `len` steps.
 fn hands_out<R: Wait, C: NodeCore<Global> + Drop>(
     rt: &R,
     host: &Host<C>,
@@ -114,7 +114,7 @@ fn hands_out_twice<R: Wait, C: NodeCore<Global> + Drop>(
     Ok(is_first && hands_out(rt, &node.host, 1, 0)?)
 }
 
-/// Whether a node hands its history out in parts, and closes with all of it.
+/// Whether a node hands out its history in parts, and closes with all of it.
 fn ends_with_all_parts<R: Threads + Wait, C: NodeCore<Global> + Drop>(
     rt: &R,
     alloc: Global,
@@ -125,7 +125,7 @@ fn ends_with_all_parts<R: Threads + Wait, C: NodeCore<Global> + Drop>(
     Ok(are_handed? && is_left)
 }
 
-/// A node hands its history out in parts, also after the stop, and closes with all of it.
+/// A node hands out its history in parts, even after the stop, and closes with all of it.
 #[test]
 fn parts_of_a_host(rt: HostRuntime) -> Result<(), Fail> {
     let node = start_alone(&rt, rt.alloc(), "a", 1)?;
@@ -133,7 +133,7 @@ fn parts_of_a_host(rt: HostRuntime) -> Result<(), Fail> {
     Ok(())
 }
 
-/// Closes a node without its ports. It comes back if that finds a port or worker missing.
+/// Closes a node without its ports. Returns the host if the close finds a port or worker missing.
 pub(crate) fn close_without_ports<R: Threads + Wait, C: NodeCore<A> + Drop, A: Allocator + Copy>(
     rt: &R,
     alloc: A,
@@ -151,12 +151,13 @@ pub(crate) fn close_without_ports<R: Threads + Wait, C: NodeCore<A> + Drop, A: A
     }
 }
 
-/// Whether the receipts of the first port are unlike.
+/// Whether the receipts of the first port do not match the trace.
 fn is_unlike<C: NodeCore<Global> + Drop>(answer: &Result<Closed, CloseError<C>>) -> bool {
     matches!(answer, Err(CloseError::Unlike { port: 0, .. }))
 }
 
-/// Whether a node is handed back that is closed without its ports, and with these ports finds the receipts unlike.
+/// Whether a node is handed back when it is closed without its ports, and finds the receipts of these ports not to
+/// match its trace when it is closed with them.
 fn finds_unlike<R: Threads + Wait, C: NodeCore<Global> + Drop>(
     rt: &R,
     alloc: Global,
@@ -169,7 +170,7 @@ fn finds_unlike<R: Threads + Wait, C: NodeCore<Global> + Drop>(
     }
 }
 
-/// A node's host.
+/// Returns a node's host.
 pub(crate) fn host_of<C: NodeCore<A> + Drop, A: Allocator>(node: Started<C, A>) -> Host<C, A> {
     let Started {
         host,
@@ -179,7 +180,7 @@ pub(crate) fn host_of<C: NodeCore<A> + Drop, A: Allocator>(node: Started<C, A>) 
     host
 }
 
-/// A node's ports.
+/// Returns a node's ports.
 fn ports_of<C: NodeCore<A> + Drop, A: Allocator>(node: Started<C, A>) -> Vec<Port<C, A>, A> {
     let Started {
         host: _,
@@ -189,7 +190,7 @@ fn ports_of<C: NodeCore<A> + Drop, A: Allocator>(node: Started<C, A>) -> Vec<Por
     ports
 }
 
-/// The port of another node, by which was broadcast.
+/// Returns the port of another node, after a broadcast through it.
 pub(crate) fn used_ports<R: Wait + Abort, A: Allocator + Copy>(
     rt: &R,
     alloc: A,
@@ -199,8 +200,8 @@ pub(crate) fn used_ports<R: Wait + Abort, A: Allocator + Copy>(
     Ok(ports)
 }
 
-/// A host that is closed without its port is handed back, and one that is closed with another host's port finds its
-/// receipts unlike.
+/// A host that is closed without its port is handed back, and one that is closed with another host's port finds that
+/// the receipts do not match its trace.
 #[test]
 fn swapped_ports(rt: HostRuntime) -> Result<(), Fail> {
     let host = host_of(start_alone(&rt, rt.alloc(), "a", 1)?);

@@ -19,28 +19,28 @@ use std::time::Clock;
 use test_support::first_run;
 use world::{Step, StimulusOf, Trace};
 
-/// How many bytes the PRUNE of a node with a name of one letter has.
+/// The number of bytes of a PRUNE from a node whose name has one letter.
 const FRAME: usize = 24;
 
-/// Where the dice of a reader begin.
+/// The seed of the generator of a reader's dice.
 const SEED: u64 = 7;
 
-/// How a stream ends that gives one byte a read.
+/// How a stream ends that gives one byte per read.
 #[derive(Clone, Copy)]
 struct Ending {
-    /// How many bytes come.
+    /// How many bytes arrive.
     len: usize,
     /// Whether the read after them fails. Otherwise the stream ends.
     is_fault: bool,
 }
 
 impl Ending {
-    /// How many whole frames come.
+    /// Returns how many whole frames arrive.
     fn frames(&self) -> usize {
         self.len / FRAME
     }
 
-    /// How many steps are made: one of each frame, and a Down if there is a frame.
+    /// Returns how many steps are made: one for each frame, and a Down if there is a frame.
     fn steps(&self) -> u64 {
         let frames = self.frames() as u64;
         if frames == 0 {
@@ -50,7 +50,7 @@ impl Ending {
         }
     }
 
-    /// What is left of a node.
+    /// Returns what a node leaves.
     fn left(&self) -> &'static str {
         match self.frames() {
             0 => "a/1 among p | handed out 0",
@@ -75,7 +75,7 @@ fn push_prune(
     Ok(())
 }
 
-/// The first so many bytes of two PRUNEs of a node.
+/// Returns the first `len` bytes of two PRUNEs from a node.
 fn prunes(rt: &impl Abort, alloc: Global, len: usize) -> Result<Bytes, AllocError> {
     let sender = first_run(name(rt, "p"));
     let mut bytes = Vec::new(alloc);
@@ -85,7 +85,7 @@ fn prunes(rt: &impl Abort, alloc: Global, len: usize) -> Result<Bytes, AllocErro
     Ok(Bytes::from_vec(bytes)?)
 }
 
-/// Such a stream.
+/// Makes a stream that ends in this way.
 fn stream(rt: &impl Abort, alloc: Global, ending: Ending) -> Result<TapeReader, AllocError> {
     let bytes = prunes(rt, alloc, ending.len)?;
     let pieces = vec![in alloc; 1; 2 * FRAME]?;
@@ -93,7 +93,7 @@ fn stream(rt: &impl Abort, alloc: Global, ending: Ending) -> Result<TapeReader, 
     Ok(TapeReader::new(bytes, pieces, fails))
 }
 
-/// Starts a reader of such a stream.
+/// Starts a reader of a stream that ends in this way.
 fn start_reader<R, C>(
     rt: R,
     alloc: Global,
@@ -114,7 +114,7 @@ where
     Ok(workers)
 }
 
-/// The dice of a step, if it has any.
+/// Returns the dice of a step, if it has any.
 fn dice_of(step: &Step<Frame>) -> Option<Dice> {
     match &step.stimulus {
         StimulusOf::Arrive { dice, .. } | StimulusOf::Down { dice, .. } => Some(*dice),
@@ -133,7 +133,7 @@ fn are_drawn(trace: &Trace<Frame>, generator: &mut Lcg128Xsl64) -> bool {
     true
 }
 
-/// Whether a node left this, with the dice of its reader.
+/// Whether a node left `wanted`, with the dice of its reader.
 fn is_left(text: &mut String, closed: &Closed, wanted: &str) -> Result<bool, AllocError> {
     let mut generator = Lcg128Xsl64::seed_from_u64(SEED);
     text.clear();
@@ -141,7 +141,7 @@ fn is_left(text: &mut String, closed: &Closed, wanted: &str) -> Result<bool, All
     Ok(text.as_str() == wanted && are_drawn(&closed.trace, &mut generator))
 }
 
-/// Whether a node that reads such a stream makes the steps that it is to, and leaves them.
+/// Whether a node that reads a stream that ends in this way makes and leaves the steps that it should.
 fn reads<R, C>(
     rt: R,
     alloc: Global,
@@ -167,7 +167,7 @@ where
     }
 }
 
-/// The same of a fresh node.
+/// Calls `reads` with a fresh node.
 fn is_read<R>(rt: R, alloc: Global, text: &mut String, ending: Ending) -> Result<bool, HostError>
 where
     R: Threads + Wait + Clock + Abort + Copy + Send + Drop + 'static,
@@ -176,8 +176,9 @@ where
     reads(rt, alloc, text, node, ending)
 }
 
-/// Two frames of a peer, of which so many bytes come before the stream ends, and before a read fails. Each whole frame
-/// is a step, and if there is one, the last step is a Down of the peer, also where nothing of a further frame came.
+/// Two frames of a peer, of which a number of bytes arrives before the stream ends, or before a read fails. Each whole
+/// frame is a step, and if there is one, the last step is a Down of the peer, even if nothing of a further frame
+/// arrived.
 #[test]
 fn failing_readers(rt: HostRuntime) -> Result<(), Fail> {
     let mut text = String::new(rt.alloc());

@@ -12,18 +12,18 @@ use std::test::Fail;
 use std::thread::Threads;
 use std::time::Clock;
 
-/// What fails of the first connection of a link.
+/// What fails in the first connection of a link.
 #[derive(Clone, Copy)]
 enum Fault {
     /// It can't be made.
     Dial,
-    /// The write of this number, from 0, where each takes at most ten bytes.
+    /// The write with this number, counted from 0. Each write takes at most ten bytes.
     Write(usize),
     /// The first write takes no byte.
     Full,
 }
 
-/// A fault, and what the node leaves that met it.
+/// A fault, and what a node leaves that met it.
 #[derive(Clone, Copy)]
 struct Case {
     name: &'static str,
@@ -31,15 +31,15 @@ struct Case {
     left: &'static str,
 }
 
-/// What is left where the frame came out of the first link.
+/// What is left if the frame came out of the first link.
 const TAKEN: &str =
     "a/1 among p | broadcast hello; a/1 delivers a/1/1 hello; to p a/1#1 GOSSIP a/1/1 0 hello | down p | handed out 0; 1 to p from 0; 0 to p from 2";
 
-/// What is left where it did not.
+/// What is left if it did not.
 const NOT_TAKEN: &str =
     "a/1 among p | broadcast hello; a/1 delivers a/1/1 hello; to p a/1#1 GOSSIP a/1/1 0 hello | down p | handed out 0; 0 to p from 0; 0 to p from 2";
 
-/// The frame has 55 bytes, which are six writes.
+/// The cases. The frame has 55 bytes, which take six writes.
 const CASES: &[Case] = &[
     Case {
         name: "no connection",
@@ -68,12 +68,13 @@ const CASES: &[Case] = &[
     },
 ];
 
-/// All cases. The table is named here alone, since a function that names it is proved over the whole of it.
+/// Returns all cases. Only this function names the table, since a function that names it needs a proof about the whole
+/// table.
 fn cases() -> &'static [Case] {
     CASES
 }
 
-/// Makes a connection with a fault first, and then others without.
+/// Makes one connection with a fault, and then connections without one.
 #[derive(Drop)]
 struct FaultyDialler {
     alloc: Global,
@@ -93,7 +94,7 @@ impl Dialler for FaultyDialler {
     }
 }
 
-/// Starts a writer for an outlet, whose first connection has a fault.
+/// Starts a writer for an outlet. Its first connection has a fault.
 fn start_writer<R, C>(
     rt: R,
     alloc: Global,
@@ -116,7 +117,7 @@ where
     write_link(rt, host, gate, 0, outlet, dialler)
 }
 
-/// Starts such a writer for each outlet.
+/// Starts a writer for each outlet, as above.
 fn start_writers<R, C>(
     rt: R,
     alloc: Global,
@@ -139,8 +140,8 @@ where
     Ok(workers)
 }
 
-/// Broadcasts once, waits for the step of the writer that meets the fault, and closes the node. Whether the step came.
-/// The text is what the node leaves.
+/// Broadcasts once, waits for the step of the writer that meets the fault, and closes the node. Returns whether the
+/// step came. Replaces the text with what the node leaves.
 fn meet<R, C>(
     rt: R,
     alloc: Global,
@@ -166,12 +167,12 @@ where
     Ok(is_met)
 }
 
-/// Whether the text is the wanted one.
+/// Whether the text is `wanted`.
 fn is_text(text: &str, wanted: &str) -> bool {
     text == wanted
 }
 
-/// Whether a node meets the fault of a case, and leaves what it is to.
+/// Whether a node meets the fault of a case, and leaves what it should.
 fn is_so<R>(rt: R, alloc: Global, text: &mut String, case: &Case) -> Result<bool, HostError>
 where
     R: Threads + Wait + Clock + Abort + Copy + Send + Drop + 'static,
@@ -181,7 +182,7 @@ where
     Ok(is_met && is_text(text.as_str(), case.left))
 }
 
-/// A node broadcasts, and the connection of its link fails. Its trace is the broadcast and a Down of the peer, at most
+/// A node broadcasts, and the connection of its link fails. Its trace is the broadcast and a Down of the peer. At most
 /// one frame came out of the first link, and none out of the next one.
 #[test]
 fn failing_writers(rt: HostRuntime) -> Result<(), Fail> {

@@ -1,4 +1,4 @@
-//! Readers that a gate orders.
+//! Readers whose order a gate decides.
 use crate::tests::ends::close;
 use crate::tests::node::{LOOKS, Started, keep, name, start_with_one, start_with_two};
 use bytes::Bytes;
@@ -15,7 +15,7 @@ use std::time::{Clock, Duration};
 use test_support::first_run;
 use world::{StimulusOf, Trace};
 
-/// How often each of two workers was reported to have made a step, and how often the first was refused.
+/// How often each of two workers was reported to have made a step, and how often the first one was refused.
 #[derive(Clone, Copy)]
 struct Reports {
     made: [u64; 2],
@@ -29,7 +29,7 @@ struct Watch {
 }
 
 impl Watch {
-    /// A watch to which nothing was reported.
+    /// Makes a watch to which nothing has been reported.
     fn new() -> Watch {
         let reports = Reports {
             made: [0, 0],
@@ -40,12 +40,13 @@ impl Watch {
         }
     }
 
-    /// What was reported.
+    /// Returns what was reported.
     fn reports<R: Wait>(&self, rt: &R) -> Reports {
         *self.reports.lock(rt)
     }
 
-    /// Waits until both workers made a step. Whether they did, and the first was refused less often than it may ask.
+    /// Waits until both workers have made a step. Returns whether they have, and the first one was refused less often
+    /// than it may ask.
     fn wait_for_both<R: Wait + Clock>(&self, rt: &R) -> bool {
         for _ in 0..LOOKS {
             let reports = self.reports(rt);
@@ -58,7 +59,7 @@ impl Watch {
     }
 }
 
-/// Lets worker 1 through only after worker 0 was refused, and worker 0 only after worker 1 made a step.
+/// Lets worker 1 through only after worker 0 was refused, and worker 0 only after worker 1 has made a step.
 #[derive(Drop)]
 struct SecondFirst<R: Wait + Clock + Drop> {
     rt: R,
@@ -90,14 +91,14 @@ impl<R: Wait + Clock + Drop> Gate for SecondFirst<R> {
     }
 }
 
-/// The bytes of a PRUNE from the node of this name.
+/// Returns the bytes of a PRUNE from the node with this name.
 fn prune_from(rt: &impl Abort, alloc: Global, text: &str) -> Result<Bytes, AllocError> {
     let sender = first_run(name(rt, text));
     let frame = Frame::new(sender, 1, Body::Prune).expect(rt, "a frame");
     encode(alloc, &frame)
 }
 
-/// How many steps of the trace took a frame.
+/// Returns how many steps of the trace took a frame.
 fn arrivals(trace: &Trace<Frame>) -> usize {
     (0..trace.len())
         .filter(|place| match trace.step(*place) {
@@ -107,7 +108,7 @@ fn arrivals(trace: &Trace<Frame>) -> usize {
         .count()
 }
 
-/// Starts the reader of this number, to which one frame comes, behind a gate.
+/// Starts reader `number` behind a gate. One frame arrives at it.
 fn start_reader<R, C, G>(
     rt: R,
     alloc: Global,
@@ -146,7 +147,7 @@ where
     Ok(workers)
 }
 
-/// Closes a node. Whether so many frames arrived.
+/// Closes a node. Returns whether `wanted` frames arrived.
 fn closes_with<R: Threads + Wait, C: NodeCore<Global> + Drop>(
     rt: &R,
     node: Started<C>,
@@ -161,7 +162,7 @@ fn closes_with<R: Threads + Wait, C: NodeCore<Global> + Drop>(
     close(rt, host, ports, workers).is_some_and(|closed| arrivals(&closed.trace) == wanted)
 }
 
-/// Whether both readers of a node make their steps, and leave it whole.
+/// Whether both readers of a node make their steps, and the node closes with both frames.
 fn reads_in_order<R, C>(
     rt: R,
     alloc: Global,
@@ -177,8 +178,8 @@ where
     Ok(closes_with(&rt, node, workers, 2) && is_read)
 }
 
-/// Two readers with one frame each, of which the second goes first, after the first was refused. Both frames arrive,
-/// and the first reader asks less often than it may.
+/// Two readers with one frame each, of which the second one goes first, after the first one was refused. Both frames
+/// arrive, and the first reader asks less often than it may.
 #[test]
 fn gated_readers(rt: HostRuntime) -> Result<(), Fail> {
     let alloc = rt.alloc();
@@ -188,7 +189,7 @@ fn gated_readers(rt: HostRuntime) -> Result<(), Fail> {
     Ok(())
 }
 
-/// Lets nobody through.
+/// Lets no one through.
 #[derive(Drop)]
 struct Shut<R: Wait + Drop> {
     rt: R,
@@ -207,7 +208,7 @@ impl<R: Wait + Drop> Gate for Shut<R> {
     fn pause(&self) {}
 }
 
-/// Whether a reader that its gate never lets through ends, and the node takes nothing of it.
+/// Whether a reader that its gate never lets through ends, and the node takes nothing from it.
 fn ends_at_the_gate<R, C>(
     rt: R,
     alloc: Global,

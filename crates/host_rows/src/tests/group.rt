@@ -19,7 +19,7 @@ use std::time::{Clock, Duration};
 use std::{mem, thread};
 use world::{Delivery, StimulusOf, Trace};
 
-/// How often each port broadcasts.
+/// How many times each port broadcasts.
 const BROADCASTS: usize = 10;
 
 /// Ticks every millisecond.
@@ -35,14 +35,14 @@ impl<R: Clock + Drop> Ticker for Millisecond<R> {
     }
 }
 
-/// The ends of pipes that one node reads and writes, the writers in the order of its peers.
+/// The ends of pipes that one node reads and writes. The writers are in the order of its peers.
 #[derive(Drop)]
 struct Ends<R: Wait + Drop> {
     readers: Vec<PipeReader<R>>,
     writers: Vec<PipeWriter<R>>,
 }
 
-/// A running node, the threads that broadcast by its ports, and what it handed out.
+/// A running node, the threads that broadcast through its ports, and what it handed out.
 #[derive(Drop)]
 struct Running<C: NodeCore<Global> + Drop> {
     host: Host<C>,
@@ -88,7 +88,7 @@ where
     Ok(())
 }
 
-/// Starts the worker that ticks and the one that hands out.
+/// Starts the worker that ticks and the one that hands out deliveries.
 fn start_others<R, C>(
     rt: R,
     host: &Host<C>,
@@ -122,7 +122,7 @@ where
     start_others(rt, &node.host, &node.inbox, &mut node.workers)
 }
 
-/// Lets a node run with all its workers.
+/// Starts a node's workers.
 fn run<R, C>(rt: R, alloc: Global, node: Started<C>, ends: Ends<R>) -> Result<Running<C>, HostError>
 where
     R: Threads + Wait + Clock + Copy + Send + Drop + 'static,
@@ -145,7 +145,7 @@ where
     Ok(node)
 }
 
-/// Gives this end of a pipe to the node at this place.
+/// Gives a pipe's reading end to the node at this place.
 fn give_reader<R: Wait + Drop>(
     ends: &mut [Ends<R>],
     place: usize,
@@ -157,7 +157,7 @@ fn give_reader<R: Wait + Drop>(
     Ok(())
 }
 
-/// Gives this end of a pipe to the node at this place.
+/// Gives a pipe's writing end to the node at this place.
 fn give_writer<R: Wait + Drop>(
     ends: &mut [Ends<R>],
     place: usize,
@@ -182,7 +182,7 @@ fn link<R: Wait + Copy + Drop>(
     give_writer(ends, from, writer)
 }
 
-/// The ends of three nodes that have no pipes.
+/// Makes the ends of three nodes that have no pipes.
 fn no_ends<R: Wait + Copy + Drop>(alloc: Global) -> Result<Vec<Ends<R>>, AllocError> {
     let mut ends = Vec::with_capacity(alloc, 3)?;
     for _ in 0..3 {
@@ -194,7 +194,7 @@ fn no_ends<R: Wait + Copy + Drop>(alloc: Global) -> Result<Vec<Ends<R>>, AllocEr
     Ok(ends)
 }
 
-/// The ends of three nodes with a pipe from each to each other.
+/// Makes the ends of three nodes with a pipe from each node to each other one.
 fn new_ends<R: Wait + Copy + Drop>(rt: R, alloc: Global) -> Result<Vec<Ends<R>>, AllocError> {
     let mut ends = no_ends(alloc)?;
     for (from, to) in [(0, 1), (0, 2), (1, 0), (1, 2), (2, 0), (2, 1)] {
@@ -203,7 +203,7 @@ fn new_ends<R: Wait + Copy + Drop>(rt: R, alloc: Global) -> Result<Vec<Ends<R>>,
     Ok(ends)
 }
 
-/// Starts the node at this place, which has two ports and the two others as its peers.
+/// Starts the node at this place, which has two ports and the other two nodes as its peers.
 fn start_at(rt: &impl Abort, alloc: Global, place: usize) -> Result<Started<PlumCore>, HostError> {
     let (me, peers) = match place {
         0 => ("a", ["b", "c"]),
@@ -213,7 +213,7 @@ fn start_at(rt: &impl Abort, alloc: Global, place: usize) -> Result<Started<Plum
     start_with_two(rt, alloc, me, peers, 2)
 }
 
-/// Three nodes, each with links to the two others and two ports.
+/// Starts three nodes, each with links to the other two and with two ports.
 fn run_three<R>(rt: R, alloc: Global) -> Result<Vec<Running<PlumCore>>, HostError>
 where
     R: Threads + Wait + Clock + Abort + Copy + Send + Drop + 'static,
@@ -238,7 +238,7 @@ fn broadcast_one<R: Wait, C: NodeCore<Global> + Drop>(
     Ok(())
 }
 
-/// Broadcasts ten messages. Whether all of them were accepted.
+/// Broadcasts ten messages. Returns whether all of them were accepted.
 fn broadcast_ten<R: Wait, C: NodeCore<Global> + Drop>(
     rt: &R,
     alloc: Global,
@@ -252,7 +252,7 @@ fn broadcast_ten<R: Wait, C: NodeCore<Global> + Drop>(
     true
 }
 
-/// Broadcasts ten messages by a port, which comes back if all of them were accepted.
+/// Broadcasts ten messages through a port. Returns the port if all of them were accepted.
 fn broadcast_by<R: Wait, C: NodeCore<Global> + Drop>(
     rt: &R,
     alloc: Global,
@@ -261,7 +261,7 @@ fn broadcast_by<R: Wait, C: NodeCore<Global> + Drop>(
     broadcast_ten(rt, alloc, &mut port).then_some(port)
 }
 
-/// Starts a thread that does so.
+/// Starts a thread that calls `broadcast_by`.
 fn start_broadcasts<R, C>(
     rt: R,
     alloc: Global,
@@ -289,7 +289,7 @@ where
     Ok(())
 }
 
-/// The ports that come back from their threads.
+/// Waits for the threads. Returns the ports that come back from them.
 fn join_ports<R: Threads, C: NodeCore<Global> + Drop>(
     rt: &R,
     alloc: Global,
@@ -304,7 +304,7 @@ fn join_ports<R: Threads, C: NodeCore<Global> + Drop>(
     Ok(ports)
 }
 
-/// Whether the receipt is that of its payload's broadcast in the trace.
+/// Whether the receipt is the one of its payload's broadcast in the trace.
 fn is_right(trace: &Trace<Frame>, call: &Call) -> bool {
     let Some(step) = trace.step(call.receipt.place) else {
         return false;
@@ -318,7 +318,7 @@ fn is_right(trace: &Trace<Frame>, call: &Call) -> bool {
     *payload == call.payload && delivery.id == call.receipt.id
 }
 
-/// The deliveries of a trace, in order.
+/// Returns the deliveries of a trace, in order.
 fn deliveries(alloc: Global, trace: &Trace<Frame>) -> Result<Vec<&Delivery>, AllocError> {
     let mut all = Vec::new(alloc);
     for place in 0..trace.len() {
@@ -331,7 +331,7 @@ fn deliveries(alloc: Global, trace: &Trace<Frame>) -> Result<Vec<&Delivery>, All
     Ok(all)
 }
 
-/// Copies of the calls of ports.
+/// Copies the calls of ports.
 fn calls<C: NodeCore<Global> + Drop>(
     alloc: Global,
     ports: &[Port<C>],
@@ -348,7 +348,7 @@ fn calls<C: NodeCore<Global> + Drop>(
     Ok(all)
 }
 
-/// How many steps of the trace are broadcasts.
+/// Returns how many steps of the trace are broadcasts.
 fn broadcasts(trace: &Trace<Frame>) -> usize {
     (0..trace.len())
         .filter(|place| match trace.step(*place) {
@@ -358,7 +358,7 @@ fn broadcasts(trace: &Trace<Frame>) -> usize {
         .count()
 }
 
-/// Whether a node that was closed delivered sixty messages and handed all of them out, and made twenty broadcasts.
+/// Whether a closed node delivered sixty messages, handed out all of them, and made twenty broadcasts.
 fn is_whole<R: Wait>(
     rt: &R,
     alloc: Global,
@@ -374,12 +374,12 @@ fn is_whole<R: Wait>(
     )
 }
 
-/// Whether all receipts are those of their broadcasts.
+/// Whether all receipts are the ones of their broadcasts.
 fn are_right(trace: &Trace<Frame>, calls: &[Call]) -> bool {
     calls.iter().all(|call| is_right(trace, call))
 }
 
-/// Closes a node with its ports. Whether it is whole, and all receipts are right.
+/// Closes a node with its ports. Returns whether `is_whole` holds and all receipts are right.
 fn closes_whole<R: Threads + Wait, C: NodeCore<Global> + Drop>(
     rt: &R,
     alloc: Global,
@@ -400,7 +400,7 @@ fn closes_whole<R: Threads + Wait, C: NodeCore<Global> + Drop>(
     Ok(are_right(&closed.trace, calls.as_slice()) && is_whole(rt, alloc, &closed, &inbox)?)
 }
 
-/// Broadcasts ten messages by each port, all ports at once.
+/// Broadcasts ten messages through each port, all ports at once.
 fn broadcast_all<R, C>(rt: R, alloc: Global, nodes: &mut [Running<C>]) -> Result<(), HostError>
 where
     R: Threads + Wait + Copy + Send + Drop + 'static,
@@ -412,7 +412,7 @@ where
     Ok(())
 }
 
-/// Waits until each node has handed out sixty messages. Whether all did.
+/// Waits until each node has handed out sixty messages. Returns whether all have.
 fn wait_for_all<R: Wait + Clock, C: NodeCore<Global> + Drop>(rt: &R, nodes: &[Running<C>]) -> bool {
     nodes
         .iter()
@@ -426,7 +426,7 @@ fn stop_all<R: Wait, C: NodeCore<Global> + Drop>(rt: &R, nodes: &[Running<C>]) {
     }
 }
 
-/// Closes all nodes. Whether each of them is whole.
+/// Closes all nodes. Returns whether `closes_whole` holds for each of them.
 fn close_all<R: Threads + Wait, C: NodeCore<Global> + Drop>(
     rt: &R,
     alloc: Global,
@@ -440,7 +440,7 @@ fn close_all<R: Threads + Wait, C: NodeCore<Global> + Drop>(
     Ok(true)
 }
 
-/// Whether three nodes that run broadcast and hand out all messages, and are whole in the end.
+/// Whether three running nodes broadcast and hand out all messages, and all close whole.
 fn are_whole<R, C>(rt: R, alloc: Global, mut nodes: Vec<Running<C>>) -> Result<bool, HostError>
 where
     R: Threads + Wait + Clock + Copy + Send + Drop + 'static,
@@ -452,8 +452,8 @@ where
     Ok(close_all(&rt, alloc, nodes)? && is_handed_out)
 }
 
-/// Three nodes broadcast twenty messages each, by two ports at once. Each delivers all sixty and hands them out as its
-/// trace has them, and each closes.
+/// Three nodes broadcast twenty messages each, through two ports at once. Each delivers all sixty, hands them out in
+/// the order of its trace, and closes.
 #[test]
 fn three_hosts(rt: HostRuntime) -> Result<(), Fail> {
     let nodes = run_three(rt, rt.alloc())?;

@@ -1,4 +1,4 @@
-//! What a node handed out.
+//! The deliveries that a node handed out.
 use crate::tests::node::LOOKS;
 use node_threads::Handed;
 use std::alloc::{AllocError, Global};
@@ -14,25 +14,25 @@ pub(crate) struct Inbox {
 }
 
 impl Inbox {
-    /// An inbox without deliveries.
+    /// Makes an inbox without deliveries.
     fn new(alloc: Global) -> Inbox {
         Inbox {
             given: Mutex::new(Vec::new(alloc)),
         }
     }
 
-    /// An inbox without deliveries, which several threads can hold.
+    /// Makes an inbox without deliveries that several threads can hold.
     pub(crate) fn shared(alloc: Global) -> Result<Arc<Inbox, Global>, AllocError> {
         Ok(Arc::new(alloc, Inbox::new(alloc))?)
     }
 
-    /// Puts deliveries last.
+    /// Appends deliveries.
     fn put<R: Wait>(&self, rt: &R, mut batch: Vec<Delivery>) -> Result<(), AllocError> {
         self.given.lock(rt).append(&mut batch)?;
         Ok(())
     }
 
-    /// Waits until there are so many deliveries. Whether they came.
+    /// Waits until there are at least `count` deliveries. Returns whether there are.
     pub(crate) fn wait_for<R: Wait + Clock>(&self, rt: &R, count: usize) -> bool {
         for _ in 0..LOOKS {
             if self.given.lock(rt).len() >= count {
@@ -43,7 +43,7 @@ impl Inbox {
         false
     }
 
-    /// Whether these are the deliveries, in order.
+    /// Whether the inbox has exactly these deliveries, in this order.
     pub(crate) fn has<R: Wait>(&self, rt: &R, wanted: &[&Delivery]) -> bool {
         let given = self.given.lock(rt);
         given.len() == wanted.len()
@@ -60,7 +60,7 @@ pub(crate) struct ToInbox<R: Wait + Drop> {
 }
 
 impl<R: Wait + Drop> ToInbox<R> {
-    /// What puts into this inbox.
+    /// Makes a sink that puts deliveries into this inbox.
     pub(crate) fn new(rt: R, inbox: Arc<Inbox, Global>) -> ToInbox<R> {
         ToInbox { rt, inbox }
     }
@@ -68,7 +68,7 @@ impl<R: Wait + Drop> ToInbox<R> {
 
 impl<R: Wait + Drop> Handed<Vec<Delivery>> for ToInbox<R> {
     fn take(&mut self, batch: Vec<Delivery>) {
-        // Without memory the batch is lost, and the test finds that it did not come.
+        // Without memory the batch is lost, and the test then finds that it is missing.
         let _ = self.inbox.put(&self.rt, batch);
     }
 }

@@ -1,4 +1,4 @@
-//! Workers that are refused memory.
+//! Workers for which memory runs out.
 use crate::tests::dice::waits_for_end;
 use crate::tests::ends::{broadcast_by_each, close};
 use crate::tests::node::{Started, keep, start_with_one};
@@ -11,7 +11,7 @@ use std::test::Fail;
 use std::thread::Threads;
 use std::time::Clock;
 
-/// Makes no connection, for this reason.
+/// Fails to make a connection, for this reason.
 #[derive(Drop)]
 struct NoConnection {
     why: LinkEnd,
@@ -25,7 +25,7 @@ impl Dialler for NoConnection {
     }
 }
 
-/// Starts writers of these outlets, whose connections can't be made for this reason.
+/// Starts writers for these outlets, whose connections can't be made for this reason.
 fn write_all<R, C>(
     rt: R,
     alloc: Global,
@@ -45,8 +45,8 @@ where
     Ok(workers)
 }
 
-/// Has a node broadcast over links whose connections can't be made for this reason, and closes it. Whether it tells then
-/// that a worker was refused memory, or none if something is wrong.
+/// Lets a node broadcast over links whose connections can't be made for this reason, and closes it. Returns whether it
+/// reports that a worker ran out of memory, or `None` if something is wrong.
 fn tells<R, C>(
     rt: R,
     alloc: Global,
@@ -72,8 +72,8 @@ where
     Ok((have_ended && !is_early && closed.is_some()).then_some(is_told))
 }
 
-/// A writer that can't have a connection for want of memory is told of by its host, and one that can't have it for
-/// another reason is not.
+/// A host reports a writer that can't have a connection because memory ran out, and does not report one that can't have
+/// it for another reason.
 #[test]
 fn lack_of_memory_is_told(rt: HostRuntime) -> Result<(), Fail> {
     let alloc = rt.alloc();

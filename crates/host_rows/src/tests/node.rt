@@ -17,7 +17,7 @@ const RING: usize = 10_000;
 /// How many steps a node may make: more than any test makes.
 const STEPS: usize = 1_000_000;
 
-/// How often a test looks whether what it waits for has come, five milliseconds after each look.
+/// How often a test checks whether what it waits for has come, with five milliseconds after each check.
 pub(crate) const LOOKS: u32 = 4_000;
 
 /// A host, its ports and its outlets.
@@ -28,7 +28,7 @@ pub(crate) struct Started<C: NodeCore<A> + Drop, A: Allocator = Global> {
     pub(crate) outlets: Vec<Outlet<A>, A>,
 }
 
-/// Puts an item last.
+/// Appends an item.
 pub(crate) fn keep<T: Drop>(list: &mut Vec<T>, item: T) -> Result<(), AllocError> {
     list.push(item)?;
     Ok(())
@@ -42,12 +42,12 @@ struct Names {
     second: NodeName,
 }
 
-/// The name of this text.
+/// Parses a name.
 pub(crate) fn name(rt: &impl Abort, text: &str) -> NodeName {
     NodeName::parse(text.as_bytes()).expect(rt, "a name")
 }
 
-/// The names of these texts, which are distinct.
+/// Parses three names, which are distinct.
 fn parse_names(rt: &impl Abort, me: &str, first: &str, second: &str) -> Names
     ensures first { IsTrue (not (same_name result.me.name result.first)) }
     ensures second { IsTrue (not (same_name result.me.name result.second)) }
@@ -64,7 +64,7 @@ fn parse_names(rt: &impl Abort, me: &str, first: &str, second: &str) -> Names
     }
 }
 
-/// Starts a node with these peers and so many ports.
+/// Starts a node with these peers and `ports` ports.
 fn start_among<A: Allocator + Copy>(
     alloc: A,
     me: Origin,
@@ -98,7 +98,7 @@ pub(crate) fn start_alone<A: Allocator + Copy>(
     start_among(alloc, me, Limits::STANDARD, &[], ports)
 }
 
-/// The names of these texts, which are distinct.
+/// Parses two names, which are distinct.
 fn parse_two(rt: &impl Abort, me: &str, peer: &str) -> (Origin, NodeName)
     ensures { IsTrue (not (same_name result.0.name result.1)) }
 {
@@ -107,7 +107,7 @@ fn parse_two(rt: &impl Abort, me: &str, peer: &str) -> (Origin, NodeName)
     (first_run(me), peer)
 }
 
-/// Starts a node with one peer. The two names are never the same.
+/// Starts a node with one peer. The two names must differ.
 pub(crate) fn start_with_one(
     rt: &impl Abort,
     alloc: Global,
@@ -120,7 +120,7 @@ pub(crate) fn start_with_one(
     start_among(alloc, me, limits, &[peer], ports)
 }
 
-/// Starts a node with two peers. Two of the three names are never the same.
+/// Starts a node with two peers. The three names must be distinct.
 pub(crate) fn start_with_two(
     rt: &impl Abort,
     alloc: Global,

@@ -1,5 +1,5 @@
-//! The start and the broadcasts of a node, each allocation of them refused in turn: the call fails as out of memory,
-//! and made again it answers as if nothing had been refused.
+//! The start and the broadcasts of a node, with each of their allocations refused in turn: the call fails as out of
+//! memory, and when made again it answers as if nothing had been refused.
 use crate::tests::ends::broadcast;
 use crate::tests::node::{Started, name, start_alone};
 use crate::tests::texts::push_answer;
@@ -14,7 +14,7 @@ use std::thread::Threads;
 use test_support::{message, refusal_of, retry, stop_refusing, sweep};
 use world::CoreError;
 
-/// Whether a start failed as out of memory, in the core or behind it.
+/// Whether a start failed as out of memory, in the core or after it.
 fn is_out_of_memory(error: HostError) -> bool {
     matches!(
         error,
@@ -22,8 +22,8 @@ fn is_out_of_memory(error: HostError) -> bool {
     )
 }
 
-/// Starts the node while the allocation with this number is refused, and again if it is refused. Whether there is such
-/// an allocation, or none if something is wrong.
+/// Starts the node while allocation number `n` is refused, and again if that failed. Returns whether there is such an
+/// allocation, or `None` if something is wrong.
 fn refuse_start(rt: &impl Abort, heap: &RefusingAllocator, n: u64) -> Option<bool> {
     let call = || refusal_of(start_alone(rt, heap, "a", 1));
     retry(heap, n, call, is_out_of_memory)
@@ -33,8 +33,8 @@ fn refuse_start(rt: &impl Abort, heap: &RefusingAllocator, n: u64) -> Option<boo
 fn each_allocation_of_a_start(rt: HostRuntime) -> Result<(), Fail> {
     let heap = RefusingAllocator::new(rt.alloc());
     let refused = sweep(|n| Ok::<_, HostError>(refuse_start(&rt, &heap, n)))?;
-    // The list of writers' places, the block that host and ports share, and the list of ports. Without peers all else
-    // starts empty, and no thread is started.
+    // The list of writers' places, the block that host and ports share, and the list of ports. Without peers everything
+    // else starts empty, and no thread is started.
     assert!(rt;
         refused == Some(3),
         "other allocations were refused, or a wrong answer: {refused:?}"
@@ -42,8 +42,8 @@ fn each_allocation_of_a_start(rt: HostRuntime) -> Result<(), Fail> {
     Ok(())
 }
 
-/// Broadcasts by a port while the allocation with this number is refused, and again if it is refused. Whether there is
-/// such an allocation, or none if the port does not answer so.
+/// Broadcasts through a port while allocation number `n` is refused, and again if that failed. Returns whether there is
+/// such an allocation, or `None` if the port does not answer `wanted`.
 fn refuse_broadcast<R: Wait, C: NodeCore<A> + Drop, A: Allocator + Copy>(
     rt: &R,
     heap: &RefusingAllocator,
@@ -66,7 +66,7 @@ fn refuse_broadcast<R: Wait, C: NodeCore<A> + Drop, A: Allocator + Copy>(
     Ok(is_right.then_some(is_spent))
 }
 
-/// What the first broadcast of the node answers.
+/// Returns the receipt of the node's first broadcast.
 fn first_receipt(rt: &impl Abort) -> Receipt {
     Receipt {
         id: message(name(rt, "a"), 1),
@@ -74,7 +74,7 @@ fn first_receipt(rt: &impl Abort) -> Receipt {
     }
 }
 
-/// Does so with the first port of a node.
+/// Calls `refuse_broadcast` with the first port of a node.
 fn refuse_by_first<R: Wait, C: NodeCore<A> + Drop, A: Allocator + Copy>(
     rt: &R,
     heap: &RefusingAllocator,
@@ -89,7 +89,8 @@ fn refuse_by_first<R: Wait, C: NodeCore<A> + Drop, A: Allocator + Copy>(
     }
 }
 
-/// Does so with a node that is stopped first, or is not, and closes it. The text is what it leaves.
+/// Calls `refuse_by_first` with a node, which it stops before if `is_stopped`, and then closes the node. Replaces the
+/// text with what the node leaves.
 fn refuse_of_node<R: Threads + Wait + Abort, C: NodeCore<A> + Drop, A: Allocator + Copy>(
     rt: &R,
     heap: &RefusingAllocator,
@@ -116,8 +117,8 @@ fn refuse_of_node<R: Threads + Wait + Abort, C: NodeCore<A> + Drop, A: Allocator
     Ok(refused)
 }
 
-/// Does so with a fresh node. Whether there is such an allocation, or none if something is wrong, or the node leaves
-/// anything else.
+/// Calls `refuse_of_node` with a fresh node. Returns whether there is such an allocation, or `None` if something is
+/// wrong or the node does not leave what it should.
 fn refuse_of_fresh<R: Threads + Wait + Abort, A: Allocator + Copy>(
     rt: &R,
     heap: &RefusingAllocator,
@@ -136,13 +137,13 @@ fn refuse_of_fresh<R: Threads + Wait + Abort, A: Allocator + Copy>(
     Ok(refused.filter(|_| text.as_str() == left))
 }
 
-/// The broadcast of a node makes its first step, and that of a node that was stopped is refused because it was.
+/// The broadcast of a node makes its first step. The broadcast of a stopped node is refused because it was stopped.
 #[test]
 fn each_allocation_of_a_broadcast(rt: HostRuntime) -> Result<(), Fail> {
     let heap = RefusingAllocator::new(rt.alloc());
     let mut text = String::new(rt.alloc());
-    // 1 each for the port's calls, deliveries, copied deliveries, waiting ones and steps, and 4 each for held messages
-    // and known ids. A node that was stopped refuses as soon as the port has room for the call.
+    // 1 each for the port's calls, deliveries, copied deliveries, waiting deliveries and steps, and 4 each for held
+    // messages and known ids. A stopped node refuses as soon as the port has room for the call.
     for (is_stopped, wanted) in [(false, 13), (true, 1)] {
         let refused = sweep(|n| refuse_of_fresh(&rt, &heap, &heap, &mut text, is_stopped, n))?;
         assert!(rt; refused == Some(wanted), "{is_stopped}: {refused:?} {text}");

@@ -1,5 +1,5 @@
-//! The close of a node, each allocation of it refused in turn: it fails as out of memory, and hands the whole trace
-//! back.
+//! The close of a node, with each of its allocations refused in turn: it fails as out of memory, and hands back the
+//! whole trace.
 use crate::tests::ends::{broadcast_by_each, close_without_ports, host_of, used_ports};
 use crate::tests::node::{Started, start_alone};
 use crate::tests::texts::push_answer;
@@ -12,15 +12,15 @@ use std::test::Fail;
 use std::thread::Threads;
 use test_support::{stop_refusing, sweep};
 
-/// What a close answers, and what it answers if it is refused.
+/// What a close answers, without and with a refused allocation.
 #[derive(Clone, Copy)]
 struct Answers {
     unrefused: &'static str,
     refused: &'static str,
 }
 
-/// Closes a node while the allocation with this number is refused. Whether there is such an allocation. The text is the
-/// answer.
+/// Closes a node while allocation number `n` is refused. Returns whether there is such an allocation. Replaces the text
+/// with the answer.
 fn close_refused<R: Threads + Wait, C: NodeCore<A> + Drop, A: Allocator + Copy>(
     rt: &R,
     heap: &RefusingAllocator,
@@ -38,7 +38,7 @@ fn close_refused<R: Threads + Wait, C: NodeCore<A> + Drop, A: Allocator + Copy>(
     Ok(is_spent)
 }
 
-/// Whether an allocation was refused, or none if the answer is not the one that this is to give.
+/// Returns whether an allocation was refused, or `None` if the answer is not the one that it should be.
 fn judge(text: &str, answers: &Answers, is_spent: bool) -> Option<bool> {
     let wanted = if is_spent {
         answers.refused
@@ -48,7 +48,7 @@ fn judge(text: &str, answers: &Answers, is_spent: bool) -> Option<bool> {
     (text == wanted).then_some(is_spent)
 }
 
-/// Broadcasts once and closes the node while the allocation with this number is refused.
+/// Broadcasts once, and closes the node while allocation number `n` is refused.
 fn refuse_close<R: Threads + Wait, C: NodeCore<A> + Drop, A: Allocator + Copy>(
     rt: &R,
     heap: &RefusingAllocator,
@@ -66,7 +66,8 @@ fn refuse_close<R: Threads + Wait, C: NodeCore<A> + Drop, A: Allocator + Copy>(
     Ok(close_refused(rt, heap, alloc, text, host, ports, n)?)
 }
 
-/// Does so with a fresh node. Whether there is such an allocation, or none if the answer is wrong.
+/// Calls `refuse_close` with a fresh node. Returns whether there is such an allocation, or `None` if the answer is
+/// wrong.
 fn refuse_of_fresh<R: Threads + Wait + Abort, A: Allocator + Copy>(
     rt: &R,
     heap: &RefusingAllocator,
@@ -92,9 +93,9 @@ fn each_allocation_of_a_close(rt: HostRuntime) -> Result<(), Fail> {
     Ok(())
 }
 
-/// Closes a node without its port, with no allocation to spare, and then with the port of another node while the
-/// allocation with this number is refused. Whether there is such an allocation, or none if the first close does not
-/// hand the node back.
+/// Closes a node without its port while the very next allocation would be refused, and then with the port of another
+/// node while allocation number `n` is refused. Returns whether there is such an allocation, or `None` if the first
+/// close allocates or does not hand the node back.
 fn refuse_other_port<R: Threads + Wait, C: NodeCore<A> + Drop, A: Allocator + Copy>(
     rt: &R,
     heap: &RefusingAllocator,
@@ -114,7 +115,8 @@ fn refuse_other_port<R: Threads + Wait, C: NodeCore<A> + Drop, A: Allocator + Co
     Ok(Some(close_refused(rt, heap, alloc, text, host, ports, n)?))
 }
 
-/// Does so with two fresh nodes, of which the other broadcast once. None also if the answer is wrong.
+/// Calls `refuse_other_port` with two fresh nodes, of which the other one has broadcast once. Also returns `None` if
+/// the answer is wrong.
 fn refuse_of_two<R: Threads + Wait + Abort, A: Allocator + Copy>(
     rt: &R,
     heap: &RefusingAllocator,
@@ -132,8 +134,8 @@ fn refuse_of_two<R: Threads + Wait + Abort, A: Allocator + Copy>(
     Ok(refused.and_then(|is_spent| judge(text.as_str(), &answers, is_spent)))
 }
 
-/// A close without a port needs no memory. One with the port of another node finds the receipts unlike, unless it is
-/// refused.
+/// A close without a port needs no memory. A close with the port of another node finds that the receipts do not match
+/// the trace, unless memory runs out.
 #[test]
 fn each_allocation_of_swapped_ports(rt: HostRuntime) -> Result<(), Fail> {
     let heap = RefusingAllocator::new(rt.alloc());

@@ -14,7 +14,7 @@ use std::test::Fail;
 use std::thread::Threads;
 use std::time::Clock;
 
-/// Makes connections that take all.
+/// Makes connections that take everything.
 #[derive(Drop)]
 struct Tapes {
     alloc: Global,
@@ -28,7 +28,8 @@ impl Dialler for Tapes {
     }
 }
 
-/// Broadcasts once, and has a writer write an outlet until it is empty. Whether the writer ended then.
+/// Broadcasts once, lets a writer write an outlet, retires the writer, and waits until it has ended. Returns its
+/// worker.
 fn write_once<R, C>(
     rt: R,
     alloc: Global,
@@ -50,7 +51,7 @@ where
     Ok(workers)
 }
 
-/// Writes the outlets one after the other, twice, and answers them.
+/// Writes outlets one after another, twice in all. Returns the outlets.
 fn write_twice<R, C>(
     rt: R,
     alloc: Global,
@@ -72,7 +73,7 @@ where
     Ok(outlets)
 }
 
-/// The workers that bring these outlets to the close.
+/// Makes the workers that bring these outlets to the close.
 fn rest_all<C: NodeCore<Global> + Drop>(
     alloc: Global,
     host: &Host<C>,
@@ -85,7 +86,7 @@ fn rest_all<C: NodeCore<Global> + Drop>(
     Ok(workers)
 }
 
-/// Whether the one link of a node gave two frames to this peer.
+/// Whether the only link of a node gave two frames to this peer.
 fn gave_two(closed: &Closed, peer: &NodeName) -> bool {
     match closed.links.as_slice() {
         [link] => link.peer == *peer && link.taken == 2,
@@ -93,7 +94,7 @@ fn gave_two(closed: &Closed, peer: &NodeName) -> bool {
     }
 }
 
-/// Has a node's writer retire twice, and closes the node. Whether the close sees what its outlet gave.
+/// Retires a node's writer twice, and closes the node. Returns whether the close reports what its outlet gave.
 fn retires<R, C>(rt: R, alloc: Global, node: Started<C>) -> Result<bool, HostError>
 where
     R: Threads + Wait + Clock + Copy + Send + Drop + 'static,
@@ -113,8 +114,8 @@ where
     Ok(closed.is_some_and(|closed| gave_two(&closed, &peer)))
 }
 
-/// A node broadcasts, and its writer retires when the frame is written; so once more with a new writer for the same
-/// outlet. The close is given the outlet without a thread, and reports both frames.
+/// A node broadcasts, and its writer retires once the frame is written; then the same happens again with a new writer
+/// for the same outlet. The close is given the outlet without a thread, and reports both frames.
 #[test]
 fn a_writer_retires(rt: HostRuntime) -> Result<(), Fail> {
     let alloc = rt.alloc();

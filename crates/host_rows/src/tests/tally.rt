@@ -1,4 +1,4 @@
-//! How many steps the workers of a node have made.
+//! Counts the steps that the workers of a node have made.
 use crate::tests::node::LOOKS;
 use node_threads::Gate;
 use std::alloc::{AllocError, Global};
@@ -14,7 +14,7 @@ pub(crate) struct Tally {
 }
 
 impl Tally {
-    /// A tally of no steps, which several threads can hold.
+    /// Makes a tally of no steps that several threads can hold.
     pub(crate) fn shared(alloc: Global) -> Result<Arc<Tally, Global>, AllocError> {
         Ok(Arc::new(
             alloc,
@@ -24,7 +24,7 @@ impl Tally {
         )?)
     }
 
-    /// Waits until so many steps were reported. Whether they were.
+    /// Waits until at least `steps` steps have been reported. Returns whether they have.
     pub(crate) fn wait_for<R: Clock>(&self, rt: &R, steps: u64) -> bool {
         for _ in 0..LOOKS {
             if self.steps.load(Ordering::SeqCst) >= steps {

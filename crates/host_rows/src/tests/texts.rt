@@ -1,4 +1,4 @@
-//! What a node leaves, as a text.
+//! What a node leaves, as text.
 use bytes::Bytes;
 use frames::Frame;
 use node_names::{Dice, NodeName, Origin};
@@ -8,7 +8,7 @@ use std::fmt::Write;
 use test_support::{push_frame, push_letters};
 use world::{Delivery, Out, Step, Stimulus, StimulusOf, Trace};
 
-/// Appends whether dice are other than all zeros.
+/// Appends `by dice` if dice are not all zeros.
 fn push_dice(text: &mut String, dice: &Dice) -> Result<(), AllocError> {
     if *dice != Dice::ZEROS {
         write!(text, " by dice")?;
@@ -127,7 +127,7 @@ pub(crate) fn push_trace<A: Allocator>(
     Ok(())
 }
 
-/// Appends the reports of links: how many frames came out, to whom, and from which step on.
+/// Appends the reports of links: how many frames came out, to which peer, and from which step on.
 fn push_links(text: &mut String, links: &[LinkReport]) -> Result<(), AllocError> {
     for link in links {
         write!(
@@ -149,7 +149,7 @@ pub(crate) fn push_closed<A: Allocator>(
     push_links(text, closed.links.as_slice())
 }
 
-/// Appends what the close of a node answers.
+/// Appends what the close of a node returns.
 pub(crate) fn push_answer<C: NodeCore<A> + Drop, A: Allocator>(
     text: &mut String,
     answer: &Result<Closed<A>, CloseError<C, A>>,

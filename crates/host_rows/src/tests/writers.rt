@@ -21,10 +21,10 @@ use std::time::{Clock, Duration};
 use std::{io, thread};
 use world::Trace;
 
-/// How often a writer looks whether the others have begun.
+/// How often a writer checks whether the others have begun.
 const WRITER_LOOKS: u32 = 1_000;
 
-/// How many writes have begun, how many are done, and how many bytes they had.
+/// How many writes have begun, how many are done, and how many bytes those had.
 #[derive(Drop)]
 struct Progress {
     begun: usize,
@@ -32,14 +32,14 @@ struct Progress {
     bytes: usize,
 }
 
-/// Where writers meet.
+/// The place where writers meet.
 #[derive(Drop)]
 struct Meeting {
     progress: Mutex<Progress>,
 }
 
 impl Meeting {
-    /// A meeting to which nobody has come.
+    /// Makes a meeting to which no one has come.
     fn new() -> Meeting {
         Meeting {
             progress: Mutex::new(Progress {
@@ -50,13 +50,13 @@ impl Meeting {
         }
     }
 
-    /// Says that a write has begun.
+    /// Records that a write has begun.
     fn begin<R: Wait>(&self, rt: &R) {
         let mut progress = self.progress.lock(rt);
         progress.begun = progress.begun.saturating_add(1);
     }
 
-    /// Whether so many writes have begun, after some looks.
+    /// Waits for a while until at least `count` writes have begun. Returns whether they have.
     fn have_begun<R: Wait + Clock>(&self, rt: &R, count: usize) -> bool {
         for _ in 0..WRITER_LOOKS {
             if self.progress.lock(rt).begun >= count {
@@ -67,19 +67,19 @@ impl Meeting {
         false
     }
 
-    /// Says that a write of so many bytes is done.
+    /// Records that a write of `bytes` bytes is done.
     fn finish<R: Wait>(&self, rt: &R, bytes: usize) {
         let mut progress = self.progress.lock(rt);
         progress.done = progress.done.saturating_add(1);
         progress.bytes = progress.bytes.saturating_add(bytes);
     }
 
-    /// How many bytes were written.
+    /// Returns how many bytes were written.
     fn bytes<R: Wait>(&self, rt: &R) -> usize {
         self.progress.lock(rt).bytes
     }
 
-    /// Waits until so many writes are done. Whether they are.
+    /// Waits until at least `count` writes are done. Returns whether they are.
     fn wait_for<R: Wait + Clock>(&self, rt: &R, count: usize) -> bool {
         for _ in 0..LOOKS {
             if self.progress.lock(rt).done >= count {
@@ -91,7 +91,7 @@ impl Meeting {
     }
 }
 
-/// A connection whose writes return once so many writes of its meeting have begun, and fail if they do not.
+/// A connection whose writes return once `count` writes of its meeting have begun, and fail if they do not begin.
 #[derive(Drop)]
 struct Met<R: Wait + Clock + Drop> {
     rt: R,
@@ -137,7 +137,7 @@ impl<R: Wait + Clock + Drop> MeteredWrite for Met<R> {
     }
 }
 
-/// Makes such a connection whenever it is asked.
+/// Makes such connections.
 #[derive(Drop)]
 struct MeetingDialler<R: Wait + Clock + Copy + Drop> {
     rt: R,
@@ -161,7 +161,7 @@ impl<R: Wait + Clock + Copy + Drop + Send> Dialler for MeetingDialler<R> {
     }
 }
 
-/// Starts a writer for an outlet, whose write returns once so many writes have begun.
+/// Starts a writer for an outlet. Its writes return once `count` writes have begun.
 fn start_writer<R, C>(
     rt: R,
     host: &Host<C>,
@@ -181,7 +181,7 @@ where
     write_link(rt, host, OpenGate, 0, outlet, dialler)
 }
 
-/// Starts such a writer for each outlet, whose writes return once all have begun.
+/// Starts a writer for each outlet. Their writes return once all have begun.
 fn start_writers<R, C>(
     rt: R,
     alloc: Global,
@@ -211,7 +211,7 @@ struct Workless<C: NodeCore<Global> + Drop> {
     ports: Vec<Port<C>>,
 }
 
-/// Closes a node without its workers. It comes back if that finds some missing.
+/// Closes a node without its workers. Returns the host and ports if the close finds some workers missing.
 fn close_without_workers<R: Threads + Wait, C: NodeCore<Global> + Drop>(
     rt: &R,
     alloc: Global,
@@ -230,8 +230,8 @@ fn close_without_workers<R: Threads + Wait, C: NodeCore<Global> + Drop>(
     }
 }
 
-/// Closes a node without its workers, and then with them. What it leaves, if the one finds some missing and the other
-/// none.
+/// Closes a node without its workers, and then with them. Returns what it leaves, if the first close finds some workers
+/// missing and the second one succeeds.
 fn close_twice<R: Threads + Wait, C: NodeCore<Global> + Drop>(
     rt: &R,
     alloc: Global,
@@ -242,7 +242,7 @@ fn close_twice<R: Threads + Wait, C: NodeCore<Global> + Drop>(
     close(rt, host, ports, workers)
 }
 
-/// How many bytes these frames have.
+/// Returns how many bytes these frames have.
 fn spelled(alloc: Global, sends: &[(NodeName, Frame)]) -> Result<usize, AllocError> {
     let mut bytes = 0usize;
     for (_, frame) in sends {
@@ -251,7 +251,7 @@ fn spelled(alloc: Global, sends: &[(NodeName, Frame)]) -> Result<usize, AllocErr
     Ok(bytes)
 }
 
-/// How many bytes the frames have that a node sent.
+/// Returns how many bytes the frames have that a node sent.
 fn sent(alloc: Global, trace: &Trace<Frame>) -> Result<usize, AllocError> {
     let mut bytes = 0usize;
     for place in 0..trace.len() {
@@ -272,7 +272,7 @@ fn is_right(closed: &Closed) -> bool {
             .all(|link| link.opened == 0 && link.taken == 3)
 }
 
-/// Closes a node twice. Whether what it leaves is right, and all that it sent was written.
+/// Closes a node twice. Returns whether what it leaves is right, and everything that it sent was written.
 fn closes_right<R: Threads + Wait, C: NodeCore<Global> + Drop>(
     rt: &R,
     alloc: Global,
@@ -288,7 +288,7 @@ fn closes_right<R: Threads + Wait, C: NodeCore<Global> + Drop>(
     }
 }
 
-/// Whether two links of a node are written at once.
+/// Whether two links of a node are written at the same time.
 fn writes_at_once<R, C>(
     rt: R,
     alloc: Global,
@@ -313,8 +313,8 @@ where
     Ok(closes_right(&rt, alloc, node, workers, meeting)? && is_written)
 }
 
-/// Two links are written at once. Closing the node without its writers finds them missing, and with them the node made
-/// three steps, three frames came out of each link, and all bytes of these frames were written.
+/// Two links are written at the same time. Closing the node without its writers finds them missing. With them, the node
+/// made three steps, three frames came out of each link, and all bytes of these frames were written.
 #[test]
 fn writers_at_once(rt: HostRuntime) -> Result<(), Fail> {
     let alloc = rt.alloc();
@@ -331,7 +331,7 @@ struct Lent<C: NodeCore<Global> + Drop> {
     outlets: Vec<Outlet>,
 }
 
-/// The ports of a node, and the first of its outlets.
+/// Returns the ports of a node, and the first of its outlets.
 fn lent_of<C: NodeCore<Global> + Drop>(node: Started<C>) -> Lent<C> {
     let Started {
         host: _,
@@ -342,7 +342,7 @@ fn lent_of<C: NodeCore<Global> + Drop>(node: Started<C>) -> Lent<C> {
     Lent { ports, outlets }
 }
 
-/// Whether what came out of a link to `p` is torn.
+/// Whether what came out of a link to `p` is not what was sent.
 fn is_torn<C: NodeCore<Global> + Drop>(answer: &Result<Closed, CloseError<C>>) -> bool {
     match answer {
         Err(CloseError::Torn { peer, .. }) => peer.as_bytes() == b"p".as_slice(),
@@ -350,8 +350,8 @@ fn is_torn<C: NodeCore<Global> + Drop>(answer: &Result<Closed, CloseError<C>>) -
     }
 }
 
-/// Writes the outlet of another node by a worker of this one, and stops this one. The worker, or none if it did not
-/// write.
+/// Writes the outlet of another node with a worker of this one, and stops this one. Returns the worker, or `None` if it
+/// did not write.
 fn write_of_another<R, C>(
     rt: R,
     alloc: Global,
@@ -370,7 +370,7 @@ where
     Ok(meeting.wait_for(&rt, 1).then_some(workers))
 }
 
-/// Whether a node finds torn what came out of the outlet of another.
+/// Whether a node finds that what came out of another node's outlet is not what it sent.
 fn finds_torn<R, C>(
     rt: R,
     alloc: Global,
@@ -388,7 +388,7 @@ where
     }
 }
 
-/// A node whose writer was handed the outlet of another node finds what came out of it torn.
+/// A node whose writer was handed the outlet of another node finds that what came out of it is not what it sent.
 #[test]
 fn outlet_of_another_node(rt: HostRuntime) -> Result<(), Fail> {
     let alloc = rt.alloc();

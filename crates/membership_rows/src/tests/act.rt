@@ -1,11 +1,11 @@
-//! Events of a membership written by names.
+//! Events of a membership, written with names.
 use crate::tests::named::{name, names};
 use membership::{Membership, Moves};
 use node_names::Dice;
 use std::alloc::{AllocError, Allocator};
 use std::process::Abort;
 
-/// An event in plain texts and numbers; the first name is the sender's. Names of lists stand between blanks.
+/// An event in plain texts and numbers. The first name is the sender's. The names of a list are separated by blanks.
 #[derive(Clone, Copy)]
 pub(crate) enum Act {
     Joins(&'static str),
@@ -20,7 +20,7 @@ pub(crate) enum Act {
     Tick,
 }
 
-/// A shuffle comes, whose names stand on `texts`.
+/// Plays the arrival of a shuffle, whose names are allocated by `texts`.
 fn shuffle<A: Allocator + Copy, B: Allocator>(
     rt: &impl Abort,
     texts: B,
@@ -37,7 +37,7 @@ fn shuffle<A: Allocator + Copy, B: Allocator>(
     membership.on_shuffle(sender, origin, ttl, names.as_slice(), dice, moves)
 }
 
-/// The answer to a shuffle comes, whose names stand on `texts`.
+/// Plays the arrival of the answer to a shuffle, whose names are allocated by `texts`.
 fn shuffle_reply<A: Allocator + Copy, B: Allocator>(
     rt: &impl Abort,
     texts: B,
@@ -51,7 +51,7 @@ fn shuffle_reply<A: Allocator + Copy, B: Allocator>(
     membership.on_shuffle_reply(name(rt, sender), names.as_slice(), dice, moves)
 }
 
-/// Plays an event that comes with a sender alone, or with none.
+/// Plays an event that has only a sender, or nothing at all.
 fn hear_sender<A: Allocator + Copy>(
     rt: &impl Abort,
     membership: &mut Membership<A>,
@@ -68,7 +68,7 @@ fn hear_sender<A: Allocator + Copy>(
     }
 }
 
-/// Plays the event, whose names stand on `texts`.
+/// Plays an event, whose names are allocated by `texts`.
 pub(crate) fn hear<A: Allocator + Copy, B: Allocator>(
     rt: &impl Abort,
     texts: B,

@@ -1,4 +1,4 @@
-//! Playing the rows event by event.
+//! Plays the rows event by event.
 use crate::tests::act::hear;
 use crate::tests::named::{dice, limits, name};
 use crate::tests::rows::{Row, Turn, rows};
@@ -9,7 +9,7 @@ use std::alloc::{AllocError, Allocator};
 use std::process::Abort;
 use std::test::Fail;
 
-/// The membership of a node that knows nobody.
+/// Makes the membership of a node that knows no one.
 fn lone<A: Allocator + Copy>(
     alloc: A,
     owner: NodeName,
@@ -32,7 +32,7 @@ fn admit<A: Allocator + Copy>(
     Ok(())
 }
 
-/// The membership of `x` at the start of a row.
+/// Makes the membership of `x` at the start of a row.
 pub(crate) fn start<A: Allocator + Copy>(
     rt: &impl Abort,
     alloc: A,
@@ -43,7 +43,7 @@ pub(crate) fn start<A: Allocator + Copy>(
     Ok(membership)
 }
 
-/// Whether an event gave this. What it gave is left in the text.
+/// Whether an event gave `wanted`. Leaves what it gave in the text.
 pub(crate) fn is_given<A: Allocator, B: Allocator>(
     text: &mut String<B>,
     moves: &Moves<A>,
@@ -53,7 +53,7 @@ pub(crate) fn is_given<A: Allocator, B: Allocator>(
     Ok(text.as_str() == wanted)
 }
 
-/// Whether the readers answer this. What they answer is left in the text.
+/// Whether the readers show `wanted`. Leaves what they show in the text.
 pub(crate) fn is_shown<A: Allocator, B: Allocator>(
     text: &mut String<B>,
     membership: &Membership<A>,
@@ -63,7 +63,7 @@ pub(crate) fn is_shown<A: Allocator, B: Allocator>(
     Ok(text.as_str() == wanted)
 }
 
-/// Whether an event gave and left what it should. What differs is left in the text.
+/// Whether an event gave and left what it should. Leaves what differs in the text.
 fn is_answered<A: Allocator, B: Allocator>(
     text: &mut String<B>,
     membership: &Membership<A>,
@@ -76,7 +76,7 @@ fn is_answered<A: Allocator, B: Allocator>(
     is_shown(text, membership, turn.3)
 }
 
-/// Plays an event over ample memory. Whether it gave and left what it should.
+/// Plays an event with ample memory. Returns whether it gave and left what it should.
 pub(crate) fn is_turn<A: Allocator + Copy, B: Allocator + Copy>(
     rt: &impl Abort,
     alloc: A,
@@ -90,7 +90,7 @@ pub(crate) fn is_turn<A: Allocator + Copy, B: Allocator + Copy>(
     is_answered(text, membership, &moves, turn)
 }
 
-/// Plays events over ample memory. Whether each of them did so.
+/// Plays events with ample memory. Returns whether each gave and left what it should.
 pub(crate) fn are_turns<A: Allocator + Copy, B: Allocator + Copy>(
     rt: &impl Abort,
     alloc: A,
@@ -106,7 +106,7 @@ pub(crate) fn are_turns<A: Allocator + Copy, B: Allocator + Copy>(
     Ok(true)
 }
 
-/// Whether a copy answers what an event left.
+/// Whether a copy shows what the event left.
 fn is_copied<A: Allocator + Copy>(
     text: &mut String<A>,
     membership: &Membership<A>,
@@ -116,7 +116,7 @@ fn is_copied<A: Allocator + Copy>(
     is_shown(text, &copy, turn.3)
 }
 
-/// Plays events. Whether each gave and left what it should, and a copy of what it left is the same.
+/// Plays events. Returns whether each gave and left what it should, and a copy of what it left is the same.
 fn are_copied<A: Allocator + Copy>(
     rt: &impl Abort,
     alloc: A,
@@ -133,7 +133,7 @@ fn are_copied<A: Allocator + Copy>(
     Ok(true)
 }
 
-/// Plays a row. Whether it went as it should.
+/// Plays a row. Returns whether it went as it should.
 fn is_row<A: Allocator + Copy>(
     rt: &impl Abort,
     alloc: A,

@@ -1,17 +1,17 @@
-//! What a node `x` does at one event after the other, worked out by hand from the table.
+//! What a node `x` does at each of a series of events, worked out by hand from the table.
 use crate::tests::act::Act;
 use crate::tests::named::Words;
 
-/// An event, the words of its dice that are not 0, what it gives, and what the readers answer after it.
+/// An event, the words of its dice that are not 0, what it gives, and what the readers show after it.
 pub(crate) type Turn = (Act, Words, &'static str, &'static str);
 
 /// A run of `x`: how many active and passive names it may have, its active names at the start, and the events.
 pub(crate) type Row = (u8, u8, &'static str, &'static [Turn]);
 
-/// Words 0 to 3 are the greatest one.
+/// Words 0 to 3 have the greatest value.
 const GREATEST: Words = &[(0, u64::MAX), (1, u64::MAX), (2, u64::MAX), (3, u64::MAX)];
 
-/// Those of the words that a shuffle and its answer look at are their own places.
+/// Each word that a shuffle and its answer use is equal to its own place.
 const RISING: Words = &[
     (4, 4),
     (5, 5),
@@ -23,7 +23,7 @@ const RISING: Words = &[
     (15, 15),
 ];
 
-/// A node joins at a full active view.
+/// A node joins through `x`, whose active view is full.
 const FULL: &[Turn] = &[(
     Act::Join("n"),
     GREATEST,
@@ -31,13 +31,13 @@ const FULL: &[Turn] = &[(
     "a n | b |",
 )];
 
-/// A node joins by a contact, and an active one joins again.
+/// `x` joins through a contact, and an active peer joins again.
 const CONTACT: &[Turn] = &[
     (Act::Joins("c"), &[], "c: JOIN; ", "a | |"),
     (Act::Join("a"), &[], "a: NEIGHBOR high: true; ", "a | |"),
 ];
 
-/// A walk goes on between two active names; with PRWL steps left an unknown name is noted.
+/// A walk goes on between two active names. With PRWL steps left, an unknown name is added to the passive view.
 const WALK: &[Turn] = &[
     (Act::ForwardJoin("a", "x", 0), &[], "", "a b | |"),
     (Act::ShuffleReply("a", "n"), &[], "", "a b | n |"),
@@ -55,7 +55,7 @@ const WALK: &[Turn] = &[
     ),
 ];
 
-/// A walk ends where there is nobody to pass it on to.
+/// A walk ends at a node that has no one to pass it on to.
 const WALK_ENDS: &[Turn] = &[
     (
         Act::ForwardJoin("a", "n", 2),
@@ -71,7 +71,7 @@ const WALK_ENDS: &[Turn] = &[
     ),
 ];
 
-/// A shuffle's names come in for those that its answer names.
+/// The names of a shuffle take the places of those in its answer.
 const SHUFFLE: &[Turn] = &[
     (Act::ShuffleReply("a", "p q"), &[], "", "a | p q |"),
     (
@@ -169,7 +169,7 @@ const ROWS: &[Row] = &[
     (2, 4, "a", LINKS_FAIL),
 ];
 
-/// All of them.
+/// Returns all rows.
 pub(crate) fn rows() -> &'static [Row] {
     ROWS
 }

@@ -1,5 +1,5 @@
-//! The rows with each allocation refused in turn: the event answers out of memory, all readers answer as before it, and
-//! the event made again answers as if nothing had been refused.
+//! The rows with each allocation refused in turn: the event fails as out of memory, all readers show what they showed
+//! before it, and the event made again gives what it would have given had nothing been refused.
 use crate::tests::act::hear;
 use crate::tests::named::{dice, name};
 use crate::tests::play::{are_turns, is_given, is_shown, is_turn, start};
@@ -12,17 +12,18 @@ use std::process::Abort;
 use std::test::Fail;
 use test_support::stop_refusing;
 
-/// More allocations than any event has.
+/// More allocations than any event makes.
 const MANY: u64 = 100;
 
-/// Two texts, in which what was shown before and after an event is written.
+/// Two texts: what the readers show before and after an event.
 #[derive(Drop)]
 struct Texts {
     before: String,
     after: String,
 }
 
-/// Plays an event while the allocation with this number is refused. Whether it has so many, and whether it is refused.
+/// Plays an event while allocation number `n` is refused. Returns whether it makes `n` allocations, and whether it
+/// fails.
 fn try_event<A: Allocator + Copy>(
     rt: &impl Abort,
     heap: &RefusingAllocator,
@@ -39,7 +40,7 @@ fn try_event<A: Allocator + Copy>(
     (is_spent, is_refused)
 }
 
-/// Whether a refused event gave nothing after the message that stood, and left what was shown before.
+/// Whether a refused event added nothing to the message that was there before, and left what was shown before.
 fn is_unchanged<A: Allocator>(
     texts: &mut Texts,
     membership: &Membership<A>,
@@ -51,8 +52,8 @@ fn is_unchanged<A: Allocator>(
     is_shown(&mut texts.after, membership, texts.before.as_str())
 }
 
-/// Plays an event whose allocation with this number is refused, and plays it again if it is refused. Whether it has so
-/// many.
+/// Plays an event whose allocation number `n` is refused, and plays it again if it failed. Returns whether it makes `n`
+/// allocations.
 fn refuse_event<A: Allocator + Copy>(
     rt: &impl Abort,
     heap: &RefusingAllocator,
@@ -78,7 +79,7 @@ fn refuse_event<A: Allocator + Copy>(
     Ok(is_spent)
 }
 
-/// The same after a message, which is to stay.
+/// Calls `refuse_event` with moves that already hold a message, which must stay.
 fn refuse_alone<A: Allocator + Copy>(
     rt: &impl Abort,
     heap: &RefusingAllocator,
@@ -93,7 +94,7 @@ fn refuse_alone<A: Allocator + Copy>(
     refuse_event(rt, heap, alloc, texts, membership, &mut moves, turn, n)
 }
 
-/// Whether a copy that there is shows what was copied, and there is one just if no allocation was refused.
+/// Whether there is a copy exactly if no allocation was refused, and it shows what was copied.
 fn is_made<A: Allocator>(
     texts: &mut Texts,
     made: &Result<Membership<A>, AllocError>,
@@ -108,7 +109,7 @@ fn is_made<A: Allocator>(
     }
 }
 
-/// Copies a membership while the allocation with this number is refused. Whether the copy has so many.
+/// Copies a membership while allocation number `n` is refused. Returns whether the copy makes `n` allocations.
 fn sweep_copy<A: Allocator + Copy>(
     rt: &impl Abort,
     heap: &RefusingAllocator,
@@ -125,14 +126,14 @@ fn sweep_copy<A: Allocator + Copy>(
     Ok(is_spent)
 }
 
-/// The events of a row before a place, and those from there.
+/// Splits the events of a row at a place.
 fn parts(row: &Row, at: usize) -> (&'static [Turn], &'static [Turn]) {
     let turns = row.3;
     turns.split_at(at.min(turns.len()))
 }
 
-/// Plays the events before a place, and refuses the allocation with this number of the event there. Behind the last
-/// event, a copy stands in its place. Whether it has so many.
+/// Plays the first events, and refuses allocation number `n` of the next event, or of a copy if there is no next event.
+/// Returns whether that makes `n` allocations.
 fn sweep_at<A: Allocator + Copy>(
     rt: &impl Abort,
     heap: &RefusingAllocator,
@@ -150,7 +151,7 @@ fn sweep_at<A: Allocator + Copy>(
     }
 }
 
-/// The same from the start of a row, whose membership grows on `alloc`, which is the refusing heap.
+/// Calls `sweep_at` from the start of a row. The membership grows on `alloc`, which is the refusing heap.
 fn sweep_event<A: Allocator + Copy>(
     rt: &impl Abort,
     heap: &RefusingAllocator,
@@ -164,7 +165,7 @@ fn sweep_event<A: Allocator + Copy>(
     sweep_at(rt, heap, alloc, texts, &mut membership, parts(row, at), n)
 }
 
-/// Refuses each allocation of one event in turn. How many it has.
+/// Refuses each allocation of one event in turn. Returns their number.
 fn sweep<A: Allocator + Copy>(
     rt: &impl Abort,
     heap: &RefusingAllocator,
@@ -182,7 +183,8 @@ fn sweep<A: Allocator + Copy>(
     Ok(MANY)
 }
 
-/// Refuses each allocation of each event of a row, and of the copy of what the row leaves, in turn. How many they have.
+/// Refuses in turn each allocation of each event of a row, and of the copy of what the row leaves. Returns how many
+/// there are.
 fn sweep_row<A: Allocator + Copy>(
     rt: &impl Abort,
     heap: &RefusingAllocator,
@@ -197,7 +199,7 @@ fn sweep_row<A: Allocator + Copy>(
     Ok(refused)
 }
 
-/// Sweeps each row. How many allocations the row with the fewest has.
+/// Sweeps each row. Returns the number of allocations of the row that has the fewest.
 fn sweep_rows<A: Allocator + Copy>(
     rt: &impl Abort,
     heap: &RefusingAllocator,

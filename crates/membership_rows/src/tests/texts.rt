@@ -1,4 +1,4 @@
-//! What is sent and what readers answer, as texts.
+//! What is sent and what readers return, as text.
 use frames::{Body, BodyOf};
 use membership::{Membership, Moves};
 use node_names::NodeName;
@@ -17,7 +17,7 @@ pub(crate) fn push_names<B: Allocator>(
     Ok(())
 }
 
-/// Appends names that became active, or are so no longer.
+/// Appends names that became active, or that are no longer active.
 fn push_told<B: Allocator>(
     text: &mut String<B>,
     what: &str,
@@ -29,7 +29,7 @@ fn push_told<B: Allocator>(
     Ok(())
 }
 
-/// Appends what readers of views answer: the active names, and the passive ones.
+/// Appends what the readers of views return: the active names and the passive names.
 fn push_views<A: Allocator, B: Allocator>(
     text: &mut String<B>,
     views: &Views<A>,
@@ -39,7 +39,7 @@ fn push_views<A: Allocator, B: Allocator>(
     push_names(text, views.passive().as_slice())
 }
 
-/// Writes what the readers of views answer in place of what the text said.
+/// Replaces the text with what the readers of views return.
 pub(crate) fn write_views<A: Allocator, B: Allocator>(
     text: &mut String<B>,
     views: &Views<A>,
@@ -48,7 +48,7 @@ pub(crate) fn write_views<A: Allocator, B: Allocator>(
     push_views(text, views)
 }
 
-/// Writes what the readers of a membership answer, the views and who is asked, in place of what the text said.
+/// Replaces the text with what the readers of a membership return: the views and the name that is asked.
 pub(crate) fn write_shown<A: Allocator, B: Allocator>(
     text: &mut String<B>,
     membership: &Membership<A>,
@@ -79,7 +79,7 @@ fn push_shuffle<A: Allocator, B: Allocator>(
     }
 }
 
-/// Appends what a message says.
+/// Appends a message's body.
 fn push_body<A: Allocator, B: Allocator>(
     text: &mut String<B>,
     body: &Body<A>,
@@ -110,7 +110,7 @@ fn push_sends<A: Allocator, B: Allocator>(
     Ok(())
 }
 
-/// Writes what an event gave, the messages, then the downs, then the ups, in place of what the text said.
+/// Replaces the text with what an event gave: the messages, then the downs, then the ups.
 pub(crate) fn write_given<A: Allocator, B: Allocator>(
     text: &mut String<B>,
     moves: &Moves<A>,

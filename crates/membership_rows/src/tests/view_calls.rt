@@ -1,4 +1,4 @@
-//! Calls of the views of `x`, worked out by hand, and each of their allocations refused in turn.
+//! Calls of the views of `x`, worked out by hand, also with each of their allocations refused in turn.
 use crate::tests::named::{Words, dice, limits, name, names};
 use crate::tests::texts::{push_names, write_views};
 use node_names::{Dice, Limits, NodeName};
@@ -10,7 +10,7 @@ use std::test::Fail;
 use test_support::{stop_refusing, sweep_each};
 use views::Views;
 
-/// A call in plain texts and numbers. Names of lists stand between blanks.
+/// A call in plain texts and numbers. The names of a list are separated by blanks.
 #[derive(Clone, Copy)]
 enum Act {
     AddActive(&'static str),
@@ -46,7 +46,7 @@ const TURNS: &[Turn] = &[
     (Act::Forget("b"), &[], "true", "c | a "),
 ];
 
-/// All of them.
+/// Returns all calls.
 fn turns() -> &'static [Turn] {
     TURNS
 }
@@ -59,7 +59,7 @@ struct Texts {
     after: String,
 }
 
-/// The views of a node that knows nobody.
+/// Makes the views of a node that knows no one.
 fn lone<A: Allocator + Copy>(
     alloc: A,
     owner: NodeName,
@@ -68,7 +68,7 @@ fn lone<A: Allocator + Copy>(
     Views::new(alloc, owner, limits, &[])
 }
 
-/// The views of `x` before the first call.
+/// Makes the views of `x` before the first call.
 fn start<A: Allocator + Copy>(rt: &impl Abort, alloc: A) -> Result<Views<A>, AllocError> {
     lone(alloc, name(rt, "x"), limits(rt, 2, 2))
 }
@@ -99,7 +99,7 @@ fn drawn<A: Allocator>(
     push_names(text, names.as_slice())
 }
 
-/// Integrates names, which stand on `texts`.
+/// Integrates names, which are allocated by `texts`.
 fn integrate<A: Allocator + Copy>(
     rt: &impl Abort,
     texts: Global,
@@ -133,7 +133,7 @@ fn sample<A: Allocator + Copy>(
     }
 }
 
-/// Makes the call, and writes what it gives in place of what the text said.
+/// Makes a call, and replaces the text with what it gives.
 fn call<A: Allocator + Copy>(
     rt: &impl Abort,
     text: &mut String,
@@ -155,7 +155,7 @@ fn call<A: Allocator + Copy>(
     }
 }
 
-/// Whether the readers answer this. What they answer is left in the text.
+/// Whether the readers show `wanted`. Leaves what they show in the text.
 fn is_shown<A: Allocator>(
     text: &mut String,
     views: &Views<A>,
@@ -165,12 +165,12 @@ fn is_shown<A: Allocator>(
     Ok(text.as_str() == wanted)
 }
 
-/// Whether the text is this.
+/// Whether the text is `wanted`.
 fn is_text(text: &str, wanted: &str) -> bool {
     text == wanted
 }
 
-/// Makes a call over ample memory. Whether it gives what it should, which is left in the text.
+/// Makes a call with ample memory. Returns whether it gives what it should, and leaves what it gives in the text.
 fn is_given<A: Allocator + Copy>(
     rt: &impl Abort,
     text: &mut String,
@@ -182,7 +182,7 @@ fn is_given<A: Allocator + Copy>(
     Ok(is_text(text.as_str(), turn.2))
 }
 
-/// Makes a call over ample memory. Whether it gives and leaves what it should.
+/// Makes a call with ample memory. Returns whether it gives and leaves what it should.
 fn is_turn<A: Allocator + Copy>(
     rt: &impl Abort,
     texts: &mut Texts,
@@ -194,7 +194,7 @@ fn is_turn<A: Allocator + Copy>(
     Ok(is_given && is_left)
 }
 
-/// Makes calls over ample memory. Whether each of them does so.
+/// Makes calls with ample memory. Returns whether each gives and leaves what it should.
 fn are_turns<A: Allocator + Copy>(
     rt: &impl Abort,
     texts: &mut Texts,
@@ -209,7 +209,7 @@ fn are_turns<A: Allocator + Copy>(
     Ok(true)
 }
 
-/// Makes a call while the allocation with this number is refused. Whether it has so many, and whether it is refused.
+/// Makes a call while allocation number `n` is refused. Returns whether it makes `n` allocations, and whether it fails.
 fn try_call<A: Allocator + Copy>(
     rt: &impl Abort,
     heap: &RefusingAllocator,
@@ -225,7 +225,7 @@ fn try_call<A: Allocator + Copy>(
     (is_spent, is_refused)
 }
 
-/// Writes what the views show before a call, which takes no memory.
+/// Writes what the views show before a call. Reading them allocates nothing.
 fn look<A: Allocator>(
     rt: &impl Abort,
     heap: &RefusingAllocator,
@@ -239,8 +239,8 @@ fn look<A: Allocator>(
     written
 }
 
-/// Makes a call while the allocation with this number is refused, and makes it again if it is refused. Whether it has
-/// so many.
+/// Makes a call while allocation number `n` is refused, and makes it again if it failed. Returns whether it makes `n`
+/// allocations.
 fn refuse_call<A: Allocator + Copy>(
     rt: &impl Abort,
     heap: &RefusingAllocator,
@@ -252,7 +252,7 @@ fn refuse_call<A: Allocator + Copy>(
     look(rt, heap, &mut texts.before, views)?;
     let (is_spent, is_refused) = try_call(rt, heap, &mut texts.given, views, turn, n);
     if is_refused {
-        // To forget a name takes no memory.
+        // Forgetting a name allocates nothing.
         assert!(rt; is_spent && !matches!(turn.0, Act::Forget(_)));
         let is_unchanged = is_shown(&mut texts.after, views, texts.before.as_str())?;
         assert!(rt; is_unchanged);
@@ -264,7 +264,7 @@ fn refuse_call<A: Allocator + Copy>(
     Ok(is_spent)
 }
 
-/// Whether a copy that there is shows what was copied, and there is one just if no allocation was refused.
+/// Whether there is a copy exactly if no allocation was refused, and it shows what was copied.
 fn is_made<A: Allocator>(
     texts: &mut Texts,
     made: &Result<Views<A>, AllocError>,
@@ -279,7 +279,7 @@ fn is_made<A: Allocator>(
     }
 }
 
-/// Copies views while the allocation with this number is refused. Whether the copy has so many.
+/// Copies views while allocation number `n` is refused. Returns whether the copy makes `n` allocations.
 fn sweep_copy<A: Allocator + Copy>(
     rt: &impl Abort,
     heap: &RefusingAllocator,
@@ -296,8 +296,8 @@ fn sweep_copy<A: Allocator + Copy>(
     Ok(is_spent)
 }
 
-/// Makes the calls before a place, and refuses the allocation with this number of the call there. Behind the last call,
-/// a copy stands in its place. Whether it has so many.
+/// Makes the first calls, and refuses allocation number `n` of the next call, or of a copy if there is no next call.
+/// Returns whether that makes `n` allocations.
 fn sweep_at<A: Allocator + Copy>(
     rt: &impl Abort,
     heap: &RefusingAllocator,
@@ -314,7 +314,7 @@ fn sweep_at<A: Allocator + Copy>(
     }
 }
 
-/// The same from the first call, of views that grow on `alloc`, which is the refusing heap.
+/// Calls `sweep_at` from the first call on. The views grow on `alloc`, which is the refusing heap.
 fn sweep_call<A: Allocator + Copy>(
     rt: &impl Abort,
     heap: &RefusingAllocator,
@@ -335,8 +335,8 @@ fn sweep_call<A: Allocator + Copy>(
     )
 }
 
-/// Refuses each allocation of each call, and of the copy of what they leave, in turn. How many they have, or none if that
-/// has no end.
+/// Refuses in turn each allocation of each call, and of the copy of what they leave. Returns their number, or `None` if
+/// that does not end.
 fn sweep_all<A: Allocator + Copy>(
     rt: &impl Abort,
     heap: &RefusingAllocator,
@@ -350,7 +350,7 @@ fn sweep_all<A: Allocator + Copy>(
     )
 }
 
-/// Makes the calls of new views. Whether each gives and leaves what it should.
+/// Makes all calls on new views. Returns whether each gives and leaves what it should.
 fn is_played<A: Allocator + Copy>(
     rt: &impl Abort,
     alloc: A,
@@ -360,7 +360,7 @@ fn is_played<A: Allocator + Copy>(
     are_turns(rt, texts, &mut views, turns())
 }
 
-/// All calls over ample memory, and then each of their allocations refused in turn.
+/// Makes all calls with ample memory, and then refuses each of their allocations in turn.
 #[test]
 fn calls_and_each_of_their_allocations(rt: HostRuntime) -> Result<(), Fail> {
     let heap = RefusingAllocator::new(rt.alloc());

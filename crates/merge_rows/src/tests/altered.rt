@@ -1,4 +1,4 @@
-//! Traces that are none, or no longer those of one run of a group.
+//! Traces that no node makes, or that are no longer those of one run of a group.
 use crate::tests::merged::{are_merged, project_all, push_project};
 use crate::tests::named::{name, run};
 use crate::tests::play::play_acts;
@@ -16,16 +16,16 @@ use world::{Delivery, Out, Step, Stimulus, StimulusOf, WorldError};
 /// The first step of `c` in the triangle, and nothing after it.
 #[derive(Clone, Copy)]
 struct Case {
-    /// What it says that the frame of `b` carries.
+    /// The payload that it says the frame of `b` carries.
     payload: &'static str,
-    /// Whether it says that `c` delivers that.
+    /// Whether it says that `c` delivers the message.
     delivers: bool,
-    /// What the merge of the traces of `a`, `b` and `c` answers.
+    /// What the merge of the traces of `a`, `b` and `c` returns.
     told: &'static str,
 }
 
 const CASES: &[Case] = &[
-    // It is the step itself, and `a` waits for what `c` does next.
+    // This is the true step, and `a` waits for what `c` does next.
     Case {
         payload: "m",
         delivers: true,
@@ -47,7 +47,7 @@ fn cases() -> &'static [Case] {
     CASES
 }
 
-/// What a frame says that carries the message.
+/// Returns the body of a frame that carries the message.
 fn gossip<A: Allocator + Copy>(
     alloc: A,
     id: &MsgId,
@@ -62,7 +62,7 @@ fn gossip<A: Allocator + Copy>(
     })
 }
 
-/// The first frame of a run, which carries the message.
+/// Returns the first frame of a run, which carries the message.
 fn frame<A: Allocator + Copy>(
     rt: &impl Abort,
     alloc: A,
@@ -75,7 +75,7 @@ fn frame<A: Allocator + Copy>(
     Ok(Frame::new(sender, 1, body).expect(rt, "a frame"))
 }
 
-/// The arrival of the frame of `b`.
+/// Returns the arrival of the frame of `b`.
 fn arrival<A: Allocator + Copy>(
     rt: &impl Abort,
     alloc: A,
@@ -90,7 +90,7 @@ fn arrival<A: Allocator + Copy>(
     })
 }
 
-/// The delivery of the message.
+/// Returns the delivery of the message.
 fn delivery<A: Allocator + Copy>(
     alloc: A,
     node: Origin,
@@ -104,7 +104,7 @@ fn delivery<A: Allocator + Copy>(
     })
 }
 
-/// Adds the frame by which `c` passes the message on.
+/// Adds the frame with which `c` passes on the message.
 fn push_send<A: Allocator + Copy>(
     rt: &impl Abort,
     alloc: A,
@@ -126,7 +126,7 @@ fn push_delivery<A: Allocator + Copy>(
     out.deliveries.push(delivery)
 }
 
-/// What `c` sends, and what it delivers, if it does.
+/// Adds what `c` sends, and its delivery if it delivers.
 fn push_out<A: Allocator + Copy>(
     rt: &impl Abort,
     alloc: A,
@@ -141,7 +141,7 @@ fn push_out<A: Allocator + Copy>(
     Ok(())
 }
 
-/// What `c` sends and delivers.
+/// Returns what `c` sends and delivers.
 fn output<A: Allocator + Copy>(
     rt: &impl Abort,
     alloc: A,
@@ -153,7 +153,7 @@ fn output<A: Allocator + Copy>(
     Ok(out)
 }
 
-/// The step of a case.
+/// Returns the step of a case.
 fn step<A: Allocator + Copy>(
     rt: &impl Abort,
     alloc: A,
@@ -165,7 +165,7 @@ fn step<A: Allocator + Copy>(
     Ok(Step { stimulus, out })
 }
 
-/// Has the step of a case stand for all steps of the last trace.
+/// Replaces all steps of the last trace with the step of a case.
 fn alter<A: Allocator + Copy>(
     rt: &impl Abort,
     alloc: A,
@@ -178,7 +178,7 @@ fn alter<A: Allocator + Copy>(
     trace.push(step)
 }
 
-/// Adds the traces of a case to an empty list. Whether their merge is as wanted.
+/// Adds the traces of a case to an empty list. Returns whether their merge is as it should be.
 fn holds_of<A: Allocator + Copy>(
     rt: &impl Abort,
     texts: &mut Texts,
@@ -194,7 +194,7 @@ fn holds_of<A: Allocator + Copy>(
     are_merged(texts, alloc, traces.as_slice())
 }
 
-/// Whether the merge of a case is as wanted.
+/// Whether the merge of a case is as it should be.
 fn holds<A: Allocator + Copy>(
     rt: &impl Abort,
     texts: &mut Texts,
@@ -207,7 +207,7 @@ fn holds<A: Allocator + Copy>(
     })
 }
 
-/// Whether all cases are as wanted.
+/// Whether the merges of all cases are as they should be.
 fn hold<A: Allocator + Copy>(
     rt: &impl Abort,
     texts: &mut Texts,
@@ -223,7 +223,7 @@ fn hold<A: Allocator + Copy>(
     Ok(true)
 }
 
-/// Does so in a group where the triangle is played.
+/// Plays the triangle in a group, and calls `hold`.
 fn hold_in<A: Allocator + Copy>(
     rt: &impl Abort,
     texts: &mut Texts,
@@ -268,7 +268,7 @@ fn traces() -> &'static [(&'static str, &'static str)] {
     TRACES
 }
 
-/// Whether the trace of each run is as wanted.
+/// Whether the trace of each run is as it should be.
 fn are_read<A: Allocator + Copy>(
     rt: &impl Abort,
     texts: &mut Texts,
@@ -288,7 +288,7 @@ fn are_read<A: Allocator + Copy>(
     Ok(true)
 }
 
-/// Does so in a group where the triangle is played.
+/// Plays the triangle in a group, and calls `are_read`.
 fn are_read_in<A: Allocator + Copy>(
     rt: &impl Abort,
     texts: &mut Texts,

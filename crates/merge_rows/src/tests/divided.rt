@@ -11,7 +11,7 @@ use std::test::Fail;
 use test_support::lend;
 use world::{Out, Step, Stimulus, StimulusOf, Trace, Wire, WorldError, copy_deliveries};
 
-/// A copy of what made a step.
+/// Copies what made a step.
 fn copy_stimulus<A: Allocator + Copy>(
     stimulus: &Stimulus<Frame<A>, A>,
 ) -> Result<Stimulus<Frame<A>, A>, AllocError> {
@@ -43,7 +43,7 @@ fn push_sends<A: Allocator + Copy>(
     Ok(())
 }
 
-/// A copy of what a step sent and delivered.
+/// Copies what a step sent and delivered.
 fn copy_out<A: Allocator + Copy>(
     alloc: A,
     out: &Out<Frame<A>, A>,
@@ -66,7 +66,7 @@ fn push_copy<A: Allocator + Copy>(
     trace.push(Step { stimulus, out })
 }
 
-/// Adds copies of all steps of a trace to another, and makes a segment after each of the first `cuts`.
+/// Adds copies of all steps of a trace to another, and ends a segment after each of the first `cuts` steps.
 fn push_divided<A: Allocator + Copy>(
     alloc: A,
     trace: &PlumTrace<A>,
@@ -84,7 +84,7 @@ fn push_divided<A: Allocator + Copy>(
     Ok(())
 }
 
-/// A trace without steps that starts as this one.
+/// Makes a trace without steps that starts as this one does.
 fn start_like<A: Allocator + Copy>(
     alloc: A,
     trace: &PlumTrace<A>,
@@ -94,7 +94,7 @@ fn start_like<A: Allocator + Copy>(
     Ok(Trace::new(alloc, trace.origin(), peers, trace.contact(), opening))
 }
 
-/// Puts a divided copy in the place of a trace.
+/// Replaces a trace with a divided copy.
 fn divide<A: Allocator + Copy>(
     alloc: A,
     trace: &mut PlumTrace<A>,
@@ -106,8 +106,8 @@ fn divide<A: Allocator + Copy>(
     Ok(())
 }
 
-/// Adds the traces of the triangle to an empty list, the first `traces` of them divided into so many segments. Whether
-/// their merge is that of the whole ones.
+/// Adds the traces of the triangle to an empty list, and divides the first ones, each after as many steps as `cuts`
+/// says. Returns whether their merge is the one of the whole traces.
 fn holds_of<A: Allocator + Copy>(
     rt: &impl Abort,
     texts: &mut Texts,
@@ -126,10 +126,10 @@ fn holds_of<A: Allocator + Copy>(
     are_merged(texts, alloc, traces.as_slice())
 }
 
-/// How many segments the traces are divided into, one after another of the first steps.
+/// After how many of its first steps each of the first traces is divided.
 const DIVISIONS: [&[usize]; 3] = [&[1], &[0, 1, 3], &[3, 1, 3]];
 
-/// Whether traces that are divided are merged like whole ones, in a group where the triangle is played.
+/// Plays the triangle in a group. Returns whether divided traces are merged like whole ones.
 fn hold_in<A: Allocator + Copy>(
     rt: &impl Abort,
     texts: &mut Texts,

@@ -1,4 +1,4 @@
-//! Traces that are merged, and the merged run played and read off again.
+//! Traces are merged, and the merged run is played and its traces are read off again.
 use crate::tests::named::run;
 use crate::tests::play::play_acts;
 use crate::tests::rows::{Case, cases};
@@ -12,7 +12,7 @@ use test_support::lend;
 use trace_merge::{MergeFault, merge, project};
 use world::{Event, WorldError};
 
-/// Appends the trace of a run, or why it has none.
+/// Appends the trace of a run, or the error if it has none.
 pub(crate) fn push_project<A: Allocator + Copy>(
     text: &mut String,
     alloc: A,
@@ -40,7 +40,7 @@ pub(crate) fn project_all<A: Allocator + Copy>(
     Ok(())
 }
 
-/// Whether a trace is what a group has of its run.
+/// Whether a trace is the one that a group has of its run.
 fn is_projected<A: Allocator + Copy>(
     texts: &mut Texts,
     alloc: A,
@@ -54,7 +54,7 @@ fn is_projected<A: Allocator + Copy>(
     Ok(texts.are_same())
 }
 
-/// Whether each trace is what a group has of its run.
+/// Whether each trace is the one that a group has of its run.
 fn are_projected<A: Allocator + Copy>(
     texts: &mut Texts,
     alloc: A,
@@ -69,7 +69,7 @@ fn are_projected<A: Allocator + Copy>(
     Ok(true)
 }
 
-/// Whether the events, and what is in flight after them, are as wanted.
+/// Whether the events, and what is in flight after them, are as they should be.
 fn are_told<A: Allocator + Copy>(
     texts: &mut Texts,
     world: &Group<A>,
@@ -81,7 +81,8 @@ fn are_told<A: Allocator + Copy>(
     Ok(texts.are_same())
 }
 
-/// Plays the events in a group. Whether they are as wanted, and each trace is what the group then has of its run.
+/// Plays the events in a group. Returns whether they are as they should be, and each trace is the one that the group
+/// then has of its run.
 fn play_events<A: Allocator + Copy>(
     texts: &mut Texts,
     alloc: A,
@@ -95,7 +96,7 @@ fn play_events<A: Allocator + Copy>(
     Ok(are_told(texts, world, events)? && are_projected(texts, alloc, world, traces)?)
 }
 
-/// Does so in a fresh group.
+/// Calls `play_events` with a fresh group.
 fn play_merged<A: Allocator + Copy>(
     texts: &mut Texts,
     alloc: A,
@@ -109,14 +110,15 @@ fn play_merged<A: Allocator + Copy>(
     )
 }
 
-/// Whether the fault is the wanted one.
+/// Whether the fault is the one that it should be.
 fn is_fault(texts: &mut Texts, fault: MergeFault) -> Result<bool, AllocError> {
     texts.found.clear();
     write!(&mut texts.found, "{fault}")?;
     Ok(texts.are_same())
 }
 
-/// Whether the traces are refused as wanted, or are merged into the wanted events, which played anew give the traces.
+/// Whether the traces are refused with the fault that they should be, or are merged into the events that they should
+/// be, and those give the same traces when they are played.
 pub(crate) fn are_merged<A: Allocator + Copy>(
     texts: &mut Texts,
     alloc: A,
@@ -130,7 +132,7 @@ pub(crate) fn are_merged<A: Allocator + Copy>(
     }
 }
 
-/// Adds the traces of a case's runs to an empty list. Whether their merge is as wanted.
+/// Adds the traces of a case's runs to an empty list. Returns whether their merge is as it should be.
 fn is_right_of<A: Allocator + Copy>(
     rt: &impl Abort,
     texts: &mut Texts,
@@ -145,7 +147,7 @@ fn is_right_of<A: Allocator + Copy>(
     are_merged(texts, alloc, traces.as_slice())
 }
 
-/// Whether the merge of a case's runs is as wanted.
+/// Whether the merge of a case's runs is as it should be.
 fn is_right<A: Allocator + Copy>(
     rt: &impl Abort,
     texts: &mut Texts,
@@ -158,7 +160,7 @@ fn is_right<A: Allocator + Copy>(
     })
 }
 
-/// Whether each merge of a case is as wanted.
+/// Whether each merge of a case is as it should be.
 fn are_right<A: Allocator + Copy>(
     rt: &impl Abort,
     texts: &mut Texts,

@@ -1,4 +1,5 @@
-//! Traces of random runs: merged in two orders, they are what a plain scan gives, and the merged run has them again.
+//! Traces of random runs: merged in two orders, they give what a plain scan gives, and the merged run has the same
+//! traces again.
 use crate::tests::merged::{are_merged, project_all};
 use crate::tests::named::name;
 use crate::tests::scan::push_scan;
@@ -13,19 +14,19 @@ use std::test::Fail;
 use test_support::lend;
 use world::{Core, Event, EventOf, WorldError};
 
-/// How many runs there are.
+/// The number of runs.
 const RUNS: u64 = 10;
 
-/// How many events are drawn for each.
+/// The number of events that are drawn for each run.
 const EVENTS: usize = 80;
 
-/// As many of them at least happen, or else the draw is a poor one.
+/// The least number of events in the log of a run. A draw with fewer is a poor one.
 const FEW: usize = 50;
 
-/// The names of the nodes. Each has the two others next to it as its peers.
+/// The names of the nodes, in a circle. Each node has its two neighbours as its peers.
 const NAMES: [&str; 4] = ["a", "b", "c", "d"];
 
-/// A number below this one, or 0.
+/// Returns a random number below `count`, or 0 if `count` is 0.
 fn below(rng: &mut Lcg128Xsl64, count: usize) -> usize {
     let drawn = rng.next_u64();
     if count == 0 {
@@ -35,12 +36,12 @@ fn below(rng: &mut Lcg128Xsl64, count: usize) -> usize {
     }
 }
 
-/// The name of a node at a place, counted round.
+/// Returns the name of the node at a place, counted around the circle.
 fn name_at(rt: &impl Abort, place: usize) -> NodeName {
     name(rt, NAMES[place % 4])
 }
 
-/// The peers of the node at a place.
+/// Returns the peers of the node at a place.
 fn peers_at<A: Allocator>(
     rt: &impl Abort,
     alloc: A,
@@ -52,7 +53,7 @@ fn peers_at<A: Allocator>(
     Ok(peers)
 }
 
-/// The start of the node at a place.
+/// Returns the start of the node at a place.
 fn start<A: Allocator>(rt: &impl Abort, alloc: A, place: usize) -> Result<Event<A>, AllocError> {
     let peers = peers_at(rt, alloc, place)?;
     Ok(EventOf::Start {
@@ -63,7 +64,7 @@ fn start<A: Allocator>(rt: &impl Abort, alloc: A, place: usize) -> Result<Event<
     })
 }
 
-/// A broadcast of one letter.
+/// Returns a broadcast of one random letter.
 fn broadcast<A: Allocator + Copy>(
     alloc: A,
     rng: &mut Lcg128Xsl64,
@@ -74,12 +75,12 @@ fn broadcast<A: Allocator + Copy>(
     Ok(EventOf::Broadcast { name, payload })
 }
 
-/// The first timer that is armed at a node.
+/// Returns the first timer that is armed at a node.
 fn timer<A: Allocator + Copy>(world: &Group<A>, name: &NodeName) -> Option<MsgId> {
     world.core(name)?.timers().first().copied()
 }
 
-/// The first timer of a node fires, or if it has none, it sends what it announces.
+/// Returns the firing of a node's first timer or, if it has none, the flush of its announcements.
 fn fire<A: Allocator + Copy>(world: &Group<A>, name: NodeName) -> Event<A> {
     match timer(world, &name) {
         Some(id) => EventOf::Fire { name, id },
@@ -87,7 +88,7 @@ fn fire<A: Allocator + Copy>(world: &Group<A>, name: NodeName) -> Event<A> {
     }
 }
 
-/// An event of a packet.
+/// Returns an event of a packet.
 fn carry<A: Allocator + Copy>(rng: &mut Lcg128Xsl64, world: &Group<A>, kind: usize) -> Event<A> {
     match kind {
         0 => EventOf::Again {
@@ -103,7 +104,7 @@ fn carry<A: Allocator + Copy>(rng: &mut Lcg128Xsl64, world: &Group<A>, kind: usi
     }
 }
 
-/// An event of a node.
+/// Returns an event of a node.
 fn stir<A: Allocator + Copy>(
     alloc: A,
     rng: &mut Lcg128Xsl64,
@@ -122,7 +123,7 @@ fn stir<A: Allocator + Copy>(
     }
 }
 
-/// An event.
+/// Returns a random event.
 fn event<A: Allocator + Copy>(
     rt: &impl Abort,
     alloc: A,
@@ -138,7 +139,7 @@ fn event<A: Allocator + Copy>(
     }
 }
 
-/// Plays an event, which may be refused.
+/// Plays a random event, which may be refused.
 fn play<A: Allocator + Copy>(
     rt: &impl Abort,
     alloc: A,
@@ -161,7 +162,7 @@ fn play_start<A: Allocator + Copy>(
     lend(event, |event| world.play(event))
 }
 
-/// Starts the nodes, and plays events. Whether enough of them happened.
+/// Starts the nodes, and plays events. Returns whether enough of them happened.
 fn play_all<A: Allocator + Copy>(
     rt: &impl Abort,
     alloc: A,
@@ -188,7 +189,7 @@ fn are_scanned(
     are_merged(texts, alloc, traces)
 }
 
-/// Adds the traces of a group in this order to an empty list. Whether they are merged so.
+/// Adds the traces of a group in this order to an empty list. Returns whether they are merged into what the scan gives.
 fn are_ordered_in(
     rt: &impl Abort,
     texts: &mut Texts,
@@ -201,7 +202,7 @@ fn are_ordered_in(
     are_scanned(texts, alloc, traces.as_slice())
 }
 
-/// Whether the traces of a group in this order are merged so.
+/// Whether the traces of a group in this order are merged into what the scan gives.
 fn are_ordered(
     rt: &impl Abort,
     texts: &mut Texts,
@@ -214,7 +215,7 @@ fn are_ordered(
     })
 }
 
-/// Whether the traces of a random run are merged so, in two orders.
+/// Whether the traces of a random run, in two orders, are merged into what the scan gives.
 fn holds_in(
     rt: &impl Abort,
     texts: &mut Texts,
@@ -230,13 +231,13 @@ fn holds_in(
     )
 }
 
-/// Does so in a fresh group.
+/// Calls `holds_in` with a fresh group.
 fn holds(rt: &impl Abort, texts: &mut Texts, alloc: Global, seed: u64) -> Result<bool, WorldError> {
     let world = Group::new(alloc, Limits::STANDARD);
     lend(world, |world| holds_in(rt, texts, alloc, world, seed))
 }
 
-/// Does so for all seeds.
+/// Calls `holds` with all seeds.
 fn hold(rt: &impl Abort, texts: &mut Texts, alloc: Global) -> Result<bool, WorldError> {
     for seed in 0..RUNS {
         if !holds(rt, texts, alloc, seed)? {

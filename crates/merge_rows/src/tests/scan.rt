@@ -1,4 +1,4 @@
-//! What a merge is, event by event, without a group.
+//! Merges traces event by event, without a group.
 use crate::tests::texts::{
     PlumTrace, push_again, push_arrival, push_flight, push_start, push_stimulus,
 };
@@ -7,21 +7,21 @@ use node_names::{Dice, Origin};
 use std::alloc::{AllocError, Allocator, Global};
 use world::{Out, Step, Stimulus, StimulusOf};
 
-/// More steps than any trace has, and more than it takes to go over all traces until none goes on.
+/// More than the steps of any trace, and than the passes over all traces until none goes on.
 const MANY: usize = 1_000;
 
-/// How far traces are played.
+/// How far traces have been played.
 #[derive(Drop)]
 struct Scan {
-    /// How many steps of each trace are played; none of one that is not started.
+    /// How many steps of each trace have been played; `None` if the trace has not started.
     places: Vec<Option<usize>>,
     /// The frames that were sent, by their senders and numbers.
     sent: Vec<(Origin, u64)>,
-    /// The places there of those in flight.
+    /// The places in `sent` of the frames in flight.
     flight: Vec<usize>,
 }
 
-/// A scan of so many traces.
+/// Makes a scan of `count` traces.
 fn empty(alloc: Global, count: usize) -> Result<Scan, AllocError> {
     Ok(Scan {
         places: vec![in alloc; None; count]?,
@@ -39,19 +39,19 @@ fn send<A: Allocator>(scan: &mut Scan, out: &Out<Frame<A>, A>) -> Result<(), All
     Ok(())
 }
 
-/// Remembers that so many steps of a trace are played.
+/// Records that `played` steps of a trace have been played.
 fn stand(scan: &mut Scan, at: usize, played: usize) {
     if let Some(place) = scan.places.get_mut(at) {
         *place = Some(played);
     }
 }
 
-/// Whether a trace is played out.
+/// Whether all steps of a trace have been played.
 fn is_out(scan: &Scan, at: usize, count: usize) -> bool {
     scan.places.get(at) == Some(&Some(count))
 }
 
-/// Whether all traces of the name with lower incarnations are played out.
+/// Whether all traces of the same name with lower incarnations have been played to their ends.
 fn is_ready<A: Allocator>(scan: &Scan, traces: &[PlumTrace<A>], origin: &Origin) -> bool {
     for (at, other) in traces.iter().enumerate() {
         let earlier = other.origin();
@@ -65,7 +65,7 @@ fn is_ready<A: Allocator>(scan: &Scan, traces: &[PlumTrace<A>], origin: &Origin)
     true
 }
 
-/// Starts a trace if it may start. Whether it does.
+/// Starts a trace if it may start. Returns whether it does.
 fn start<A: Allocator>(
     scan: &mut Scan,
     text: &mut String,
@@ -83,7 +83,7 @@ fn start<A: Allocator>(
     Ok(true)
 }
 
-/// Has the frame at this place of the sent ones arrive. One that is not in flight is put there once more.
+/// Lets the frame at this place of `sent` arrive. A frame that is not in flight is put there once more.
 fn arrive(
     scan: &mut Scan,
     text: &mut String,
@@ -101,7 +101,8 @@ fn arrive(
     push_arrival(text, place, dice)
 }
 
-/// Has a core take a stimulus if it is not the arrival of a frame that is still to be sent. Whether it does.
+/// Lets a core take a stimulus, unless that is the arrival of a frame that has not been sent yet. Returns whether it
+/// takes it.
 fn take<A: Allocator>(
     scan: &mut Scan,
     text: &mut String,
@@ -120,7 +121,7 @@ fn take<A: Allocator>(
     Ok(true)
 }
 
-/// Plays a step of a trace if it can be played. Whether it is.
+/// Plays a step of a trace if it can be played. Returns whether it was.
 fn take_step<A: Allocator>(
     scan: &mut Scan,
     text: &mut String,
@@ -137,7 +138,7 @@ fn take_step<A: Allocator>(
     Ok(true)
 }
 
-/// Plays what comes next of a trace, if it can be played. Whether it is.
+/// Plays what comes next in a trace if it can be played. Returns whether it was.
 fn go_on<A: Allocator>(
     scan: &mut Scan,
     text: &mut String,
@@ -154,7 +155,7 @@ fn go_on<A: Allocator>(
     }
 }
 
-/// Plays a trace as far as it goes. Whether anything is played.
+/// Plays a trace as far as possible. Returns whether anything was played.
 fn play<A: Allocator>(
     scan: &mut Scan,
     text: &mut String,
@@ -172,7 +173,7 @@ fn play<A: Allocator>(
     Ok(moved)
 }
 
-/// Goes over all traces once. Whether anything is played.
+/// Goes over all traces once. Returns whether anything was played.
 fn pass<A: Allocator>(
     scan: &mut Scan,
     text: &mut String,
@@ -185,7 +186,7 @@ fn pass<A: Allocator>(
     Ok(moved)
 }
 
-/// Goes over the traces again and again.
+/// Goes over the traces until none goes on, and appends what is then in flight.
 fn play_all<A: Allocator>(
     scan: &mut Scan,
     text: &mut String,

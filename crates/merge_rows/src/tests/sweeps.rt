@@ -1,5 +1,5 @@
-//! Calls of which each allocation is refused in turn: the call is refused as out of memory, and made again answers as
-//! before.
+//! Calls with each of their allocations refused in turn: the call fails as out of memory, and when made again it
+//! answers as it did before.
 use crate::tests::merged::{project_all, push_project};
 use crate::tests::named::run;
 use crate::tests::play::play_acts;
@@ -15,7 +15,7 @@ use test_support::{lend, stop_refusing};
 use trace_merge::merge;
 use world::WorldError;
 
-/// More allocations than any call has.
+/// More allocations than any call makes.
 const MANY: u64 = 1_000;
 
 /// A call.
@@ -39,7 +39,7 @@ fn push_merge<A: Allocator + Copy>(
     }
 }
 
-/// Has the found text be what the call answers.
+/// Replaces the found text with what the call returns.
 fn find<A: Allocator + Copy>(
     rt: &impl Abort,
     texts: &mut Texts,
@@ -55,7 +55,7 @@ fn find<A: Allocator + Copy>(
     }
 }
 
-/// Makes the call with the allocation of this number refused. Whether it has so many.
+/// Makes the call while allocation number `n` is refused. Returns whether there is such an allocation.
 fn refuse<A: Allocator + Copy>(
     rt: &impl Abort,
     heap: &RefusingAllocator,
@@ -71,8 +71,8 @@ fn refuse<A: Allocator + Copy>(
     Ok(stop_refusing(heap))
 }
 
-/// Does so, and makes the call again. Whether it has so many allocations, or none if something is wrong. What only asks
-/// for more room than is needed may be refused without harm.
+/// Calls `refuse`, and makes the call again. Returns whether there is such an allocation, or `None` if something is
+/// wrong. An allocation that only asks for more room than is needed may be refused without harm.
 fn try_call<A: Allocator + Copy>(
     rt: &impl Abort,
     heap: &RefusingAllocator,
@@ -92,7 +92,8 @@ fn try_call<A: Allocator + Copy>(
     Ok((is_right && texts.are_same()).then_some(is_spent))
 }
 
-/// Refuses each allocation of a call in turn. How often it is refused as out of memory, or 0 if something is wrong.
+/// Refuses each allocation of a call in turn. Returns how often the call failed as out of memory, or 0 if something is
+/// wrong.
 fn sweep<A: Allocator + Copy>(
     rt: &impl Abort,
     heap: &RefusingAllocator,
@@ -113,7 +114,7 @@ fn sweep<A: Allocator + Copy>(
     Ok(0)
 }
 
-/// Does so with what the call answers unrefused as the wanted text.
+/// Calls `sweep`, with what the call returns when nothing is refused as the wanted text.
 fn sweep_call<A: Allocator + Copy>(
     rt: &impl Abort,
     heap: &RefusingAllocator,
@@ -129,7 +130,7 @@ fn sweep_call<A: Allocator + Copy>(
     sweep(rt, heap, texts, alloc, world, traces, call)
 }
 
-/// Does so with the traces of the triangle, which are added to an empty list.
+/// Adds the traces of the triangle to an empty list, and calls `sweep_call`.
 fn sweep_traces<A: Allocator + Copy>(
     rt: &impl Abort,
     heap: &RefusingAllocator,
@@ -143,7 +144,7 @@ fn sweep_traces<A: Allocator + Copy>(
     sweep_call(rt, heap, texts, alloc, world, traces.as_slice(), call)
 }
 
-/// Does so in a group where the triangle is played.
+/// Plays the triangle in a group, and calls `sweep_traces`.
 fn sweep_group<A: Allocator + Copy>(
     rt: &impl Abort,
     heap: &RefusingAllocator,
@@ -158,7 +159,7 @@ fn sweep_group<A: Allocator + Copy>(
     })?)
 }
 
-/// Does so in a fresh group.
+/// Calls `sweep_group` with a fresh group.
 fn sweep_triangle<A: Allocator + Copy>(
     rt: &impl Abort,
     heap: &RefusingAllocator,

@@ -1,4 +1,4 @@
-//! Events and traces as texts.
+//! Events and traces, as text.
 use bytes::Bytes;
 use frames::Frame;
 use node_core::PlumCore;
@@ -11,10 +11,10 @@ use world::{Delivery, Event, EventOf, Out, Step, Stimulus, StimulusOf, Trace, Wo
 /// A group of Plumtree nodes.
 pub(crate) type Group<A> = World<PlumCore<A>, A>;
 
-/// What a Plumtree node did.
+/// The trace of a Plumtree node.
 pub(crate) type PlumTrace<A> = Trace<Frame<A>, A>;
 
-/// A text that is found, and what it should be.
+/// A text that is found, and the text that it should be.
 #[derive(Drop)]
 pub(crate) struct Texts {
     pub(crate) found: String,
@@ -22,7 +22,7 @@ pub(crate) struct Texts {
 }
 
 impl Texts {
-    /// Two empty texts.
+    /// Makes two empty texts.
     pub(crate) fn new(alloc: Global) -> Texts {
         Texts {
             found: String::new(alloc),
@@ -36,7 +36,7 @@ impl Texts {
     }
 }
 
-/// Appends dice that are not all zeros.
+/// Appends dice, if they are not all zeros.
 fn push_dice(text: &mut String, dice: &Dice) -> Result<(), AllocError> {
     if *dice != Dice::ZEROS {
         write!(text, "by {dice:?}")?;
@@ -83,12 +83,12 @@ pub(crate) fn push_arrival(text: &mut String, place: usize, dice: &Dice) -> Resu
     push_dice(text, dice)
 }
 
-/// Appends that the packet of a number is in flight once more.
+/// Appends that the packet with this number is in flight once more.
 pub(crate) fn push_again(text: &mut String, number: usize) -> Result<(), AllocError> {
     write!(text, "again {number}; ")
 }
 
-/// Appends what a node does that gets no packet.
+/// Appends an event in which a node gets no packet.
 fn push_own<A: Allocator>(text: &mut String, event: &Event<A>) -> Result<(), AllocError> {
     match event {
         EventOf::Broadcast { name, payload } => push_broadcast(text, name, payload),
@@ -125,7 +125,7 @@ pub(crate) fn push_events<A: Allocator>(
     Ok(())
 }
 
-/// Appends, behind a stroke, the numbers of the packets in flight.
+/// Appends a vertical bar and the numbers of the packets in flight.
 pub(crate) fn push_flight(text: &mut String, flight: &[usize]) -> Result<(), AllocError> {
     write!(text, "|")?;
     for number in flight {

@@ -1,4 +1,4 @@
--- A timer fires: what that owes. Proofs, and nothing to believe.
+-- A timer fires: what such a step must satisfy. Proofs only; nothing here has to be trusted.
 use Rattle.std.specs.Prelude.{◌≡◌, ◌≢◌, ◌⊎◌, ◌+◌, ◌||◌, ℕ, Bool, true, false, not, cond, List, [], ◌∷◌, ◌++◌, Option, Some, None, is_some, filter, refl, if◌then◌else◌}
 use Rattle.std.specs.List.{AllByRecursion as Each, IsDistinct}
 use Rattle.std.specs.Option.{unwrap_or}
@@ -51,7 +51,7 @@ first_stands id (entry ∷ wants) peer round e = go (first_stands id wants peer 
         let later : First id wants (without_first id wants) peer round = rest found in
         (entry ∷ later.0, later.1, ap (λ xs. entry ∷ xs) later.2, (apart id entry.0 is, later.3), ap (λ xs. entry ∷ xs) later.4)
 
--- where there is no entry, none is taken
+-- if there is no entry, none is removed
 none_stands : (id : MsgId) (wants : List (MsgId × Name × ℕ)) → first_want id wants ≡ None → HasNoEntry id wants × (without_first id wants ≡ wants)
 none_stands id [] e = (tt, refl)
 none_stands id (entry ∷ wants) e = go (none_stands id wants) (same_id id entry.0) refl e

@@ -1,4 +1,4 @@
--- What waits is announced: what that owes. Proofs, and nothing to believe.
+-- The queue is announced: what such a step must satisfy. Proofs only; nothing here has to be trusted.
 use Rattle.std.specs.Prelude.{◌≡◌, ◌≢◌, ◌+◌, ◌≤◌, ◌<◌, ◌&&◌, ◌||◌, ◌==◌, ℕ, zero, suc, Bool, true, false, not, cond, List, [], ◌∷◌, ◌++◌, Some, None, map, filter, take, drop, length, refl, if◌then◌else◌}
 use Rattle.std.specs.List.{AllByRecursion as Each, IsDistinct, flat_map}
 use Rattle.std.proofs.Common.{inl, sym, ◌∙◌, ap, zero-add, add-zero, arith, length-drop}
@@ -83,7 +83,7 @@ module _ (name : Name) (id : MsgId) (round : ℕ) where
       go rest true = sum_by-cons (λ (e : MsgId × ℕ). cond (same_id id e.0 && (round == e.1)) 1 0) (entry.1, entry.2) (waiting_for name queued) ∙ ap (λ n. cond (same_id id entry.1 && (round == entry.2)) 1 0 + n) rest
       go rest false = rest ∙ sym (zero-add (times_queued name id round queued))
 
-  -- a name for whom nothing waits is queued for nowhere
+  -- a name for which nothing waits has no entry in the queue
   none_waits : (queued : List (Name × MsgId × ℕ)) → has_name (receivers queued) name ≡ false → times_queued name id round queued ≡ 0
   none_waits [] lacks = refl
   none_waits (entry ∷ queued) lacks =

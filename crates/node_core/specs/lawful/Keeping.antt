@@ -1,4 +1,5 @@
--- Of the messages that were delivered the last ones are held: what that owes. Proofs, and nothing to believe.
+-- Of the messages that were delivered the last ones are held: what this must satisfy. Proofs only; nothing here has to
+-- be trusted.
 use Rattle.std.specs.Prelude.{◌≡◌, ◌⊎◌, ◌+◌, ◌-◌, ◌<◌, ◌≤◌, ℕ, suc, zero, Bool, true, false, cond, List, [], ◌∷◌, ◌++◌, Option, Some, None, drop, take, is_some, length, nat_eq, refl, if◌then◌else◌}
 use Rattle.std.specs.Map.{keys_of, lookup}
 use Rattle.std.proofs.Common.{inl, inr, sym, ◌∙◌, ap, subst, arith}
@@ -72,7 +73,7 @@ was_held keep held once j is = go (lookup (same_id j) (kept_last keep held)) ref
     go None found e = absurd (false≢true e)
     go (Some p) found e = ap is_some (found_kept keep held once j p found)
 
--- where all are to be kept, all are
+-- if all are to be kept, all are
 pub all_kept : (keep : ℕ) (held : List (MsgId × List ℕ)) → keep ≡ 0 → kept_last keep held ≡ held
 all_kept keep held none = ap (λ k. kept_last k held) none
 
@@ -87,7 +88,7 @@ length_keys : (held : List (MsgId × List ℕ)) → length (keys_of held) ≡ le
 length_keys [] = refl
 length_keys (m ∷ held) = ap suc (length_keys held)
 
--- those of a dropped front are the last, if as many as are to be kept stay
+-- dropping a front leaves the last messages, if as many stay as are to be kept
 dropped_last : (keep n : ℕ) (held : List (MsgId × List ℕ)) → (n ≡ 0) ⊎ ((0 < keep) × (keep ≤ length (drop n held))) → AreLast keep (keys_of held) (keys_of (drop n held))
 dropped_last keep n held enough =
     record {
@@ -125,7 +126,7 @@ keeps_delivered keep me held id p =
         is_empty [] = false
         is_empty (i ∷ is) = true
 
--- Where nothing is delivered, the list stays.
+-- If nothing is delivered, the list stays the same.
 pub keeps_all_listed : (keep : ℕ) (listed : List MsgId) → KeepsLast keep listed [] listed
 keeps_all_listed keep listed =
     record {

@@ -1,4 +1,4 @@
--- Lemmas on what is one of a list, for the laws of the core: proofs, and nothing to believe.
+-- Lemmas on the elements of lists, for the laws of the core. Proofs only; nothing here has to be trusted.
 use Rattle.std.specs.Prelude.{◌≡◌, ◌≢◌, ◌⊎◌, ◌+◌, ◌||◌, ℕ, Bool, true, false, cond, List, [], ◌∷◌, ◌++◌, map, filter, count_by, refl}
 use Rattle.std.specs.List.{AllByRecursion as Each, IsDistinct}
 use Rattle.std.proofs.Common.{inl, inr, sym, ◌∙◌, ap, subst, zero-add, arith}
@@ -133,7 +133,7 @@ counts_once name (other ∷ names) distinct = sum_by-cons (λ x. cond (same_name
 
 -- ---- counts
 
--- none is counted where none passes
+-- if none passes the test, the count is 0
 pub counts_none : {X : Type 0} (test : X → Bool) (xs : List X) → Each (λ x. test x ≡ false) xs → count_by test xs ≡ 0
 counts_none test [] h = refl
 counts_none test (x ∷ xs) h = sum_by-cons (λ y. cond (test y) 1 0) x xs ∙ ap (λ b. cond b 1 0 + count_by test xs) h.0 ∙ zero-add (count_by test xs) ∙ counts_none test xs h.1

@@ -1,4 +1,4 @@
--- The views move, and the gossip hears of it: what that owes. Proofs, and nothing to believe.
+-- The views change, and the gossip is told: what such a step must satisfy. Proofs only; nothing here has to be trusted.
 use Rattle.std.specs.Prelude.{◌≡◌, ◌⊎◌, ◌≤◌, ◌||◌, ℕ, suc, Bool, true, false, not, cond, List, [], ◌∷◌, ◌++◌, filter, length, refl, if◌then◌else◌}
 use Rattle.std.specs.List.{AllByRecursion as Each}
 use Rattle.std.proofs.Common.{inl, inr, sym, ◌∙◌, ap, arith}
@@ -17,7 +17,7 @@ use Rattle.gossip_core.specs.Table.{outcome, after_downs, after_ups}
 use Rattle.gossip_core.specs.declared.call.CallOf.TheVariants as call
 use Rattle.node_core.specs.lawful.Members.{one_of_filter, one_of_passing}
 
--- Nothing but members, queue and entries changed.
+-- Only members, queue and entries changed.
 pub record SameButLinks (g h : GossipState) : Type 0 where
   pub me : h.me ≡ g.me
   pub threshold : h.threshold ≡ g.threshold
@@ -35,7 +35,7 @@ pub record Linked (g : GossipState) (gone : List Name) (h : GossipState) : Type 
   pub wants_were : (entry : MsgId × Name × ℕ) → IsOneOf entry h.missing.wants → IsOneOf entry g.missing.wants
   pub wants_stay : (entry : MsgId × Name × ℕ) → IsOneOf entry g.missing.wants → IsOneOf entry h.missing.wants ⊎ (has_name gone entry.1 ≡ true)
 
--- one name more is gone
+-- one more name is gone
 more_gone : (name : Name) (gone : List Name) (q : Name) → has_name gone q ≡ true → has_name (name ∷ gone) q ≡ true
 more_gone name gone q is = ap (λ b. same_name q name || b) is ∙ or_true (same_name q name)
   where
@@ -141,7 +141,7 @@ append_none : (ns : List Name) → ns ++ [] ≡ ns
 append_none [] = refl
 append_none (name ∷ ns) = ap (λ rest. name ∷ rest) (append_none ns)
 
--- where at most one link went down, the members are the others
+-- if at most one link went down, the members are the others
 pub members_after_downs : (g : GossipState) (downs : List Name) → length downs ≤ 1 → names (after_downs downs g).peers.members ≡ others downs (names g.peers.members)
 members_after_downs g [] few = sym (others_of_none (names g.peers.members))
 members_after_downs g (name ∷ []) few = names-without name g.peers.members ∙ without_is_others name (names g.peers.members)
@@ -150,7 +150,7 @@ members_after_downs g (name ∷ (other ∷ downs)) few = absurd (too_many (lengt
     too_many : (n : ℕ) → suc (suc n) ≤ 1 → ⊥
     too_many n h = omega (arith, h)
 
--- where at most one came up that is no member, it is the last of them
+-- if at most one link came up, to a peer that is not a member, this peer is the last member
 pub members_after_ups : (g : GossipState) (ups : List Name) → length ups ≤ 1 → Each (λ name. has_name (names g.peers.members) name ≡ false) ups → names (after_ups ups g).peers.members ≡ names g.peers.members ++ ups
 members_after_ups g [] few new = sym (append_none (names g.peers.members))
 members_after_ups g (name ∷ []) few new = names-with name g.peers.members new.0

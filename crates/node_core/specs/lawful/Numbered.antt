@@ -1,4 +1,4 @@
--- What holds of bodies holds of the frames that they become: proofs, and nothing to believe.
+-- What holds of bodies holds of the frames that they become. Proofs only; nothing here has to be trusted.
 use Rattle.std.specs.Prelude.{◌≡◌, ◌+◌, ◌&&◌, ℕ, suc, Bool, cond, List, [], ◌∷◌, length, count_by, refl, if◌then◌else◌}
 use Rattle.std.specs.List.{AllByRecursion as Each}
 use Rattle.std.proofs.Common.{sym, ◌∙◌, ap}

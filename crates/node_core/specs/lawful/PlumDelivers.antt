@@ -1,4 +1,4 @@
--- A step of the core delivers at most one message: a proof, and nothing to believe.
+-- A step of the core delivers at most one message. A proof only; nothing here has to be trusted.
 use Rattle.std.specs.Prelude.{◌≤◌, ℕ, List, Option, Some, None, length}
 use Rattle.std.proofs.Common.{ap, arith, sym, subst}
 use Rattle.node_names.specs.declared.ids.MsgId.{MsgId}

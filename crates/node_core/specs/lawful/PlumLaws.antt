@@ -1,4 +1,4 @@
--- The core meets all nine laws: a proof, and nothing to believe.
+-- The core meets all nine laws. A proof only; nothing here has to be trusted.
 use Rattle.std.specs.Prelude.{◌≡◌, ◌≢◌, ◌⊎◌, ◌+◌, ◌<◌, ◌≤◌, ◌&&◌, ◌||◌, ℕ, Bool, true, false, not, cond, List, [], ◌∷◌, ◌++◌, Option, Some, None, is_some, IsSome, length, map, filter, refl, if◌then◌else◌}
 use Rattle.std.specs.FinSet as set
 use Rattle.std.specs.List.{AllByRecursion as Each, IsDistinct}
@@ -84,7 +84,7 @@ inside x y e = ap (λ o. unwrap_or o x) e
 
 -- ---- every call leaves a whole gossip
 
--- the entries but those of an id are entries, of other ids
+-- the entries except those of an id are entries, of other ids
 others_wanted : (id : MsgId) (wants : List (MsgId × Name × ℕ)) (entry : MsgId × Name × ℕ) → IsOneOf entry (without_id id wants) → IsOneOf entry wants × (entry.0 ≢ id)
 others_wanted id wants entry h =
     let kept : IsOneOf entry wants × (not (same_id id entry.0) ≡ true) = one_of_filter (λ e. not (same_id id e.0)) entry wants h in
@@ -110,7 +110,7 @@ kept_armed id timers other h = go (same_id id other) refl
     go true is = inr (sym ((same_id-Decides id other).0 is))
     go false is = inl (one_of_passing (λ e. not (same_id id e)) other timers h (ap not is))
 
--- the own next message is not known
+-- the node's own next message is not known
 next_is_lacked : (g : GossipState) → IsWhole g → set.contains g.known (next_id g) ≡ false
 next_is_lacked g whole = go (set.contains g.known (next_id g)) refl
   where
@@ -118,7 +118,7 @@ next_is_lacked g whole = go (set.contains g.known (next_id g)) refl
     go true is = let bounds : (0 < g.spent + 1) × (g.spent + 1 ≤ g.spent) = whole.store.counted (next_id g) is refl in absurd (lt_irrefl g.spent (le_trans (lt-add-one g.spent) bounds.1))
     go false is = refl
 
--- the entries but the first of an id are entries
+-- the entries except the first of an id are entries
 fewer_first : (id : MsgId) (wants : List (MsgId × Name × ℕ)) (entry : MsgId × Name × ℕ) → IsOneOf entry (without_first id wants) → IsOneOf entry wants
 fewer_first id [] entry none = none
 fewer_first id (e ∷ wants) entry h = go (fewer_first id wants entry) (same_id id e.0) h
@@ -186,7 +186,7 @@ module _ (g : GossipState) (whole : IsWhole g) where
 
 -- ---- the gossip's calls
 
--- the members of a gossip that speaks stay, and so do who it is and how many messages it keeps
+-- the call leaves the names of the members, the node and its run, and how many messages it keeps as they are
 abbrev Stays : GossipState → Outcome → Type 0
 Stays g done = (names done.state.peers.members ≡ names g.peers.members) × (done.state.me ≡ g.me) × (done.state.keep ≡ g.keep)
 
@@ -203,11 +203,11 @@ module _ (limits : Limits) (core : Plum) (sound : IsSoundPlum limits core) where
   abbrev before : CoreState
   before = plum_state core
 
-  -- what a step has to show, and that it leads to a sound core
+  -- what has to be shown of a step, and that it leads to a sound core
   abbrev Lawful_step : Stimulus Frame → Turned → Type 0
   Lawful_step stimulus t = StepLaws frame_content (plum_state core) stimulus (numbered core.me core.framed t.sends) (delivered_at core.me t.delivered) (plum_state (gone_on core t)) × IsSoundPlum limits (gone_on core t)
 
-  -- who it is, is not among the active names
+  -- the node's own name is not among the active names
   own_is_owner : core.gossip.me.name ≡ core.membership.views.owner
   own_is_owner = ap (λ (o : Origin). o.name) sound.its_gossip ∙ sym sound.owner
 
@@ -243,7 +243,7 @@ module _ (limits : Limits) (core : Plum) (sound : IsSoundPlum limits core) where
     abbrev arrives : Body → Stimulus Frame
     arrives said = on.Arrive sender (record { sender = by; number = number; body = said }) dice
 
-    -- nothing is asked for by a packet that asks for nothing
+    -- a packet without a request asks for no message
     none_asked : (j : MsgId) → None ≡ Some j → ⊥
     none_asked j e = false≢true (ap is_some e)
 
@@ -268,7 +268,7 @@ module _ (limits : Limits) (core : Plum) (sound : IsSoundPlum limits core) where
     abbrev Gossips : MsgId → ℕ → List ℕ → Outcome → Type 0
     Gossips id round payload done = StepLaws frame_content (plum_state core) (arrives (body.Gossip id round payload)) (numbered core.me core.framed done.sends) (delivered_at core.me done.delivered) (state_with active passive done.state)
 
-    -- who announced a message before is another than the node
+    -- a peer that announced a message before is not the node itself
     announced_by_another : (id : MsgId) (round : ℕ) (peer : Name) → shortcut core.gossip sender.name id round ≡ Some peer → peer ≢ core.gossip.me.name
     announced_by_another id round peer is =
         let first = shortcut_is_first core.gossip sender.name id round peer is in
@@ -431,7 +431,7 @@ module _ (limits : Limits) (core : Plum) (sound : IsSoundPlum limits core) (even
   came : Linked down [] after
   came = after_all_ups (table event dice (still core.membership)).ups down
 
-  -- who is gone is active no longer
+  -- a peer that is gone is no longer active
   gone_is_inactive : (name : Name) → has_name (table event dice (still core.membership)).downs name ≡ true → has_name (table event dice (still core.membership)).views.active name ≡ false
   gone_is_inactive name is =
       ap (λ ns. has_name ns name) lawful.active_now
@@ -453,7 +453,7 @@ module _ (limits : Limits) (core : Plum) (sound : IsSoundPlum limits core) (even
         | inr gone ↦ inr (gone_is_inactive entry.1 gone)
       ]
 
-  -- who it is, is the owner
+  -- the node is the owner of its views
   is_owner : core.gossip.me.name ≡ core.membership.views.owner
   is_owner = ap (λ (o : Origin). o.name) sound.its_gossip ∙ sym sound.owner
 
@@ -528,7 +528,7 @@ module _ (limits : Limits) (core : Plum) (sound : IsSoundPlum limits core) (even
 
 -- ---- one entry for a place
 
--- where places are distinct, each is counted once
+-- if places are distinct, each is counted once
 queued_once : (queued : List (Name × MsgId × ℕ)) → IsDistinct queue.same_place (map queue.place_of queued) → (name : Name) (id : MsgId) → entries_queued id name queued ≤ 1
 queued_once [] distinct name id = omega arith
 queued_once (entry ∷ queued) distinct name id = subst (λ n. n ≤ 1) (sym (sum_by-cons (λ (e : Name × MsgId × ℕ). cond (same_name name e.0 && same_id id e.1) 1 0) entry queued)) (go (queued_once queued (IsDistinct-tail queue.same_place (queue.place_of entry) (map queue.place_of queued) distinct) name id) (same_name name entry.0 && same_id id entry.1) refl)
@@ -567,7 +567,7 @@ module _ (limits : Limits) (core : Plum) (sound : IsSoundPlum limits core) where
   abbrev Step : Stimulus Frame → Turned → Type 0
   Step stimulus t = StepLaws frame_content (plum_state core) stimulus (numbered core.me core.framed t.sends) (delivered_at core.me t.delivered) (plum_state (gone_on core t)) × IsSoundPlum limits (gone_on core t)
 
-  -- another than who it is, is another than the owner
+  -- a name that is not the node's own is not the owner's
   other_owner : (name : Name) → name ≢ core.gossip.me.name → name ≢ core.membership.views.owner
   other_owner name apart same = apart (same ∙ sym (own_is_owner limits core sound))
 
@@ -603,7 +603,7 @@ module _ (limits : Limits) (core : Plum) (sound : IsSoundPlum limits core) where
   step_is_lawful (on.Down peer dice) from = (moves_lawfully limits core sound (heard_of.Down peer) dice tt (on.Down peer dice) refl refl (λ s a h. h) (λ s a h. h) (λ name j r a. a) (λ j name a. a), moved_soundly limits core sound (heard_of.Down peer) dice tt)
   step_is_lawful (on.Shuffle dice) from = (moves_lawfully limits core sound heard_of.Tick dice tt (on.Shuffle dice) refl refl (λ s a h. h) (λ s a h. h) (λ name j r a. a) (λ j name a. a), moved_soundly limits core sound heard_of.Tick dice tt)
 
-  -- what a sound core shows is as the laws want it
+  -- what a sound core shows is as the laws require
   always : StateLaws limits (plum_state core)
   always =
       record {

@@ -1,4 +1,5 @@
--- Steps that deliver nothing: what they owe, and the laws that follow. Proofs, and nothing to believe.
+-- Steps that deliver nothing: what they must satisfy, and the laws that follow. Proofs only; nothing here has to be
+-- trusted.
 use Rattle.std.specs.Prelude.{◌≡◌, ℕ, true, List, [], ◌∷◌, Some, None, is_some, refl}
 use Rattle.std.specs.List.{AllByRecursion as Each}
 use Rattle.std.proofs.Common.{inl, inr, sym, ◌∙◌, ap}
@@ -41,7 +42,7 @@ module _ (before : CoreState) (stimulus : Stimulus Frame) (sends : List (Name ×
   abbrev after : CoreState
   after = record before { active = active; passive = passive; queued = queued; wants = wants; timers = timers }
 
-  -- who delivers nothing owes these
+  -- what a step that delivers nothing must satisfy
   pub delivers_nothing :
       Delivers frame_content before stimulus []
       → before.count ≡ count_after before.count stimulus
@@ -71,7 +72,7 @@ module _ (before : CoreState) (stimulus : Stimulus Frame) (sends : List (Name ×
         holds = holds;
       }
 
--- A step that leaves the state as it is, and owes nothing but its packets.
+-- A step that leaves the state as it is, so that only its packets matter.
 module _ (before : CoreState) (stimulus : Stimulus Frame) (sends : List (Name × Frame)) where
   pub leaves_all :
       Delivers frame_content before stimulus []

@@ -1,4 +1,4 @@
--- A message is delivered and goes on: what that owes. Proofs, and nothing to believe.
+-- A message is delivered and forwarded: what such a step must satisfy. Proofs only; nothing here has to be trusted.
 use Rattle.std.specs.Prelude.{◌≡◌, ◌≢◌, ◌⊎◌, ◌+◌, ◌&&◌, ◌||◌, ℕ, Bool, true, false, not, cond, List, [], ◌∷◌, ◌++◌, Option, Some, None, is_some, map, filter, count_by, refl}
 use Rattle.std.specs.FinSet as set
 use Rattle.std.specs.List.{AllByRecursion as Each, IsDistinct}
@@ -45,7 +45,7 @@ use Rattle.node_core.specs.Plum.{IsWhole, state_with}
 use Rattle.node_core.specs.Steps.{numbered}
 use Rattle.node_core.specs.lawful.Whole.{not_held}
 
--- ---- who gets a packet, and who an entry
+-- ---- which members get a packet, and which an entry
 
 -- among the packets to these names, a name gets one for each time that it is there
 carries_to_each : (id : MsgId) (round : ℕ) (payload : List ℕ) (name : Name) (receivers : List Name) → packets_carrying body_content id name (map (gossip_to id round payload) receivers) ≡ count_by (same_name name) receivers
@@ -170,7 +170,7 @@ module _ (g : GossipState) (whole : IsWhole g) (active passive : List Name) (mem
   all_free [] = refl
   all_free (peer ∷ peers) = ap (λ b. cond (not b) (peer ∷ filter (λ p. not (is_queued p id g.peers.queued)) peers) (filter (λ p. not (is_queued p id g.peers.queued)) peers)) (free peer) ∙ ap (λ ps. peer ∷ ps) (all_free peers)
 
-  -- the queue gets an entry for each lazy member but one
+  -- the queue gets an entry for each lazy member except `left_out`
   abbrev pub queue_now : List (Name × MsgId × ℕ)
   queue_now = with_entries (lazy_but left_out g.peers.members) id round g.peers.queued
 
@@ -180,7 +180,7 @@ module _ (g : GossipState) (whole : IsWhole g) (active passive : List Name) (mem
   abbrev pub bodies : List (Name × Body)
   bodies = map (gossip_to id round payload) (eager_but left_out g.peers.members)
 
-  -- each member but one gets a packet or an entry
+  -- each member except `left_out` gets a packet or an entry
   share : (name : Name) → packets_carrying frame_content id name (numbered me framed bodies) + entries_queued id name queue_now ≡ cond (is_left_out left_out name) 0 (cond (has_name active name) 1 0)
   share name =
       ap (λ n. n + entries_queued id name queue_now) (carrying-numbered me id name framed bodies ∙ carries_to_each id round payload name (eager_but left_out g.peers.members))

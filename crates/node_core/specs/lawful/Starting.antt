@@ -1,4 +1,4 @@
--- A core starts: what that owes. Proofs, and nothing to believe.
+-- A core starts: what a start must satisfy. Proofs only; nothing here has to be trusted.
 use Rattle.std.specs.Prelude.{◌≡◌, ◌≢◌, ◌&&◌, ◌+◌, ℕ, true, false, not, List, Option, Some, None, length, refl, IsTrue, nat_le}
 use Rattle.std.specs.FinSet as set
 use Rattle.std.specs.List.{AllByRecursion as Each}
@@ -27,7 +27,7 @@ module _ (limits : Limits) (owner : Name) (peers : List Name) (contact : Option 
   later : (are_distinct peers && (not (has_name peers owner) && not (is_contact contact owner))) ≡ true
   later = and_right (nat_le (length peers) limits.active) _ fit
 
-  -- the peers are as the views want them
+  -- the peers are as the views require
   pub fit_views : ArePeers owner limits peers
   fit_views =
       record {
@@ -36,7 +36,7 @@ module _ (limits : Limits) (owner : Name) (peers : List Name) (contact : Option 
         of_others = not_true (has_name peers owner) (and_left (not (has_name peers owner)) (not (is_contact contact owner)) (and_right (are_distinct peers) _ later));
       }
 
-  -- and the contact is another
+  -- and the contact is not the node itself
   pub another_contact : is_contact contact owner ≡ false
   another_contact = not_true (is_contact contact owner) (and_right (not (has_name peers owner)) (not (is_contact contact owner)) (and_right (are_distinct peers) _ later))
 

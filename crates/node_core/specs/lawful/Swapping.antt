@@ -1,4 +1,5 @@
--- A step that takes a packet sends silent packets besides: what that owes. Proofs, and nothing to believe.
+-- A step that takes a packet also sends silent packets: what such a step must satisfy. Proofs only; nothing here has
+-- to be trusted.
 use Rattle.std.specs.Prelude.{◌≡◌, ◌≢◌, ◌⊎◌, ◌+◌, ◌&&◌, ℕ, Bool, true, false, List, [], ◌∷◌, ◌++◌, Option, Some, None, is_some, not, nat_le, ◌==◌, count_by, refl, if◌then◌else◌}
 use Rattle.std.specs.List.{AllByRecursion as Each}
 use Rattle.std.proofs.Common.{inl, inr, sym, ◌∙◌, ap, add-zero}
@@ -33,7 +34,7 @@ use Rattle.node_core.specs.Steps.{numbered}
 
 -- ---- the packets
 
--- Bodies behind others are numbered behind them.
+-- Bodies after others are numbered after them.
 pub record Behind (me : Origin) (framed : ℕ) (P : Name → Body → Type 0) (sends more : List (Name × Body)) : Type 0 where
   pub frames : List (Name × Frame)
   pub are : numbered me framed (sends ++ more) ≡ numbered me framed sends ++ frames
@@ -87,7 +88,7 @@ module _ (before after : CoreState) (sender : Origin) (frame : Frame) (dice : Di
         none_back = λ back. ap (λ n. n + entries_queued id name after.queued) (carrying_same id name) ∙ share.none_back back;
       }
 
-  -- an entry stays, or goes for a reason
+  -- an entry stays, or is removed for a reason
   abbrev Stays : List (Name × Frame) → MsgId × Name × ℕ → Type 0
   Stays packets entry = IsOneOf entry after.wants ⊎ IsOneOf entry.0 (ids given) ⊎ AsksFor frame_content stimulus packets entry.0 entry.1 ⊎ (has_name after.active entry.1 ≡ false)
 
@@ -136,9 +137,9 @@ module _ (before after : CoreState) (sender : Origin) (frame : Frame) (dice : Di
       stays entry (inr (inr (inl asks))) = absurd asks.0
       stays entry (inr (inr (inr gone))) = inr (inr (inr gone))
 
--- ---- who takes the sender's place
+-- ---- the peer that takes the sender's place
 
--- who announced a message first has an entry
+-- the peer that announced a message first has an entry
 pub first_stands : (id : MsgId) (wants : List (MsgId × Name × ℕ)) (first : Name × ℕ) → first_want id wants ≡ Some first → (j : MsgId) × IsOneOf (j, first.0, first.1) wants
 first_stands id [] first none = absurd (false≢true (ap is_some none))
 first_stands id (entry ∷ wants) first found = go (first_stands id wants first) (same_id id entry.0) found
@@ -150,7 +151,7 @@ first_stands id (entry ∷ wants) first found = go (first_stands id wants first)
     go rest true e = let same : (entry.1, entry.2) ≡ first = inside (entry.1, entry.2) first e in (entry.0, inl (λ i. (entry.0, (sym same i).0, (sym same i).1)))
     go rest false e = let later = rest e in (later.0, inr later.1)
 
--- and takes the sender's place, if anybody does
+-- and it takes the sender's place, if any peer does
 pub shortcut_is_first : (g : GossipState) (sender : Name) (id : MsgId) (round : ℕ) (peer : Name) → shortcut g sender id round ≡ Some peer → (announced : ℕ) × (first_want id g.missing.wants ≡ Some (peer, announced))
 shortcut_is_first g sender id round peer = tuned (g.threshold == 0)
   where

@@ -1,4 +1,4 @@
--- A peer announces messages: what that owes. Proofs, and nothing to believe.
+-- A peer announces messages: what such a step must satisfy. Proofs only; nothing here has to be trusted.
 use Rattle.std.specs.Prelude.{◌≡◌, ◌≢◌, ◌⊎◌, ◌&&◌, ◌||◌, ℕ, Bool, true, false, not, List, [], ◌∷◌, ◌++◌, is_some, filter, refl, if◌then◌else◌}
 use Rattle.std.specs.FinSet as set
 use Rattle.std.proofs.Common.{inl, inr, sym, ◌∙◌, ap, subst}
@@ -31,7 +31,7 @@ use Rattle.node_core.specs.Steps.{numbered, delivered_at}
 
 -- ---- entries
 
--- The peer's announcement of the id stands, at some round.
+-- The peer's announcement of the id is an entry, at some round.
 abbrev Stands : MsgId → Name → List (MsgId × Name × ℕ) → Type 0
 Stands id peer wants = (round : ℕ) × IsOneOf (id, peer, round) wants
 

@@ -1,4 +1,4 @@
--- A start of the node's core shows itself: a proof, and nothing to believe.
+-- A start of the node's core shows its origin, peers and contact. This is proved, not assumed.
 use Rattle.std.specs.Prelude.{◌≡◌, Option, None, Some, refl}
 use Rattle.std.proofs.Common.{ap, ◌∙◌}
 use Rattle.node_names.specs.NodeName.{Name}

@@ -1,4 +1,4 @@
-//! The packets in flight that are about a message.
+//! Draws the packets in flight that are about a message.
 ghost use Rattle.std.specs.Prelude.{◌≡◌, ◌++◌, OnOk, Some, option_map, string_bytes};
 ghost use Rattle.world.specs.Group.{node_of, origin_of};
 ghost use Rattle.simulation.specs.Graph.{flying_arrow, flying_at, flying_line, flying_lines, packet_style};
@@ -22,7 +22,7 @@ pub fn push_flying<A: Allocator + Copy>(
     push_each(text, id, group, group.flight())
 }
 
-/// Appends those of the packets with these numbers.
+/// Appends the arrows of the packets with these numbers that are about the message.
 fn push_each<A: Allocator + Copy>(
     text: &mut String<A>,
     id: &MsgId,
@@ -37,7 +37,7 @@ fn push_each<A: Allocator + Copy>(
     Ok(())
 }
 
-/// Appends that of the packet with this number, if there is one.
+/// Appends the arrow of the packet with this number, if there is one and it is about the message.
 fn push_numbered<A: Allocator + Copy>(
     text: &mut String<A>,
     id: &MsgId,
@@ -52,7 +52,7 @@ fn push_numbered<A: Allocator + Copy>(
     }
 }
 
-/// Appends that of a packet, if it is about the message.
+/// Appends the arrow of a packet, if it is about the message.
 fn push_packet<A: Allocator + Copy>(
     text: &mut String<A>,
     id: &MsgId,
@@ -69,7 +69,7 @@ fn push_packet<A: Allocator + Copy>(
     push_arrow(text, id, number, &packet.sender, &receiver)
 }
 
-/// The last run of the node of this name, if one was started.
+/// The last run of the node of this name, if it was ever started.
 fn last_run<A: Allocator>(nodes: &[NodeState<PlumCore<A>>], name: &NodeName) -> Option<Origin>
     ensures { result ≡ option_map origin_of (node_of name.now nodes.now) }
 {
@@ -103,7 +103,7 @@ fn push_arrow<A: Allocator>(
     }
 }
 
-/// Appends how the arrow of a packet with this number looks.
+/// Appends the style of the arrow of a packet with this number.
 #[tactic(auto, unfolding(crate::specs::Graph::packet_style))]
 fn push_style<A: Allocator>(text: &mut String<A>, number: usize) -> Result<(), AllocError>
     ensures { OnOk result (string_bytes text.new ≡ string_bytes text.old ++ packet_style number) }

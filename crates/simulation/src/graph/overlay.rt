@@ -1,4 +1,4 @@
-//! The nodes, and the links of those that run.
+//! Draws the nodes, and the links of the running ones.
 ghost use Rattle.std.specs.Prelude.{◌≡◌, ◌++◌, OnOk, string_bytes};
 ghost use Rattle.simulation.specs.Graph.{link_line, link_lines, node_lines, overlay_lines, style_text};
 
@@ -82,7 +82,7 @@ fn push_link<A: Allocator>(
     write!(text, "    \"{name}\" -> \"{}\"{style}", member.0)
 }
 
-/// How a link is drawn.
+/// The style of a link.
 fn style_text(kind: PeerKind) -> &'static str
     ensures { result.now ≡ style_text kind }
 {

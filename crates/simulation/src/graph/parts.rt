@@ -1,4 +1,4 @@
-//! The parts of messages: their trees, who lacks them, and what is in flight.
+//! Draws the parts of messages: their trees, the nodes that lack them, and the packets in flight.
 ghost use Rattle.std.specs.Prelude.{◌≡◌, ◌++◌, ℕ, List, OnOk, string_bytes};
 ghost use Rattle.std.specs.List.{list_any};
 ghost use Rattle.node_names.specs.Same.{same_origin};
@@ -48,7 +48,7 @@ fn push_part<A: Allocator + Copy>(
     text.push_str("  }\n")
 }
 
-/// Appends how the part of a message begins.
+/// Appends the beginning of the part of a message.
 #[tactic(auto, unfolding(crate::specs::Graph::head_text))]
 fn push_head<A: Allocator>(
     text: &mut String<A>,
@@ -61,14 +61,14 @@ fn push_head<A: Allocator>(
     push_title(text, id, is_resting)
 }
 
-/// Appends its first line.
+/// Appends the first line of the part of a message.
 fn push_opening<A: Allocator>(text: &mut String<A>, id: &MsgId) -> Result<(), AllocError>
     ensures { OnOk result (string_bytes text.new ≡ string_bytes text.old ++ opening_text id.now) }
 {
     write!(text, "  subgraph \"cluster {id}\" {{\n")
 }
 
-/// Appends its label.
+/// Appends the label of the part of a message.
 fn push_title<A: Allocator>(
     text: &mut String<A>,
     id: &MsgId,
@@ -80,7 +80,7 @@ fn push_title<A: Allocator>(
     push_rest(text, is_resting)
 }
 
-/// Appends how its label ends.
+/// Appends the end of the label.
 #[tactic(auto, unfolding(crate::specs::Graph::rest_text))]
 fn push_rest<A: Allocator>(text: &mut String<A>, is_resting: bool) -> Result<(), AllocError>
     ensures { OnOk result (string_bytes text.new ≡ string_bytes text.old ++ rest_text is_resting) }
@@ -117,7 +117,7 @@ fn push_twig<A: Allocator>(
     push_edge(text, id, &node, &branch.parent)
 }
 
-/// Appends the arrow of a delivery, if it has one.
+/// Appends the arrow of a delivery, if it has a parent.
 fn push_edge<A: Allocator>(
     text: &mut String<A>,
     id: &MsgId,
@@ -135,7 +135,7 @@ fn push_edge<A: Allocator>(
     }
 }
 
-/// Appends the lines of the nodes of a group that run and have not delivered the message.
+/// Appends the lines of the running nodes of a group that have not delivered the message.
 fn push_lacking<A: Allocator + Copy>(
     text: &mut String<A>,
     id: &MsgId,
@@ -147,7 +147,7 @@ fn push_lacking<A: Allocator + Copy>(
     push_each_lacking(text, id, branches, group.nodes())
 }
 
-/// Appends the lines of those of these nodes.
+/// Appends the lines of those of these nodes that run and have not delivered the message.
 fn push_each_lacking<A: Allocator>(
     text: &mut String<A>,
     id: &MsgId,
@@ -184,7 +184,7 @@ fn push_if_lacking<A: Allocator>(
     )
 }
 
-/// Whether one of the deliveries is this run's.
+/// Whether one of the deliveries was made by this run.
 fn has_delivered(branches: &[Branch], node: &Origin) -> bool
     ensures { result ≡ list_any (λ b. same_origin b.node node.now) branches.now }
 {

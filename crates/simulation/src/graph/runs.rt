@@ -1,4 +1,4 @@
-//! How runs of nodes are named in the part of a message, and arrows between them.
+//! The names of runs of nodes in the part of a message, and arrows between them.
 ghost use Rattle.std.specs.Prelude.{◌≡◌, ◌++◌, OnOk, string_bytes};
 ghost use Rattle.simulation.specs.Graph.{between_text, run_text};
 
@@ -22,7 +22,7 @@ pub fn push_between<A: Allocator>(
     push_run(text, id, to)
 }
 
-/// Appends how a run is named.
+/// Appends the name of a run.
 fn push_run<A: Allocator>(text: &mut String<A>, id: &MsgId, run: &Origin) -> Result<(), AllocError>
     ensures { OnOk result (string_bytes text.new ≡ string_bytes text.old ++ run_text id.now run.now) }
 {

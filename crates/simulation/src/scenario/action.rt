@@ -25,15 +25,15 @@ pub enum Action {
         node: NodeName,
         text: Bytes,
     },
-    /// The packet at a place of the flight arrives.
+    /// The packet at a place in flight arrives.
     Arrive {
         place: usize,
     },
-    /// The packet at a place of the flight is lost.
+    /// The packet at a place in flight is lost.
     Lose {
         place: usize,
     },
-    /// The packet that was sent with a number, counted from 0, is in flight once more.
+    /// The packet that was sent with a number, counted from 0, is put into flight again.
     Again {
         number: usize,
     },
@@ -46,7 +46,7 @@ pub enum Action {
     Flush {
         node: NodeName,
     },
-    /// A node's membership tick.
+    /// A node's membership ticks.
     Shuffle {
         node: NodeName,
     },

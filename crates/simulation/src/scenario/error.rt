@@ -1,4 +1,4 @@
-//! Why a scenario is refused.
+//! The errors of reading a scenario.
 ghost use Rattle.std.specs.Prelude.{◌≡◌, Some};
 ghost use Rattle.simulation.specs.Key.{word_of};
 
@@ -15,10 +15,10 @@ pub enum ScenarioError {
     /// The input has more bytes than a scenario may have.
     #[error("scenario too long")]
     TooLong,
-    /// The input is no TOML document.
+    /// The input is not a TOML document.
     #[error("scenario is not TOML")]
     NotToml,
-    /// A key is missing, or what it holds is of the wrong type or out of range.
+    /// A key is missing, or its value has the wrong type or is out of range.
     #[error("scenario: {place}: {key}")]
     Refused { place: Place, key: Key },
     /// There was no memory left to read it.
@@ -77,7 +77,7 @@ pub enum Key {
     Kp,
     Threshold,
     Keep,
-    /// Each limit is in its range, but they do not go together.
+    /// Each limit is in its range, but they are inconsistent with each other.
     LimitsTogether,
     Do,
     Node,

@@ -11,7 +11,7 @@ use super::section::Section;
 use node_names::Limits;
 use toml::Table;
 
-/// The limits of a table, or the standard ones where there is none.
+/// Reads the limits of a table, or returns the standard limits if there is no table.
 pub fn limits_of(table: Option<&Table>) -> Result<Limits, ScenarioError>
     ensures ok { IfOk result (HasLimits (option_map (λ found. as_data (table_view found.now)) table.entry)) }
     ensures refused { IfErr result (λ _. (sizes : Sizes) → ¬ HasLimits (option_map (λ found. as_data (table_view found.now)) table.entry) sizes) }
@@ -25,7 +25,7 @@ pub fn limits_of(table: Option<&Table>) -> Result<Limits, ScenarioError>
     }
 }
 
-/// The limits, of which each that is left out is the standard one.
+/// Reads the limits. A limit that is left out has its standard value.
 pub fn limits(section: &Section<'_>) -> Result<Limits, ScenarioError>
     ensures ok { IfOk result (AreLimits (table_view section.now.table.now)) }
     ensures refused { IfErr result (λ _. (sizes : Sizes) → ¬ AreLimits (table_view section.now.table.now) sizes) }
@@ -54,7 +54,7 @@ fn limit(section: &Section<'_>, key: Key, standard: u8) -> Result<u8, ScenarioEr
     }
 }
 
-/// A number that is 0 where it is left out.
+/// Reads a number that is 0 if it is left out.
 fn number(section: &Section<'_>, key: Key) -> Result<u32, ScenarioError>
     ensures { ReadsRequired (IsLimit (2 ^ 32 - 1) 0) (at_key key (table_view section.now.table.now)) (ScenarioError.Refused section.now.place key) result }
 {

@@ -1,9 +1,9 @@
-//! Where the tables and keys of a scenario stand in its text, as far as that is plain to see.
+//! Finds the lines of the tables and keys of a scenario in its text, in the simple cases.
 use super::error::Place;
 use std::str;
 
-/// The line, from 1, where the event with this number begins, of so many. It is not known where events are written
-/// otherwise than each under a line `[[event]]`.
+/// The line, counted from 1, on which the event with this number begins, in a scenario with `events` events. `None` if
+/// the events are not all written under a line `[[event]]` of their own.
 pub fn event_line(source: &[u8], events: usize, number: usize) -> Option<usize> {
     let text = str::from_utf8(source).ok()?;
     if headers(text) == events {
@@ -13,8 +13,8 @@ pub fn event_line(source: &[u8], events: usize, number: usize) -> Option<usize> 
     }
 }
 
-/// The line, from 1, of a key in the table of a place, of a scenario with so many events; that of the event itself
-/// where the key is not found, and none where the place is not.
+/// The line, counted from 1, of a key in the table of a place, in a scenario with `events` events. If the key of an
+/// event is not found, this is the line of the event itself. `None` for limits and nodes, and if no line is found.
 pub fn key_line(source: &[u8], place: Place, events: usize, key: &str) -> Option<usize> {
     let text = str::from_utf8(source).ok()?;
     match place {
@@ -35,7 +35,7 @@ fn headers(text: &str) -> usize {
         .count()
 }
 
-/// The line, from 1, of the event's header with this number.
+/// The line, counted from 1, of the header of the event with this number.
 fn header_line(text: &str, number: usize) -> Option<usize> {
     let mut passed = 0usize;
     for (line, words) in text.lines().enumerate() {
@@ -49,7 +49,7 @@ fn header_line(text: &str, number: usize) -> Option<usize> {
     None
 }
 
-/// The line, from 1, that gives a key, of those after a header and before the next one.
+/// The line, counted from 1, that sets a key, after a header and before the next one.
 fn key_after(text: &str, header: usize, key: &str) -> Option<usize> {
     for (line, words) in text.lines().enumerate().skip(header) {
         if is_header(words) {
@@ -62,7 +62,7 @@ fn key_after(text: &str, header: usize, key: &str) -> Option<usize> {
     None
 }
 
-/// The line, from 1, that begins a section, or that gives its key before all sections.
+/// The line, counted from 1, that begins the section of a key, or that sets the key before all sections.
 fn section_line(text: &str, key: &str) -> Option<usize> {
     let mut is_top = true;
     for (line, words) in text.lines().enumerate() {
@@ -91,7 +91,7 @@ fn is_header_of(line: &str, name: &str) -> bool {
     }
 }
 
-/// Whether a line gives a key.
+/// Whether a line sets a key.
 fn gives(line: &str, key: &str) -> bool {
     match line.trim_start().strip_prefix(key) {
         Some(rest) => rest.trim_start().starts_with("="),

@@ -1,4 +1,4 @@
-//! One table of a scenario, and how what its keys hold is read.
+//! One table of a scenario, and how the values of its keys are read.
 ghost use Rattle.std.specs.Prelude.{◌≡◌, ◌≢◌, ℕ, List, Some, option_map, MatchOption, IfOk, IfErr, IsTrue, IsSome, All, ◌↔◌, ◌≤◌, length};
 ghost use Rattle.node_names.specs.NodeName.{IsNodeName, Name};
 ghost use Rattle.toml.specs.View.{view, table_view, items_view};
@@ -11,7 +11,7 @@ use node_names::{Listed, NodeName};
 use std::alloc::{AllocError, Global};
 use toml::{Table, Value};
 
-/// A table of a scenario, with its place there.
+/// A table of a scenario, with its place in the scenario.
 #[derive(Clone, Copy)]
 pub struct Section<'a> {
     pub place: Place,
@@ -19,7 +19,7 @@ pub struct Section<'a> {
 }
 
 impl<'a> Section<'a> {
-    /// That what this key holds is not what it should be.
+    /// The error that the value of this key is missing or wrong.
     pub fn refused(&self, key: Key) -> ScenarioError
         ensures { result ≡ ScenarioError.Refused self.now.place key }
     {
@@ -29,14 +29,14 @@ impl<'a> Section<'a> {
         }
     }
 
-    /// What stands at a key, if anything does.
+    /// The value of a key, if it is present.
     fn get(&self, key: Key) -> Option<&'a Value>
         ensures { option_map (λ v. view v.now) result ≡ at_key key (table_view self.now.table.now) }
     {
         self.table.get(key.word())
     }
 
-    /// The whole number at a key, from 0 to `most`, or `None` where the key is left out.
+    /// Reads the whole number at a key, from 0 to `most`, or `None` if the key is left out.
     pub fn optional_number(&self, key: Key, most: u64) -> Result<Option<u64>, ScenarioError>
         ensures { ReadsOptional (IsNumber most) (at_key key (table_view self.now.table.now)) (ScenarioError.Refused self.now.place key) result }
     {
@@ -49,7 +49,7 @@ impl<'a> Section<'a> {
         }
     }
 
-    /// The whole number at a key, in this range, or `None` where the key is left out.
+    /// Reads the whole number at a key, in this range, or `None` if the key is left out.
     pub fn optional_number_between(
         &self,
         key: Key,
@@ -62,7 +62,7 @@ impl<'a> Section<'a> {
         }
     }
 
-    /// The whole number at a key, of any size.
+    /// Reads the whole number at a key, which may be up to `u64::MAX`.
     pub fn number(&self, key: Key) -> Result<u64, ScenarioError>
         ensures { ReadsRequired (IsNumber u64.MAX) (at_key key (table_view self.now.table.now)) (ScenarioError.Refused self.now.place key) result }
     {
@@ -72,7 +72,7 @@ impl<'a> Section<'a> {
         }
     }
 
-    /// The whole number at a key, from 1.
+    /// Reads the whole number at a key, which is at least 1.
     pub fn number_from_one(&self, key: Key) -> Result<u64, ScenarioError>
         ensures { ReadsRequired (IsNumberFromOne u64.MAX) (at_key key (table_view self.now.table.now)) (ScenarioError.Refused self.now.place key) result }
     {
@@ -82,7 +82,7 @@ impl<'a> Section<'a> {
         }
     }
 
-    /// The text at a key.
+    /// Reads the text at a key.
     pub fn text(&self, key: Key) -> Result<&'a str, ScenarioError>
         ensures { ReadsRequiredAs (λ text. text.now) IsText (at_key key (table_view self.now.table.now)) (ScenarioError.Refused self.now.place key) result }
     {
@@ -92,7 +92,7 @@ impl<'a> Section<'a> {
         }
     }
 
-    /// The name at a key, or `None` where the key is left out.
+    /// Reads the name at a key, or `None` if the key is left out.
     pub fn optional_name(&self, key: Key) -> Result<Option<NodeName>, ScenarioError>
         ensures { ReadsOptional IsName (at_key key (table_view self.now.table.now)) (ScenarioError.Refused self.now.place key) result }
     {
@@ -105,7 +105,7 @@ impl<'a> Section<'a> {
         }
     }
 
-    /// The name at a key.
+    /// Reads the name at a key.
     pub fn name(&self, key: Key) -> Result<NodeName, ScenarioError>
         ensures { ReadsRequired IsName (at_key key (table_view self.now.table.now)) (ScenarioError.Refused self.now.place key) result }
     {
@@ -115,7 +115,7 @@ impl<'a> Section<'a> {
         }
     }
 
-    /// The table at a key, or `None` where the key is left out.
+    /// Reads the table at a key, or `None` if the key is left out.
     pub fn optional_table(&self, key: Key) -> Result<Option<&'a Table>, ScenarioError>
         ensures { ReadsOptionalAs (λ table. table_view table.now) IsTable (at_key key (table_view self.now.table.now)) (ScenarioError.Refused self.now.place key) result }
     {
@@ -128,7 +128,7 @@ impl<'a> Section<'a> {
         }
     }
 
-    /// The list at a key, or `None` where the key is left out.
+    /// Reads the list at a key, or `None` if the key is left out.
     fn optional_list(&self, key: Key) -> Result<Option<&'a [Value]>, ScenarioError>
         ensures { ReadsOptionalAs (λ values. items_view values.now) IsList (at_key key (table_view self.now.table.now)) (ScenarioError.Refused self.now.place key) result }
     {
@@ -141,7 +141,7 @@ impl<'a> Section<'a> {
         }
     }
 
-    /// The list at a key, which has at most `most` items, all of them tables. A key that is left out is an empty list.
+    /// Reads the list at a key, of at most `most` items, all of them tables. The list is empty if the key is left out.
     pub fn tables(&self, key: Key, most: usize) -> Result<&'a [Value], ScenarioError>
         ensures ok { IfOk result (λ values. (members : List Members) × IsTables most (at_key key (table_view self.now.table.now)) members × (items_view values.now ≡ tables members)) }
         ensures refused { IfErr result (λ e. (e ≡ ScenarioError.Refused self.now.place key) × ((members : List Members) → ¬ IsTables most (at_key key (table_view self.now.table.now)) members)) }
@@ -158,7 +158,7 @@ impl<'a> Section<'a> {
         }
     }
 
-    /// The names at a key, in order, or none where the key is left out.
+    /// Reads the names at a key, in order, or no names if the key is left out.
     pub fn names(&self, alloc: Global, key: Key) -> Result<Listed<NodeName>, ScenarioError>
         ensures ok { IfOk result (IsNames (at_key key (table_view self.now.table.now))) }
         ensures refused { IfErr result (λ e. e ≢ ScenarioError.OutOfMemory → (e ≡ ScenarioError.Refused self.now.place key) × ((names : List Name) → ¬ IsNames (at_key key (table_view self.now.table.now)) names)) }
@@ -172,7 +172,7 @@ impl<'a> Section<'a> {
         }
     }
 
-    /// The texts at a key, in order, or none where the key is left out.
+    /// Reads the texts at a key, in order, or no texts if the key is left out.
     pub fn texts(&self, alloc: Global, key: Key) -> Result<Vec<Bytes>, ScenarioError> {
         let mut texts = Vec::new(alloc);
         for value in self.optional_list(key)?.unwrap_or(&[]) {
@@ -185,7 +185,7 @@ impl<'a> Section<'a> {
     }
 }
 
-/// Whether the values are tables, and at most `most` of them.
+/// Whether there are at most `most` values, all of them tables.
 fn are_few_tables(values: &[Value], most: usize) -> bool
     ensures { IsTrue result ↔ ((members : List Members) × (items_view values.now ≡ tables members) × (length members ≤ most)) }
 {
@@ -199,7 +199,7 @@ fn are_tables(values: &[Value]) -> bool
     values.iter().all(Value::is_table)
 }
 
-/// The names that the values are, if each of them is one.
+/// The values as names, or `None` if one of them is not a name.
 fn names_of(alloc: Global, values: &[Value]) -> Result<Option<Listed<NodeName>>, AllocError>
     ensures { IfOk result (λ found. MatchOption found ((names : List Name) → items_view values.now ≡ texts names → ¬ All IsNodeName names) (λ names. (items_view values.now ≡ texts names) × All IsNodeName names)) }
 {
@@ -213,7 +213,7 @@ fn names_of(alloc: Global, values: &[Value]) -> Result<Option<Listed<NodeName>>,
     Ok(Some(names))
 }
 
-/// A whole number from 0 to `most`.
+/// The value as a whole number from 0 to `most`, if it is one.
 fn number_of(value: &Value, most: u64) -> Option<u64>
     ensures { MatchOption result ((n : ℕ) → ¬ IsNumber most (Some (view value.now)) n) (IsNumber most (Some (view value.now))) }
 {
@@ -229,7 +229,7 @@ fn number_of(value: &Value, most: u64) -> Option<u64>
     }
 }
 
-/// A text that is a name.
+/// The value as a name, if it is a text that is one.
 fn name_of(value: &Value) -> Option<NodeName>
     ensures { MatchOption result ((name : List ℕ) → ¬ IsName (Some (view value.now)) name) (IsName (Some (view value.now))) }
 {

@@ -1,4 +1,4 @@
-//! How a group stands at the end of a run.
+//! Writes the state of a group at the end of a run.
 ghost use Rattle.std.specs.Prelude.{◌≡◌, ◌++◌, ℕ, List, OnOk, reverse, string_bytes};
 ghost use Rattle.std.specs.Io.KnownBytes.{Appends};
 ghost use Rattle.node_names.specs.declared.ids.MsgId.{MsgId};
@@ -19,8 +19,8 @@ use std::io::Write;
 use trace_text::{push_message, push_nodes, push_summary};
 use world::World;
 
-/// Writes why the run ended early, if it did, then each node, for each message that was broadcast who lacks it and what
-/// is under way, and what was sent in all. `text` is room for that.
+/// Writes why the run ended early, if it did, then each node, then for each message that was broadcast which nodes lack
+/// it and what is still under way, and a summary of what was sent. `text` is a buffer for it.
 pub fn write_ending<A: Allocator + Copy, W: Write>(
     alloc: A,
     text: &mut String<A>,
@@ -37,7 +37,7 @@ pub fn write_ending<A: Allocator + Copy, W: Write>(
     Ok(out.flush()?)
 }
 
-/// Appends each node, each message and what was sent.
+/// Appends each node, each message and the summary of what was sent.
 fn push_end<A: Allocator + Copy>(
     alloc: A,
     text: &mut String<A>,

@@ -1,4 +1,4 @@
-//! One step of a run.
+//! Writes one step of a run.
 ghost use Rattle.std.specs.Prelude.{◌≡◌, ◌++◌, ◌∷◌, [], ℕ, List, IfOk, OnOk, string_bytes};
 ghost use Rattle.std.specs.Io.KnownBytes.{Appends};
 ghost use Rattle.node_core.specs.Plum.{plum_state};
@@ -16,7 +16,7 @@ use std::io::Write;
 use trace_text::{Touched, push_step};
 use world::{Event, EventOf, KeptEvent, World};
 
-/// Plays an event in a group, and writes what it did, in one write. `text` is room for that.
+/// Plays an event in a group, and writes what it did in one write. `text` is a buffer for it.
 pub fn write_step<A: Allocator + Copy, W: Write>(
     alloc: A,
     text: &mut String<A>,
@@ -51,7 +51,7 @@ fn push_played<A: Allocator + Copy>(
     push_newest(alloc, text, &before, run)
 }
 
-/// Plays an event that a group of the same history took, so that it is refused only where memory is.
+/// Plays an event that a group with the same history took before, so that only an allocation can fail.
 fn replay<A: Allocator + Copy>(
     run: &mut World<PlumCore<A>, A>,
     event: &Event<A>,
@@ -79,7 +79,7 @@ fn push_newest<A: Allocator + Copy>(
     }
 }
 
-/// Appends how a step begins.
+/// Appends the beginning of a step.
 fn push_label<A: Allocator>(
     text: &mut String<A>,
     place: usize,
@@ -93,11 +93,11 @@ fn push_label<A: Allocator>(
     }
 }
 
-/// A copy of an event of a log, to be played.
+/// Copies an event of a log, to play it.
 fn copy_event<A: Allocator + Copy>(event: &KeptEvent<A>) -> Result<Event<A>, AllocError>
     ensures { IfOk result (λ copy. copy ≡ event.now) }
 {
-    // Events with dice come first: a log keeps those in another form.
+    // Events with dice come first: a log keeps dice in another form.
     Ok(match event {
         EventOf::Arrive { place, dice } => EventOf::Arrive {
             place: *place,

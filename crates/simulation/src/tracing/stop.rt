@@ -1,4 +1,4 @@
-//! Why a run ended early, in words.
+//! Prints why a run ended early.
 ghost use Rattle.std.specs.Prelude.{◌≡◌, ◌++◌, ℕ, List, OnOk, string_bytes};
 
 use crate::play::{MOST_ARRIVALS, PlayError};
@@ -7,19 +7,19 @@ use node_core::PlumCore;
 use std::alloc::{AllocError, Allocator};
 use world::{World, WorldError};
 
-/// What a run was to be, and why it ended early, if it did.
+/// What a run was supposed to do, and why it ended early, if it did.
 #[derive(Clone, Copy)]
 pub struct Stop<'a> {
     /// The scenario's text.
     pub source: &'a [u8],
-    /// What was to happen.
+    /// The actions of the scenario.
     pub actions: &'a [Action],
-    /// Why the run ended before that was done.
+    /// Why the run ended before all actions were played, if it did.
     pub fault: Option<PlayError>,
 }
 
 impl Stop<'_> {
-    /// That a run came to its end.
+    /// A run that did not end early.
     pub fn none() -> Stop<'static> {
         Stop {
             source: &[],
@@ -29,8 +29,8 @@ impl Stop<'_> {
     }
 }
 
-/// Appends which event of the scenario was not played to its end, where it stands in the file, and why. Where memory
-/// ran out nothing is appended.
+/// Appends which event of the scenario was not played to its end, its line in the file if known, and why. Appends
+/// nothing if the run did not end early or memory ran out.
 pub fn push_stop<A: Allocator + Copy>(
     text: &mut String<A>,
     group: &World<PlumCore<A>, A>,
@@ -65,7 +65,7 @@ pub fn push_stop<A: Allocator + Copy>(
     }
 }
 
-/// Appends which event it is, and its line in the file where that is known.
+/// Appends the number of an event, its line in the file if that is known, and what it was to do.
 fn push_event<A: Allocator>(
     text: &mut String<A>,
     stop: &Stop<'_>,
@@ -114,7 +114,7 @@ fn push_action<A: Allocator>(text: &mut String<A>, action: &Action) -> Result<()
     }
 }
 
-/// Appends why an event was refused by a group in which so many packets are in flight and so many were sent.
+/// Appends why a group refused an event. `flying` packets are in flight in the group, and `sent` were sent.
 fn push_refusal<A: Allocator>(
     text: &mut String<A>,
     flying: usize,

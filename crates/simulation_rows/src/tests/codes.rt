@@ -1,11 +1,11 @@
-//! The codes under which it is printed why a group was not brought to rest.
+//! The codes that are printed for the reasons why a group was not brought to rest.
 use at_rest::SettleError;
 use simulation::SettleCode;
 use std::alloc::AllocError;
 use std::fmt::Write;
 use std::test::Fail;
 
-/// Whether a refusal prints as this.
+/// Whether an error is printed as `wanted`.
 fn is_printed(text: &mut String, error: SettleError, wanted: &str) -> Result<bool, AllocError> {
     text.clear();
     let code = SettleCode(error);
@@ -13,7 +13,7 @@ fn is_printed(text: &mut String, error: SettleError, wanted: &str) -> Result<boo
     Ok(text.as_str() == wanted)
 }
 
-/// That a node has no numbers left is printed by no scenario, since a node that starts in one has numbers to spare.
+/// No scenario prints that a node has no numbers left, since a node that starts in a scenario has numbers to spare.
 #[test]
 fn prints_why_it_did_not_settle(rt: HostRuntime) -> Result<(), Fail> {
     let mut text = String::new(rt.alloc());

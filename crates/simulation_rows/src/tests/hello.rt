@@ -1,4 +1,4 @@
-//! The scenario that is played, and what is printed of it.
+//! The scenario that is played, and what is printed for it.
 
 /// Two nodes, of which one broadcasts.
 const HELLO: &[u8] = b"[[event]]
@@ -22,7 +22,7 @@ text = \"hello\"
 do = \"arrive_all\"
 ";
 
-/// What is printed of it.
+/// What is printed for the scenario.
 const TOLD: &[u8] = b"deliver a/1 a/1/1 5 68656c6c6f
 deliver b/1 a/1/1 5 68656c6c6f
 tree a/1/1 rest yes
@@ -30,7 +30,7 @@ tree a/1/1 rest yes
   b/1 <- a/1
 ";
 
-/// What is told of it, step by step.
+/// The trace that is written for the scenario, step by step.
 const TRACED: &[u8] = b"step 0 event 0: start a/1 | peers: b | contact: -
   a/1 | active: b | eager: b
 step 1 event 1: start b/1 | peers: a | contact: -
@@ -48,22 +48,22 @@ packets GOSSIP 1
   a/1/1 copies 1 announcements 0 depth 1 mean 1.00
 ";
 
-/// The scenario's text.
+/// Returns the scenario's text.
 pub(crate) fn hello() -> &'static [u8] {
     HELLO
 }
 
-/// Whether this is what is printed of it.
+/// Whether this is what is printed for the scenario.
 pub(crate) fn is_told(printed: &[u8]) -> bool {
     printed == TOLD
 }
 
-/// Whether this is what is printed of it, without its end.
+/// Whether this is what is printed for the scenario, cut off before its end.
 pub(crate) fn is_front(printed: &[u8]) -> bool {
     printed.len() < TOLD.len() && TOLD.get(..printed.len()) == Some(printed)
 }
 
-/// Whether this is what is told of it, step by step.
+/// Whether this is the trace that is written for the scenario.
 pub(crate) fn is_traced(told: &[u8]) -> bool {
     told == TRACED
 }

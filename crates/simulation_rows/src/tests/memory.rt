@@ -1,5 +1,5 @@
-//! A scenario that is played and printed, or traced, while one allocation is refused, each in turn: the fault is that
-//! memory is short, or nothing is missing.
+//! A scenario that is played and printed, or traced, with each allocation refused in turn: either it fails as out of
+//! memory, or nothing is missing.
 use crate::tests::hello::{hello, is_told, is_traced};
 use links::TapeWriter;
 use refusing_allocator::RefusingAllocator;
@@ -11,7 +11,7 @@ use std::alloc::{Allocator, Global};
 use std::test::Fail;
 use test_support::{lend, stop_refusing, sweep};
 
-/// What is told where memory is short.
+/// What is reported if memory runs out.
 const SHORT: &[u8] = b"plumtree: out of memory\n";
 
 /// How a scenario ended.
@@ -19,13 +19,13 @@ const SHORT: &[u8] = b"plumtree: out of memory\n";
 enum End {
     /// All of it was played and printed.
     Whole,
-    /// Memory was short.
+    /// Memory ran out.
     Short,
     /// Anything else.
     Wrong,
 }
 
-/// In which form a scenario is written.
+/// The form in which a scenario is written.
 #[derive(Clone, Copy, PartialEq, Eq)]
 enum Written {
     /// As lines.
@@ -34,7 +34,7 @@ enum Written {
     Traced,
 }
 
-/// Whether this is what is written of the scenario in this form.
+/// Whether this is everything that is written for the scenario in this form.
 fn is_whole(form: Written, written: &[u8]) -> bool {
     match form {
         Written::Printed => is_told(written),
@@ -42,7 +42,7 @@ fn is_whole(form: Written, written: &[u8]) -> bool {
     }
 }
 
-/// How a scenario ended with this status, of which this was written and told.
+/// Returns how a scenario ended, given its status, what was written for it and what was reported.
 fn end_of(form: Written, status: u8, written: &[u8], told: &[u8]) -> End {
     if status == 0 && is_whole(form, written) && told.is_empty() {
         End::Whole
@@ -66,7 +66,7 @@ fn play_as<A: Allocator + Copy>(
     }
 }
 
-/// Plays a scenario while the allocation with this number is refused. How it ended, and whether there was such an
+/// Plays a scenario while allocation number `n` is refused. Returns how it ended, and whether there was such an
 /// allocation.
 fn play_refused<A: Allocator + Copy>(
     heap: &RefusingAllocator,
@@ -85,7 +85,7 @@ fn play_refused<A: Allocator + Copy>(
     (end, is_spent)
 }
 
-/// Does so with fresh writers.
+/// Calls `play_refused` with fresh writers.
 fn play<A: Allocator + Copy>(
     heap: &RefusingAllocator,
     form: Written,
@@ -99,8 +99,9 @@ fn play<A: Allocator + Copy>(
     play_refused(heap, form, alloc, scenario, &mut out, &mut faults, n)
 }
 
-/// Does so, and counts the scenario if memory was short. Whether there was such an allocation, or none if the answer is
-/// wrong. What only asks for more room than is needed may be refused without harm.
+/// Calls `play`, and counts the scenario in `short` if memory ran out. Returns whether there was such an allocation, or
+/// `None` if the answer is wrong. An allocation that only asks for more room than is needed may be refused without
+/// harm.
 fn count_short<A: Allocator + Copy>(
     heap: &RefusingAllocator,
     form: Written,
@@ -117,7 +118,7 @@ fn count_short<A: Allocator + Copy>(
     is_right.then_some(is_spent)
 }
 
-/// Refuses each allocation of a scenario in turn. How often memory was short, or 0 if an answer is wrong.
+/// Refuses each allocation of a scenario in turn. Returns how often memory ran out, or 0 if an answer is wrong.
 fn sweep_scenario<A: Allocator + Copy>(
     heap: &RefusingAllocator,
     form: Written,
@@ -138,7 +139,7 @@ fn read(alloc: Global) -> Result<Scenario, ScenarioError> {
     Scenario::from_document(alloc, &document)
 }
 
-/// How often memory was short for the scenario in this form, or 0 if an answer is wrong.
+/// Returns how often memory ran out for the scenario in this form, or 0 if an answer is wrong.
 fn shortages(alloc: Global, form: Written) -> Result<u64, ScenarioError> {
     let heap = RefusingAllocator::new(alloc);
     lend(read(alloc)?, |scenario| {

@@ -1,5 +1,5 @@
-//! Reads of a scenario of which one fails, each in turn: nothing is played, and the fault is that the scenario cannot
-//! be read.
+//! Reads of a scenario, each of which fails in turn: nothing is played, and the error is that the scenario cannot be
+//! read.
 use crate::tests::hello::{hello, is_told};
 use bytes::Bytes;
 use links::{MeteredRead, TapeReader, TapeWriter};
@@ -8,13 +8,13 @@ use std::alloc::{AllocError, Global};
 use std::test::Fail;
 use test_support::sweep;
 
-/// How many bytes the first reads give, which are all there are.
+/// How many bytes the first reads give. Together these are the whole scenario.
 const PIECES: [usize; 4] = [1, 50, 100, 61];
 
-/// What is told of a scenario that cannot be read.
+/// What is reported for a scenario that cannot be read.
 const UNREADABLE: &[u8] = b"plumtree: cannot read scenario\n";
 
-/// Whether the scenario is played, or refused where a read failed.
+/// Whether the scenario is played, or is refused if a read failed.
 fn is_right(is_failed: bool, status: u8, printed: &[u8], told: &[u8]) -> bool {
     if is_failed {
         status == 2 && printed.is_empty() && told == UNREADABLE
@@ -23,7 +23,7 @@ fn is_right(is_failed: bool, status: u8, printed: &[u8], told: &[u8]) -> bool {
     }
 }
 
-/// Plays what a reader gives. Whether a read failed, or none if the answer is wrong.
+/// Plays what a reader gives. Returns whether a read failed, or `None` if the answer is wrong.
 fn play(
     alloc: Global,
     reader: &mut TapeReader,
@@ -35,7 +35,7 @@ fn play(
     is_right(is_failed, status, out.as_slice(), faults.as_slice()).then_some(is_failed)
 }
 
-/// Does so from a reader that fails at the call of this number, from 1.
+/// Calls `play` with a reader that fails at call number `n`, counted from 1.
 fn play_failing(alloc: Global, n: u64) -> Result<Option<bool>, AllocError> {
     let bytes = Bytes::copy_from_slice(alloc, hello())?;
     let pieces = Vec::from_slice(alloc, &PIECES)?;
@@ -49,7 +49,7 @@ fn play_failing(alloc: Global, n: u64) -> Result<Option<bool>, AllocError> {
 fn each_read(rt: HostRuntime) -> Result<(), Fail> {
     let failed = sweep(|n| play_failing(rt.alloc(), n))?;
     let count = failed.unwrap_or(0);
-    // (the one after the last byte may fail too)
+    // The read after the last byte may fail too.
     assert!(rt; count >= 5, "{count} reads");
     Ok(())
 }

@@ -1,4 +1,4 @@
-//! Writes of which one fails, each in turn: nothing is written after it, and the status is 1.
+//! Writes, each of which fails in turn: nothing is written after the failed one, and the status is 1.
 use crate::tests::hello::{hello, is_front, is_told};
 use links::{MeteredWrite, TapeWriter};
 use simulation::{Form, play_input};
@@ -6,10 +6,10 @@ use std::alloc::{AllocError, Global};
 use std::test::Fail;
 use test_support::sweep;
 
-/// How many bytes are taken by each write.
+/// How many bytes each write takes at most.
 const MOST: usize = 10;
 
-/// Whether what is printed is whole, or cut off where a write failed. Nothing is told of that.
+/// Whether what is printed is whole, or is cut off if a write failed. Either way nothing is reported.
 fn is_right(is_failed: bool, status: u8, printed: &[u8], told: &[u8]) -> bool {
     let is_printed = if is_failed {
         status == 1 && is_front(printed)
@@ -19,7 +19,7 @@ fn is_right(is_failed: bool, status: u8, printed: &[u8], told: &[u8]) -> bool {
     is_printed && told.is_empty()
 }
 
-/// Plays the scenario. Whether a write of what is printed failed, or none if the answer is wrong.
+/// Plays the scenario. Returns whether a write of what is printed failed, or `None` if the answer is wrong.
 fn play(alloc: Global, out: &mut TapeWriter, faults: &mut TapeWriter) -> Option<bool> {
     let mut text = hello();
     let status = play_input(alloc, Form::Lines, false, &mut text, out, faults);
@@ -27,7 +27,7 @@ fn play(alloc: Global, out: &mut TapeWriter, faults: &mut TapeWriter) -> Option<
     is_right(is_failed, status, out.as_slice(), faults.as_slice()).then_some(is_failed)
 }
 
-/// Does so into a writer that fails at the call of this number, from 1.
+/// Calls `play` with an output that fails at call number `n`, counted from 1.
 fn play_failing(alloc: Global, n: u64) -> Option<bool> {
     let mut out = TapeWriter::new(alloc, MOST, Some(n.saturating_sub(1) as usize));
     let mut faults = TapeWriter::new(alloc, usize::MAX, None);
@@ -38,18 +38,18 @@ fn play_failing(alloc: Global, n: u64) -> Option<bool> {
 fn each_write(rt: HostRuntime) -> Result<(), Fail> {
     let failed = sweep(|n| Ok::<_, AllocError>(play_failing(rt.alloc(), n)))?;
     let count = failed.unwrap_or(0);
-    // (two lines of 31 bytes, and the 44 bytes of a tree)
+    // Two lines of 31 bytes, and the 44 bytes of a tree.
     assert!(rt; count == 13, "{count} writes");
     Ok(())
 }
 
-/// A text that is no scenario.
+/// A text that is not a scenario.
 const REFUSED: &[u8] = b"seed = -1";
 
-/// What is told of it.
+/// What is reported for it.
 const FAULT: &[u8] = b"plumtree: scenario: top: seed\n";
 
-/// Whether what is told of such a text is whole, or cut off where a write failed, and nothing is printed.
+/// Whether what is reported for such a text is whole, or is cut off if a write failed, and nothing is printed.
 fn is_refused(is_failed: bool, status: u8, printed: &[u8], told: &[u8]) -> bool {
     let is_told = if is_failed {
         status == 1 && told.len() < FAULT.len() && FAULT.get(..told.len()) == Some(told)
@@ -59,7 +59,7 @@ fn is_refused(is_failed: bool, status: u8, printed: &[u8], told: &[u8]) -> bool 
     is_told && printed.is_empty()
 }
 
-/// Plays such a text. Whether a write of what is told failed, or none if the answer is wrong.
+/// Plays such a text. Returns whether a write of what is reported failed, or `None` if the answer is wrong.
 fn refuse(alloc: Global, out: &mut TapeWriter, faults: &mut TapeWriter) -> Option<bool> {
     let mut text = REFUSED;
     let status = play_input(alloc, Form::Lines, false, &mut text, out, faults);
@@ -67,7 +67,7 @@ fn refuse(alloc: Global, out: &mut TapeWriter, faults: &mut TapeWriter) -> Optio
     is_refused(is_failed, status, out.as_slice(), faults.as_slice()).then_some(is_failed)
 }
 
-/// Does so where the fault goes to a writer that fails at the call of this number, from 1.
+/// Calls `refuse` with a writer of reports that fails at call number `n`, counted from 1.
 fn refuse_failing(alloc: Global, n: u64) -> Option<bool> {
     let mut out = TapeWriter::new(alloc, usize::MAX, None);
     let mut faults = TapeWriter::new(alloc, MOST, Some(n.saturating_sub(1) as usize));

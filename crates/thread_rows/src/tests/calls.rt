@@ -1,4 +1,4 @@
-//! Calls of a node that drop what they are given.
+//! Calls of a node that discard most of what they return.
 use bytes::Bytes;
 use frames::Frame;
 use node_core::PlumCore;
@@ -7,7 +7,7 @@ use node_threads::{HostError, NodeCell, Outlet};
 use std::alloc::{AllocError, Allocator};
 use world::{Stimulus, StimulusOf};
 
-/// Lets the node take a step. Why it refuses, if it does.
+/// Lets the node take a step. Returns the error if the node refuses.
 fn step<A: Allocator + Copy>(
     cell: &mut NodeCell<PlumCore<A>, A>,
     stimulus: Stimulus<Frame<A>, A>,
@@ -15,7 +15,7 @@ fn step<A: Allocator + Copy>(
     cell.apply(stimulus).err()
 }
 
-/// A broadcast of so many bytes.
+/// Makes a broadcast of `len` bytes.
 pub(crate) fn broadcast<A: Allocator + Copy>(
     alloc: A,
     len: usize,
@@ -24,7 +24,7 @@ pub(crate) fn broadcast<A: Allocator + Copy>(
     Ok(StimulusOf::Broadcast(payload))
 }
 
-/// Lets the node take a broadcast of so many bytes. Why it refuses, if it does.
+/// Lets the node take a broadcast of `len` bytes. Returns the error if the node refuses.
 pub(crate) fn refusal<A: Allocator + Copy>(
     alloc: A,
     cell: &mut NodeCell<PlumCore<A>, A>,
@@ -34,7 +34,7 @@ pub(crate) fn refusal<A: Allocator + Copy>(
     Ok(step(cell, stimulus))
 }
 
-/// Whether the node reports that so many frames came out of this outlet, whose link to the peer was opened before any
+/// Whether the node reports that `taken` frames came out of this outlet, whose link to the peer was opened before any
 /// step.
 pub(crate) fn is_reported<A: Allocator + Copy>(
     cell: &NodeCell<PlumCore<A>, A>,

@@ -1,4 +1,4 @@
-//! Links that a call closes, links that turn out to be down by a step, and what comes under the node's own name.
+//! Links that a call closes, links that a step finds to be down, and what arrives under the node's own name.
 use crate::tests::calls::broadcast;
 use crate::tests::node::{Names, parse_names, start_with_both, start_with_p};
 use frames::{BodyOf, Frame};
@@ -11,13 +11,13 @@ use std::test::Fail;
 use test_support::{first_run, lend};
 use world::{Core, Stimulus, StimulusOf};
 
-/// Whether the link to the peer is open, is closed by the first call alone, and stays so.
+/// Whether the link to the peer is open, only the first call closes it, and it stays closed.
 fn closes_once<A: Allocator + Copy>(cell: &mut NodeCell<PlumCore<A>, A>, peer: &NodeName) -> bool {
     let was_open = cell.link_is_open(peer) && cell.close_link(peer);
     was_open && !cell.link_is_open(peer) && !cell.close_link(peer)
 }
 
-/// Whether a broadcast finds the link to the peer missing, and no other.
+/// Whether a broadcast finds only the link to the peer missing.
 fn misses<A: Allocator + Copy>(
     alloc: A,
     cell: &mut NodeCell<PlumCore<A>, A>,
@@ -27,7 +27,7 @@ fn misses<A: Allocator + Copy>(
     Ok(applied.unlinked.as_slice() == [*peer].as_slice())
 }
 
-/// Whether a link is closed once, and a broadcast puts nothing into it then.
+/// Whether a link is closed only once, and a broadcast then puts nothing into it.
 fn is_closed_once<A: Allocator + Copy>(
     alloc: A,
     cell: &mut NodeCell<PlumCore<A>, A>,
@@ -46,15 +46,16 @@ fn closes_a_link_once(rt: HostRuntime) -> Result<(), Fail> {
     Ok(())
 }
 
-/// What a broadcast of a node with the peers `p` and `q` finds and leaves, where at most the one to `p` has a link.
+/// What a broadcast of a node with the peers `p` and `q` finds and leaves. There may be a link to `p`, and there is
+/// none to `q`.
 #[derive(Clone, Copy)]
 struct Row {
-    /// How many frames the ring to `p` has room for, where there is one.
+    /// How many frames the ring of the link to `p` has room for, if there is one.
     ring: Option<usize>,
-    /// Whether the link to `p` is found full, and whether it is found missing; that to `q` always is missing.
+    /// Whether the link to `p` is found full, and whether it is found missing. The link to `q` is always missing.
     is_full: bool,
     is_missing: bool,
-    /// How many steps the node has made then, and how many active peers it has.
+    /// How many steps the node has made afterwards, and how many active peers it has.
     steps: usize,
     active: usize,
 }
@@ -83,7 +84,8 @@ const ROWS: [Row; 3] = [
     },
 ];
 
-/// Broadcasts, with the Downs of the links that turn out to be down. Whether those are found that the row names.
+/// Broadcasts, with the Downs of the links that turn out to be down. Returns whether the links that the row names are
+/// found.
 fn finds_downs<A: Allocator + Copy>(
     alloc: A,
     cell: &mut NodeCell<PlumCore<A>, A>,
@@ -98,7 +100,7 @@ fn finds_downs<A: Allocator + Copy>(
     Ok(is_full == row.is_full && is_missing == row.is_missing && (is_missing || is_other_missing))
 }
 
-/// Whether a row is as it says.
+/// Whether a node does what a row says.
 fn is_row<A: Allocator + Copy>(
     alloc: A,
     cell: &mut NodeCell<PlumCore<A>, A>,
@@ -114,7 +116,7 @@ fn is_row<A: Allocator + Copy>(
     Ok(are_found && is_left && outlet.is_some() == row.ring.is_some())
 }
 
-/// Whether each link that a step finds full or missing is down for the core after it.
+/// Each link that a step finds full or missing is down for the core afterwards.
 #[test]
 fn tells_of_downs(rt: HostRuntime) -> Result<(), Fail> {
     let names = parse_names(&rt);
@@ -125,7 +127,7 @@ fn tells_of_downs(rt: HostRuntime) -> Result<(), Fail> {
     Ok(())
 }
 
-/// The first JOIN of a node, as it comes.
+/// Returns the arrival of a JOIN that is a node's first frame.
 fn join<A: Allocator + Copy>(rt: &impl Abort, sender: &Origin) -> Stimulus<Frame<A>, A> {
     let note = Frame::new(*sender, 1, BodyOf::Join).expect(rt, "a frame");
     StimulusOf::Arrive {
@@ -135,7 +137,7 @@ fn join<A: Allocator + Copy>(rt: &impl Abort, sender: &Origin) -> Stimulus<Frame
     }
 }
 
-/// Whether a node with one peer has so many active peers after a JOIN of this sender.
+/// Whether a node has `active` active peers after a JOIN from this sender.
 fn is_joined<A: Allocator + Copy>(
     rt: &impl Abort,
     cell: &mut NodeCell<PlumCore<A>, A>,
@@ -146,7 +148,7 @@ fn is_joined<A: Allocator + Copy>(
     Ok(cell.core().active().len() == active)
 }
 
-/// The next run of a node.
+/// Returns the second incarnation of a node.
 fn restarted(name: NodeName) -> Origin {
     Origin {
         name,
@@ -154,7 +156,8 @@ fn restarted(name: NodeName) -> Origin {
     }
 }
 
-/// Whether a JOIN under the node's own name, of this run or of another, does nothing, and one of `q` does.
+/// Whether a JOIN under the node's own name, from this incarnation or another one, does nothing, and a JOIN from `q`
+/// does something.
 fn is_deaf_to_itself<A: Allocator + Copy>(
     rt: &impl Abort,
     cell: &mut NodeCell<PlumCore<A>, A>,

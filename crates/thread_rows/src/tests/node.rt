@@ -20,12 +20,12 @@ pub(crate) struct Names {
     pub(crate) q: NodeName,
 }
 
-/// The name of this text.
+/// Parses a name.
 fn name(rt: &impl Abort, text: &str) -> NodeName {
     NodeName::parse(text.as_bytes()).expect(rt, "a name")
 }
 
-/// The node `a` and the others `p` and `q`.
+/// Returns the node `a` and the other nodes `p` and `q`.
 pub(crate) fn parse_names(rt: &impl Abort) -> Names
     ensures p { IsTrue (not (same_name result.me.name result.p)) }
     ensures q { IsTrue (not (same_name result.me.name result.q)) }
@@ -42,7 +42,7 @@ pub(crate) fn parse_names(rt: &impl Abort) -> Names
     }
 }
 
-/// Starts a node within these limits and with these peers. Its trace may have so many steps.
+/// Starts a node within these limits and with these peers. Its trace may have at most `trace_limit` steps.
 fn start<A: Allocator + Copy>(
     alloc: A,
     me: Origin,
@@ -60,7 +60,7 @@ fn start<A: Allocator + Copy>(
     NodeCell::new(alloc, core, opening, trace_limit)
 }
 
-/// Starts the node with `p` as its only peer. Its trace may have so many steps.
+/// Starts the node with `p` as its only peer. Its trace may have at most `trace_limit` steps.
 pub(crate) fn start_with_p<A: Allocator + Copy>(
     rt: &impl Abort,
     alloc: A,
@@ -71,7 +71,7 @@ pub(crate) fn start_with_p<A: Allocator + Copy>(
     start(alloc, names.me, limits, &[names.p], trace_limit)
 }
 
-/// Starts the node with `p` and `q` as its peers. Its trace may have so many steps.
+/// Starts the node with `p` and `q` as its peers. Its trace may have at most `trace_limit` steps.
 pub(crate) fn start_with_both<A: Allocator + Copy>(
     rt: &impl Abort,
     alloc: A,

@@ -1,5 +1,5 @@
 //! Rows in which each allocation of each call is refused in turn: the call fails as out of memory, the node shows what
-//! it did before, and the call made again and all that follow answer as if nothing had been refused.
+//! it did before, and the call made again and all calls after it answer as if nothing had been refused.
 use crate::tests::node::{parse_names, start_with_p};
 use crate::tests::rows::{Row, Turn, rows};
 use crate::tests::turns::{Act, Answer, Refusal, ask};
@@ -22,7 +22,7 @@ struct Shown {
     taken: u64,
 }
 
-/// Looks at them.
+/// Reads what a node and its link show.
 fn look<A: Allocator + Copy>(cell: &NodeCell<PlumCore<A>, A>, outlet: &Outlet<A>) -> Shown {
     Shown {
         steps: cell.trace().len(),
@@ -33,7 +33,8 @@ fn look<A: Allocator + Copy>(cell: &NodeCell<PlumCore<A>, A>, outlet: &Outlet<A>
     }
 }
 
-/// Asks once more, with no allocation refused. Whether that is answered as wanted, and the node shows this before.
+/// Asks once more, with no allocation refused. Returns whether the answer is `wanted`, and the node showed `shown`
+/// before.
 fn answers_again<A: Allocator + Copy>(
     rt: &impl Abort,
     heap: &RefusingAllocator,
@@ -48,8 +49,9 @@ fn answers_again<A: Allocator + Copy>(
         && ask(rt, Refusal { heap, n: 0 }, alloc, cell, outlet, act) == wanted
 }
 
-/// Asks while the allocation with this number is refused, and again if the call is refused. Whether there is such an
-/// allocation, or none if the node does not answer so. What is refused in any case takes no memory.
+/// Asks while allocation number `n` is refused, and again if the call failed. Returns whether there is such an
+/// allocation, or `None` if the node does not answer as it should. A call that is refused in any case allocates
+/// nothing.
 fn refuse_one<A: Allocator + Copy>(
     rt: &impl Abort,
     heap: &RefusingAllocator,
@@ -73,7 +75,8 @@ fn refuse_one<A: Allocator + Copy>(
     is_right.then_some(is_spent)
 }
 
-/// Does so as often as a turn says. Whether one of the calls has such an allocation, or none if something is wrong.
+/// Calls `refuse_one` as often as a turn says. Returns whether one of the calls has such an allocation, or `None` if
+/// something is wrong.
 fn refuse_turn<A: Allocator + Copy>(
     rt: &impl Abort,
     heap: &RefusingAllocator,
@@ -91,7 +94,7 @@ fn refuse_turn<A: Allocator + Copy>(
     Some(is_spent)
 }
 
-/// Does so with all turns.
+/// Calls `refuse_turn` with each of these turns.
 fn refuse_turns<A: Allocator + Copy>(
     rt: &impl Abort,
     heap: &RefusingAllocator,
@@ -108,7 +111,8 @@ fn refuse_turns<A: Allocator + Copy>(
     Some(is_spent)
 }
 
-/// Does so with all turns of a row, and the link was opened now. None also if the node has not made as many steps then.
+/// Opens the link, and calls `refuse_turns` with all turns of a row. Also returns `None` if the node has then not made
+/// as many steps as the row says.
 fn refuse_row<A: Allocator + Copy>(
     rt: &impl Abort,
     heap: &RefusingAllocator,
@@ -122,7 +126,7 @@ fn refuse_row<A: Allocator + Copy>(
     Ok(is_spent.filter(|_| cell.trace().len() == row.steps))
 }
 
-/// Does so with a fresh node.
+/// Calls `refuse_row` with a fresh node.
 fn refuse_of_fresh<A: Allocator + Copy>(
     rt: &impl Abort,
     heap: &RefusingAllocator,
@@ -134,8 +138,8 @@ fn refuse_of_fresh<A: Allocator + Copy>(
     lend(cell, |cell| refuse_row(rt, heap, alloc, cell, row, n))
 }
 
-/// The first allocation of each call of a row is refused, then, with a fresh node, the second of each, and so on until
-/// no call has so many.
+/// Refuses the first allocation of each call of a row, then, with a fresh node, the second of each, and so on until no
+/// call has that many.
 #[test]
 fn each_allocation_of_each_row(rt: HostRuntime) -> Result<(), Fail> {
     let heap = RefusingAllocator::new(rt.alloc());

@@ -3,10 +3,10 @@ use crate::tests::turns::{Act, Answer};
 use node_threads::HostError;
 use world::CoreError;
 
-/// How often something is asked, what, and what is answered each time.
+/// How often something is asked, what is asked, and what is answered each time.
 pub(crate) type Turn = (usize, Act, Answer);
 
-/// What a node answers.
+/// What a node is asked and answers.
 #[derive(Clone, Copy)]
 pub(crate) struct Row {
     pub(crate) name: &'static str,
@@ -15,18 +15,18 @@ pub(crate) struct Row {
     /// How many frames the ring of its link has room for.
     pub(crate) ring: usize,
     pub(crate) turns: &'static [Turn],
-    /// How many steps it has made then.
+    /// How many steps it has made at the end.
     pub(crate) steps: usize,
-    /// The call that has most allocations has as many.
+    /// How many allocations the call has that makes the most.
     pub(crate) allocations: u64,
 }
 
-/// A step that is made, and the link has room for what it sends.
+/// A step that is made, with room in the link for what it sends.
 const STEP: Answer = Answer::Step { is_full: false };
 
 const ROWS: &[Row] = &[
-    // The flush announces 65 messages in two frames, and the second one finds the ring full. A frame has 26 bytes
-    // beside its announcements, which have 22 each.
+    // The flush announces 65 messages in two frames, and the second frame finds the ring full. A frame has 26 bytes
+    // besides its announcements, which have 22 bytes each.
     Row {
         name: "a ring with room for one frame",
         limit: 100,
@@ -56,7 +56,7 @@ const ROWS: &[Row] = &[
         ],
         steps: 2,
         // The first broadcast: 1 each for packets, frames, deliveries, names of full links, letters, blocked names,
-        // copied deliveries, waiting ones, steps and announcements, and 4 each for held messages and known ids.
+        // copied deliveries, waiting deliveries, steps and announcements, and 4 each for held messages and known ids.
         allocations: 18,
     },
     Row {
@@ -72,7 +72,8 @@ const ROWS: &[Row] = &[
             (1, Act::Broadcast(32_768), STEP),
         ],
         steps: 1,
-        // The longest is a first broadcast as above, since its payload is shared; the other is refused at once.
+        // The longest payload takes as many as the first broadcast above, since the payload is shared; the one that is
+        // too long is refused at once.
         allocations: 18,
     },
     Row {
@@ -89,12 +90,13 @@ const ROWS: &[Row] = &[
             ),
         ],
         steps: 0,
-        // To shut takes no memory, and what comes after it is refused at once.
+        // Shutting allocates nothing, and what comes after it is refused at once.
         allocations: 0,
     },
 ];
 
-/// All rows. The table is named here alone, since a function that names it is proved over the whole of it.
+/// Returns all rows. Only this function names the table, since a function that names it needs a proof about the whole
+/// table.
 pub(crate) fn rows() -> &'static [Row] {
     ROWS
 }

@@ -1,5 +1,5 @@
-//! The history of a node, handed out in parts; and each allocation of that refused in turn: the call fails as out of
-//! memory, the node shows what it did before, and asked again it hands out the same part.
+//! The history of a node, handed out in parts, also with each allocation of that refused in turn: the call fails as out
+//! of memory, the node shows what it did before, and when asked again it hands out the same part.
 use crate::tests::calls::broadcast;
 use crate::tests::node::start_with_p;
 use node_core::PlumCore;
@@ -20,7 +20,7 @@ struct Part {
     broadcasts: u64,
 }
 
-/// The parts that are handed out: after two broadcasts, after a third, and at once after that.
+/// The parts that are handed out: after two broadcasts, after a third one, and right after that part.
 const PARTS: [Part; 3] = [
     Part {
         first: 0,
@@ -39,7 +39,7 @@ const PARTS: [Part; 3] = [
     },
 ];
 
-/// Broadcasts. The place of the step.
+/// Broadcasts. Returns the place of the step.
 fn broadcast_at<A: Allocator + Copy>(
     alloc: A,
     cell: &mut NodeCell<PlumCore<A>, A>,
@@ -48,7 +48,7 @@ fn broadcast_at<A: Allocator + Copy>(
     Ok(cell.apply(stimulus)?.place)
 }
 
-/// Whether the core has its own message of this number.
+/// Whether the core has its own message number `seq`.
 fn has_own<A: Allocator + Copy>(core: &PlumCore<A>, seq: u64) -> bool {
     let id = MsgId {
         origin: core.me(),
@@ -57,12 +57,12 @@ fn has_own<A: Allocator + Copy>(core: &PlumCore<A>, seq: u64) -> bool {
     core.has(&id)
 }
 
-/// Whether the core has so many messages of its own and no more.
+/// Whether the last of the core's own messages has number `broadcasts`.
 fn has_made<A: Allocator + Copy>(core: &PlumCore<A>, broadcasts: u64) -> bool {
     has_own(core, broadcasts) && !has_own(core, broadcasts.saturating_add(1))
 }
 
-/// Whether what was handed out is this part.
+/// Whether `sealed` is this part.
 fn is_so<A: Allocator + Copy>(sealed: &Sealed<PlumCore<A>, A>, part: &Part) -> bool {
     sealed.segment.first == part.first
         && sealed.segment.steps.len() == part.len
@@ -78,8 +78,8 @@ fn hands_out<A: Allocator + Copy>(
     Ok(lend(sealed, |sealed| is_so(sealed, part)))
 }
 
-/// Whether the node broadcasts twice, hands out a part, broadcasts once more, and hands out two parts, the last one
-/// after the end.
+/// Lets the node broadcast twice, hand out a part, broadcast once more, and hand out two parts, the last one after it
+/// was shut. Returns whether all of that is right.
 fn is_handed_out<A: Allocator + Copy>(
     alloc: A,
     cell: &mut NodeCell<PlumCore<A>, A>,
@@ -95,7 +95,7 @@ fn is_handed_out<A: Allocator + Copy>(
     )
 }
 
-/// Whether the node hands out this part once it is shut, and its trace has all steps.
+/// Shuts the node. Returns whether it then hands out this part, and its trace has all steps.
 fn is_kept_after_shut<A: Allocator + Copy>(
     cell: &mut NodeCell<PlumCore<A>, A>,
     part: &Part,
@@ -104,7 +104,7 @@ fn is_kept_after_shut<A: Allocator + Copy>(
     Ok(hands_out(cell, part)? && cell.trace().len() == 3 && is_each_step_there(cell))
 }
 
-/// Whether there is a step at each place of the trace, and none behind.
+/// Whether there is a step at each place of the trace, and none after the last one.
 fn is_each_step_there<A: Allocator + Copy>(cell: &NodeCell<PlumCore<A>, A>) -> bool {
     let trace = cell.trace();
     (0..trace.len()).all(|place| trace.step(place).is_some()) && trace.step(trace.len()).is_none()
@@ -117,8 +117,8 @@ fn parts_of_a_history(rt: HostRuntime) -> Result<(), Fail> {
     Ok(())
 }
 
-/// Hands out a part while the allocation with this number is refused. Whether there is such an allocation, and whether
-/// all is right; none if something is wrong.
+/// Hands out a part while allocation number `n` is refused. Returns whether there is such an allocation, or `None` if
+/// something is wrong.
 fn refuse_part<A: Allocator + Copy>(
     heap: &RefusingAllocator,
     cell: &mut NodeCell<PlumCore<A>, A>,
@@ -136,7 +136,7 @@ fn refuse_part<A: Allocator + Copy>(
     Ok((is_right && is_each_step_there(cell)).then_some(is_spent))
 }
 
-/// Does so with a node that broadcasts twice before.
+/// Lets the node broadcast twice, and then calls `refuse_part`.
 fn refuse_first<A: Allocator + Copy>(
     heap: &RefusingAllocator,
     alloc: A,
@@ -149,7 +149,7 @@ fn refuse_first<A: Allocator + Copy>(
     refuse_part(heap, cell, &first, n)
 }
 
-/// Does so with a fresh node.
+/// Calls `refuse_first` with a fresh node.
 fn refuse_of_fresh<A: Allocator + Copy>(
     rt: &impl Abort,
     heap: &RefusingAllocator,

@@ -1,5 +1,5 @@
-//! The start of a node and of a link, each allocation refused in turn: the start fails as out of memory, and made again
-//! it does not.
+//! The start of a node and of a link, with each allocation refused in turn: the start fails as out of memory, and
+//! succeeds when made again.
 use crate::tests::node::{parse_names, start_with_p};
 use node_core::PlumCore;
 use node_names::NodeName;
@@ -11,7 +11,7 @@ use std::test::Fail;
 use test_support::{lend, refusal_of, retry, stop_refusing, sweep};
 use world::CoreError;
 
-/// Whether a start failed as out of memory, in the core or behind it.
+/// Whether a start failed as out of memory, in the core or after it.
 fn is_out_of_memory(error: HostError) -> bool {
     matches!(
         error,
@@ -19,15 +19,15 @@ fn is_out_of_memory(error: HostError) -> bool {
     )
 }
 
-/// Starts the node while the allocation with this number is refused, and again if it is refused. Whether there is such
-/// an allocation, or none if something is wrong.
+/// Starts the node while allocation number `n` is refused, and again if that failed. Returns whether there is such an
+/// allocation, or `None` if something is wrong.
 fn refuse_start(rt: &impl Abort, heap: &RefusingAllocator, n: u64) -> Option<bool> {
     let call = || refusal_of(start_with_p(rt, heap, 2));
     retry(heap, n, call, is_out_of_memory)
 }
 
-/// Opens a link while the allocation with this number is refused, and again if it is refused. Whether there is such an
-/// allocation, or none if something is wrong.
+/// Opens a link while allocation number `n` is refused, and again if that failed. Returns whether there is such an
+/// allocation, or `None` if something is wrong.
 fn refuse_opening<A: Allocator + Copy>(
     heap: &RefusingAllocator,
     cell: &mut NodeCell<PlumCore<A>, A>,
@@ -49,7 +49,7 @@ fn refuse_opening<A: Allocator + Copy>(
     (is_right && cell.link_is_open(&peer)).then_some(is_spent)
 }
 
-/// Does so with a fresh node.
+/// Calls `refuse_opening` with a fresh node.
 fn refuse_opening_of_fresh<A: Allocator + Copy>(
     rt: &impl Abort,
     heap: &RefusingAllocator,

@@ -1,5 +1,5 @@
-//! A broadcast while two links are open, each allocation refused in turn: the broadcast fails as out of memory, the
-//! node shows what it did before, and the broadcast made again answers as if nothing had been refused.
+//! A broadcast while two links are open, with each allocation refused in turn: the broadcast fails as out of memory,
+//! the node shows what it did before, and the broadcast made again answers as if nothing had been refused.
 use crate::tests::calls::{broadcast, is_reported, refusal};
 use crate::tests::node::{Names, parse_names, start_with_both};
 use frames::Frame;
@@ -13,11 +13,10 @@ use std::test::Fail;
 use test_support::{lend, stop_refusing, sweep};
 use world::Stimulus;
 
-/// More frames than come out.
+/// More frames than come out of a link.
 const FRAMES: u64 = 9;
 
-/// Takes a broadcast. Whether it is the second message of this node and its second step, and both links have room for
-/// it.
+/// Takes a broadcast. Returns whether it is the node's second message and second step, and both links have room for it.
 fn is_second<A: Allocator + Copy>(
     cell: &mut NodeCell<PlumCore<A>, A>,
     stimulus: Stimulus<Frame<A>, A>,
@@ -35,7 +34,7 @@ fn is_second<A: Allocator + Copy>(
     )
 }
 
-/// Takes a broadcast while the allocation with this number is refused, or none at 0. Whether there is such an
+/// Takes a broadcast while allocation number `n` is refused, or none if `n` is 0. Returns whether there is such an
 /// allocation, and what the node answers.
 fn try_second<A: Allocator + Copy>(
     heap: &RefusingAllocator,
@@ -50,12 +49,12 @@ fn try_second<A: Allocator + Copy>(
     Ok((is_spent, answer))
 }
 
-/// How many deliveries wait. They are taken.
+/// Takes the waiting deliveries. Returns how many there were.
 fn deliveries<A: Allocator + Copy>(cell: &mut NodeCell<PlumCore<A>, A>) -> u64 {
     cell.take_deliveries().len() as u64
 }
 
-/// How many frames come out.
+/// Takes the frames out of a link. Returns how many there were.
 fn drain<A: Allocator + Copy>(outlet: &mut Outlet<A>) -> Result<u64, AllocError> {
     for count in 0..FRAMES {
         if outlet.pop()?.is_none() {
@@ -65,7 +64,7 @@ fn drain<A: Allocator + Copy>(outlet: &mut Outlet<A>) -> Result<u64, AllocError>
     Ok(FRAMES)
 }
 
-/// Whether the link to a peer is open, so many frames come out of it, and the node reports so many in all.
+/// Whether the link to a peer is open, `new` frames come out of it, and the node reports `all` frames in total.
 fn has_sent<A: Allocator + Copy>(
     cell: &NodeCell<PlumCore<A>, A>,
     outlet: &mut Outlet<A>,
@@ -76,7 +75,7 @@ fn has_sent<A: Allocator + Copy>(
     Ok(cell.link_is_open(&peer) && drain(outlet)? == new && is_reported(cell, outlet, &peer, all)?)
 }
 
-/// Whether the trace has so many steps, so many deliveries wait, and as many frames come out of each link.
+/// Whether the trace has `steps` steps, `new` deliveries wait, and `new` frames come out of each link.
 fn shows<A: Allocator + Copy>(
     cell: &mut NodeCell<PlumCore<A>, A>,
     to_p: &mut Outlet<A>,
@@ -92,7 +91,7 @@ fn shows<A: Allocator + Copy>(
     )
 }
 
-/// Takes the broadcast once more. Whether it is taken, and shows.
+/// Takes the broadcast once more. Returns whether it is taken, and the node then shows that.
 fn takes_again<A: Allocator + Copy>(
     heap: &RefusingAllocator,
     alloc: A,
@@ -104,8 +103,8 @@ fn takes_again<A: Allocator + Copy>(
     Ok(answer? && shows(cell, to_p, to_q, 2, 1)?)
 }
 
-/// Takes the second broadcast of a node while the allocation with this number is refused, and again if the node
-/// refuses. Whether there is such an allocation, or none if something is wrong.
+/// Takes the second broadcast of a node while allocation number `n` is refused, and again if that failed. Returns
+/// whether there is such an allocation, or `None` if something is wrong.
 fn refuse_allocation<A: Allocator + Copy>(
     heap: &RefusingAllocator,
     alloc: A,
@@ -125,7 +124,7 @@ fn refuse_allocation<A: Allocator + Copy>(
     Ok(is_right.then_some(is_spent))
 }
 
-/// Does so with a node that has not taken its first, which it takes now.
+/// Lets a node take its first broadcast, and then calls `refuse_allocation`.
 fn refuse_second<A: Allocator + Copy>(
     heap: &RefusingAllocator,
     alloc: A,
@@ -140,7 +139,7 @@ fn refuse_second<A: Allocator + Copy>(
     refuse_allocation(heap, alloc, cell, to_p, to_q, n)
 }
 
-/// Does so with a node that has no link to `q`.
+/// Opens a link to `q`, and then calls `refuse_second`.
 fn refuse_with_p<A: Allocator + Copy>(
     heap: &RefusingAllocator,
     alloc: A,
@@ -153,7 +152,7 @@ fn refuse_with_p<A: Allocator + Copy>(
     refuse_second(heap, alloc, cell, to_p, &mut to_q, n)
 }
 
-/// Does so with a node that has no links.
+/// Opens a link to `p`, and then calls `refuse_with_p`.
 fn refuse_without_links<A: Allocator + Copy>(
     heap: &RefusingAllocator,
     alloc: A,
@@ -165,7 +164,7 @@ fn refuse_without_links<A: Allocator + Copy>(
     refuse_with_p(heap, alloc, cell, &mut to_p, names.q, n)
 }
 
-/// Does so with a fresh node.
+/// Calls `refuse_without_links` with a fresh node.
 fn refuse_of_fresh<A: Allocator + Copy>(
     rt: &impl Abort,
     heap: &RefusingAllocator,

@@ -1,4 +1,4 @@
-//! What is asked of a running node with the peer `p`, and what it answers while an allocation of the call is refused.
+//! What a running node with the peer `p` is asked, and what it answers while an allocation of the call is refused.
 use crate::tests::calls::broadcast;
 use frames::{BodyOf, Frame};
 use node_core::PlumCore;
@@ -13,9 +13,9 @@ use world::{Stimulus, StimulusOf};
 /// What is asked.
 #[derive(Clone, Copy)]
 pub(crate) enum Act {
-    /// A broadcast of so many bytes.
+    /// A broadcast of this number of bytes.
     Broadcast(usize),
-    /// The first PRUNE of `p` comes.
+    /// The first PRUNE from `p` arrives.
     Prune,
     /// All announcements are sent.
     Flush,
@@ -23,7 +23,7 @@ pub(crate) enum Act {
     Down,
     /// The next frame is taken out of the link to `p`.
     Pop,
-    /// It is told what came out of the link.
+    /// The node reports what came out of the link.
     Report,
     /// The node is shut.
     Shut,
@@ -34,9 +34,9 @@ pub(crate) enum Act {
 pub(crate) enum Answer {
     /// The next step was made, and the link to `p` had room for what it sent, or was full and is closed.
     Step { is_full: bool },
-    /// A frame of so many bytes came out, or there was none.
+    /// A frame with this number of bytes came out, or there was none.
     Popped(Option<usize>),
-    /// So many frames came out of a link to `p` that was opened before any step.
+    /// This number of frames came out of a link to `p` that was opened before any step.
     Taken(u64),
     /// The node was shut.
     Done,
@@ -46,7 +46,7 @@ pub(crate) enum Answer {
     Wrong,
 }
 
-/// Which allocation of a call is refused, from 1, or none at 0.
+/// Which allocation of a call is refused, counted from 1, or none if `n` is 0.
 #[derive(Clone, Copy)]
 pub(crate) struct Refusal<'a> {
     pub(crate) heap: &'a RefusingAllocator,
@@ -54,13 +54,13 @@ pub(crate) struct Refusal<'a> {
 }
 
 impl Refusal<'_> {
-    /// Has it refused of what follows.
+    /// Refuses allocation number `n` of what follows.
     fn begin(&self) {
         self.heap.refuse(self.n);
     }
 }
 
-/// The first PRUNE of a peer, as it comes.
+/// Returns the arrival of a peer's first frame, a PRUNE.
 fn prune<A: Allocator + Copy>(rt: &impl Abort, peer: NodeName) -> Stimulus<Frame<A>, A> {
     StimulusOf::Arrive {
         sender: first_run(peer),
@@ -69,7 +69,7 @@ fn prune<A: Allocator + Copy>(rt: &impl Abort, peer: NodeName) -> Stimulus<Frame
     }
 }
 
-/// The link to a peer fails.
+/// Returns the failure of the link to a peer.
 fn down<A: Allocator + Copy>(peer: NodeName) -> Stimulus<Frame<A>, A> {
     StimulusOf::Down {
         peer,
@@ -108,7 +108,7 @@ fn pop<A: Allocator + Copy>(
     Ok(Answer::Popped(bytes.map(|bytes| bytes.len())))
 }
 
-/// Has the node tell what came out of a link.
+/// Asks the node to report what came out of a link.
 fn report<A: Allocator + Copy>(
     refusal: Refusal<'_>,
     cell: &NodeCell<PlumCore<A>, A>,
@@ -130,7 +130,7 @@ fn shut<A: Allocator + Copy>(refusal: Refusal<'_>, cell: &mut NodeCell<PlumCore<
     Answer::Done
 }
 
-/// Asks, unless the call is refused.
+/// Asks the node. Returns the error if the call is refused.
 fn try_to_ask<A: Allocator + Copy>(
     rt: &impl Abort,
     refusal: Refusal<'_>,
@@ -151,7 +151,7 @@ fn try_to_ask<A: Allocator + Copy>(
     }
 }
 
-/// What the node answers.
+/// Asks the node, and returns its answer. A refused call is an answer too.
 pub(crate) fn ask<A: Allocator + Copy>(
     rt: &impl Abort,
     refusal: Refusal<'_>,

@@ -1,4 +1,4 @@
-//! Comparing groups of flooding nodes.
+//! Compares groups of flooding nodes.
 use node_names::NodeName;
 use std::alloc::Allocator;
 use world::{Core, Delivery, Entry, FloodCore, FloodNote, NodeState, Packet, World};
@@ -11,7 +11,7 @@ fn has_active<A: Allocator + Copy>(core: &FloodCore<A>, peers: &[NodeName]) -> b
     peers.iter().all(|peer| core.active().contains(peer))
 }
 
-/// Whether a core knows nothing but its active members, and nothing waits at it.
+/// Whether a core has no passive members, no queued or received announcements and no timers.
 fn is_idle<A: Allocator + Copy>(core: &FloodCore<A>) -> bool {
     core.passive().is_empty()
         && core.queued().is_empty()
@@ -19,7 +19,7 @@ fn is_idle<A: Allocator + Copy>(core: &FloodCore<A>) -> bool {
         && core.timers().is_empty()
 }
 
-/// Whether two cores have the same active members.
+/// Whether two cores have the same origin and active members, and the first one is idle.
 fn are_alike_cores<A: Allocator + Copy>(one: &FloodCore<A>, other: &FloodCore<A>) -> bool {
     one.me() == other.me()
         && one.active().len() == other.active().len()
@@ -27,7 +27,7 @@ fn are_alike_cores<A: Allocator + Copy>(one: &FloodCore<A>, other: &FloodCore<A>
         && is_idle(one)
 }
 
-/// Whether two groups know a node alike.
+/// Whether two groups have the same state of a node.
 fn is_alike_node<A: Allocator + Copy>(
     one: &NodeState<FloodCore<A>>,
     other: &NodeState<FloodCore<A>>,
@@ -90,7 +90,7 @@ fn are_alike_entries<A: Allocator + Copy>(log: &[Entry<A>], wanted: &[Entry<A>])
     log.len() == wanted.len()
 }
 
-/// Whether the readers of two groups answer alike.
+/// Whether the readers of two groups return the same.
 pub(crate) fn are_alike<A: Allocator + Copy>(one: &Group<A>, other: &Group<A>) -> bool {
     are_alike_nodes(one.nodes(), other.nodes())
         && are_alike_packets(one.sent(), other.sent())
@@ -98,7 +98,7 @@ pub(crate) fn are_alike<A: Allocator + Copy>(one: &Group<A>, other: &Group<A>) -
         && are_alike_entries(one.log(), other.log())
 }
 
-/// Whether a core holds the payload of a delivery, if that is its own.
+/// Whether a core holds the payload of a delivery, if it is a delivery to this core.
 fn is_held<A: Allocator + Copy>(core: &FloodCore<A>, delivery: &Delivery<A>) -> bool {
     if delivery.node != core.me() {
         return true;
@@ -118,7 +118,7 @@ fn is_log_held<A: Allocator + Copy>(core: &FloodCore<A>, log: &[Entry<A>]) -> bo
         .all(|entry| are_held(core, entry.given.as_slice()))
 }
 
-/// Whether a node's core, if it runs, does so for the deliveries of the whole log.
+/// Whether a node's core, if it is running, holds the payloads of its deliveries in the log.
 fn is_node_held<A: Allocator + Copy>(node: &NodeState<FloodCore<A>>, log: &[Entry<A>]) -> bool {
     match &node.core {
         Some(core) => is_log_held(core, log),
@@ -126,7 +126,7 @@ fn is_node_held<A: Allocator + Copy>(node: &NodeState<FloodCore<A>>, log: &[Entr
     }
 }
 
-/// Whether each core holds the payloads under the ids that the group's log delivered to it.
+/// Whether each core holds the payloads of the deliveries to it in the group's log, under their ids.
 pub(crate) fn holds_given<A: Allocator + Copy>(world: &Group<A>) -> bool {
     let log = world.log();
     world.nodes().iter().all(|node| is_node_held(node, log))

@@ -49,7 +49,7 @@ const ROWS: &[Row] = &[
             (Act::Arrive(0), &[]),
         ],
     },
-    // What an arrival sends goes last. b sends number 2 to c, and c sends number 3 to b.
+    // The packets that an arrival sends join the end of the flight. b sends number 2 to c, and c sends number 3 to b.
     Row {
         name: "a triangle",
         turns: &[
@@ -71,12 +71,13 @@ const ROWS: &[Row] = &[
     },
 ];
 
-/// All rows. The table is named here alone, since a function that names it is proved over the whole of it.
+/// Returns all rows. Only this function names the table, since a function that names it needs a proof about the whole
+/// table.
 fn rows() -> &'static [Row] {
     ROWS
 }
 
-/// Plays an event. Whether the packets in flight are then those that should be.
+/// Plays an event. Returns whether the packets in flight are then the ones that should be.
 fn is_flown<A: Allocator + Copy>(
     alloc: A,
     world: &mut Group<A>,
@@ -86,7 +87,7 @@ fn is_flown<A: Allocator + Copy>(
     Ok(is_named && world.flight() == turn.1)
 }
 
-/// Plays events. How many of them left what they should, up to the first that did not.
+/// Plays events. Returns how many of them left what they should, up to the first that did not.
 fn count_flown<A: Allocator + Copy>(
     alloc: A,
     world: &mut Group<A>,
@@ -100,7 +101,7 @@ fn count_flown<A: Allocator + Copy>(
     Ok(turns.len())
 }
 
-/// Does so in a fresh group.
+/// Calls `count_flown` with a fresh group.
 fn count_flown_from_start<A: Allocator + Copy>(
     alloc: A,
     turns: &[Turn],

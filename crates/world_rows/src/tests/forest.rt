@@ -1,4 +1,4 @@
-//! The trees of all messages at once, which are those of each message alone.
+//! The trees of all messages, found at once, are the trees of each message found alone.
 use crate::tests::alike::Group;
 use crate::tests::named::id;
 use crate::tests::rest::{Case, cases, is_drawn, play_acts};
@@ -11,7 +11,7 @@ use std::test::Fail;
 use test_support::{lend, stop_refusing, sweep};
 use world::{Delivery, WorldError};
 
-/// Whether the forest has the tree of a message as it is found alone.
+/// Whether the forest has the same tree of a message as is found for it alone.
 fn is_tree<A: Allocator + Copy>(
     alloc: A,
     world: &Group<A>,
@@ -22,7 +22,7 @@ fn is_tree<A: Allocator + Copy>(
     Ok(forest.tree(message) == branches.as_slice())
 }
 
-/// Whether it has so for the messages of these deliveries.
+/// Whether `is_tree` holds for the messages of these deliveries.
 fn are_trees<A: Allocator + Copy>(
     alloc: A,
     world: &Group<A>,
@@ -37,7 +37,8 @@ fn are_trees<A: Allocator + Copy>(
     Ok(true)
 }
 
-/// Whether it has so for each message that was said, since who says a message delivers it.
+/// Whether `is_tree` holds for each message that was broadcast. The log has them all, since the node that broadcasts a
+/// message also delivers it.
 fn are_said<A: Allocator + Copy>(
     alloc: A,
     world: &Group<A>,
@@ -51,7 +52,7 @@ fn are_said<A: Allocator + Copy>(
     Ok(true)
 }
 
-/// Whether a message that nobody said has no branches.
+/// Whether a message that no one broadcast has no branches.
 fn is_bare<A: Allocator + Copy>(
     alloc: A,
     world: &Group<A>,
@@ -61,7 +62,8 @@ fn is_bare<A: Allocator + Copy>(
     Ok(forest.tree(message).is_empty() && is_tree(alloc, world, forest, message)?)
 }
 
-/// Whether the forest has the tree of the case, those of all messages that were said, and none of another.
+/// Whether the forest has the tree of the case, the trees of all messages that were broadcast, and no tree of another
+/// message.
 fn is_forest<A: Allocator + Copy>(
     rt: &impl Abort,
     alloc: A,
@@ -79,7 +81,7 @@ fn is_forest<A: Allocator + Copy>(
     )
 }
 
-/// Whether this is the forest, or a refusal if an allocation was refused.
+/// Whether the answer is the right forest, or a failure if an allocation was refused.
 fn is_answer<A: Allocator + Copy>(
     rt: &impl Abort,
     alloc: A,
@@ -95,7 +97,7 @@ fn is_answer<A: Allocator + Copy>(
     }
 }
 
-/// Finds the forest while the allocation with this number is refused. Whether there is such an allocation, or none if
+/// Finds the forest while allocation number `n` is refused. Returns whether there is such an allocation, or `None` if
 /// the answer is wrong.
 fn refuse_allocation<A: Allocator + Copy>(
     rt: &impl Abort,
@@ -115,7 +117,8 @@ fn refuse_allocation<A: Allocator + Copy>(
     Ok(is_right.then_some(is_spent))
 }
 
-/// Does so at the end of a case, each allocation refused in turn. How many there are, or none if an answer is wrong.
+/// Plays a case, and then finds the forest with each allocation refused in turn. Returns their number, or `None` if an
+/// answer is wrong.
 fn sweep_case<A: Allocator + Copy>(
     rt: &impl Abort,
     heap: &RefusingAllocator,
@@ -129,7 +132,7 @@ fn sweep_case<A: Allocator + Copy>(
     Ok(sweep(|n| refuse_allocation(rt, heap, alloc, text, world, case, n))?)
 }
 
-/// Plays the case in a fresh group.
+/// Calls `sweep_case` with a fresh group.
 fn sweep_case_from_start<A: Allocator + Copy>(
     rt: &impl Abort,
     heap: &RefusingAllocator,
@@ -144,7 +147,7 @@ fn sweep_case_from_start<A: Allocator + Copy>(
     )
 }
 
-/// All trees of each case, each allocation refused in turn.
+/// Finds all trees of each case, with each allocation refused in turn.
 #[test]
 fn trees_at_once(rt: HostRuntime) -> Result<(), Fail> {
     let heap = RefusingAllocator::new(rt.alloc());

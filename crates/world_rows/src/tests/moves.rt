@@ -1,4 +1,4 @@
-//! Which events move an active view: the log says so of each.
+//! Which events change an active view: each entry of the log says whether its event does.
 use crate::tests::alike::Group;
 use group_events::{Act, play_act};
 use node_names::Limits;
@@ -7,10 +7,11 @@ use std::test::Fail;
 use test_support::lend;
 use world::WorldError;
 
-/// An event, and whether it moves an active view.
+/// An event, and whether it changes an active view.
 type Turn = (Act, bool);
 
-/// Two nodes, of which one broadcasts and then loses its link twice. What stops has no view any more, and moves none.
+/// Two nodes, of which one broadcasts and then loses its link twice. A stopped node no longer has a view, so stopping
+/// changes none.
 const TURNS: &[Turn] = &[
     (Act::Start("a", 1, "b"), false),
     (Act::Start("b", 1, "a"), false),
@@ -25,7 +26,7 @@ const TURNS: &[Turn] = &[
     (Act::Stop("b"), false),
 ];
 
-/// Plays an event. Whether its entry says of a move what it should.
+/// Plays an event. Returns whether its entry in the log says correctly whether it changes an active view.
 fn is_said<A: Allocator + Copy>(
     alloc: A,
     world: &mut Group<A>,
@@ -36,7 +37,7 @@ fn is_said<A: Allocator + Copy>(
     Ok(is_named && newest.is_some_and(|entry| entry.moved == turn.1))
 }
 
-/// Plays the events. How many entries say what they should, up to the first that does not.
+/// Plays the events. Returns how many entries are right, up to the first that is not.
 fn count_said<A: Allocator + Copy>(alloc: A, world: &mut Group<A>) -> Result<usize, WorldError> {
     for (at, turn) in TURNS.iter().enumerate() {
         if !is_said(alloc, world, turn)? {
@@ -46,7 +47,7 @@ fn count_said<A: Allocator + Copy>(alloc: A, world: &mut Group<A>) -> Result<usi
     Ok(TURNS.len())
 }
 
-/// Does so in a fresh group.
+/// Calls `count_said` with a fresh group.
 fn count_said_from_start<A: Allocator + Copy>(alloc: A) -> Result<usize, WorldError> {
     let world = Group::new(alloc, Limits::STANDARD);
     lend(world, |world| count_said(alloc, world))

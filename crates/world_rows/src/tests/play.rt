@@ -1,4 +1,4 @@
-//! Playing the rows event by event.
+//! Plays the rows event by event.
 use crate::tests::alike::{Group, holds_given};
 use crate::tests::named::event;
 use crate::tests::rows::{Row, Turn, rows};
@@ -13,10 +13,10 @@ use world::{Delivery, Event, WorldError};
 /// What an event gives.
 pub(crate) type Answer<A> = Result<Vec<Delivery<A>, A>, WorldError>;
 
-/// What it should: its deliveries, each as `NODE ID PAYLOAD`, or its refusal.
+/// What an event should give: its deliveries, each as `NODE ID PAYLOAD`, or its refusal.
 pub(crate) type Wanted = Result<&'static [&'static str], WorldError>;
 
-/// Writes a delivery in place of what the text said.
+/// Replaces the text with a delivery.
 fn write_delivery<A: Allocator + Copy>(
     text: &mut String<A>,
     delivery: &Delivery<A>,
@@ -26,7 +26,7 @@ fn write_delivery<A: Allocator + Copy>(
     push_letters(text, delivery.payload.as_slice())
 }
 
-/// Whether deliveries have these texts, of which the last one compared is left.
+/// Whether deliveries have these texts. Leaves the last one that was compared in `text`.
 fn are_given<A: Allocator + Copy>(
     text: &mut String<A>,
     given: &[Delivery<A>],
@@ -54,7 +54,7 @@ pub(crate) fn is_answer<A: Allocator + Copy>(
     }
 }
 
-/// Plays an event. Whether it gave what it should.
+/// Plays an event. Returns whether it gave what it should.
 fn happens<A: Allocator + Copy>(
     text: &mut String<A>,
     world: &mut Group<A>,
@@ -65,7 +65,7 @@ fn happens<A: Allocator + Copy>(
     is_answer(text, &answer, wanted)
 }
 
-/// Plays a turn. Whether it gave what it should, and stands in the log just if it was accepted.
+/// Plays a turn. Returns whether it gave what it should, and is in the log exactly if it was accepted.
 fn is_turn<A: Allocator + Copy>(
     rt: &impl Abort,
     alloc: A,
@@ -80,7 +80,7 @@ fn is_turn<A: Allocator + Copy>(
     Ok(is_right && is_logged == turn.1.is_ok())
 }
 
-/// Plays turns. Whether each of them did so.
+/// Plays turns. Returns whether each gave what it should.
 pub(crate) fn are_turns<A: Allocator + Copy>(
     rt: &impl Abort,
     alloc: A,
@@ -96,12 +96,12 @@ pub(crate) fn are_turns<A: Allocator + Copy>(
     Ok(true)
 }
 
-/// Whether a group stands as it should at the end of a row.
+/// Whether a group is as it should be at the end of a row.
 fn is_end<A: Allocator + Copy>(world: &Group<A>, row: &Row) -> bool {
     world.sent().len() == row.sent && world.flight().len() == row.in_flight && holds_given(world)
 }
 
-/// Plays a row over ample memory. Whether it went as it should.
+/// Plays a row with ample memory. Returns whether it went as it should.
 fn is_row<A: Allocator + Copy>(
     rt: &impl Abort,
     alloc: A,
@@ -112,7 +112,7 @@ fn is_row<A: Allocator + Copy>(
     Ok(are_turns(rt, alloc, text, world, row.turns)? && is_end(world, row))
 }
 
-/// Does so in a fresh group.
+/// Calls `is_row` with a fresh group.
 fn is_row_from_start<A: Allocator + Copy>(
     rt: &impl Abort,
     alloc: A,

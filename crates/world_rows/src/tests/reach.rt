@@ -1,4 +1,5 @@
-//! Who is in reach of a name: by the fewest links that lead there, and of those as near by name.
+//! Which names are in reach of a name: sorted by the fewest links that lead to them, and by name if those are equally
+//! many.
 use crate::tests::alike::Group;
 use crate::tests::named::name;
 use crate::tests::rest::play_acts;
@@ -12,10 +13,10 @@ use std::test::Fail;
 use test_support::{lend, stop_refusing, sweep_each};
 use world::WorldError;
 
-/// A name, and those in reach of it between blanks.
+/// A name, and the names in reach of it, which are separated by blanks.
 type Asked = (&'static str, &'static str);
 
-/// A run, and who is in reach of whom at its end.
+/// A run, and which names are in reach of which at its end.
 #[derive(Clone, Copy)]
 struct Case {
     name: &'static str,
@@ -34,7 +35,7 @@ const CASES: &[Case] = &[
         acts: &[Act::Start("a", 1, "")],
         asked: &[("a", "a"), ("b", "")],
     },
-    // Nothing leads from a stopped node or to one, though b has a in its view.
+    // No link leads from a stopped node or to one, although b has a in its view.
     Case {
         name: "a stopped node",
         acts: &[
@@ -97,7 +98,7 @@ const CASES: &[Case] = &[
         ],
         asked: &[("a", "a z b"), ("b", "b z a")],
     },
-    // d is one link from a, and three by way of b and c. So e is as near as c.
+    // d is one link from a, although it is three links by way of b and c. So e is as near as c.
     Case {
         name: "of two paths the shorter one counts",
         acts: &[
@@ -124,7 +125,7 @@ const CASES: &[Case] = &[
         ],
         asked: &[("a", "a"), ("b", ""), ("c", "c")],
     },
-    // Its view is that of its last start, so that nothing leads to c any more.
+    // Its view is that of its last start, so no link leads to c any more.
     Case {
         name: "a node that starts again joins the path anew",
         acts: &[
@@ -162,12 +163,13 @@ const CASES: &[Case] = &[
     },
 ];
 
-/// All cases. The table is named here alone, since a function that names it is proved over the whole of it.
+/// Returns all cases. Only this function names the table, since a function that names it needs a proof about the whole
+/// table.
 fn cases() -> &'static [Case] {
     CASES
 }
 
-/// Whether these are the names of a text, in its order.
+/// Whether these are the names in a text, in the same order.
 fn are_named(names: &[NodeName], text: &str) -> bool {
     let mut words = text.split_whitespace();
     for name in names {
@@ -191,7 +193,7 @@ fn is_answer<A: Allocator>(
     }
 }
 
-/// Asks while the allocation with this number is refused. Whether there is such an allocation, or none if the answer is
+/// Asks while allocation number `n` is refused. Returns whether there is such an allocation, or `None` if the answer is
 /// wrong.
 fn refuse_allocation<A: Allocator + Copy>(
     heap: &RefusingAllocator,
@@ -207,7 +209,8 @@ fn refuse_allocation<A: Allocator + Copy>(
     lend(answer, |answer| is_answer(answer, is_spent, whole)).then_some(is_spent)
 }
 
-/// Asks about each name while each allocation is refused in turn. How many there are, or none if an answer is wrong.
+/// Asks about each name while each allocation is refused in turn. Returns their number, or `None` if an answer is
+/// wrong.
 fn sweep_asked<A: Allocator + Copy>(
     rt: &impl Abort,
     heap: &RefusingAllocator,
@@ -223,7 +226,7 @@ fn sweep_asked<A: Allocator + Copy>(
     })
 }
 
-/// Does so at the end of a case.
+/// Plays a case, and then calls `sweep_asked`.
 fn sweep_case<A: Allocator + Copy>(
     rt: &impl Abort,
     heap: &RefusingAllocator,
@@ -235,7 +238,7 @@ fn sweep_case<A: Allocator + Copy>(
     sweep_asked(rt, heap, alloc, world, case.asked)
 }
 
-/// Plays the case in a fresh group.
+/// Calls `sweep_case` with a fresh group.
 fn sweep_case_from_start<A: Allocator + Copy>(
     rt: &impl Abort,
     heap: &RefusingAllocator,
@@ -246,7 +249,7 @@ fn sweep_case_from_start<A: Allocator + Copy>(
     lend(world, |world| sweep_case(rt, heap, alloc, world, case))
 }
 
-/// Who is in reach, each allocation of the answer refused in turn.
+/// Finds the names in reach, with each allocation of the answer refused in turn.
 #[test]
 fn names_in_reach(rt: HostRuntime) -> Result<(), Fail> {
     let heap = RefusingAllocator::new(rt.alloc());

@@ -1,5 +1,5 @@
-//! What can be told of a group: whether it is at rest for a message, whether its links go both ways, and the message's
-//! tree.
+//! What can be said about a group: whether it is at rest for a message, whether its links go both ways, and the
+//! message's tree.
 use crate::tests::alike::Group;
 use crate::tests::named::id;
 use at_rest::{Branch, is_at_rest, is_symmetric, tree};
@@ -13,7 +13,7 @@ use std::test::Fail;
 use test_support::{lend, stop_refusing, sweep};
 use world::WorldError;
 
-/// A run, and what is told of its end.
+/// A run, and what is said about its end.
 #[derive(Clone, Copy)]
 pub(crate) struct Case {
     pub(crate) name: &'static str,
@@ -21,7 +21,7 @@ pub(crate) struct Case {
     is_symmetric: bool,
     pub(crate) id: Id,
     pub(crate) is_at_rest: bool,
-    /// The message's tree, a branch behind the other.
+    /// The message's tree, one branch per line.
     pub(crate) tree: &'static str,
 }
 
@@ -59,7 +59,7 @@ const CASES: &[Case] = &[
         is_at_rest: true,
         tree: "a/1 <- -\nb/1 <- a/1\n",
     },
-    // Nothing is on its way any more, and yet b lacks the message: a loss disturbs.
+    // Nothing is in flight any more, and yet b lacks the message: a loss is a disturbance.
     Case {
         name: "a packet that was lost",
         acts: &[
@@ -73,7 +73,7 @@ const CASES: &[Case] = &[
         is_at_rest: true,
         tree: "a/1 <- -\n",
     },
-    // c has the message from b and not from a, whose packet to it comes later.
+    // c has the message from b and not from a, whose packet to c arrives later.
     Case {
         name: "a message that went a longer way",
         acts: &[
@@ -122,7 +122,8 @@ const CASES: &[Case] = &[
     },
 ];
 
-/// All cases. The table is named here alone, since a function that names it is proved over the whole of it.
+/// Returns all cases. Only this function names the table, since a function that names it needs a proof about the whole
+/// table.
 pub(crate) fn cases() -> &'static [Case] {
     CASES
 }
@@ -148,7 +149,7 @@ fn push_line<A: Allocator>(text: &mut String<A>, branch: &Branch) -> Result<(), 
     }
 }
 
-/// Whether branches have this text, in place of what the text said.
+/// Replaces the text with the branches. Returns whether that is `wanted`.
 pub(crate) fn is_drawn<A: Allocator>(
     text: &mut String<A>,
     branches: &[Branch],
@@ -173,8 +174,8 @@ fn is_answer<A: Allocator>(
     }
 }
 
-/// Asks while the allocation with this number is refused. Whether there is such an allocation, or none if the answer is
-/// wrong.
+/// Asks for a tree while allocation number `n` is refused. Returns whether there is such an allocation, or `None` if
+/// the answer is wrong.
 fn refuse_allocation<A: Allocator + Copy>(
     heap: &RefusingAllocator,
     alloc: A,
@@ -189,8 +190,8 @@ fn refuse_allocation<A: Allocator + Copy>(
     lend(answer, |answer| is_answer(answer, is_spent, whole)).then_some(is_spent)
 }
 
-/// Compares a tree with its text, and then asks for it while each allocation is refused in turn. How many allocations
-/// there are, or none if an answer is wrong.
+/// Compares a tree with its text, and then asks for it with each allocation refused in turn. Returns their number, or
+/// `None` if an answer is wrong.
 fn sweep_tree<A: Allocator + Copy>(
     heap: &RefusingAllocator,
     alloc: A,
@@ -208,7 +209,8 @@ fn sweep_tree<A: Allocator + Copy>(
     }
 }
 
-/// Whether two questions are answered as they should be, without an allocation.
+/// Whether the two questions whether the group is at rest and whether its links go both ways are answered as they
+/// should be, without an allocation.
 fn is_told<A: Allocator + Copy>(
     heap: &RefusingAllocator,
     world: &Group<A>,
@@ -222,7 +224,7 @@ fn is_told<A: Allocator + Copy>(
     is_rest_told && is_symmetry_told && !is_spent
 }
 
-/// Asks all three questions. How many allocations the tree has, or none if an answer is wrong.
+/// Asks all three questions. Returns how many allocations the tree takes, or `None` if an answer is wrong.
 fn sweep_told<A: Allocator + Copy>(
     rt: &impl Abort,
     heap: &RefusingAllocator,
@@ -239,7 +241,7 @@ fn sweep_told<A: Allocator + Copy>(
     }
 }
 
-/// Does so at the end of a case.
+/// Plays a case, and then calls `sweep_told`.
 fn sweep_case<A: Allocator + Copy>(
     rt: &impl Abort,
     heap: &RefusingAllocator,
@@ -252,7 +254,7 @@ fn sweep_case<A: Allocator + Copy>(
     Ok(sweep_told(rt, heap, alloc, text, world, case)?)
 }
 
-/// Plays the case in a fresh group.
+/// Calls `sweep_case` with a fresh group.
 fn sweep_case_from_start<A: Allocator + Copy>(
     rt: &impl Abort,
     heap: &RefusingAllocator,
@@ -267,7 +269,7 @@ fn sweep_case_from_start<A: Allocator + Copy>(
     )
 }
 
-/// Trees with each of their allocations refused in turn, and two questions whose answers have none.
+/// Asks for trees with each of their allocations refused in turn, and asks two questions that allocate nothing.
 #[test]
 fn trees_and_rest(rt: HostRuntime) -> Result<(), Fail> {
     let heap = RefusingAllocator::new(rt.alloc());

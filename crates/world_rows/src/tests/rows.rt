@@ -7,7 +7,7 @@ use world::WorldError;
 /// An event and what it gives.
 pub(crate) type Turn = (Act, Wanted);
 
-/// A run, and how many packets it sent and left in flight.
+/// A run, how many packets it sent, and how many it left in flight.
 #[derive(Clone, Copy)]
 pub(crate) struct Row {
     pub(crate) name: &'static str,
@@ -16,7 +16,7 @@ pub(crate) struct Row {
     pub(crate) in_flight: usize,
 }
 
-/// That the first incarnation of a name has run.
+/// The error for a name whose first incarnation has already run.
 const STALE: WorldError = WorldError::StaleIncarnation {
     highest: Incarnation(1),
 };
@@ -75,7 +75,7 @@ const ROWS: &[Row] = &[
         sent: 2,
         in_flight: 0,
     },
-    // What a node's restart forgets, its next incarnation delivers once more.
+    // A node that restarts forgets which messages it delivered, so its next incarnation delivers them again.
     Row {
         name: "each incarnation delivers a message of its own",
         turns: &[
@@ -104,7 +104,7 @@ const ROWS: &[Row] = &[
             (Act::Arrive(0), Err(WorldError::NoPacket)),
             (Act::Start("a", 1, "b"), Ok(&[])),
             (Act::Start("a", 1, "b"), Err(STALE)),
-            // A stale incarnation is told before peers that do not fit.
+            // A stale incarnation is reported before peers that do not fit.
             (Act::Start("a", 1, "a"), Err(STALE)),
             (
                 Act::BroadcastZeros("a", 32_769),
@@ -116,7 +116,7 @@ const ROWS: &[Row] = &[
             (Act::Arrive(1), Err(WorldError::NoPacket)),
             (Act::Stop("a"), Ok(&[])),
             (Act::Broadcast("a", "x"), Err(WorldError::NotRunning)),
-            // A stopped node is told before a payload that is too long.
+            // A stopped node is reported before a payload that is too long.
             (
                 Act::BroadcastZeros("a", 32_769),
                 Err(WorldError::NotRunning),
@@ -126,7 +126,7 @@ const ROWS: &[Row] = &[
         sent: 1,
         in_flight: 1,
     },
-    // The packets of a's first message: number 0 to b, 1 to c. What b sends on to c is number 2.
+    // The packets of a's first message are number 0 to b and number 1 to c. The one that b sends on to c is number 2.
     Row {
         name: "a loss keeps a packet from one node, and a repeat brings it after all",
         turns: &[
@@ -167,7 +167,8 @@ const ROWS: &[Row] = &[
     },
 ];
 
-/// All rows. The table is named here alone, since a function that names it is proved over the whole of it.
+/// Returns all rows. Only this function names the table, since a function that names it needs a proof about the whole
+/// table.
 pub(crate) fn rows() -> &'static [Row] {
     ROWS
 }

@@ -1,5 +1,5 @@
-//! Rows in which each allocation is refused in turn: the refusal is as out of memory, the group is as it was before the
-//! refused event, and the event made again answers as if nothing had been refused.
+//! Rows in which each allocation is refused in turn: the event fails as out of memory, the group is as it was before
+//! it, and the event made again gives what it would have given had nothing been refused.
 use crate::tests::alike::{Group, are_alike, holds_given};
 use crate::tests::named::event;
 use crate::tests::play::{Answer, Wanted, are_turns, is_answer};
@@ -12,7 +12,7 @@ use std::test::Fail;
 use test_support::{lend, stop_refusing, sweep, sweep_each};
 use world::{Event, Given, RunFault, WorldError};
 
-/// Plays turns, none of which is refused an allocation.
+/// Plays turns without refusing an allocation.
 fn play_turns<A: Allocator + Copy>(
     rt: &impl Abort,
     alloc: A,
@@ -25,7 +25,7 @@ fn play_turns<A: Allocator + Copy>(
     Ok(())
 }
 
-/// Whether an event was refused as out of memory. Otherwise it gave what it should.
+/// Whether an event failed as out of memory. Stops the test unless it otherwise gave what it should.
 fn is_refused<A: Allocator + Copy>(
     rt: &impl Abort,
     text: &mut String<A>,
@@ -40,8 +40,8 @@ fn is_refused<A: Allocator + Copy>(
     Ok(false)
 }
 
-/// Plays an event while the allocation with this number is refused. Whether there is such an allocation, and whether it
-/// is refused.
+/// Plays an event while allocation number `n` is refused. Returns whether there is such an allocation, and whether the
+/// event fails.
 fn try_event<A: Allocator + Copy>(
     rt: &impl Abort,
     heap: &RefusingAllocator,
@@ -58,7 +58,7 @@ fn try_event<A: Allocator + Copy>(
     Ok((is_spent, is_refused))
 }
 
-/// Plays a turn while the allocation with this number is refused, and again if it is refused. Whether there is such an
+/// Plays a turn while allocation number `n` is refused, and again if it failed. Returns whether there is such an
 /// allocation.
 fn refuse_turn<A: Allocator + Copy>(
     rt: &impl Abort,
@@ -80,8 +80,8 @@ fn refuse_turn<A: Allocator + Copy>(
     Ok(is_spent)
 }
 
-/// Goes on in two groups, the allocation with this number of the first event refused in the one. Whether there is such
-/// an allocation.
+/// Plays turns in two groups, with allocation number `n` of the first event refused in `world`. Returns whether there
+/// is such an allocation.
 fn go_on<A: Allocator + Copy>(
     rt: &impl Abort,
     heap: &RefusingAllocator,
@@ -101,8 +101,8 @@ fn go_on<A: Allocator + Copy>(
     Ok(is_spent)
 }
 
-/// Plays a row in two groups, the allocation with this number of the event at this place refused in the one. Whether
-/// there is such a allocation.
+/// Plays a row in two groups, with allocation number `n` of the event at place `at` refused in `world`. Returns whether
+/// there is such an allocation.
 fn sweep_groups<A: Allocator + Copy>(
     rt: &impl Abort,
     heap: &RefusingAllocator,
@@ -123,7 +123,7 @@ fn sweep_groups<A: Allocator + Copy>(
     Ok(is_spent)
 }
 
-/// Does so beside a fresh group.
+/// Calls `sweep_groups` with a fresh twin.
 fn sweep_beside<A: Allocator + Copy>(
     rt: &impl Abort,
     heap: &RefusingAllocator,
@@ -140,7 +140,7 @@ fn sweep_beside<A: Allocator + Copy>(
     })
 }
 
-/// Does so in a fresh group too.
+/// Calls `sweep_beside` with a fresh group.
 fn sweep_turn<A: Allocator + Copy>(
     rt: &impl Abort,
     heap: &RefusingAllocator,
@@ -157,7 +157,7 @@ fn sweep_turn<A: Allocator + Copy>(
     )
 }
 
-/// Refuses each allocation of each event of a row in turn. How many there are, or none if that has no end.
+/// Refuses in turn each allocation of each event of a row. Returns their number, or `None` if that does not end.
 fn sweep_row<A: Allocator + Copy>(
     rt: &impl Abort,
     heap: &RefusingAllocator,
@@ -170,7 +170,7 @@ fn sweep_row<A: Allocator + Copy>(
     })
 }
 
-/// Every event of every row, each of its allocations refused in turn.
+/// Plays every event of every row, with each of its allocations refused in turn.
 #[test]
 fn each_allocation_of_each_event(rt: HostRuntime) -> Result<(), Fail> {
     let heap = RefusingAllocator::new(rt.alloc());
@@ -184,7 +184,7 @@ fn each_allocation_of_each_event(rt: HostRuntime) -> Result<(), Fail> {
     Ok(())
 }
 
-/// Appends the events of turns that are accepted.
+/// Appends the events of those turns that are accepted.
 fn push_accepted<A: Allocator + Copy>(
     rt: &impl Abort,
     alloc: A,
@@ -200,7 +200,7 @@ fn push_accepted<A: Allocator + Copy>(
     Ok(())
 }
 
-/// Where a run stopped as out of memory, if it did.
+/// Returns where a run stopped as out of memory, if it did.
 fn stop_of<A: Allocator + Copy>(
     rt: &impl Abort,
     outcome: &Result<Vec<Given<A>, A>, RunFault<A>>,
@@ -214,8 +214,8 @@ fn stop_of<A: Allocator + Copy>(
     }
 }
 
-/// Plays events while the allocation with this number is refused. Whether there is such an allocation, and where the
-/// run stopped.
+/// Runs events while allocation number `n` is refused. Returns whether there is such an allocation, and where the run
+/// stopped, if it did.
 fn try_run<A: Allocator + Copy>(
     rt: &impl Abort,
     heap: &RefusingAllocator,
@@ -229,12 +229,12 @@ fn try_run<A: Allocator + Copy>(
     (is_spent, stop_of(rt, &outcome))
 }
 
-/// Plays events, none of which is refused.
+/// Runs events, none of which is refused.
 fn run<A: Allocator + Copy>(rt: &impl Abort, world: &mut Group<A>, events: &[Event<A>]) {
     assert!(rt; world.run(events).is_ok());
 }
 
-/// Goes on with a run from the event at which it stopped, and plays the run in another group.
+/// Continues a run from the event at which it stopped, and plays the same run in another group.
 fn resume<A: Allocator + Copy>(
     rt: &impl Abort,
     world: &mut Group<A>,
@@ -250,7 +250,8 @@ fn resume<A: Allocator + Copy>(
     run(rt, twin, from);
 }
 
-/// Plays events in two groups, the allocation with this number refused in the one. Whether there is such an allocation.
+/// Runs events in two groups, with allocation number `n` refused in `world`. Returns whether there is such an
+/// allocation.
 fn run_groups<A: Allocator + Copy>(
     rt: &impl Abort,
     heap: &RefusingAllocator,
@@ -271,7 +272,7 @@ fn run_groups<A: Allocator + Copy>(
     is_spent
 }
 
-/// Does so beside a fresh group.
+/// Calls `run_groups` with a fresh twin.
 fn run_beside<A: Allocator + Copy>(
     rt: &impl Abort,
     heap: &RefusingAllocator,
@@ -284,7 +285,7 @@ fn run_beside<A: Allocator + Copy>(
     lend(twin, |twin| run_groups(rt, heap, world, twin, events, n))
 }
 
-/// Does so in a fresh group too.
+/// Calls `run_beside` with a fresh group.
 fn sweep_run<A: Allocator + Copy>(
     rt: &impl Abort,
     heap: &RefusingAllocator,
@@ -296,8 +297,8 @@ fn sweep_run<A: Allocator + Copy>(
     lend(world, |world| run_beside(rt, heap, alloc, world, events, n))
 }
 
-/// Refuses each allocation of a run of the events of a row that are accepted in turn. How many there are, or none if
-/// that has no end.
+/// Refuses in turn each allocation of a run of the accepted events of a row. Returns their number, or `None` if that
+/// does not end.
 fn sweep_accepted<A: Allocator + Copy>(
     rt: &impl Abort,
     heap: &RefusingAllocator,
@@ -309,7 +310,7 @@ fn sweep_accepted<A: Allocator + Copy>(
     sweep(|n| Ok(Some(sweep_run(rt, heap, alloc, events.as_slice(), n))))
 }
 
-/// Every row as one run, each of its allocations refused in turn.
+/// Plays every row as one run, with each of its allocations refused in turn.
 #[test]
 fn each_allocation_of_each_run(rt: HostRuntime) -> Result<(), Fail> {
     let heap = RefusingAllocator::new(rt.alloc());

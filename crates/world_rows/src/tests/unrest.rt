@@ -1,4 +1,5 @@
-//! The messages that a group is not at rest for, found at once: each is told of as it is alone.
+//! The messages for which a group is not at rest, found at once: the answer for each is the one that is found for it
+//! alone.
 use crate::tests::alike::Group;
 use crate::tests::named::id;
 use crate::tests::rest::{Case, cases, play_acts};
@@ -11,12 +12,12 @@ use std::test::Fail;
 use test_support::{lend, stop_refusing, sweep};
 use world::{Delivery, WorldError};
 
-/// Whether the group is told to be at rest for a message just as it is told of it alone.
+/// Whether `unrest` says that the group is at rest for a message exactly if `is_at_rest` does.
 fn is_told<A: Allocator + Copy>(world: &Group<A>, unrest: &Unrest<A>, message: &MsgId) -> bool {
     unrest.is_at_rest(message) == is_at_rest(world, message)
 }
 
-/// Whether it is for the messages of these deliveries.
+/// Whether `is_told` holds for the messages of these deliveries.
 fn are_told<A: Allocator + Copy>(
     world: &Group<A>,
     unrest: &Unrest<A>,
@@ -27,7 +28,8 @@ fn are_told<A: Allocator + Copy>(
         .all(|delivery| is_told(world, unrest, &delivery.id))
 }
 
-/// Whether it is for each message that was said, since who says a message delivers it.
+/// Whether `is_told` holds for each message that was broadcast. The log has them all, since the node that broadcasts a
+/// message also delivers it.
 fn are_said<A: Allocator + Copy>(world: &Group<A>, unrest: &Unrest<A>) -> bool {
     world
         .log()
@@ -35,7 +37,7 @@ fn are_said<A: Allocator + Copy>(world: &Group<A>, unrest: &Unrest<A>) -> bool {
         .all(|entry| are_told(world, unrest, entry.given.as_slice()))
 }
 
-/// Whether the message of the case, all that were said and another one are told of as they should be.
+/// Whether the answers for the message of the case, for all messages that were broadcast and for another one are right.
 fn is_unrest<A: Allocator + Copy>(
     rt: &impl Abort,
     world: &Group<A>,
@@ -50,7 +52,7 @@ fn is_unrest<A: Allocator + Copy>(
         && are_said(world, unrest)
 }
 
-/// Whether this is the answer, or a refusal if an allocation was refused.
+/// Whether the answer is right, or a failure if an allocation was refused.
 fn is_answer<A: Allocator + Copy>(
     rt: &impl Abort,
     world: &Group<A>,
@@ -64,8 +66,8 @@ fn is_answer<A: Allocator + Copy>(
     }
 }
 
-/// Finds them while the allocation with this number is refused. Whether there is such an allocation, or none if the
-/// answer is wrong.
+/// Finds the messages while allocation number `n` is refused. Returns whether there is such an allocation, or `None` if
+/// the answer is wrong.
 fn refuse_allocation<A: Allocator + Copy>(
     rt: &impl Abort,
     heap: &RefusingAllocator,
@@ -84,7 +86,8 @@ fn refuse_allocation<A: Allocator + Copy>(
     is_right.then_some(is_spent)
 }
 
-/// Does so at the end of a case, each allocation refused in turn. How many there are, or none if an answer is wrong.
+/// Plays a case, and then finds the messages with each allocation refused in turn. Returns their number, or `None` if
+/// an answer is wrong.
 fn sweep_case<A: Allocator + Copy>(
     rt: &impl Abort,
     heap: &RefusingAllocator,
@@ -97,7 +100,7 @@ fn sweep_case<A: Allocator + Copy>(
     sweep(|n| Ok(refuse_allocation(rt, heap, alloc, world, case, n)))
 }
 
-/// Plays the case in a fresh group.
+/// Calls `sweep_case` with a fresh group.
 fn sweep_case_from_start<A: Allocator + Copy>(
     rt: &impl Abort,
     heap: &RefusingAllocator,
@@ -108,7 +111,7 @@ fn sweep_case_from_start<A: Allocator + Copy>(
     lend(world, |world| sweep_case(rt, heap, alloc, world, case))
 }
 
-/// All rests of each case, each allocation refused in turn.
+/// Finds the messages of each case, with each allocation refused in turn.
 #[test]
 fn rests_at_once(rt: HostRuntime) -> Result<(), Fail> {
     let heap = RefusingAllocator::new(rt.alloc());

@@ -1,4 +1,4 @@
--- The ids of packets in flight are added to none, and those of nodes to these.
+-- The ids of packets in flight are added to the empty set, and then those of nodes.
 use Rattle.std.proofs.Common.{List, [], subst}
 use Rattle.node_names.specs.declared.ids.MsgId.{MsgId}
 use Rattle.at_rest.specs.Unrest.{Adds, flight_ids}

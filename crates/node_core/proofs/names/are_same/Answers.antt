@@ -1,4 +1,4 @@
--- Two sets are the same where each is a subset of the other.
+-- Two sets are the same if each is a subset of the other.
 use Rattle.std.proofs.Common.{◌≡◌, true, false, sym, ◌∙◌}
 use Rattle.node_core.proofs.SameSets.{same_from_subsets}
 use Rattle.node_core.proofs.names.are_same.Goals as goal

@@ -1,4 +1,4 @@
--- The view has moved where the sets are not the same.
+-- The view has changed if the sets are not the same.
 use Rattle.std.proofs.Common.{◌≡◌, List, true, ◌∙◌, ap, subst}
 use Rattle.std.specs.Prelude.{◌↔◌, not}
 use Rattle.node_names.specs.NodeName.{Name}

@@ -1,4 +1,4 @@
--- What was played is printed, also where it ended early.
+-- What was played is printed, even if the run ended early.
 use Rattle.std.proofs.Common.{◌≡◌, subst}
 use Rattle.world.specs.Group.{Logged}
 use Rattle.frames.specs.Content.{frame_content}

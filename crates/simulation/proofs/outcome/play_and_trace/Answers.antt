@@ -1,4 +1,4 @@
--- Where all ended well, all was played, and what was told is the run of the group that played it.
+-- If there was no error, all was played, and what was written is the run of the group that played it.
 use Rattle.std.proofs.Common.{◌≡◌, subst}
 use Rattle.frames.specs.Frame.{Frame}
 use Rattle.node_core.specs.Plum.{Plum, plum_state}

@@ -1,4 +1,4 @@
--- The text is refused in each form where it is no scenario.
+-- The text is refused in each form if it is not a scenario.
 use Rattle.simulation.proofs.program.play_known.Goals as goal
 
 pub returns-clause-refused : goal.returns-clause-refused

@@ -1,4 +1,4 @@
--- The place, where there is one.
+-- The place, if there is one.
 use Rattle.std.proofs.Common.{◌∙◌, ℕ, Option, ap}
 use Rattle.std.specs.Option.{unwrap_or}
 use Rattle.simulation.proofs.ranks.rank_of_node.Goals as goal

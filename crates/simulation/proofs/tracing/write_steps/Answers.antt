@@ -1,4 +1,4 @@
--- Each step is told after those before it.
+-- Each step is written after those before it.
 use Rattle.std.proofs.Common.{◌≡◌, ◌++◌, ◌∙◌, ◌+◌, ℕ, suc, [], arith, length, refl, ap, subst}
 use Rattle.std.proofs.lemmas.Option.{slice_get_read}
 use Rattle.world.specs.Entry.{Entry}

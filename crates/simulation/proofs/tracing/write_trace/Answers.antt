@@ -1,4 +1,4 @@
--- The steps are told, and then the end.
+-- The steps are written, and then the end.
 use Rattle.std.proofs.Common.{◌++◌, append_assoc}
 use Rattle.simulation.proofs.Oks.{on_ok_weaker}
 use Rattle.simulation.proofs.Texts.{written}

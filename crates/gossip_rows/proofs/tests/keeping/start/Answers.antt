@@ -1,4 +1,4 @@
--- Nobody is there twice.
+-- An empty list of peers has no duplicates.
 use Rattle.std.specs.List.{IsDistinct}
 use Rattle.gossip_rows.proofs.tests.keeping.start.Goals as goal
 

@@ -1,4 +1,4 @@
--- Nobody is no more than there are places, and not the owner.
+-- An empty list of peers fits into the active view, has no duplicates and does not contain the owner.
 use Rattle.std.proofs.Common.{arith, refl}
 use Rattle.std.specs.List.{IsDistinct}
 use Rattle.membership_rows.proofs.tests.play.lone.Goals as goal

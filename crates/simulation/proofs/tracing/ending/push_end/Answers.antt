@@ -1,4 +1,4 @@
--- The end of a run is told node by node and message by message.
+-- The end of a run is printed node by node and message by message.
 use Rattle.std.proofs.Common.{◌∙◌, List, ap, refl, subst}
 use Rattle.std.specs.Prelude.{IsPermutation, reverse}
 use Rattle.node_names.specs.declared.ids.MsgId.{MsgId}

@@ -1,4 +1,4 @@
--- What was played is told by its entry, the newest of the log.
+-- The text of what was played comes from its entry, the newest of the log.
 use Rattle.std.proofs.Common.{◌++◌, ◌∙◌, ℕ, List, ap, append_assoc, string_bytes, subst}
 use Rattle.trace_text.specs.Parts.{Parts}
 use Rattle.trace_text.specs.Step.{step_text}

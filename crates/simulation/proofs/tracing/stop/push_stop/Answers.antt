@@ -1,4 +1,4 @@
--- What is told of a refused event.
+-- What is printed for a refused event.
 use Rattle.std.proofs.Common.{◌++◌, refl}
 use Rattle.simulation.proofs.Oks.{on_ok_weaker}
 use Rattle.trace_text.proofs.Texts.{joined}
