@@ -1,5 +1,5 @@
 //! The program over any system: its arguments, its scenario and its two streams.
-ghost use Rattle.std.specs.Prelude.{◌≡◌, ◌≤◌};
+ghost use Rattle.std.specs.Prelude.{◌≡◌, ◌≤◌, IfSome};
 
 use crate::arguments;
 use crate::arguments::{Request, Task};
@@ -10,8 +10,10 @@ use crate::unfit::{Unfit, unfit_for};
 use clap::error::ErrorKind;
 use loopback::Machine;
 use simulation::{
-    Form, ScenarioError, play_input, read_text, report, report_unknown, report_unread, status_after,
+    Form, ScenarioError, play_input, read_text, report, report_unknown, report_unread,
+    report_value, status_after,
 };
+use std::alloc::Global;
 use std::env::Env;
 use std::io::{Input, Read, Write};
 use std::net::{Net, TcpListener, TcpStream};
@@ -114,8 +116,8 @@ where
     }
 }
 
-/// Plays or runs the scenario of a text. If `is_strict`, one that has nothing to do for the task is rejected; otherwise
-/// that is reported once the task is done.
+/// Plays or runs the scenario of a text. What a strict reader rejects ends it before; otherwise what the scenario lacks
+/// for the task is reported once that is done.
 fn perform_text<R, W, F>(
     rt: &R,
     task: Task,
@@ -132,17 +134,28 @@ where
     ensures { result ≤ 2 }
 {
     let unfit = unfit_for(rt.alloc(), task, text);
-    if is_strict
-        && let Some(unfit) = unfit
-        && unfit != Unfit::Neither
-    {
-        return report(faults, unfit, 2);
+    if is_strict && let Some(status) = reject(rt.alloc(), text, unfit, faults) {
+        return status;
     }
     let status = play_or_run(rt, task, form, is_strict, text, out, faults);
     if status == 0 && !is_strict {
         note_unfit(unfit, faults)
     } else {
         status
+    }
+}
+
+/// Reports an unknown key of a scenario, or that it is for the other command. Returns the exit status if there is such a
+/// fault.
+fn reject<F: Write>(alloc: Global, text: &[u8], unfit: Option<Unfit>, faults: &mut F) -> Option<u8>
+    ensures { IfSome result (λ status. status ≤ 2) }
+{
+    if let Some(status) = report_unknown(alloc, text, faults) {
+        return Some(status);
+    }
+    match unfit {
+        None | Some(Unfit::Neither) => None,
+        Some(unfit) => Some(report(faults, unfit, 2)),
     }
 }
 
@@ -179,7 +192,7 @@ where
     }
 }
 
-/// Runs the nodes of a text's scenario.
+/// Runs the nodes of a text's scenario, without looking for unknown keys.
 fn run_text<R, W, F>(
     rt: &R,
     form: Form,
@@ -194,26 +207,17 @@ where
     F: Write,
     ensures { result ≤ 2 }
 {
-    if is_strict && let Some(status) = report_unknown(rt.alloc(), text, faults) {
-        return status;
-    }
-    run_known(rt, form, text, out, faults)
-}
-
-/// Runs the nodes of a text's scenario, and ignores keys that have no meaning.
-fn run_known<R, W, F>(rt: &R, form: Form, text: &[u8], out: &mut W, faults: &mut F) -> u8
-where
-    R: AllocGlobal + Files + Machine,
-    W: Write,
-    F: Write,
-    ensures { result ≤ 2 }
-{
     let alloc = rt.alloc();
     let is_plain = form == Form::Lines;
     let mut progress = Progress::new(faults, is_terminal(rt, alloc));
     let ended = run_group(*rt, alloc, form, text, out, &mut progress);
     let is_told = progress.end();
-    let status = conclude_run(is_plain, ended, faults);
+    let status = match ended {
+        Err(GroupError::Refused(ScenarioError::Refused { place, key })) if is_strict => {
+            report_value(alloc, text, place, key, faults)
+        }
+        ended => conclude_run(is_plain, ended, faults),
+    };
     if status == 0 && !is_told { 1 } else { status }
 }
 

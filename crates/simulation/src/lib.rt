@@ -27,6 +27,6 @@ pub use play::{Idle, MOST_ARRIVALS, PlayError};
 pub use program::{conclude, play_input, report, report_unread, status_after};
 pub use read::{MAX_SCENARIO_BYTES, read_document, read_text};
 pub use scenario::{Action, Key, MOST_EVENTS, Place, Scenario, ScenarioError, Section, limits_of};
-pub use strict::report_unknown;
+pub use strict::{report_unknown, report_value};
 pub use tracing::{Stop, write_trace};
 pub use trees::{broadcasts, write_trees};

@@ -16,7 +16,7 @@ use crate::outcome::{draw, simulate, trace};
 use crate::play::PlayError;
 use crate::read::read_text;
 use crate::scenario::ScenarioError;
-use crate::strict::{report_idle, report_unknown};
+use crate::strict::{report_idle, report_unknown, report_value};
 use std::alloc::Global;
 use std::fmt::Display;
 use std::io;
@@ -88,6 +88,11 @@ fn play_known<W: Write, F: Write>(
     let ended = write_outcome(alloc, form, is_strict, text, out);
     if let Err(SimulationError::Stopped(PlayError::Idle { event, why })) = ended {
         return report_idle(alloc, text, event, why, faults);
+    }
+    if is_strict
+        && let Err(SimulationError::Refused(ScenarioError::Refused { place, key })) = ended
+    {
+        return report_value(alloc, text, place, key, faults);
     }
     conclude(ended, faults)
 }

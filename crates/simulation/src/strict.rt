@@ -4,7 +4,7 @@ ghost use Rattle.std.specs.Prelude.{◌≡◌, ◌⊎◌, None, IfSome};
 use crate::play::Idle;
 use crate::program::report;
 use crate::read::read_document;
-use crate::scenario::{Place, event_line, key_line};
+use crate::scenario::{Key, Place, event_line, key_line};
 use std::alloc::Global;
 use std::fmt;
 use std::io::Write;
@@ -46,6 +46,24 @@ impl fmt::Display for Unknown<'_> {
     }
 }
 
+/// A value that is missing, of the wrong type or out of range.
+#[derive(Drop)]
+struct BadValue {
+    place: Place,
+    key: Key,
+    line: Option<usize>,
+}
+
+impl fmt::Display for BadValue {
+    fn fmt<W: fmt::Write>(&self, f: &mut fmt::Formatter<W>) -> fmt::Result {
+        let (place, key) = (self.place, self.key);
+        match self.line {
+            Some(line) => write!(f, "scenario: {place}, line {line}: {key}"),
+            None => write!(f, "scenario: {place}: {key}"),
+        }
+    }
+}
+
 /// An event that does nothing.
 #[derive(Drop)]
 struct IdleEvent {
@@ -74,7 +92,7 @@ pub fn report_unknown<F: Write>(alloc: Global, text: &[u8], faults: &mut F) -> O
         return None;
     };
     let (place, key) = unknown_key(&document)?;
-    let line = key_line(text, place, events_of(&document), key);
+    let line = key_line(text, place, tables_at(&document, place), key);
     Some(report(faults, Unknown { place, key, line }, 2))
 }
 
@@ -95,9 +113,34 @@ pub fn report_idle<F: Write>(
     report(faults, IdleEvent { event, why, line }, 1)
 }
 
+/// Reports which value of a scenario is refused, with its line if that is found. Returns the program's exit status.
+pub fn report_value<F: Write>(
+    alloc: Global,
+    text: &[u8],
+    place: Place,
+    key: Key,
+    faults: &mut F,
+) -> u8
+    ensures { (result ≡ 1) ⊎ (result ≡ 2) }
+{
+    let line = match read_document(alloc, text) {
+        Ok(document) => key_line(text, place, tables_at(&document, place), key.word()),
+        Err(_) => None,
+    };
+    report(faults, BadValue { place, key, line }, 2)
+}
+
 /// How many events a document has.
 fn events_of(document: &Table) -> usize {
     tables(document, "event").len()
+}
+
+/// How many tables stand in the list that a place is in: nodes for a node, and events otherwise.
+fn tables_at(document: &Table, place: Place) -> usize {
+    match place {
+        Place::Node(_) => tables(document, "node").len(),
+        _ => events_of(document),
+    }
 }
 
 /// The tables at a key, or no tables if it is left out or not a list.

@@ -6,40 +6,50 @@ use std::str;
 /// the events are not all written under a line `[[event]]` of their own.
 pub fn event_line(source: &[u8], events: usize, number: usize) -> Option<usize> {
     let text = str::from_utf8(source).ok()?;
-    if headers(text) == events {
-        header_line(text, number)
+    table_line(text, "event", events, number)
+}
+
+/// The line, counted from 1, of a key in the table of a place, in a scenario with this number of events, or of nodes if
+/// the place is a node. If the key of an event, a node or the limits is not found, this is the line on which these begin.
+/// `None` if no line is found.
+pub fn key_line(source: &[u8], place: Place, tables: usize, key: &str) -> Option<usize> {
+    let text = str::from_utf8(source).ok()?;
+    let header = match place {
+        Place::Top => return section_line(text, key),
+        Place::Limits => section_line(text, "limits")?,
+        Place::Event(number) => table_line(text, "event", tables, number)?,
+        Place::Node(number) => table_line(text, "node", tables, number)?,
+    };
+    let found = key_after(text, header, key);
+    Some(found.unwrap_or(header))
+}
+
+/// The line, counted from 1, on which the table with this number begins, of `tables` tables at this key. `None` if they
+/// are not all written under a header of their own.
+fn table_line(text: &str, name: &str, tables: usize, number: usize) -> Option<usize> {
+    if headers(text, name) == tables {
+        header_line(text, name, number)
     } else {
         None
     }
 }
 
-/// The line, counted from 1, of a key in the table of a place, in a scenario with `events` events. If the key of an
-/// event is not found, this is the line of the event itself. `None` for limits and nodes, and if no line is found.
-pub fn key_line(source: &[u8], place: Place, events: usize, key: &str) -> Option<usize> {
-    let text = str::from_utf8(source).ok()?;
-    match place {
-        Place::Event(number) => {
-            let header = event_line(source, events, number)?;
-            let found = key_after(text, header, key);
-            Some(found.unwrap_or(header))
+/// How many lines begin a section of this name.
+fn headers(text: &str, name: &str) -> usize {
+    let mut count = 0usize;
+    for line in text.lines() {
+        if is_header_of(line, name) {
+            count = count.saturating_add(1);
         }
-        Place::Top => section_line(text, key),
-        _ => None,
     }
+    count
 }
 
-/// How many lines begin an event.
-fn headers(text: &str) -> usize {
-    text.lines()
-        .filter(|line| is_header_of(line, "event"))
-        .count()
-}
-
-/// The line, counted from 1, of the header of the event with this number.
-fn header_line(text: &str, number: usize) -> Option<usize> {
+/// The line, counted from 1, of the header with this number among those of this name.
+fn header_line(text: &str, name: &str, number: usize) -> Option<usize> {
     let mut passed = 0usize;
     for (line, words) in text.lines().enumerate() {
-        if is_header_of(words, "event") {
+        if is_header_of(words, name) {
             if passed == number {
                 return line.checked_add(1);
             }
