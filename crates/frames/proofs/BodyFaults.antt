@@ -31,7 +31,7 @@ IsOfBody BadCount = Unit {0}
 IsOfBody Trailing = Unit {0}
 IsOfBody OutOfMemory = ⊥
 
--- a reader that has no others
+-- a reader that has no other faults
 abbrev Faults : {X : Type 0} → Reader X → Type 0
 Faults r = (bytes : List ℕ) (fault : FrameFault) → r bytes ≡ Err fault → IsOfBody fault
 
@@ -174,7 +174,7 @@ body_few len after e =
       ]
     ]
 
--- bytes that end before their frame does are fewer than a frame may have
+-- bytes that end before their frame does are fewer than the longest frame has
 pub few_left : (bytes : List ℕ) → read bytes ≡ Err Short → length bytes < 32880
 few_left bytes e =
     elim (cases_lt (length bytes) 4) [

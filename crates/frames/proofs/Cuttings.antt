@@ -31,7 +31,7 @@ answer x = Ok x
 not_both : (x : Frame × ℕ) (fault : FrameFault) → answer x ≡ Err fault → ⊥
 not_both x fault e = absurd cc
 
--- no frame begins what is done
+-- bytes that are done do not begin with a frame
 none_begins : (f : Frame) (stream after : List ℕ) → Cuts f stream after → IsDone stream → ⊥
 none_begins f stream after c d =
     not_both (f, length c.spelling) d.0 (sym (read_again f c.spelling after c.spelled) ∙ ap read (sym c.parts) ∙ d.1)

@@ -17,7 +17,7 @@ use Rattle.frames.specs.Reading as read
 use Rattle.frames.proofs.Agree.{IsBytes, Agrees, bind_ok, takes_first, again_next, parts_then, parts_done, done_is, judged, octets_takes, octets_again}
 use Rattle.frames.proofs.FieldsAgree.{byte_agrees, word16_agrees, word32_agrees, name_agrees, announcement_agrees}
 
--- ---- as many times the same
+-- ---- several items, each read by the same reader
 
 -- what was taken, item by item
 record Taken {X : Type 0} (text : X → List ℕ) (Fits : X → Type 0) (n : ℕ) (bytes : List ℕ) (xs : List X) (rest : List ℕ) : Type 0 where

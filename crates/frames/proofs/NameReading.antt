@@ -20,7 +20,7 @@ decided false = inr refl
 pub letters_pass : (letters : List ℕ) → IsNodeName letters → list_all is_name_byte letters ≡ true
 letters_pass letters h = list_all-from_AllPass is_name_byte letters h.alphabet
 
--- as many bytes as a name may have, all of which pass the test, are a name
+-- 1 to 32 bytes that all pass the test are a name
 pub name_from_pass : (letters : List ℕ) → 1 ≤ length letters → length letters ≤ 32 → list_all is_name_byte letters ≡ true → IsNodeName letters
 name_from_pass letters some few pass = record {
   not_empty = omega arith;
@@ -28,11 +28,11 @@ name_from_pass letters some few pass = record {
   alphabet = AllPass-from_list_all is_name_byte letters pass;
 }
 
--- a length that a name may have passes the test
+-- a length of 1 to 32 passes the test
 pub len_passes : (len : ℕ) → 1 ≤ len → len ≤ 32 → (nat_le 1 len && nat_le len 32) ≡ true
 len_passes len some few = grind (arith, nat_tests)
 
--- and it passes only there
+-- a length that passes the test is 1 to 32
 pub len_bounds : (len : ℕ) → (nat_le 1 len && nat_le len 32) ≡ true → (1 ≤ len) × (len ≤ 32)
 len_bounds len h = (grind (arith, nat_tests), grind (arith, nat_tests))
 
@@ -41,7 +41,7 @@ guard_ok : {A : Type 0} (b : Bool) (d : FrameFault) (x y : A) → cond b (Err d)
 guard_ok true d x y e = absurd cc
 guard_ok false d x y e = (refl, cc)
 
--- as many bytes were read
+-- octets reads len bytes
 pub octets_length : (len : ℕ) (bytes letters rest : List ℕ) → octets len bytes ≡ Ok (letters, rest) → length letters ≡ len
 octets_length len bytes letters rest e =
     let g = guard_ok (nat_lt (length bytes) len) BadField (take len bytes, drop len bytes) (letters, rest) e in
@@ -54,7 +54,7 @@ pub name_read : (old after letters rest : List ℕ) (len : ℕ) → byte old ≡
 unfolding name
 name_read old after letters rest len b some few o h = rw (b, len_passes len some few, o, letters_pass letters h) refl
 
--- and where they are not, there is none
+-- a name is refused if its length is right but its bytes are not those of a name
 pub name_refused : (old after letters rest : List ℕ) (len : ℕ) → byte old ≡ Ok (len, after) → 1 ≤ len → len ≤ 32 → octets len after ≡ Ok (letters, rest) → (IsNodeName letters → ⊥) → name old ≡ Err BadName
 unfolding name
 name_refused old after letters rest len b some few o h =

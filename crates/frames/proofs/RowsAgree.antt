@@ -90,7 +90,7 @@ fields_again body.GraftPeer rest h = refl
 
 -- ---- the version and the kind
 
--- a version that there is
+-- whether a version is known
 abbrev is_version : ℕ → Bool
 is_version v = v == 1 || v == 2
 

@@ -1,4 +1,4 @@
--- What a frame says to those who know no frames: the content of a packet.
+-- The content of a frame, in terms that do not depend on the frame format: the content of a packet.
 use Rattle.std.specs.Prelude.{ℕ, true, false, List, [], Option, Some, None}
 use Rattle.node_names.specs.declared.ids.MsgId.{MsgId}
 use Rattle.world.specs.Content.{Content}
@@ -6,15 +6,15 @@ use Rattle.frames.specs.declared.body.BodyOf.TheVariants.{Join, ForwardJoin, Nei
 use Rattle.frames.specs.Body.{Body}
 use Rattle.frames.specs.Frame.{Frame}
 
--- about membership alone
+-- the content of a frame about membership
 abbrev pub membership : Content
 membership = record { carried = None; announced = []; asked = None; is_membership = true }
 
--- about messages: what is carried, announced and asked for
+-- the content of a frame about messages: what it carries, announces and asks for
 abbrev pub broadcast : Option (MsgId × List ℕ) → List (MsgId × ℕ) → Option MsgId → Content
 broadcast carried announced asked = record { carried = carried; announced = announced; asked = asked; is_membership = false }
 
--- the content by kind
+-- the content of a body, by kind
 abbrev pub body_content : Body → Content
 body_content Join = membership
 body_content (ForwardJoin new ttl) = membership

@@ -7,25 +7,25 @@ use Rattle.frames.specs.Frame.{Frame}
 use Rattle.frames.specs.Grammar.{IsSpelling}
 use Rattle.frames.specs.Reading.{read}
 
--- The bytes begin with a spelling of the frame, and the new ones are those after it.
+-- The old bytes begin with a spelling of the frame, and the new bytes are those after it.
 pub record Cuts (frame : Frame) (old new : List ℕ) : Type 0 where
   pub spelling : List ℕ
   pub spelled : IsSpelling frame spelling
   pub parts : old ≡ spelling ++ new
 
--- What the next frame of some bytes is: one that they begin with; none, where they end before it does; or a fault,
--- which is the first of the order of faults, or a refused allocation. The bytes stay, but for those of the frame.
+-- The next frame of the old bytes: Some frame that they begin with; None, if they end before it does; or a fault, which
+-- is the first in the order of faults or a refused allocation. The new bytes are the old ones without that frame.
 abbrev pub IsNext : Result (Option Frame) FrameFault → List ℕ → List ℕ → Type 0
 IsNext (Ok (Some frame)) old new = Cuts frame old new
 IsNext (Ok None) old new = (read old ≡ Err Short) × (new ≡ old)
 IsNext (Err fault) old new = IsFaultOf fault (read old) × (fault ≢ Short) × (new ≡ old)
 
--- The stream is the spellings of the frames, one after the other, and the rest.
+-- The stream is the spellings of the frames, one after the other, followed by the rest.
 abbrev pub Begins : List Frame → List ℕ → List ℕ → Type 0
 Begins [] stream rest = stream ≡ rest
 Begins (frame ∷ frames) stream rest = (after : List ℕ) × Cuts frame stream after × Begins frames after rest
 
--- The fault that was met, if one was, is that of the bytes.
+-- The fault that was met, if any, is that of the bytes, and not Short.
 abbrev pub IsMet : Option FrameFault → List ℕ → Type 0
 IsMet None bytes = Unit {0}
 IsMet (Some fault) bytes = (read bytes ≡ Err fault) × (fault ≢ Short)
@@ -53,6 +53,6 @@ given_by [] = []
 given_by (fed piece ∷ calls) = given_by calls
 given_by (gave frame ∷ calls) = frame ∷ given_by calls
 
--- No frame begins the bytes: they end before it does, or have a fault.
+-- The bytes do not begin with a frame: they end before it does, or have another fault.
 abbrev pub IsDone : List ℕ → Type 0
 IsDone bytes = (fault : FrameFault) × (read bytes ≡ Err fault)

@@ -1,4 +1,4 @@
--- The printed forms of a frame's faults.
+-- The printed forms of frame faults.
 use Rattle.std.specs.Prelude.{ℕ, List, codes}
 use Rattle.frames.specs.declared.fault.FrameFault.{FrameFault}
 use Rattle.frames.specs.declared.fault.FrameFault.TheVariants.{Short, TooLong, BadVersion, BadKind, BadName, BadField, BadCount, Trailing, OutOfMemory}

@@ -1,4 +1,4 @@
--- The fields of a frame: what each holds, and the bytes that it stands as.
+-- The fields of a frame: the values that each may hold, and their encodings.
 use Rattle.std.specs.Prelude.{ℕ, ◌<◌, ◌≤◌, ◌^◌, Bool, List, [], ◌∷◌, ◌++◌, length, if◌then◌else◌}
 use Rattle.std.specs.List.{flat_map, AllByRecursion}
 use Rattle.std.specs.Int.{w16, w32, w64, to_be_bytes}
@@ -8,7 +8,7 @@ use Rattle.node_names.specs.declared.ids.MsgId.{MsgId}
 use Rattle.world.specs.declared.TheConstants.{MAX_PAYLOAD}
 use Rattle.frames.specs.declared.TheConstants.{MAX_NAMES, MAX_ANNOUNCEMENTS}
 
--- A field with what stands in it.
+-- A field with its value.
 pub data Field : Type 0 where
   byte : ℕ → Field
   flag : Bool → Field
@@ -21,19 +21,19 @@ pub data Field : Type 0 where
   payload : List ℕ → Field
   announcements : List (MsgId × ℕ) → Field
 
--- a byte of length, and the name
+-- the length in one byte, then the name
 abbrev pub name_octets : Name → List ℕ
 name_octets n = length n ∷ n
 
--- a name and an incarnation
+-- a name, then an incarnation
 abbrev pub origin_octets : Origin → List ℕ
 origin_octets o = name_octets o.name ++ to_be_bytes w64 o.incarnation.0
 
--- the origin, and the number of the message
+-- the origin, then the number of the message
 abbrev pub id_octets : MsgId → List ℕ
 id_octets i = origin_octets i.origin ++ to_be_bytes w64 i.seq
 
--- an id and a round
+-- an id, then a round
 abbrev pub announcement_octets : MsgId × ℕ → List ℕ
 announcement_octets a = id_octets a.0 ++ to_be_bytes w32 a.1
 
@@ -61,7 +61,7 @@ pub record IsOrigin (o : Origin) : Type 0 where
   pub name : IsNodeName o.name
   pub incarnation : o.incarnation.0 < 2 ^ 64
 
--- An id names a run of a node, and a message of it.
+-- An id is an origin and the number of one of its messages.
 pub record IsId (i : MsgId) : Type 0 where
   pub origin : IsOrigin i.origin
   pub seq : IsNumber i.seq
@@ -71,7 +71,7 @@ pub record IsAnnouncement (a : MsgId × ℕ) : Type 0 where
   pub id : IsId a.0
   pub round : a.1 < 2 ^ 32
 
--- What may stand in a field.
+-- The values that a field may hold.
 abbrev pub Holds : Field → Type 0
 Holds (byte n) = n < 256
 Holds (flag b) = Unit {0}

@@ -20,7 +20,7 @@ pub record Frame : Type 0 where
 abbrev pub are_numbered : List (MsgId × ℕ) → Bool
 are_numbered entries = list_all (λ (entry : MsgId × ℕ). nat_lt 0 entry.0.seq) entries
 
--- Whether the numbers of messages count from 1 and a payload is no longer than payloads may be.
+-- Whether the numbers of messages count from 1 and a payload has at most MAX_PAYLOAD bytes.
 abbrev pub has_good_fields : Body → Bool
 has_good_fields Join = true
 has_good_fields (ForwardJoin new ttl) = true
@@ -35,7 +35,7 @@ has_good_fields (Graft id round) = nat_lt 0 id.seq
 has_good_fields Prune = true
 has_good_fields GraftPeer = true
 
--- Whether a list of names has at most 8, and one of announcements 1 to 64.
+-- Whether a list of names has at most 8 items, and one of announcements 1 to 64.
 abbrev pub has_good_counts : Body → Bool
 has_good_counts Join = true
 has_good_counts (ForwardJoin new ttl) = true
@@ -50,13 +50,13 @@ has_good_counts (Graft id round) = true
 has_good_counts Prune = true
 has_good_counts GraftPeer = true
 
--- What each frame meets: its number counts from 1, and its fields and counts are within their limits.
+-- The invariant of frames: the number counts from 1, and fields and counts are within their limits.
 pub record IsFrame (frame : Frame) : Type 0 where
   pub numbered : 0 < frame.number
   pub fields : IsTrue (has_good_fields frame.body)
   pub counts : IsTrue (has_good_counts frame.body)
 
--- Why no frame has this number and this body: a field is judged before a count.
+-- The reason why no frame has this number and body, or None if one has. Fields are checked before counts.
 abbrev pub refusal : ℕ → Body → Option FrameFault
 refusal number body =
     if nat_lt 0 number && has_good_fields body

@@ -30,7 +30,7 @@ abbrev pub layout : Frame → List Field
 layout f =
     byte (version_of (kind_of f.body)) ∷ byte (number_of (kind_of f.body)) ∷ origin f.sender ∷ number f.number ∷ fields_of f.body
 
--- fields, one after the other
+-- the bytes of fields, one after the other
 abbrev pub spelled : List Field → List ℕ
 spelled [] = []
 spelled (f ∷ fs) = octets f ++ spelled fs

@@ -35,7 +35,7 @@ number_of Graft = 10
 number_of Prune = 11
 number_of GraftPeer = 12
 
--- the kind of a number, if one has it
+-- the kind with this number, if any
 abbrev pub kind_numbered : ℕ → Option Kind
 kind_numbered n =
     if n == 1 then Some Join else
@@ -52,7 +52,7 @@ kind_numbered n =
     if n == 12 then Some GraftPeer else
     None
 
--- the kind, if frames of this version have it
+-- the kind, if its frames have this version
 abbrev pub of_version : ℕ → Option Kind → Option Kind
 of_version version None = None
 of_version version (Some kind) = if version_of kind == version then Some kind else None

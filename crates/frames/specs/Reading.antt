@@ -1,4 +1,4 @@
--- Reading a frame from left to right, with the first fault that is met: the order of the faults.
+-- Reading a frame from left to right, up to the first fault. This defines the order of the faults.
 use Rattle.std.specs.Prelude.{ℕ, zero, suc, ◌+◌, Bool, ◌&&◌, ◌||◌, List, [], ◌∷◌, length, take, drop, Option, Some, None, Result, Ok, Err, nat_lt, nat_le, ◌==◌, if◌then◌else◌}
 use Rattle.std.specs.List.{list_all}
 use Rattle.std.specs.Int.{Width, w16, w32, w64, byte_len, from_be_bytes}
@@ -16,33 +16,33 @@ use Rattle.frames.specs.Body.{Body}
 use Rattle.frames.specs.Frame.{Frame}
 use Rattle.frames.specs.Kind.{kind_numbered, of_version}
 
--- What reading the bytes at the front gives: a value and the bytes after it, or a fault.
+-- What reading from the front of the bytes gives: a value and the bytes after it, or a fault.
 abbrev pub Reader : Type 0 → Type 0
 Reader A = List ℕ → Result (A × List ℕ) FrameFault
 
--- goes on after what was read, and stops at a fault
+-- reads on after a value, and stops at a fault
 abbrev pub go_on : {A B : Type 0} → (A → Reader B) → Result (A × List ℕ) FrameFault → Result (B × List ℕ) FrameFault
 go_on f (Ok x) = f x.0 x.1
 go_on f (Err fault) = Err fault
 
--- one field, and then the others
+-- reads a value, and then what depends on it
 infixl 10 ◌>>=◌
 abbrev pub ◌>>=◌ : {A B : Type 0} → Reader A → (A → Reader B) → Reader B
 (r >>= f) bytes = go_on f (r bytes)
 
--- nothing more is read
+-- reads nothing more
 abbrev pub done : {A : Type 0} → A → Reader A
 done x bytes = Ok (x, bytes)
 
--- a fault, unless what was read last is as it should be
+-- the fault, unless the test holds; reads nothing
 abbrev pub judge : Bool → FrameFault → Reader (Unit {0})
 judge good fault bytes = if good then Ok (tt, bytes) else Err fault
 
--- as many bytes
+-- the first n bytes
 abbrev pub octets : ℕ → Reader (List ℕ)
 octets n bytes = if nat_lt (length bytes) n then Err BadField else Ok (take n bytes, drop n bytes)
 
--- a number of this width
+-- a big-endian number of this width
 unfoldable pub word : Width → Reader ℕ
 word w = do
   bytes ← octets (byte_len w)
@@ -58,7 +58,7 @@ flag = do
   _ ← judge (nat_le b 1) BadField
   done (b == 1)
 
--- A name: its length is judged before its bytes are there, and its alphabet after.
+-- A name: its length is checked before its bytes are read, and its alphabet afterwards.
 unfoldable pub name : Reader Name
 name = do
   len ← byte
@@ -86,7 +86,7 @@ id = do
   seq ← number
   done (record { origin = o; seq = seq })
 
--- as many times the same
+-- n items, each read by the same reader
 unfoldable pub times : {A : Type 0} → ℕ → Reader A → Reader (List A)
 times zero r = done []
 times (suc n) r = do
@@ -124,7 +124,7 @@ version = do
   _ ← judge (v == 1 || v == 2) BadVersion
   done v
 
--- a kind that there is
+-- the kind, or BadKind if there is none
 abbrev pub known : Option Kind → Reader Kind
 known (Some k) = done k
 known None = λ bytes. Err BadKind
@@ -172,19 +172,19 @@ fields Graft = do
 fields Prune = done body.Prune
 fields GraftPeer = done body.GraftPeer
 
--- nothing is left
+-- the end of the bytes, or Trailing if any are left
 unfoldable pub end : Reader (Unit {0})
 end [] = Ok (tt, [])
 end (b ∷ rest) = Err Trailing
 
--- what is read, and nothing after it
+-- what is read, with no bytes after it
 unfoldable pub alone : {A : Type 0} → Reader A → Reader A
 alone r = do
   x ← r
   _ ← end
   done x
 
--- The body of a frame.
+-- A frame without its length prefix.
 unfoldable pub frame : Reader Frame
 frame = do
   v ← version
@@ -194,20 +194,20 @@ frame = do
   b ← alone (fields k)
   done (record { sender = sender; number = n; body = b })
 
--- the frame and its length in bytes, of a body that was read
+-- the frame that was read, with its length in bytes in place of the bytes after it
 abbrev pub with_length : ℕ → Result (Frame × List ℕ) FrameFault → Result (Frame × ℕ) FrameFault
 with_length n (Ok x) = Ok (x.0, n)
 with_length n (Err fault) = Err fault
 
--- a body of this length, at the front of the bytes after the length
+-- the frame whose body, of length len, is at the front of the bytes after the length prefix
 unfoldable pub body_of : ℕ → List ℕ → Result (Frame × ℕ) FrameFault
 body_of len after =
     if nat_lt MAX_BODY len then Err TooLong else
     if nat_lt (length after) len then Err Short else
     with_length (4 + len) (frame (take len after))
 
--- The first frame of the bytes and its length, or the first fault: too few bytes for the length, a length that no frame
--- has, too few bytes for the body, and then those of the body.
+-- The first frame of the bytes and its length, or the first fault: too few bytes for the length prefix, a length
+-- greater than MAX_BODY, too few bytes for the body, and then the faults of the body.
 unfoldable pub read : List ℕ → Result (Frame × ℕ) FrameFault
 read bytes =
     if nat_lt (length bytes) 4 then Err Short else

@@ -1,4 +1,4 @@
--- What a body has besides its kind: each field by itself, and nothing where its kind has no such field.
+-- The parts of a body besides its kind, each by itself: None, empty or false if its kind has no such part.
 use Rattle.std.specs.Prelude.{ℕ, Bool, false, List, [], Option, Some, None}
 use Rattle.node_names.specs.NodeName.{Name}
 use Rattle.node_names.specs.declared.ids.MsgId.{MsgId}
@@ -10,7 +10,7 @@ use Rattle.frames.specs.declared.body.BodyOf.TheVariants.{Join, ForwardJoin, Nei
 abbrev pub kind_number : Body → ℕ
 kind_number body = number_of (kind_of body)
 
--- whether a neighbour is demanded or accepted
+-- the flag of Neighbor and NeighborReply
 abbrev pub flag_of : Body → Bool
 flag_of Join = false
 flag_of (ForwardJoin new ttl) = false
@@ -25,7 +25,7 @@ flag_of (Graft id round) = false
 flag_of Prune = false
 flag_of GraftPeer = false
 
--- the name that walks, with the steps that are left to it
+-- the name that is carried on a random walk, with the steps left
 abbrev pub walk_of : Body → Option (Name × ℕ)
 walk_of Join = None
 walk_of (ForwardJoin new ttl) = Some (new, ttl)
@@ -55,7 +55,7 @@ message_of (Graft id round) = Some (id, round)
 message_of Prune = None
 message_of GraftPeer = None
 
--- the names that are passed on
+-- the list of names
 abbrev pub names_of : Body → List Name
 names_of Join = []
 names_of (ForwardJoin new ttl) = []
@@ -70,7 +70,7 @@ names_of (Graft id round) = []
 names_of Prune = []
 names_of GraftPeer = []
 
--- the messages that are announced
+-- the announcements
 abbrev pub entries_of : Body → List (MsgId × ℕ)
 entries_of Join = []
 entries_of (ForwardJoin new ttl) = []
@@ -85,7 +85,7 @@ entries_of (Graft id round) = []
 entries_of Prune = []
 entries_of GraftPeer = []
 
--- the bytes that are carried
+-- the payload
 abbrev pub payload_of : Body → List ℕ
 payload_of Join = []
 payload_of (ForwardJoin new ttl) = []

@@ -1,4 +1,4 @@
-//! What a frame says.
+//! The bodies of frames: what they say.
 ghost use Rattle.std.specs.Prelude.{◌≡◌, IfOk};
 ghost use Rattle.frames.specs.Frame.{are_numbered, has_good_fields, has_good_counts};
 
@@ -8,48 +8,48 @@ use node_names::{Listed, MsgId, NodeName};
 use std::alloc::{AllocError, Allocator, Global};
 use world::MAX_PAYLOAD;
 
-/// A body whose payload and lists stand on the allocator `A`.
+/// A body whose payload and lists are in the memory of the allocator `A`.
 pub type Body<A = Global> = BodyOf<Bytes<A>, Listed<NodeName, A>, Listed<(MsgId, u32), A>>;
 
-/// What a frame says, by its kind. `P` is a payload, `L` a list of names and `E` a list of announcements.
+/// The body of a frame, by its kind. `P` is a payload, `L` a list of names and `E` a list of announcements.
 ///
-/// Join to ShuffleReply are HyParView's messages, the others Plumtree's.
+/// `Join` to `ShuffleReply` are HyParView's messages, the others Plumtree's.
 #[derive(Debug, PartialEq, Drop)]
 pub enum BodyOf<P, L, E> {
-    /// The sender joins the group.
+    /// A request of the sender to join the group.
     Join,
-    /// A joining node's name is passed on, with the steps that are left to it.
+    /// The name of a joining node, on a random walk with `ttl` steps left.
     ForwardJoin { new: NodeName, ttl: u8 },
-    /// The sender asks to be taken into the active view, or, with high priority, demands it.
+    /// A request of the sender to be added to the receiver's active view. If `high`, it must be accepted.
     Neighbor { high: bool },
-    /// The answer to that.
+    /// The reply to a `Neighbor`.
     NeighborReply { accepted: bool },
-    /// The sender has taken the receiver out of its active view.
+    /// A notice that the sender has removed the receiver from its active view.
     Disconnect,
-    /// Some of the names that `origin` knows, passed on with the steps that are left to them.
+    /// Some of the names that `origin` knows, on a random walk with `ttl` steps left.
     Shuffle { origin: NodeName, ttl: u8, names: L },
-    /// The names that a shuffle is answered with.
+    /// The names that a node sends in reply to a `Shuffle`.
     ShuffleReply { names: L },
-    /// A message, with the number of steps that it has taken.
+    /// A message. Its round is the number of links that it crossed to reach the sender.
     Gossip { id: MsgId, round: u32, payload: P },
-    /// Announces messages, each with the number of steps that it has taken.
+    /// Announcements of messages, each with its id and round.
     IHave { entries: E },
-    /// Asks for a message, and makes the link between sender and receiver an eager one.
+    /// A request for a message, which also makes the link between sender and receiver eager.
     Graft { id: MsgId, round: u32 },
-    /// Makes the link between sender and receiver a lazy one.
+    /// A request to make the link between sender and receiver lazy.
     Prune,
-    /// Makes the link between sender and receiver an eager one, as a GRAFT does, and asks for no message.
+    /// A request to make the link between sender and receiver eager, as `Graft` does, without asking for a message.
     GraftPeer,
 }
 
-/// Whether the numbers of all announced messages count from 1.
+/// Returns whether the numbers of all announced messages are at least 1.
 fn are_numbered(entries: &[(MsgId, u32)]) -> bool
     ensures { result ≡ are_numbered entries.now }
 {
     entries.iter().all(|entry| entry.0.seq > 0)
 }
 
-/// Whether the numbers of messages count from 1, and a payload is no longer than payloads may be.
+/// Returns whether the numbers of messages are at least 1 and a payload has at most `MAX_PAYLOAD` bytes.
 pub(crate) fn has_good_fields<A: Allocator>(body: &Body<A>) -> bool
     ensures { result ≡ has_good_fields body.now }
 {
@@ -61,7 +61,7 @@ pub(crate) fn has_good_fields<A: Allocator>(body: &Body<A>) -> bool
     }
 }
 
-/// Whether a list has as many items as it may.
+/// Returns whether a list of names has at most `MAX_NAMES` items and one of announcements 1 to `MAX_ANNOUNCEMENTS`.
 pub(crate) fn has_good_counts<A: Allocator>(body: &Body<A>) -> bool
     ensures { result ≡ has_good_counts body.now }
 {
@@ -72,7 +72,7 @@ pub(crate) fn has_good_counts<A: Allocator>(body: &Body<A>) -> bool
     }
 }
 
-/// A copy of the body.
+/// Copies the body. Its lists are copied by their allocators, and its payload is shared.
 pub(crate) fn copy_body<A: Allocator + Copy>(body: &Body<A>) -> Result<Body<A>, AllocError>
     ensures { IfOk result (λ copy. copy ≡ body.now) }
 {

@@ -9,19 +9,19 @@ use crate::frame::Frame;
 use std::alloc::{AllocError, Allocator, Global};
 use std::marker::Model;
 
-/// The frames of a stream whose bytes come in pieces of any size.
+/// A decoder for a stream of frames whose bytes arrive in pieces of any size.
 ///
-/// A contract sees a cutter as the bytes that it was fed and that are no part of a frame that it returned. It never
-/// holds more than twice as many, and once `next` returns none these are less than one frame: so its memory does not
-/// grow with the stream. Each byte is copied in and, on average, moved at most once after that; a frame is read when it
-/// is whole.
+/// Contracts see a cutter as its remaining bytes: those that were fed and belong to no returned frame. It never holds
+/// more than twice as many bytes, and after `next` returns `Ok(None)` fewer than `MAX_FRAME` remain, so its memory does
+/// not grow with the stream. Each byte is copied in and, on average, moved at most once after that. The fields of a
+/// frame are read only when it is whole.
 #[derive(Drop)]
 pub struct Cutter<A: Allocator = Global> {
-    /// What was fed, without some of the frames at its front that were returned.
+    /// The bytes that were fed, except for those of returned frames that were dropped from the front.
     buffer: Vec<u8, A>,
-    /// How many bytes of the buffer belong to frames that were returned.
+    /// The number of bytes at the front of `buffer` that belong to returned frames.
     given: usize,
-    /// The fault of the remaining bytes, once it was met.
+    /// The fault of the remaining bytes, once `next` has found it.
     fault: Option<FrameFault>,
 }
 
@@ -33,12 +33,12 @@ impl<A: Allocator> Model for Cutter<A> {
 
     ghost view = { λ c. drop c.given c.buffer.items };
 
-    // The bytes of returned frames that are still held are no more than the remaining ones.
+    // The cutter holds at most as many bytes of returned frames as bytes that remain.
     ghost invariant = { λ c. (c.given + c.given ≤ length c.buffer.items) × IsMet c.fault (drop c.given c.buffer.items) };
 }
 
 impl<A: Allocator + Copy> Cutter<A> {
-    /// A cutter that was fed nothing.
+    /// Creates a cutter that has not been fed.
     pub fn new(alloc: A) -> Cutter<A>
         ensures { result ≡ [] }
     {
@@ -49,21 +49,21 @@ impl<A: Allocator + Copy> Cutter<A> {
         }
     }
 
-    /// The bytes that it was fed and that are no part of a frame that it returned.
+    /// Returns the bytes that were fed and belong to no returned frame.
     fn rest(&self) -> &[u8]
         ensures { result.now ≡ self.now }
     {
         &self.buffer[self.given..]
     }
 
-    /// How many of the bytes that it was fed are no part of a frame that it returned.
+    /// Returns the number of bytes that were fed and belong to no returned frame.
     pub fn left(&self) -> usize
         ensures { result ≡ length self.now }
     {
         self.buffer.len() - self.given
     }
 
-    /// Takes the next bytes of the stream.
+    /// Appends the next bytes of the stream. If memory runs out, nothing changes.
     pub fn feed(&mut self, piece: &[u8]) -> Result<(), AllocError>
         ensures ok { OnOk result (self.new ≡ self.old ++ piece.now) }
         ensures err { OnErr result (self.new ≡ self.old) }
@@ -71,12 +71,13 @@ impl<A: Allocator + Copy> Cutter<A> {
         self.buffer.extend_from_slice(piece)
     }
 
-    /// The next frame, or none as long as it is not whole.
+    /// Returns the next frame, or `Ok(None)` if it is not whole yet.
     ///
-    /// After a fault other than `OutOfMemory` it returns that fault from then on. It never returns `Short`.
+    /// After a fault other than `OutOfMemory`, returns that fault from then on. After `OutOfMemory`, the call may be
+    /// repeated. Never returns `Short`.
     pub fn next(&mut self) -> Result<Option<Frame<A>>, FrameFault>
         ensures next { IsNext result self.old self.new }
-        // Once no frame is whole, less than one is kept.
+        // If the next frame is not whole, fewer bytes remain than the longest frame has.
         ensures few { result ≡ Ok None → length self.new < MAX_FRAME }
     {
         if let Some(fault) = self.fault {
@@ -97,8 +98,8 @@ impl<A: Allocator + Copy> Cutter<A> {
     }
 }
 
-/// Drops the bytes of returned frames at the front once they are as many as the others, and returns how many are still
-/// held.
+/// Drops the first `given` bytes, those of returned frames, unless they are fewer than the remaining ones. Returns how
+/// many of them are still held.
 fn forget<A: Allocator>(buffer: &mut Vec<u8, A>, given: usize) -> usize
     requires { given ≤ length buffer.old.items }
     ensures left { drop result buffer.new.items ≡ drop given buffer.old.items }

@@ -12,7 +12,7 @@ use crate::frame::Frame;
 use crate::rows::row;
 use std::alloc::{Allocator, Global};
 
-/// The frame whose body these bytes are.
+/// Reads a frame from its bytes after the length prefix.
 #[tactic(auto, unfolding(crate::specs::Reading::frame))]
 fn whole<A: Allocator + Copy>(alloc: A, body: &[u8]) -> Result<Frame<A>, FrameFault>
     ensures { Makes (λ f. (f, [])) result (frame body.now) }
@@ -26,23 +26,23 @@ fn whole<A: Allocator + Copy>(alloc: A, body: &[u8]) -> Result<Frame<A>, FrameFa
     Ok(Frame::from_parts(sender, number, body))
 }
 
-/// The frame that the bytes begin with, and its length in bytes, whatever follows it.
+/// Decodes the frame at the front of `bytes`, and returns it with its length in bytes. Ignores what follows it.
 ///
-/// The answer is the first fault in the order of docs/frames.md: `Short` where the bytes end before the frame does,
-/// `OutOfMemory` only for bytes without a fault.
+/// Returns the first fault in the order of docs/frames.md: `Short` if the bytes end before the frame does, and
+/// `OutOfMemory` only if the bytes have no fault.
 pub fn decode<A: Allocator + Copy>(alloc: A, bytes: &[u8]) -> Result<(Frame<A>, usize), FrameFault>
-    // What is read is spelled so.
+    // The bytes of the returned length spell the returned frame.
     ensures found { IfOk result (λ x. IsSpelling x.0 (take x.1 bytes.now) × (x.1 ≤ length bytes.now)) }
-    // What begins with a spelling is read, unless memory runs out.
+    // Bytes that begin with a frame's spelling are decoded as that frame, unless memory runs out.
     ensures only { (f : Spelled) (spelling rest : List ℕ) → IsSpelling f spelling → bytes.now ≡ spelling ++ rest
         → MatchResult result (λ x. (x.0 ≡ f) × (x.1 ≡ length spelling)) (λ fault. fault ≡ FrameFault.OutOfMemory) }
-    // Which fault it is.
+    // The result, including the fault, is the one that `read` defines, or `OutOfMemory`.
     ensures exact { Makes (λ x. x) result (read bytes.now) }
 {
     first(alloc, bytes)
 }
 
-/// The same by the order of the faults alone.
+/// Decodes like `decode`, of whose clauses it ensures `exact` alone.
 #[tactic(auto, unfolding(crate::specs::Reading::read, crate::specs::Reading::body_of))]
 fn first<A: Allocator + Copy>(alloc: A, bytes: &[u8]) -> Result<(Frame<A>, usize), FrameFault>
     ensures { Makes (λ x. x) result (read bytes.now) }

@@ -15,7 +15,7 @@ use crate::put::{
 use bytes::Bytes;
 use std::alloc::{AllocError, Allocator};
 
-/// The fields of a kind.
+/// Appends the fields of `body` to `out`.
 #[tactic(auto, using(crate::proofs::Putting::puts_none, crate::proofs::Putting::puts_then, crate::proofs::Putting::puts_last))]
 fn put_fields<A: Allocator>(out: &mut Vec<u8, A>, body: &Body<A>) -> Result<(), AllocError>
     requires fields { IsTrue (has_good_fields body.now) }
@@ -49,7 +49,7 @@ fn put_fields<A: Allocator>(out: &mut Vec<u8, A>, body: &Body<A>) -> Result<(), 
     }
 }
 
-/// The body of a frame.
+/// Appends `frame` to `out`, without its length prefix.
 #[tactic(auto, using(crate::proofs::Putting::puts_then))]
 fn put_frame<A: Allocator>(out: &mut Vec<u8, A>, frame: &Frame<A>) -> Result<(), AllocError>
     ensures { OnOk result (PutsAll (layout frame.now) out.old.items out.new.items) }
@@ -62,7 +62,7 @@ fn put_frame<A: Allocator>(out: &mut Vec<u8, A>, frame: &Frame<A>) -> Result<(),
     put_fields(out, frame.body())
 }
 
-/// Writes the number of the bytes after the first four into those.
+/// Writes the number of bytes after the first four into the first four, big-endian.
 fn put_length(out: &mut [u8])
     requires some { 4 ≤ length out.old }
     requires few { length out.old < 2 ^ 32 }
@@ -72,16 +72,18 @@ fn put_length(out: &mut [u8])
     out[..4].copy_from_slice(&len.to_be_bytes());
 }
 
-/// The most bytes of a frame without a payload, names and announcements: its length, the part before the fields with a
-/// name of 32 bytes, and the fields of a GOSSIP.
+/// The maximum number of bytes of a frame without payload, list of names and announcements: its length prefix, the part
+/// before the fields with a name of 32 bytes, and the fields of a GOSSIP.
 const FIXED_ROOM: usize = 112;
 
-/// The most bytes of a name, and of an announcement.
+/// The maximum number of bytes of a name in a list.
 const NAME_ROOM: usize = 33;
 
+/// The maximum number of bytes of an announcement.
 const ANNOUNCEMENT_ROOM: usize = 53;
 
-/// Room for a frame that says this: no less than its bytes, so that they are never moved while they are written.
+/// Returns a capacity, in bytes, that is enough for a frame with this body, so that the frame is written without
+/// reallocating.
 fn room_for<A: Allocator>(body: &Body<A>) -> usize {
     let lists = match body {
         BodyOf::Shuffle { names, .. } | BodyOf::ShuffleReply { names } => names
@@ -94,7 +96,7 @@ fn room_for<A: Allocator>(body: &Body<A>) -> usize {
     lists.saturating_add(FIXED_ROOM)
 }
 
-/// Four bytes for the length of the frame, with room for the rest of it.
+/// Allocates a vector with four zeros in place of the length prefix, and with room for the rest of `frame`.
 fn begin<A: Allocator + Copy>(alloc: A, frame: &Frame<A>) -> Result<Vec<u8, A>, AllocError>
     ensures { IfOk result (λ out. length out.items ≡ 4) }
 {
@@ -103,10 +105,10 @@ fn begin<A: Allocator + Copy>(alloc: A, frame: &Frame<A>) -> Result<Vec<u8, A>, 
     Ok(out)
 }
 
-/// The one spelling of the frame.
+/// Encodes `frame` as bytes. Each frame has exactly one encoding.
 pub fn encode<A: Allocator + Copy>(alloc: A, frame: &Frame<A>) -> Result<Bytes<A>, AllocError>
     ensures spelled { IfOk result (λ bytes. IsSpelling frame.now bytes) }
-    // No other frame's spelling begins with it, nor does it begin with one.
+    // No other frame's spelling begins with these bytes, nor do they begin with another frame's spelling.
     ensures alone { IfOk result (λ bytes. (f : Spelled) (spelling x y : List ℕ) → IsSpelling f spelling
         → bytes ++ x ≡ spelling ++ y → (bytes ≡ spelling) × (frame.now ≡ f)) }
 {

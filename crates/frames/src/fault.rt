@@ -1,26 +1,26 @@
-//! Why a frame is refused.
+//! The faults of frames.
 use std::alloc::AllocError;
 use std::error::Error;
 use std::fmt;
 
-/// Why there is no frame.
+/// The reason why bytes or parts do not make a frame.
 #[derive(Clone, Copy, Debug, PartialEq, Eq)]
 pub enum FrameFault {
-    /// The bytes end before the frame does: it may still come whole.
+    /// The bytes end before the frame does. More bytes may complete it.
     Short,
-    /// The length is greater than that of any frame.
+    /// The length prefix is greater than `MAX_BODY`.
     TooLong,
     /// The version is neither 1 nor 2.
     BadVersion,
-    /// No kind of this version's frames has this number.
+    /// No kind of frame in this version has this number.
     BadKind,
-    /// A name has a length or a byte that no name has.
+    /// The length of a name is not 1 to 32, or one of its bytes is not allowed in names.
     BadName,
-    /// A field is cut off by the end of the body, or holds what it may not.
+    /// A field is cut off by the end of the frame, or its value is out of range.
     BadField,
-    /// A list has too many items, or too few.
+    /// The number of items in a list is out of range.
     BadCount,
-    /// Bytes of the body are left after its last field.
+    /// Bytes of the frame are left after its last field.
     Trailing,
     /// An allocation was refused.
     OutOfMemory,

@@ -9,8 +9,8 @@ use crate::kind::Kind;
 use node_names::{Incarnation, MsgId, NodeName, Origin};
 use std::marker::Model;
 
-/// The bytes of a body that are still to be read. Each method reads one field from their front, and after a fault
-/// nothing more is to be read.
+/// The bytes of a frame that are still to be read. Each method reads one field from the front and returns
+/// `BadField` if the bytes end within it. After a fault, nothing more may be read.
 #[derive(Drop)]
 pub(crate) struct Fields<'a> {
     rest: &'a [u8],
@@ -25,14 +25,14 @@ impl<'a> Model for Fields<'a> {
 }
 
 impl<'a> Fields<'a> {
-    /// The fields that stand as these bytes.
+    /// Starts reading at the front of `rest`.
     pub(crate) fn new(rest: &'a [u8]) -> Fields<'a>
         ensures { result ≡ rest.now }
     {
         Fields { rest }
     }
 
-    /// So many bytes.
+    /// Reads `count` bytes.
     pub(crate) fn octets(&mut self, count: usize) -> Result<&'a [u8], FrameFault>
         ensures { MatchResult result
             (λ front. read.octets count self.old ≡ Ok (front.now, self.new))
@@ -96,7 +96,7 @@ impl<'a> Fields<'a> {
         Ok(value == 1)
     }
 
-    /// A name. Its length is judged before its bytes are there, and its bytes once they are.
+    /// Reads a name. Checks the length before reading the name's bytes, and their alphabet afterwards.
     #[tactic(auto, unfolding(crate::specs::Reading::name))]
     pub(crate) fn name(&mut self) -> Result<NodeName, FrameFault>
         ensures { Reads result read.name self.old self.new }
@@ -172,7 +172,7 @@ impl<'a> Fields<'a> {
         }
     }
 
-    /// That nothing is left.
+    /// Rejects trailing bytes.
     #[tactic(auto, unfolding(crate::specs::Reading::end))]
     pub(crate) fn end(&mut self) -> Result<(), FrameFault>
         ensures { Reads result read.end self.old self.new }

@@ -10,7 +10,7 @@ use std::alloc::{AllocError, Allocator, Global};
 use std::marker::Model;
 use world::Wire;
 
-/// A frame that is within its limits.
+/// A frame whose parts are within their limits.
 #[derive_where(Debug, PartialEq)]
 #[derive(Drop)]
 pub struct Frame<A: Allocator = Global> {
@@ -35,10 +35,10 @@ impl<A: Allocator> Model for Frame<A> {
 }
 
 impl<A: Allocator> Frame<A> {
-    /// The frame of this number that the sender says this in.
+    /// Creates a frame from its parts.
     ///
-    /// `BadField`: the number, or that of a message, is 0, or the payload is longer than 32,768 bytes. `BadCount`:
-    /// there are more than 8 names, no announcement or more than 64.
+    /// Returns `BadField` if `number` or the number of a message is 0, or if the payload is longer than 32,768 bytes.
+    /// Otherwise, returns `BadCount` if there are more than 8 names, or if an `IHave` does not have 1 to 64 entries.
     pub fn new(sender: Origin, number: u64, body: Body<A>) -> Result<Frame<A>, FrameFault>
         ensures { MatchResult result
             (λ frame. (refusal number body ≡ None) × (frame ≡ record { sender = sender; number = number; body = body }))
@@ -57,7 +57,7 @@ impl<A: Allocator> Frame<A> {
         })
     }
 
-    /// A frame whose parts are known to be within their limits.
+    /// Creates a frame from parts that are known to be within their limits.
     pub(crate) fn from_parts(sender: Origin, number: u64, body: Body<A>) -> Frame<A>
         requires { IsFrame (record { sender = sender; number = number; body = body }) }
         ensures { result ≡ record { sender = sender; number = number; body = body } }
@@ -69,7 +69,7 @@ impl<A: Allocator> Frame<A> {
         }
     }
 
-    /// Which run of which node sent it.
+    /// Returns the run of the node that sent the frame.
     pub fn sender(&self) -> Origin
         ensures value { result ≡ self.now.sender }
         ensures limits { IsFrame self.now }
@@ -77,7 +77,7 @@ impl<A: Allocator> Frame<A> {
         self.sender
     }
 
-    /// Its number among the frames of that run, counted from 1.
+    /// Returns the number of the frame among the frames of its sender, counted from 1.
     pub fn number(&self) -> u64
         ensures value { result ≡ self.now.number }
         ensures limits { IsFrame self.now }
@@ -85,7 +85,7 @@ impl<A: Allocator> Frame<A> {
         self.number
     }
 
-    /// What it says.
+    /// Returns the body of the frame.
     pub fn body(&self) -> &Body<A>
         ensures value { result.now ≡ self.now.body }
         ensures limits { IsFrame self.now }
@@ -93,7 +93,7 @@ impl<A: Allocator> Frame<A> {
         &self.body
     }
 
-    /// What it says, without a copy.
+    /// Returns the body of the frame without copying it.
     pub fn into_body(self) -> Body<A>
         ensures value { result ≡ self.body }
         ensures limits { IsFrame self }

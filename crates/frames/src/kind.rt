@@ -4,7 +4,7 @@ ghost use Rattle.frames.specs.Kind.{kind_numbered, kind_of, number_of, of_versio
 
 use crate::body::BodyOf;
 
-/// A kind of frame, which its bytes give as a number.
+/// A kind of frame. Frames encode it as a number.
 #[derive(Clone, Copy, Debug, PartialEq, Eq)]
 pub(crate) enum Kind {
     Join,
@@ -22,7 +22,7 @@ pub(crate) enum Kind {
 }
 
 impl Kind {
-    /// The kind of a body.
+    /// Returns the kind of `body`.
     pub(crate) fn of<P, L, E>(body: &BodyOf<P, L, E>) -> Kind
         ensures { result ≡ kind_of body.now }
     {
@@ -42,7 +42,7 @@ impl Kind {
         }
     }
 
-    /// The version of its frames.
+    /// Returns the version of the frames of this kind.
     pub(crate) fn version(self) -> u8
         ensures { result ≡ version_of self }
     {
@@ -62,7 +62,7 @@ impl Kind {
         }
     }
 
-    /// The number of the kind.
+    /// Returns the number of the kind.
     pub(crate) fn number(self) -> u8
         ensures { result ≡ number_of self }
     {
@@ -82,7 +82,7 @@ impl Kind {
         }
     }
 
-    /// The kind of this number, if there is one.
+    /// Returns the kind with this number, if there is one.
     fn numbered(number: u8) -> Option<Kind>
         ensures { result ≡ kind_numbered number }
     {
@@ -103,7 +103,7 @@ impl Kind {
         }
     }
 
-    /// The kind of this number among the frames of this version, if there is one.
+    /// Returns the kind with this number whose frames have this version, if there is one.
     pub(crate) fn of_version(version: u8, number: u8) -> Option<Kind>
         ensures { result ≡ of_version version (kind_numbered number) }
     {
@@ -114,7 +114,7 @@ impl Kind {
     }
 }
 
-/// The number of a body's kind, as it stands in the bytes of a frame (docs/frames.md).
+/// Returns the number of the body's kind, as encoded in frames (docs/frames.md).
 pub fn kind_number<P, L, E>(body: &BodyOf<P, L, E>) -> u8
     ensures { result ≡ number_of (kind_of body.now) }
 {

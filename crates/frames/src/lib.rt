@@ -1,4 +1,4 @@
-//! The frames that nodes exchange, and how they stand as bytes.
+//! The frames that nodes exchange, and their encoding as bytes.
 #![tactic(auto)]
 
 mod body;
@@ -25,14 +25,15 @@ pub use kind::kind_number;
 pub use laws::cuttings_agree;
 pub use sameness::same_frame;
 
-/// The most names in a list of a frame.
+/// The maximum number of names in a list of a frame.
 pub const MAX_NAMES: usize = 8;
 
-/// The most announcements in a frame.
+/// The maximum number of announcements in a frame.
 pub const MAX_ANNOUNCEMENTS: usize = 64;
 
-/// The most bytes of a frame after those of its length: a message of the greatest payload, with names of 32 bytes.
+/// The maximum number of bytes of a frame after its length prefix: a GOSSIP of the longest payload, with names of 32
+/// bytes.
 pub const MAX_BODY: usize = 32_876;
 
-/// The most bytes of a frame, those of its length among them.
+/// The maximum number of bytes of a frame, including its length prefix of four bytes.
 pub const MAX_FRAME: usize = 32_880;

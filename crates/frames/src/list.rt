@@ -8,11 +8,11 @@ use crate::fields::Fields;
 use node_names::{Listed, MsgId, NodeName};
 use std::alloc::{AllocError, Allocator};
 
-/// What a list in a frame has.
+/// An item of a list in a frame.
 pub(crate) trait Item: Copy {
     ghost reader: { Reader Self };
 
-    /// Reads one.
+    /// Reads one item.
     fn read(fields: &mut Fields<'_>) -> Result<Self, FrameFault>
         ensures { Reads result reader fields.old fields.new };
 }
@@ -37,7 +37,7 @@ impl Item for (MsgId, u32) {
     }
 }
 
-/// Puts an item last, unless an allocation is or was refused.
+/// Appends `item`, unless `items` is an error already. If memory runs out, `items` becomes an error.
 fn keep<T: Item, A: Allocator>(items: &mut Result<Vec<T, A>, AllocError>, item: T)
     ensures { (xs : List T) → IfOk items.old (λ v. v.items ≡ xs) → IfOk items.new (λ v. v.items ≡ xs ++ item ∷ []) }
 {
@@ -48,7 +48,7 @@ fn keep<T: Item, A: Allocator>(items: &mut Result<Vec<T, A>, AllocError>, item: 
     }
 }
 
-/// A list of so many items, and nothing after it. A refused allocation is told last.
+/// Reads `count` items and rejects trailing bytes. Reports a refused allocation only if there is no other fault.
 pub(crate) fn list<T: Item, A: Allocator>(
     alloc: A,
     count: usize,

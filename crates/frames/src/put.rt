@@ -1,4 +1,4 @@
-//! Writing the fields of a frame, each at the end of bytes.
+//! Writing the fields of a frame. Each function appends one field to `out`.
 ghost use Rattle.std.specs.Prelude.{◌≡◌, ◌<◌, ◌≤◌, ◌++◌, length, IsTrue, OnOk};
 ghost use Rattle.std.specs.List.{flat_map, AllByRecursion};
 ghost use Rattle.node_names.specs.NodeName.{IsNodeName};
@@ -73,7 +73,7 @@ pub(crate) fn put_id<A: Allocator>(out: &mut Vec<u8, A>, id: &MsgId) -> Result<(
     Ok(())
 }
 
-/// A list of names, behind their number.
+/// Appends a list of names, preceded by its length in one byte.
 pub(crate) fn put_names<A: Allocator>(
     out: &mut Vec<u8, A>,
     names: &[NodeName],
@@ -88,7 +88,7 @@ pub(crate) fn put_names<A: Allocator>(
     Ok(())
 }
 
-/// A payload, behind its length.
+/// Appends a payload, preceded by its length in four bytes.
 pub(crate) fn put_payload<A: Allocator>(
     out: &mut Vec<u8, A>,
     payload: &[u8],
@@ -115,7 +115,7 @@ fn put_announcement<A: Allocator>(
     Ok(())
 }
 
-/// A list of announcements, behind their number.
+/// Appends a list of announcements, preceded by its length in two bytes.
 pub(crate) fn put_announcements<A: Allocator>(
     out: &mut Vec<u8, A>,
     entries: &[(MsgId, u32)],

@@ -1,4 +1,4 @@
-//! Reading the fields of each kind of frame, and nothing after them.
+//! Reading the fields of each kind of frame. Each function rejects trailing bytes.
 ghost use Rattle.std.specs.Prelude.{◌≡◌, []};
 ghost use Rattle.frames.specs.Answer.{Makes};
 ghost use Rattle.frames.specs.Reading as read;
@@ -53,7 +53,7 @@ fn payload<A: Allocator + Copy>(alloc: A, fields: &mut Fields<'_>) -> Result<Byt
     Ok(Bytes::copy_from_slice(alloc, payload)?)
 }
 
-/// A kind without fields.
+/// Reads the fields of a kind that has none, and returns `body`.
 #[tactic(auto, unfolding(crate::specs::Reading::fields, crate::specs::Reading::alone, crate::specs::Reading::end))]
 fn nothing<A: Allocator>(fields: &mut Fields<'_>, body: Body<A>) -> Result<Body<A>, FrameFault>
     ensures { Makes (λ body. (body, [])) result (read.alone (read.done body) fields.old) }
@@ -136,7 +136,7 @@ fn graft<A: Allocator>(fields: &mut Fields<'_>) -> Result<Body<A>, FrameFault>
     Ok(BodyOf::Graft { id, round })
 }
 
-/// What a frame of this kind says, where these are its fields.
+/// Reads the fields of a frame of this kind and returns its body.
 #[tactic(auto, unfolding(crate::specs::Reading::fields))]
 pub(crate) fn row<A: Allocator + Copy>(
     alloc: A,

@@ -1,4 +1,4 @@
-//! Whether two frames are equal.
+//! Comparing frames.
 ghost use Rattle.std.specs.Prelude.{◌≡◌};
 ghost use Rattle.std.specs.Bool.{Decides};
 ghost use Rattle.frames.specs.Sameness.{entries_of, flag_of, kind_number, message_of, names_of, payload_of, walk_of};
@@ -9,7 +9,7 @@ use crate::kind::kind_number;
 use node_names::{MsgId, NodeName};
 use std::alloc::Allocator;
 
-/// Whether a body demands or accepts a neighbour.
+/// Returns the flag of a `Neighbor` or `NeighborReply`, and `false` for other kinds.
 fn flag_of<A: Allocator>(body: &Body<A>) -> bool
     ensures { result ≡ flag_of body.now }
 {
@@ -20,7 +20,7 @@ fn flag_of<A: Allocator>(body: &Body<A>) -> bool
     }
 }
 
-/// The name that walks, with the steps that are left to it.
+/// Returns the name that a body carries on a random walk, with the steps left, if it is on one.
 fn walk_of<A: Allocator>(body: &Body<A>) -> Option<(NodeName, u8)>
     ensures { result ≡ walk_of body.now }
 {
@@ -31,7 +31,7 @@ fn walk_of<A: Allocator>(body: &Body<A>) -> Option<(NodeName, u8)>
     }
 }
 
-/// The message that a body carries or asks for, with its round.
+/// Returns the id and the round of the message that a body carries or asks for, if any.
 fn message_of<A: Allocator>(body: &Body<A>) -> Option<(MsgId, u32)>
     ensures { result ≡ message_of body.now }
 {
@@ -41,7 +41,7 @@ fn message_of<A: Allocator>(body: &Body<A>) -> Option<(MsgId, u32)>
     }
 }
 
-/// The names that a body passes on.
+/// Returns the list of names in a body.
 fn names_of<A: Allocator>(body: &Body<A>) -> &[NodeName]
     ensures { result.now ≡ names_of body.now }
 {
@@ -51,7 +51,7 @@ fn names_of<A: Allocator>(body: &Body<A>) -> &[NodeName]
     }
 }
 
-/// The messages that a body announces.
+/// Returns the announcements in a body.
 fn entries_of<A: Allocator>(body: &Body<A>) -> &[(MsgId, u32)]
     ensures { result.now ≡ entries_of body.now }
 {
@@ -61,7 +61,7 @@ fn entries_of<A: Allocator>(body: &Body<A>) -> &[(MsgId, u32)]
     }
 }
 
-/// The bytes that a body carries.
+/// Returns the payload in a body.
 fn payload_of<A: Allocator>(body: &Body<A>) -> &[u8]
     ensures { result.now ≡ payload_of body.now }
 {
@@ -71,63 +71,63 @@ fn payload_of<A: Allocator>(body: &Body<A>) -> &[u8]
     }
 }
 
-/// Whether two bodies are of one kind, and have the same flag.
+/// Returns whether two bodies have the same kind and the same flag.
 fn same_kinds<A: Allocator>(body: &Body<A>, other: &Body<A>) -> bool
     ensures { Decides result ((kind_number body.now ≡ kind_number other.now) × (flag_of body.now ≡ flag_of other.now)) }
 {
     kind_number(body) == kind_number(other) && flag_of(body) == flag_of(other)
 }
 
-/// Whether the same name walks as far in two bodies.
+/// Returns whether two bodies carry the same name on a random walk, with the same steps left.
 fn same_walks<A: Allocator>(body: &Body<A>, other: &Body<A>) -> bool
     ensures { Decides result (walk_of body.now ≡ walk_of other.now) }
 {
     walk_of(body) == walk_of(other)
 }
 
-/// Whether two bodies pass on the same names.
+/// Returns whether two bodies have the same list of names.
 fn same_names<A: Allocator>(body: &Body<A>, other: &Body<A>) -> bool
     ensures { Decides result (names_of body.now ≡ names_of other.now) }
 {
     names_of(body) == names_of(other)
 }
 
-/// Whether two bodies carry or ask for the same message.
+/// Returns whether two bodies carry or ask for the same message id at the same round.
 fn same_message<A: Allocator>(body: &Body<A>, other: &Body<A>) -> bool
     ensures { Decides result (message_of body.now ≡ message_of other.now) }
 {
     message_of(body) == message_of(other)
 }
 
-/// Whether two bodies announce the same messages.
+/// Returns whether two bodies have the same announcements.
 fn same_entries<A: Allocator>(body: &Body<A>, other: &Body<A>) -> bool
     ensures { Decides result (entries_of body.now ≡ entries_of other.now) }
 {
     entries_of(body) == entries_of(other)
 }
 
-/// Whether two bodies carry the same bytes.
+/// Returns whether two bodies have the same payload.
 fn same_payload<A: Allocator>(body: &Body<A>, other: &Body<A>) -> bool
     ensures { Decides result (payload_of body.now ≡ payload_of other.now) }
 {
     payload_of(body) == payload_of(other)
 }
 
-/// Whether two bodies have the same names.
+/// Returns whether two bodies have the same random walk and the same list of names.
 fn same_named<A: Allocator>(body: &Body<A>, other: &Body<A>) -> bool
     ensures { Decides result ((walk_of body.now ≡ walk_of other.now) × (names_of body.now ≡ names_of other.now)) }
 {
     same_walks(body, other) && same_names(body, other)
 }
 
-/// Whether two bodies say the same about messages.
+/// Returns whether two bodies have the same message, announcements and payload.
 fn same_messages<A: Allocator>(body: &Body<A>, other: &Body<A>) -> bool
     ensures { Decides result ((message_of body.now ≡ message_of other.now) × (entries_of body.now ≡ entries_of other.now) × (payload_of body.now ≡ payload_of other.now)) }
 {
     same_message(body, other) && same_entries(body, other) && same_payload(body, other)
 }
 
-/// Whether two bodies are equal.
+/// Returns whether two bodies are equal.
 #[tactic(auto, using(crate::proofs::SameFields::same_fields))]
 fn same_body<A: Allocator>(body: &Body<A>, other: &Body<A>) -> bool
     ensures { Decides result (body.now ≡ other.now) }
@@ -135,7 +135,7 @@ fn same_body<A: Allocator>(body: &Body<A>, other: &Body<A>) -> bool
     same_kinds(body, other) && same_named(body, other) && same_messages(body, other)
 }
 
-/// Whether two frames are equal.
+/// Returns whether two frames are equal.
 pub fn same_frame<A: Allocator>(frame: &Frame<A>, other: &Frame<A>) -> bool
     ensures { Decides result (frame.now ≡ other.now) }
 {

@@ -21,7 +21,7 @@ counted-next unbroken next rest is =
     ∙ append_assoc (range_with_len 1 unbroken) ((1 + unbroken) ∷ []) rest
     ∙ ap (λ n. range_with_len 1 unbroken ++ n ∷ rest) last
 
--- the first number past a gap, which is none, leaves the others
+-- where the first number past the gap leaves no gap, it joins the unbroken ones and the others stay
 pub absorbed : (unbroken next : ℕ) (past rest : List ℕ) → 0 < length past → next ≡ get_or past 0 next → rest ≡ drop 1 past → next - 1 ≡ unbroken → Ascends unbroken past → Ascends next rest × (counted next rest ≡ counted unbroken past)
 absorbed unbroken next [] rest some is_next is_rest follows up = absurd (omega (arith, some))
 absorbed unbroken next (n ∷ ns) rest some is_next is_rest follows up =
@@ -36,7 +36,7 @@ pub Ascends-weaker : (low lower : ℕ) (ns : List ℕ) → lower ≤ low → Asc
 Ascends-weaker low lower [] le up = tt
 Ascends-weaker low lower (n ∷ ns) le up = (omega (arith, le, up.0), up.1, up.2)
 
--- each is greater than what the first is greater than
+-- each is greater than any number that the first is greater than
 above : (low : ℕ) (ns : List ℕ) (i : ℕ) → Ascends low ns → i < length ns → low < get_or ns i 0
 above low [] i up within = absurd (omega (arith, within))
 above low (n ∷ ns) zero up within = up.0
@@ -49,7 +49,7 @@ rises low (n ∷ ns) up zero (suc j) le within = omega (arith, above n ns j up.2
 rises low (n ∷ ns) up (suc i) zero le within = absurd (omega (arith, le))
 rises low (n ∷ ns) up (suc i) (suc j) le within = rises n ns up.2 i j (omega (arith, le)) (omega (arith, within))
 
--- one more between the lesser and the greater ones
+-- one more number, between the lesser and the greater ones
 pub Ascends-insert : (low n : ℕ) (ns : List ℕ) (i : ℕ) → n < 2 ^ 64 → low < n → i ≤ length ns → ((k : ℕ) → k < i → get_or ns k 0 < n) → ((k : ℕ) → i ≤ k → k < length ns → n < get_or ns k 0) → Ascends low ns → Ascends low (insert ns i n)
 Ascends-insert low n [] zero fits greater within before after up = (greater, fits, tt)
 Ascends-insert low n [] (suc i) fits greater within before after up = absurd (omega (arith, within))
@@ -71,7 +71,7 @@ any_at [] i within = absurd (omega (arith, within))
 any_at (n ∷ ns) zero within = ap (λ b. b || list_any (nat_eq n) ns) ((unsigned_Decides n n).1 refl)
 any_at (n ∷ ns) (suc i) within = ap (λ b. nat_eq (get_or ns i 0) n || b) (any_at ns i (omega (arith, within))) ∙ or_true (nat_eq (get_or ns i 0) n)
 
--- what is there already is not there the more for being put there
+-- inserting a number that is already there changes nothing
 pub any_again : (n : ℕ) (ns : List ℕ) → list_any (nat_eq n) ns ≡ true → (m : ℕ) → list_any (nat_eq m) ns ≡ (nat_eq m n || list_any (nat_eq m) ns)
 any_again n ns there m = go (nat_eq m n) refl
   where

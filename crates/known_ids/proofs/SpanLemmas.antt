@@ -16,7 +16,7 @@ differ m n apart = go (nat_eq m n) refl
     go false is = refl
     go true is = absurd (apart ((unsigned_Decides m n).0 is))
 
--- ---- so many numbers from one on
+-- ---- the numbers of a range
 
 any_before : (m a n : ℕ) → m < a → list_any (nat_eq m) (range_with_len a n) ≡ false
 any_before m a zero before = refl
@@ -123,7 +123,7 @@ extended unbroken longer n past others next same m =
     ∙ or_swap (list_any (nat_eq m) (range_with_len 1 unbroken)) (nat_eq m n) (list_any (nat_eq m) past)
     ∙ ap (λ b. nat_eq m n || b) (sym (any-counted m unbroken past))
 
--- a number that is known is not known the more
+-- inserting a number that is already known changes nothing
 pub known_again : (span : Span) (n : ℕ) → has_number span n ≡ true → (m : ℕ) → has_number span m ≡ (nat_eq m n || has_number span m)
 known_again span n known = any_again n (numbers span) known
 
@@ -131,7 +131,7 @@ known_again span n known = any_again n (numbers span) known
 pub has-none : (span : Span) (room n : ℕ) → span.zero ≡ false → span.unbroken ≡ 0 → span.past ≡ [] → has_number (record span { room = room }) n ≡ false
 has-none span room n is_zero is_unbroken is_past = λ i. has_number (record { zero = is_zero i; unbroken = is_unbroken i; past = is_past i; room = room }) n
 
--- behind the greatest number of 64 bits there is none
+-- no number follows the greatest one of 64 bits
 pub none_last : (unbroken : ℕ) (past : List ℕ) → Ascends (unbroken + 1) past → unbroken ≡ 2 ^ 64 - 1 → past ≡ []
 none_last unbroken [] up last = refl
 none_last unbroken (n ∷ ns) up last = absurd (omega (arith, up.0, up.1, last))

@@ -1,4 +1,4 @@
-//! The ids of known messages.
+//! The set of known message ids.
 ghost use Rattle.std.specs.Prelude.{◌≡◌, None, IfOk, OnOk};
 ghost use Rattle.std.specs.FinSet as set;
 ghost use Rattle.std.specs.Map.{lookup};
@@ -12,13 +12,14 @@ use std::alloc::{AllocError, Allocator, Global};
 use std::hash::{BuildHasherDefault, FoldHasher};
 use std::marker::Model;
 
-/// The ids of messages that are known.
+/// A set of known message ids.
 ///
-/// Of each origin it keeps the highest number for which 1 to it are all known, and in order the known numbers past the
-/// gap behind it. So it takes memory by origins and gaps, and not by messages. To find an id costs a hash of its origin
-/// and the logarithm of the known numbers past the gap; to add the next number costs the same however many are known.
+/// For each origin it keeps the highest number up to which all numbers from 1 are known, and the known numbers past the
+/// gap after it, in ascending order. So its memory grows with the origins and with the numbers past a gap, and not with
+/// the numbers known without a gap. Looking up an id hashes its origin and searches the numbers past the gap in
+/// logarithmic time; adding the next number of an origin takes amortized constant time.
 ///
-/// An id is added in two steps: `make_room` takes the memory and can be refused, `insert` takes none.
+/// An id is added in two steps: `make_room` allocates and may fail, `insert` does not allocate.
 #[derive(Drop)]
 pub struct KnownIds<A: Allocator = Global> {
     spans: IndexMap<Origin, Span<A>, BuildHasherDefault<FoldHasher>, A>,
@@ -39,7 +40,7 @@ impl<A: Allocator> Model for KnownIds<A> {
 }
 
 impl<A: Allocator + Copy> KnownIds<A> {
-    /// No id is known. It takes no memory.
+    /// Creates a set in which no id is known. Does not allocate.
     pub fn new(alloc: A) -> Self
         ensures { ids result ≡ set.empty }
     {
@@ -48,7 +49,7 @@ impl<A: Allocator + Copy> KnownIds<A> {
         }
     }
 
-    /// Takes the memory that `insert` needs for the id. Refused or not, the same ids are known as before.
+    /// Reserves the memory that `insert` needs for `id`. Changes no known id, even if memory is refused.
     pub fn make_room(&mut self, id: &MsgId) -> Result<(), AllocError>
         ensures room { OnOk result (HasRoom self.new id.now) }
         ensures same { ids self.new ≡ ids self.old }
@@ -59,7 +60,7 @@ impl<A: Allocator + Copy> KnownIds<A> {
         }
     }
 
-    /// Adds the span of an origin that has none, with room for the id.
+    /// Adds an empty span for the origin of `id`, which has no span yet, with room for `id`.
     fn add_span(&mut self, id: &MsgId) -> Result<(), AllocError>
         requires { lookup (same_origin id.now.origin) self.old ≡ None }
         ensures room { OnOk result (HasRoom self.new id.now) }
@@ -71,7 +72,7 @@ impl<A: Allocator + Copy> KnownIds<A> {
         Ok(())
     }
 
-    /// A copy of all that is known.
+    /// Returns a copy with the same known ids.
     pub fn copy(&self) -> Result<Self, AllocError>
         ensures { IfOk result (λ copy. ids copy ≡ ids self.now) }
     {
@@ -82,7 +83,7 @@ impl<A: Allocator + Copy> KnownIds<A> {
 }
 
 impl<A: Allocator> KnownIds<A> {
-    /// Whether the id is known.
+    /// Returns whether `id` is known.
     pub fn contains(&self, id: &MsgId) -> bool
         ensures { result ≡ set.contains (ids self.now) id.now }
     {
@@ -92,7 +93,7 @@ impl<A: Allocator> KnownIds<A> {
         }
     }
 
-    /// Makes the id known, in the room that there is.
+    /// Makes `id` known, without allocating.
     pub fn insert(&mut self, id: &MsgId)
         requires { HasRoom self.old id.now }
         ensures { ids self.new ≡ set.insert (ids self.old) id.now }
@@ -101,8 +102,8 @@ impl<A: Allocator> KnownIds<A> {
         span.insert(id.seq);
     }
 
-    /// The highest number for which 1 to it are all known of the origin, and how many known numbers stand past it. Both
-    /// are 0 for an origin of which nothing is known.
+    /// Returns the highest number up to which all numbers of `origin` from 1 are known, and how many numbers are known
+    /// past it. Both are 0 for an origin of which nothing is known.
     pub fn span(&self, origin: &Origin) -> (u64, usize)
         ensures span { IsSpan (ids self.now) origin.now result.0 result.1 }
         ensures last { result.0 ≡ u64.MAX → result.1 ≡ 0 }

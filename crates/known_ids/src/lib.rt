@@ -1,4 +1,5 @@
-//! Which messages are known, by spans of numbers: the memory grows with origins and gaps, and not with messages.
+//! The set of known message ids, kept as one span of sequence numbers for each origin: numbers known without a gap
+//! take no memory of their own.
 #![tactic(auto)]
 
 mod known_ids;

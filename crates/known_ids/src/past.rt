@@ -1,4 +1,4 @@
-//! The known numbers past a gap, in order.
+//! The known numbers past the first gap, in ascending order.
 ghost use Rattle.std.specs.Prelude.{◌≡◌, ℕ, ◌+◌, ◌<◌, ◌||◌, nat_eq};
 ghost use Rattle.std.specs.List.{list_any};
 ghost use Rattle.std.specs.VecDeque.{deque_len, deque_capacity};
@@ -7,7 +7,8 @@ ghost use Rattle.known_ids.specs.Span.{Ascends, counted};
 use std::alloc::Allocator;
 use std::collections::VecDeque;
 
-/// Takes from the front the numbers that follow `last` without a gap. The last number before the gap.
+/// Removes from the front of `past` the numbers that follow `last` without a gap. Returns the last number before the
+/// next gap, which is `last` itself if none follows.
 pub(crate) fn absorb<A: Allocator>(last: u64, past: &mut VecDeque<u64, A>) -> u64
     requires { Ascends last past.old.items }
     ensures apart { Ascends (result + 1) past.new.items }
@@ -24,7 +25,7 @@ pub(crate) fn absorb<A: Allocator>(last: u64, past: &mut VecDeque<u64, A>) -> u6
     unbroken
 }
 
-/// Puts a number at its place, in the room that there is, unless it is there.
+/// Inserts `n` at its place in ascending order, without allocating. Does nothing if it is already there.
 pub(crate) fn put<A: Allocator>(past: &mut VecDeque<u64, A>, n: u64)
     requires room { deque_len past.old < deque_capacity past.old }
     requires order { Ascends 0 past.old.items }

@@ -1,4 +1,4 @@
-//! The known numbers of one origin.
+//! The known sequence numbers of one origin.
 ghost use Rattle.std.specs.Prelude.{◌≡◌, ℕ, ◌+◌, ◌<◌, ◌||◌, [], false, length, nat_eq, IfOk, OnOk, OnErr};
 ghost use Rattle.known_ids.specs.Span.{Ascends, has_number, HasRoomFor};
 
@@ -7,10 +7,10 @@ use std::alloc::{AllocError, Allocator};
 use std::collections::VecDeque;
 use std::marker::Model;
 
-/// The numbers of one origin that are known.
+/// The known sequence numbers of one origin.
 ///
-/// Of the numbers from 1 on that are known without a gap only the last is kept, and those past the gap are kept in
-/// order. Messages count from 1; 0 is kept apart, since a caller may name it.
+/// Of the numbers that are known from 1 on without a gap, only the last is kept; the numbers past the first gap are all
+/// kept, in ascending order. Messages count from 1; 0 is kept apart, since a caller may name it.
 #[derive(Drop)]
 pub(crate) struct Span<A: Allocator> {
     zero: bool,
@@ -31,7 +31,7 @@ impl<A: Allocator> Model for Span<A> {
 }
 
 impl<A: Allocator + Copy> Span<A> {
-    /// No number is known. It takes no memory.
+    /// Creates a span in which no number is known. Does not allocate.
     pub(crate) fn new(alloc: A) -> Self
         ensures zero { result.zero ≡ false }
         ensures unbroken { result.unbroken ≡ 0 }
@@ -46,7 +46,7 @@ impl<A: Allocator + Copy> Span<A> {
 }
 
 impl<A: Allocator> Span<A> {
-    /// Whether the number is known.
+    /// Returns whether `n` is known.
     pub(crate) fn contains(&self, n: u64) -> bool
         ensures { result ≡ has_number self.now n }
     {
@@ -56,7 +56,7 @@ impl<A: Allocator> Span<A> {
         n <= self.unbroken || self.past.binary_search(&n).is_ok()
     }
 
-    /// How many numbers from 1 on are known without a gap, and how many past it.
+    /// Returns how many numbers are known from 1 on without a gap, and how many past the gap.
     pub(crate) fn counts(&self) -> (u64, usize)
         ensures unbroken { result.0 ≡ self.now.unbroken }
         ensures past { result.1 ≡ length self.now.past }
@@ -66,7 +66,7 @@ impl<A: Allocator> Span<A> {
         (self.unbroken, self.past.len())
     }
 
-    /// Makes room for the number.
+    /// Reserves the memory that `insert` needs for `n`. Changes no known number, even if memory is refused.
     pub(crate) fn make_room(&mut self, n: u64) -> Result<(), AllocError>
         ensures room { OnOk result (HasRoomFor self.new n) }
         ensures same { self.new ≡ record self.old { room = self.new.room } }
@@ -77,7 +77,7 @@ impl<A: Allocator> Span<A> {
         Ok(())
     }
 
-    /// Makes the number known, in the room that there is.
+    /// Makes `n` known, without allocating.
     pub(crate) fn insert(&mut self, n: u64)
         requires { HasRoomFor self.old n }
         ensures { (m : ℕ) → has_number self.new m ≡ (nat_eq m n || has_number self.old m) }

@@ -1,9 +1,9 @@
--- Counts that go on.
+-- Counts over several calls.
 use Rattle.std.proofs.Common.{◌≡◌, ℕ, ◌+◌, ◌≤◌, false, arith}
 use Rattle.std.proofs.lemmas.Bool.Decides.{nat_tests}
 use Rattle.links.specs.Counting.{counted, has_risen}
 
--- a call more
+-- one more call
 pub counted_more : (count calls : ℕ) → counted (counted count calls) 1 ≡ counted count (calls + 1)
 counted_more count calls = omega arith
 

@@ -17,7 +17,7 @@ pub cuts_shorter : (f : Frame) (old new : List ℕ) → Cuts f old new → lengt
 cuts_shorter f old new c =
     omega (arith, ap length c.parts, length-append c.spelling new, ap length c.spelled.parts, length-append (to_be_bytes w32 (length (spelled (layout f)))) (spelled (layout f)))
 
--- one frame more
+-- one more frame
 pub begins_more : (fs : List Frame) (f : Frame) (stream rest after : List ℕ) → Begins fs stream rest → Cuts f rest after → Begins (fs ++ f ∷ []) stream after
 begins_more [] f stream rest after b c = (after, subst (λ s. Cuts f s after) (sym b) c, refl)
 begins_more (g ∷ fs) f stream rest after b c = (b.0, b.1, begins_more fs f b.0 rest after b.2 c)
@@ -38,11 +38,11 @@ begins_behind (f ∷ fs) stream rest more b =
 pub next_cuts : (o : Option Frame) (f : Frame) (old new : List ℕ) → IsNext (Ok o) old new → o ≡ Some f → Cuts f old new
 next_cuts o f old new h is = subst (λ p. IsNext (Ok p) old new) is h
 
--- frames that were given come of no failed read
+-- giving frames does not end with ReadFault
 pub no_read_fault : (e : LinkEnd) → ComesOfGiving e → e ≡ ReadFault → ⊥
 no_read_fault e h is = subst ComesOfGiving is h
 
--- nor of the stream's end
+-- nor with Ended
 pub no_end : (e : LinkEnd) (left : ℕ) → ComesOfGiving e → e ≡ Ended left → ⊥
 no_end e left h is = subst ComesOfGiving is h
 
@@ -107,7 +107,7 @@ on_ok P (Err x) e h = absurd cc
 pub piece_few : (n : ℕ) (buf : List ℕ) → length buf ≡ 4096 → length (take n buf) ≤ 4096
 piece_few n buf size = omega (arith, length-take n buf, size)
 
--- with a read more
+-- with one more read
 pub read_few : (bytes piece : List ℕ) (made turns : ℕ) → length bytes ≤ 4096 * made → length piece ≤ 4096 → made < turns → length (bytes ++ piece) ≤ 4096 * turns
 read_few bytes piece made turns few size more = omega (arith, length-append bytes piece, few, size, more)
 
@@ -116,7 +116,7 @@ abbrev pub IsPumped : (turns : ℕ) (cutter cutter' : List ℕ) (taken taken' : 
 IsPumped turns cutter cutter' taken taken' known known' =
     (frames : List Frame) × (bytes : List ℕ) × (taken' ≡ taken ++ frames) × Consumes known known' bytes × Begins frames (cutter ++ bytes) cutter' × IsPartial cutter' × (length bytes ≤ 4096 * turns)
 
--- a piece more
+-- one more piece
 pub pumped_on : (made : ℕ) (cutter mid mid' cutter' : List ℕ) (taken taken1 taken' : List Frame) (known known1 known' : Option (List ℕ)) (piece : List ℕ)
     → IsPumped made cutter mid taken taken1 known known1 → Consumes known1 known' piece → mid' ≡ mid ++ piece → Gives None mid' cutter' taken1 taken' → length piece ≤ 4096 → IsPumped (made + 1) cutter cutter' taken taken' known known'
 pumped_on made cutter mid mid' cutter' taken taken1 taken' known known1 known' piece p c m g few =

@@ -14,7 +14,7 @@ use Rattle.links.specs.Draining.{joined, Drains}
 take_whole : (n : ℕ) (xs : List ℕ) → length xs ≤ n → take n xs ≡ xs
 take_whole n xs h = sym (append-nil (take n xs)) ∙ ap (λ t. take n xs ++ t) (sym (drop_of_length-le xs h)) ∙ take-append-drop n xs
 
--- a call of the writer more
+-- one more call of the writer
 pub put_on : (a b c : Option (List ℕ)) (bytes : List ℕ) (at n : ℕ) → at ≤ length bytes → Appends a b (take at bytes) → n ≤ length (take (length bytes - at) (drop at bytes))
     → Appends b c (take n (take (length bytes - at) (drop at bytes))) → (at + n ≤ length bytes) × Appends a c (take (at + n) bytes)
 put_on a b c bytes at n h p few q =
@@ -23,7 +23,7 @@ put_on a b c bytes at n h p few q =
     let q' : Appends b c (take n (drop at bytes)) = subst (λ t. Appends b c (take n t)) all q in
     (omega (arith, size, length-drop at bytes), subst (Appends a c) (sym (take-add at n bytes)) (Appends-trans a b c (take at bytes) (take n (drop at bytes)) p q'))
 
--- the bytes of one item more
+-- the bytes of one more item
 pub joined-more : (items : List (List ℕ)) (item : List ℕ) → joined (items ++ item ∷ []) ≡ joined items ++ item
 joined-more items item = flat_map-append (λ i. i) items (item ∷ []) ∙ ap (λ t. joined items ++ t) (flat_map-cons (λ i. i) item [] ∙ append-nil item)
 

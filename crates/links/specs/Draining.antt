@@ -9,8 +9,8 @@ use Rattle.links.specs.declared.ends.LinkEnd.TheVariants.{ReadFault, WriteFault,
 abbrev pub joined : List (List ℕ) → List ℕ
 joined items = flat_map (λ item. item) items
 
--- How many bytes of the items went out: all of them, unless the writer failed or took none; and a source that was asked
--- for less than frames items has no more.
+-- How many bytes of the items were written: all of them, unless the writer failed or took none. After Ok, a source that
+-- gave fewer than frames items is spent.
 abbrev pub WritesSo : Result ℕ LinkEnd → Type 0 → ℕ → List (List ℕ) → ℕ → Type 0
 WritesSo (Ok n) is_spent frames items bytes = (bytes ≡ length (joined items)) × (n ≡ bytes) × ((length items ≡ frames) ⊎ is_spent)
 WritesSo (Err (WriteFault n)) is_spent frames items bytes = (bytes < length (joined items)) × (n ≡ bytes)
@@ -21,7 +21,7 @@ WritesSo (Err (Ended n)) is_spent frames items bytes = ⊥
 WritesSo (Err TurnLimit) is_spent frames items bytes = ⊥
 WritesSo (Err SinkClosed) is_spent frames items bytes = ⊥
 
--- What went out is, in order, the first bytes of the items that the source gave, which are at most so many.
+-- The bytes written are, in order, the first bytes of the items that the source gave, which are at most frames items.
 pub record Drains (result : Result ℕ LinkEnd) (is_spent : Type 0) (frames : ℕ) (given given' : List (List ℕ)) (known known' : Option (List ℕ)) : Type 0 where
   pub items : List (List ℕ)
   pub bytes : ℕ

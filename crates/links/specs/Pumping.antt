@@ -8,14 +8,14 @@ use Rattle.frames.specs.Reading.{read}
 use Rattle.links.specs.declared.ends.LinkEnd.{LinkEnd}
 use Rattle.links.specs.declared.ends.LinkEnd.TheVariants.{ReadFault, WriteFault, Frame, Ended, TurnLimit, SinkClosed, OutOfMemory}
 
--- No whole frame begins the bytes: they end before it does.
+-- The bytes end before their first frame does.
 abbrev pub IsPartial : List ℕ → Type 0
 IsPartial bytes = read bytes ≡ Err fault.Short
 
--- How it ended, where rest is the stream after the frames that the sink took, and left what the cutter has then. At the
--- end of the stream, at a failed read and where the turns are used up the sink took all whole frames; at a fault too,
--- and the fault is that of the next. A sink that takes no more was offered one frame more. Where memory was refused,
--- bytes that were read may be lost.
+-- What holds at each end, where rest is the stream after the frames that the sink took, and left is what the cutter
+-- then has. At the end of the stream, at a failed read and when the turns are used up, the sink took all whole frames. At a
+-- fault too, and the fault is that of the bytes after them. A sink that was closed was offered one more frame, which is
+-- lost. If memory was refused, bytes that were read may be lost.
 abbrev pub EndsSo : LinkEnd → List ℕ → List ℕ → Type 0
 EndsSo ReadFault rest left = IsPartial rest × (left ≡ rest)
 EndsSo (WriteFault bytes) rest left = ⊥
@@ -37,7 +37,7 @@ pub record Pumps (end : LinkEnd) (turns : ℕ) (cutter cutter' : List ℕ) (take
   pub stream : Begins frames (cutter ++ bytes) rest
   pub ends : EndsSo end rest cutter'
 
--- The ends that come of giving frames to a sink: a frame that is not whole yet is none.
+-- The ends that giving frames to a sink can have: a frame that is not whole yet is not an end.
 abbrev pub ComesOfGiving : LinkEnd → Type 0
 ComesOfGiving ReadFault = ⊥
 ComesOfGiving (WriteFault bytes) = ⊥
@@ -47,7 +47,7 @@ ComesOfGiving TurnLimit = ⊥
 ComesOfGiving SinkClosed = Unit {0}
 ComesOfGiving OutOfMemory = Unit {0}
 
--- What the sink took of the frames that the cutter had, where it ended the call so or goes on.
+-- What the sink took of the frames that the cutter had, if giving ended the call with end, or goes on if end is None.
 pub record Gives (end : Option LinkEnd) (cutter cutter' : List ℕ) (taken taken' : List Sent) : Type 0 where
   pub frames : List Sent
   pub rest : List ℕ

@@ -9,8 +9,7 @@ use crate::metered::MeteredWrite;
 use crate::sink::Source;
 use std::alloc::Allocator;
 
-/// Writes the bytes in as many calls as it takes, and answers how many went out: all, unless a call failed or took
-/// none.
+/// Writes `bytes` in as many calls as it takes. Returns how many were written: all, unless a call failed or took none.
 fn put<W: MeteredWrite>(writer: &mut W, bytes: &[u8]) -> usize
     ensures some { result ≤ length bytes.now }
     ensures written { Appends (W.contents writer.old) (W.contents writer.new) (take result bytes.now) }
@@ -27,11 +26,11 @@ fn put<W: MeteredWrite>(writer: &mut W, bytes: &[u8]) -> usize
     at
 }
 
-/// Writes the source's items, one after the other, until it has none or `frames` of them went out, and answers how many
-/// bytes that were. No call of the writer spans two items.
+/// Writes the items of `source`, in order, until it has no more or `frames` of them were written. Returns the number of
+/// bytes written. No call of the writer spans two items.
 ///
-/// `WriteFault`: a call of the writer failed or took no byte; what went out before is counted. `OutOfMemory`: the
-/// source answered it; all that it gave before went out.
+/// Returns `WriteFault`, with the number of bytes written so far, if a call of the writer failed or took no byte.
+/// Returns `OutOfMemory` if the source ran out of memory; all items that it gave before were written.
 pub fn drain<S: Source<A>, W: MeteredWrite, A: Allocator>(
     source: &mut S,
     writer: &mut W,

@@ -2,22 +2,22 @@
 use frames::FrameFault;
 use std::fmt;
 
-/// Why a call that moves bytes came to its end. After all but `TurnLimit` the link is closed.
+/// The reason why a call that moves bytes ended. After every reason except `TurnLimit`, the link is closed.
 #[derive(Clone, Copy, Debug, PartialEq, Eq)]
 pub enum LinkEnd {
-    /// The reader failed.
+    /// A failed read.
     ReadFault,
-    /// The writer failed or took no byte, after so many bytes of this call.
+    /// A writer that failed or took no byte, after `bytes` bytes of this call.
     WriteFault { bytes: u64 },
-    /// The bytes read are no frame.
+    /// A fault other than `Short` and `OutOfMemory` in the bytes that were read.
     Frame(FrameFault),
-    /// The stream ended, with so many bytes that are part of no whole frame.
+    /// The end of the stream, with `left` bytes that belong to no whole frame.
     Ended { left: usize },
-    /// As many reads were made as were asked for.
+    /// The end of the requested number of reads.
     TurnLimit,
-    /// The sink takes no more.
+    /// A sink that refused a frame.
     SinkClosed,
-    /// An allocation was refused.
+    /// A refused allocation.
     OutOfMemory,
 }
 

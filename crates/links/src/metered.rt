@@ -8,22 +8,23 @@ ghost use Rattle.links.specs.Counting.{counted, has_risen, moves_none};
 use std::io;
 use std::io::{ErrorKind, Read, Write};
 
-/// A reader that counts its calls and those of them that failed. A count at the greatest u64 stays there.
+/// A reader that counts its calls and its failed calls. The counts saturate at `u64::MAX`.
 pub trait MeteredRead: Read {
-    /// The number of its calls.
+    /// The number of calls.
     ghost reads: { Self → ℕ };
 
-    /// The number of its failed calls.
+    /// The number of failed calls.
     ghost failed: { Self → ℕ };
 
-    /// Whether its last call gave no byte, of a buffer that had room.
+    /// Whether the last call read no byte into a buffer that had room.
     ghost gave_none: { Self → Bool };
 
-    /// The number of its failed calls.
+    /// Returns the number of failed calls.
     fn failures(&self) -> u64
         ensures { result ≡ failed self.now };
 
-    /// Reads as `read` does, and counts. A call that answers an error is a failed one, unless it was interrupted.
+    /// Reads like `read` and counts the call. A call that returns an error counts as failed, unless the error is
+    /// `Interrupted`.
     fn read_counted(&mut self, buf: &mut [u8]) -> io::Result<usize>
         ensures bound { ReadsAtMost result buf.new }
         ensures bytes { ReadConsumes (Self.remaining self.old) (Self.remaining self.new) result buf.new }
@@ -34,19 +35,19 @@ pub trait MeteredRead: Read {
         ensures failure { IfErr result (λ e. error_kind e ≢ ErrorKind.Interrupted → IsTrue (has_risen (failed self.old) (failed self.new))) };
 }
 
-/// A writer that counts its failed calls. A count at the greatest u64 stays there.
+/// A writer that counts its failed calls. The count saturates at `u64::MAX`.
 pub trait MeteredWrite: Write {
-    /// The number of its failed calls.
+    /// The number of failed calls.
     ghost failed: { Self → ℕ };
 
-    /// Whether its last call took no byte, of a buffer that had some.
+    /// Whether the last call took no byte of a buffer that had some.
     ghost took_none: { Self → Bool };
 
-    /// The number of its failed calls.
+    /// Returns the number of failed calls.
     fn failures(&self) -> u64
         ensures { result ≡ failed self.now };
 
-    /// Writes as `write` does, and counts. A call that answers an error is a failed one.
+    /// Writes like `write`. A call that returns an error is counted as failed.
     fn write_counted(&mut self, buf: &[u8]) -> io::Result<usize>
         ensures bound { WritesAtMost result buf.now }
         ensures bytes { WriteAppends (Self.contents self.old) (Self.contents self.new) result buf.now }

@@ -10,10 +10,10 @@ use crate::sink::Sink;
 use frames::{Cutter, Frame, FrameFault};
 use std::alloc::Allocator;
 
-/// The most bytes of one read.
+/// The maximum number of bytes in one read.
 const PIECE: usize = 4_096;
 
-/// Gives the sink the whole frames that the cutter has, and answers how the call ends if it does.
+/// Gives the sink the whole frames that the cutter has, in order. Returns why `pump` must end, or `None` if it goes on.
 fn give<S: Sink<Frame<A>>, A: Allocator + Copy>(
     cutter: &mut Cutter<A>,
     sink: &mut S,
@@ -36,12 +36,12 @@ fn give<S: Sink<Frame<A>>, A: Allocator + Copy>(
     }
 }
 
-/// Reads at most `turns` times, at most 4,096 bytes at once, and gives the sink the whole frames of what the cutter has
-/// and of what was read, in order.
+/// Reads at most `turns` times, at most 4,096 bytes at a time, and gives the sink the whole frames of the stream, in
+/// order: the cutter's bytes followed by those that were read.
 ///
-/// The frames that the cutter has are given before the first read. A read that answers an error and that the reader
-/// does not count as failed was interrupted: it is a turn, and no more. After `TurnLimit` the call may be made again;
-/// after every other end the link is closed.
+/// Gives the frames that the cutter has before the first read. A read that returns an error without raising the
+/// reader's count of failures was interrupted: it uses up a turn and has no other effect. After `TurnLimit`, `pump` may
+/// be called again. After every other end, the link is closed.
 pub fn pump<R: MeteredRead, S: Sink<Frame<A>>, A: Allocator + Copy>(
     reader: &mut R,
     cutter: &mut Cutter<A>,
@@ -52,7 +52,7 @@ pub fn pump<R: MeteredRead, S: Sink<Frame<A>>, A: Allocator + Copy>(
         (R.remaining reader.old) (R.remaining reader.new) }
     ensures refused { result ≡ LinkEnd.SinkClosed → IsTrue (has_risen (S.refusals sink.old) (S.refusals sink.new)) }
     ensures willing { result ≢ LinkEnd.SinkClosed → S.refusals sink.new ≡ S.refusals sink.old }
-    // A frame that is not whole yet is no fault.
+    // A frame that is not whole yet is not a fault.
     ensures whole { result ≢ LinkEnd.Frame FrameFault.Short }
     ensures read_fault { result ≡ LinkEnd.ReadFault → IsTrue (has_risen (R.failed reader.old) (R.failed reader.new)) }
     ensures no_fault { result ≢ LinkEnd.ReadFault → R.failed reader.new ≡ R.failed reader.old }
@@ -92,7 +92,7 @@ pub fn pump<R: MeteredRead, S: Sink<Frame<A>>, A: Allocator + Copy>(
     LinkEnd::TurnLimit
 }
 
-/// Whether a count of failures rose.
+/// Returns whether a count of failures rose from `before` to `now`, or has reached `u64::MAX`.
 fn rose(before: u64, now: u64) -> bool
     ensures { result ≡ has_risen before now }
 {

@@ -12,7 +12,7 @@ use std::io;
 use std::io::{ErrorKind, Read};
 use std::marker::Model;
 
-/// Gives the bytes of a tape in pieces of the sizes that it was told, and fails at one call if it is to.
+/// A reader of a tape in memory, in pieces of given sizes. It can be told to fail at one call.
 #[derive(Drop)]
 pub struct TapeReader<A: Allocator = Global> {
     bytes: Bytes<A>,
@@ -32,8 +32,8 @@ impl<A: Allocator> Model for TapeReader<A> {
 }
 
 impl<A: Allocator> TapeReader<A> {
-    /// A reader of these bytes. Call number k, from 0, gives at most as many as `pieces` has at k, but at least one,
-    /// and as many as there are and fit where `pieces` has no k. The call of number `fails` fails and gives nothing.
+    /// Creates a reader of `bytes`. Call number `k`, counted from 0, reads at most `pieces[k]` bytes, where 0 counts as
+    /// 1, or as many as are left and fit if `pieces` is too short. Call number `fails` fails and reads nothing.
     pub fn new(bytes: Bytes<A>, pieces: Vec<usize, A>, fails: Option<usize>) -> TapeReader<A>
         ensures { result ≡ record { bytes = bytes; pieces = pieces.items; fails = fails; calls = 0; failures = 0; gave_none = false } }
     {

@@ -10,7 +10,7 @@ use std::io;
 use std::io::{ErrorKind, Write};
 use std::marker::Model;
 
-/// Takes bytes onto a tape, a few a call, and fails at one call if it is to.
+/// A writer onto a tape in memory, with a limit on the bytes of a call. It can be told to fail at one call.
 #[derive(Drop)]
 pub struct TapeWriter<A: Allocator = Global> {
     bytes: Vec<u8, A>,
@@ -30,8 +30,8 @@ impl<A: Allocator> Model for TapeWriter<A> {
 }
 
 impl<A: Allocator> TapeWriter<A> {
-    /// A writer that takes at most so many bytes a call. The call of number `fails`, from 0, fails and takes nothing,
-    /// and so does one for which an allocation was refused.
+    /// Creates a writer that takes at most `most` bytes in each call. Call number `fails`, counted from 0, fails and
+    /// takes nothing, as does a call whose allocation is refused.
     pub fn new(alloc: A, most: usize, fails: Option<usize>) -> TapeWriter<A>
         ensures { result ≡ record { bytes = []; most = most; fails = fails; calls = 0; failures = 0; took_none = false } }
     {
@@ -45,14 +45,14 @@ impl<A: Allocator> TapeWriter<A> {
         }
     }
 
-    /// The bytes that were written.
+    /// Returns the bytes that were written.
     pub fn as_slice(&self) -> &[u8]
         ensures { result.now ≡ self.now.bytes }
     {
         self.bytes.as_slice()
     }
 
-    /// Counts a failed call.
+    /// Counts a failed call and returns its error.
     fn fail(&mut self) -> io::Error
         ensures failure { IsTrue (has_risen self.old.failures self.new.failures) }
         ensures rest { self.new ≡ record self.old { failures = self.new.failures } }

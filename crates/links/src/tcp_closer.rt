@@ -1,26 +1,26 @@
-//! What ends a connection that another thread reads.
+//! Closing a connection that another thread reads.
 use std::alloc::Global;
 use std::net::{Shutdown, TcpStream};
 use std::sync::Arc;
 
-/// Ends a connection that another thread may be reading.
+/// A handle that closes a connection that another thread may be reading.
 #[derive(Drop)]
 pub struct TcpCloser {
     stream: Arc<TcpStream, Global>,
 }
 
 impl TcpCloser {
-    /// The closer of a connection.
+    /// Creates a closer of `stream`.
     pub(crate) fn new(stream: Arc<TcpStream, Global>) -> TcpCloser {
         TcpCloser { stream }
     }
 
-    /// Ends the connection both ways, so that a read of it that waits ends. One that has ended already stays so.
+    /// Shuts the connection down in both directions, which ends a waiting read. Has no effect on a closed connection.
     pub fn close(&self) {
         let _ = self.stream.shutdown(Shutdown::Both);
     }
 
-    /// Whether the reader was dropped and there is no other closer, so that this one alone keeps the descriptor.
+    /// Returns whether the reader and all other closers were dropped, so that only this one keeps the descriptor open.
     pub fn is_last(&self) -> bool {
         Arc::strong_count(&self.stream) == 1
     }

@@ -1,4 +1,4 @@
-//! The end of a TCP connection where bytes come in.
+//! The reading end of a TCP connection.
 ghost use Rattle.std.specs.Prelude.{◌≡◌, ◌≢◌, ◌≤◌, None, IsTrue, IfErr, OnOk, OnErr};
 ghost use Rattle.std.specs.Io.{ReadsAtMost};
 ghost use Rattle.std.specs.IoError.{error_kind};
@@ -12,11 +12,11 @@ use std::io::{ErrorKind, Read};
 use std::net::{Shutdown, TcpStream};
 use std::sync::Arc;
 
-/// Reads what a peer writes to a connection.
+/// The reader of what a peer writes to a TCP connection.
 ///
-/// A read waits until bytes come or the connection ends, which its closer can do as well as the peer. One that a signal
-/// of the system breaks off answers `Interrupted`, and does not count as failed. Dropping the reader ends the
-/// connection; its descriptor is free once its closers are dropped too.
+/// A read blocks until bytes arrive or the connection ends, which a closer can cause as well as the peer. A read that a
+/// signal interrupts returns `Interrupted` and does not count as failed. Dropping the reader shuts the connection down.
+/// The descriptor is released once all closers are dropped too.
 pub struct TcpReader {
     stream: Arc<TcpStream, Global>,
     reads: u64,
@@ -37,7 +37,7 @@ impl Drop for TcpReader {
 }
 
 impl TcpReader {
-    /// The reader of a connection.
+    /// Creates a reader of `stream`. Fails if memory runs out.
     pub(crate) fn new(alloc: Global, stream: TcpStream) -> io::Result<TcpReader> {
         Ok(TcpReader {
             stream: Arc::new(alloc, stream)?,
@@ -47,12 +47,12 @@ impl TcpReader {
         })
     }
 
-    /// What can end the connection while another thread reads it.
+    /// Creates a handle that can close the connection while another thread reads it.
     pub fn closer(&self) -> Result<TcpCloser, AllocError> {
         Ok(TcpCloser::new(Arc::try_clone(&self.stream)?))
     }
 
-    /// Counts a failed call, unless it was interrupted.
+    /// Counts a failed call, unless `error` is `Interrupted`, and returns `error`.
     fn count(&mut self, error: io::Error) -> io::Error
         ensures failure { error_kind result ≢ ErrorKind.Interrupted → IsTrue (has_risen self.old.failures self.new.failures) }
         ensures more { self.old.failures ≤ self.new.failures }

@@ -1,4 +1,4 @@
-//! The end of a TCP connection where bytes go in.
+//! The writing end of a TCP connection.
 ghost use Rattle.std.specs.Prelude.{◌≡◌, None, IsTrue, OnOk, OnErr};
 ghost use Rattle.std.specs.Io.{WritesAtMost};
 ghost use Rattle.links.specs.Counting.{has_risen, moves_none};
@@ -8,7 +8,7 @@ use std::io;
 use std::io::Write;
 use std::net::TcpStream;
 
-/// Writes to a connection, each write at once: none waits to be sent together with the next.
+/// The writer of a TCP connection. It sends each write at once (`TCP_NODELAY`), instead of waiting for more bytes.
 #[derive(Drop)]
 pub struct TcpWriter {
     stream: TcpStream,
@@ -17,7 +17,7 @@ pub struct TcpWriter {
 }
 
 impl TcpWriter {
-    /// The writer of a connection.
+    /// Creates a writer to `stream`. Fails if `TCP_NODELAY` cannot be set.
     pub(crate) fn new(stream: TcpStream) -> io::Result<TcpWriter> {
         stream.set_nodelay(true)?;
         Ok(TcpWriter {

@@ -58,7 +58,7 @@ fit-promote dice excepted t h =
 
 -- ---- lists of names
 
--- so few words
+-- at most `count` words are taken
 few_words : (n : ℕ) (xs : List ℕ) → length (take n xs) ≤ n
 few_words n xs = omega (arith, length-take n xs)
 

@@ -41,7 +41,7 @@ pub each-sent : (P : (Name × Body) → Type 0) (body : Body) (names : List Name
 each-sent P body [] h = tt
 each-sent P body (name ∷ names) h = (h.0, each-sent P body names h.1)
 
--- those of a list that lacks the owner are others
+-- the names of a list that lacks the owner are other names
 pub each_another : (names : List Name) (owner : Name) → has_name names owner ≡ false → Each (λ name. name ≢ owner) names
 each_another [] owner lacks = tt
 each_another (name ∷ names) owner lacks =
@@ -168,7 +168,7 @@ module _ (m : Membership) where
     pub lawful-send : (to : Name) (body : Body) → to ≢ m.views.owner → Lawful m (send to body t)
     lawful-send to body another = lawful-sends ((to, body) ∷ []) (another, tt)
 
-    -- whom one asks, and what one remembers, is free
+    -- the laws do not depend on the asked and the remembered names
     pub lawful-asked : (asked : Option Name) → Lawful m (record t { asked = asked })
     lawful-asked asked =
         record {

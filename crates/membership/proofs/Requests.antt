@@ -37,14 +37,14 @@ close-keeps name t q stands =
     (λ is. inr ((same_name-Decides name q).0 (sym (ap (is_asked name) stands) ∙ is)))
     (λ is. inl stands)
 
--- a promotion asks nobody else while a request stands
+-- a promotion asks no other name while a request stands
 promote-keeps : (dice : Dice) (excepted : List Name) (t : Turn) (q : Name) → t.asked ≡ Some q → (promote dice excepted t).asked ≡ Some q
 promote-keeps dice excepted t q stands =
     if_either (λ u. u.asked ≡ Some q) (view.has_room t.views && is_none t.asked) _ _
     (λ may. absurd (true≢false (sym (and_right (view.has_room t.views) (is_none t.asked) may) ∙ ap is_none stands)))
     (λ may. stands)
 
--- and tells whom it asks
+-- and sends the request to the name that it asks
 promote-tells : (dice : Dice) (excepted : List Name) (t : Turn) (q : Name) → (promote dice excepted t).asked ≡ Some q → (t.asked ≡ Some q) ⊎ IsAsking q (promote dice excepted t)
 promote-tells dice excepted t q =
     if_either (λ u. u.asked ≡ Some q → (t.asked ≡ Some q) ⊎ IsAsking q u) (view.has_room t.views && is_none t.asked) _ _

@@ -28,7 +28,7 @@ walks-append (x ∷ xs) ys = by (is_walk x.1) (walks-append xs ys)
     by true rest = ap (λ zs. x ∷ zs) rest
     by false rest = rest
 
--- a message that is no walk, to whomever
+-- sending a message that is no walk adds no walk
 walks-none : (body : Body) → is_walk body ≡ false → (names : List Name) → walks (map (λ name. (name, body)) names) ≡ []
 walks-none body not_one [] = refl
 walks-none body not_one (name ∷ names) = ap (λ b. if b then (name, body) ∷ walks (map (λ other. (other, body)) names) else walks (map (λ other. (other, body)) names)) not_one ∙ walks-none body not_one names
@@ -73,7 +73,7 @@ true_or : (a b : Bool) → b ≡ true → (a || b) ≡ true
 true_or true b e = refl
 true_or false b e = e
 
--- whoever is welcomed is active then
+-- a name that is welcomed is active afterwards
 welcomed_is_active : (m : Membership) → view.AreSound m.views → (dice : Dice) (name : Name) → name ≢ m.views.owner → has_name (welcome dice name (still m)).views.active name ≡ true
 welcomed_is_active m sound dice name another =
     if_either (λ t. has_name t.views.active name ≡ true) (view.is_settled m.views name) _ _

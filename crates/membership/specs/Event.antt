@@ -1,16 +1,16 @@
--- An event as the definitions see it: its names are a plain list.
+-- An event as the definitions see it, with its names as a plain list.
 use denote.Ref.{Bor}
 use Rattle.std.specs.Prelude.{List}
 use Rattle.node_names.specs.NodeName.{Name}
 use Rattle.membership.specs.declared.event.EventOf.{EventOf}
 use Rattle.membership.specs.declared.event.EventOf.TheVariants.{Joins, Join, ForwardJoin, Neighbor, Reply, Disconnect, Shuffle, ShuffleReply, Down, Tick}
 
--- The node is to join by a contact; a message of HyParView came from a sender; the link to a peer failed; its tick has
--- come.
+-- The node is to join through a contact, a message of HyParView came from a sender, the link to a peer failed, or the
+-- tick has come.
 abbrev pub Event : Type 0
 Event = EventOf (List Name)
 
--- the event whose names are lent
+-- the event with its borrowed names as a plain list
 abbrev pub lent : EventOf (Bor (List Name)) → Event
 lent (Joins contact) = Joins contact
 lent (Join sender) = Join sender

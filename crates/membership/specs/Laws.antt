@@ -1,4 +1,4 @@
--- What holds of every row of the table.
+-- The laws that every row of the table keeps.
 use Rattle.std.specs.Prelude.{◌≡◌, ◌≢◌, ◌≤◌, ◌<◌, ◌-◌, ◌⊎◌, ◌==◌, ℕ, Bool, true, false, Some, List, [], ◌∷◌, ◌++◌, length, filter}
 use Rattle.std.specs.List.{AllByRecursion as Each}
 use Rattle.node_names.specs.NodeName.{Name}
@@ -14,7 +14,7 @@ use Rattle.membership.specs.Membership.{Membership, Turn}
 use Rattle.membership.specs.Event.{Event}
 use Rattle.membership.specs.declared.event.EventOf.TheVariants.{Joins, Join, ForwardJoin, Neighbor, Reply, Disconnect, Shuffle, ShuffleReply, Down, Tick}
 
--- The contact or the sender is another than the owner.
+-- The contact or the sender, if the event has one, is not the owner.
 abbrev pub IsFromAnother : Name → Event → Type 0
 IsFromAnother owner (Joins contact) = contact ≢ owner
 IsFromAnother owner (Join sender) = sender ≢ owner
@@ -28,8 +28,8 @@ IsFromAnother owner (Down peer) = Unit {0}
 IsFromAnother owner Tick = Unit {0}
 
 -- The views stay sound, and their owner and limits stay. Nothing is sent to the owner. The downs are exactly the names
--- that the active view lost, and the ups exactly those that it gained, which stand last in it; there is at most one of
--- either.
+-- that the active view lost, and the ups exactly those that it gained, which are last in it; there is at most one of
+-- each.
 pub record Lawful (before : Membership) (turn : Turn) : Type 0 where
   pub sound : AreSound turn.views
   pub owner_stays : turn.views.owner ≡ before.views.owner
@@ -60,11 +60,11 @@ is_walk body.GraftPeer = false
 abbrev pub walks : List (Name × Body) → List (Name × Body)
 walks sends = filter (λ send. is_walk send.1) sends
 
--- A walk with so many steps left goes on at most once, with one step less, and not at its end.
+-- A walk with `ttl` steps left goes on at most once, with one step less, and not if no step is left.
 abbrev pub GoesOnOnce : Name → ℕ → List (Name × Body) → Type 0
 GoesOnOnce new ttl sends = (walks sends ≡ []) ⊎ ((next : Name) × (walks sends ≡ (next, body.ForwardJoin new (ttl - 1)) ∷ []) × (0 < ttl))
 
--- The names that came fit a frame.
+-- If the event is a shuffle, its names fit a frame.
 abbrev pub FitsFrame : Event → Type 0
 FitsFrame (Joins contact) = Unit {0}
 FitsFrame (Join sender) = Unit {0}
@@ -81,12 +81,12 @@ FitsFrame Tick = Unit {0}
 abbrev pub FitFrames : Turn → Type 0
 FitFrames turn = Each (λ send. (has_good_fields send.1 ≡ true) × (has_good_counts send.1 ≡ true)) turn.sends
 
--- Each message is about membership alone: it carries no payload, announces nothing and asks for nothing.
+-- Each message is about membership only: it carries no payload, announces nothing and asks for no message.
 abbrev pub AreAboutMembership : Turn → Type 0
 AreAboutMembership turn = Each (λ send. body_content send.1 ≡ membership) turn.sends
 
--- The event closes a request to the name: it is the name's answer, its link failed, or it is the tick, which forgets
--- it.
+-- The event may close a request to the name: it is the name's answer, the failure of its link, or the tick, which may
+-- forget the request.
 abbrev pub Closes : Name → Event → Type 0
 Closes name (Joins contact) = ⊥
 Closes name (Join sender) = ⊥
@@ -99,13 +99,13 @@ Closes name (ShuffleReply sender names) = ⊥
 Closes name (Down peer) = peer ≡ name
 Closes name Tick = Unit {0}
 
--- The name is passive and is asked by the last message, with high priority where nobody is active.
+-- The name is passive and is asked by the last message, with high priority if no name is active.
 pub record IsAsking (name : Name) (turn : Turn) : Type 0 where
   pub passive : has_name turn.views.passive name ≡ true
   pub earlier : List (Name × Body)
   pub last : turn.sends ≡ earlier ++ (name, body.Neighbor (length turn.views.active == 0)) ∷ []
 
--- One request stands at a time: it stands until it is closed, and whoever is asked anew is told.
+-- One request stands at a time: it stands until it is closed, and a name that is newly asked is sent the request.
 pub record OneRequest (before : Membership) (event : Event) (turn : Turn) : Type 0 where
   pub told : (name : Name) → turn.asked ≡ Some name → (before.asked ≡ Some name) ⊎ IsAsking name turn
   pub stands : (name : Name) → before.asked ≡ Some name → (turn.asked ≡ Some name) ⊎ Closes name event

@@ -1,4 +1,4 @@
--- What a node knows of its group, and what it sends and tells in the course of an event.
+-- A node's membership, and what it sends and reports during an event.
 use Rattle.std.specs.Prelude.{◌≡◌, List, [], ◌++◌, Option}
 use Rattle.node_names.specs.NodeName.{Name}
 use Rattle.frames.specs.Body.{Body}
@@ -11,13 +11,13 @@ pub record Membership : Type 0 where
   pub asked : Option Name
   pub shuffled : List Name
 
--- What to send to whom, in order, and which names the active view has lost and gained.
+-- The messages to send, each with its receiver and in order, and the names that the active view has lost and gained.
 pub record Moves : Type 0 where
   pub sends : List (Name × Body)
   pub downs : List Name
   pub ups : List Name
 
--- A node in the course of an event: where it stands by now, and what it has sent and told since the event came.
+-- A node during an event: its membership so far, and what it has sent and reported since the event came.
 pub record Turn : Type 0 where
   pub views : Views
   pub asked : Option Name
@@ -26,7 +26,7 @@ pub record Turn : Type 0 where
   pub downs : List Name
   pub ups : List Name
 
--- nothing is done yet
+-- the turn in which nothing is done yet
 abbrev pub still : Membership → Turn
 still m = record { views = m.views; asked = m.asked; shuffled = m.shuffled; sends = []; downs = []; ups = [] }
 
@@ -34,11 +34,11 @@ still m = record { views = m.views; asked = m.asked; shuffled = m.shuffled; send
 abbrev pub ended : Turn → Membership
 ended turn = record { views = turn.views; asked = turn.asked; shuffled = turn.shuffled }
 
--- what the turn sent and told
+-- what the turn sent and reported
 abbrev pub moves_of : Turn → Moves
 moves_of turn = record { sends = turn.sends; downs = turn.downs; ups = turn.ups }
 
--- The event ends so: the node stands as the turn says, and what the turn sent and told is appended.
+-- How an event ends: the node's membership is that of the turn, and what the turn sent and reported is appended.
 pub record Ends (turn : Turn) (moved : Moves) (new : Membership) (moves : Moves) : Type 0 where
   pub node : new ≡ record { views = turn.views; asked = turn.asked; shuffled = turn.shuffled }
   pub sends : moves.sends ≡ moved.sends ++ turn.sends

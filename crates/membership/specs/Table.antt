@@ -1,4 +1,4 @@
--- The table of HyParView as this project has it: what a node does at each event. In each row the sends stand in order.
+-- The table of HyParView as this project has it: what a node does at each event. In each row the sends are in order.
 use Rattle.std.specs.Prelude.{◌==◌, ◌-◌, ℕ, Bool, true, false, ◌&&◌, ◌||◌, List, [], ◌∷◌, None, if◌then◌else◌, nat_lt, nat_le, length}
 use Rattle.std.specs.Option.{option_map_or}
 use Rattle.node_names.specs.NodeName.{Name}
@@ -12,14 +12,14 @@ use Rattle.membership.specs.Event.{Event}
 use Rattle.membership.specs.declared.event.EventOf.TheVariants.{Joins, Join, ForwardJoin, Neighbor, Reply, Disconnect, Shuffle, ShuffleReply, Down, Tick}
 use Rattle.membership.specs.Blocks.{send, send_all, admit, step_down, lose, forget, is_asked, close_request, promote, welcome, shuffle_with, accept_shuffle}
 
--- JOIN: the sender is welcomed, and its name goes on a walk from every other active name.
+-- JOIN: the sender is welcomed, and its name is sent on a walk to every other active name.
 abbrev pub on_join : Dice → Name → Turn → Turn
 on_join dice sender t =
     let welcomed = welcome dice sender t in
     send_all (body.ForwardJoin sender t.views.limits.arwl) (others (sender ∷ []) welcomed.views.active) welcomed
 
--- The walk of a new name goes on, with so many steps left, to the active name that word 1 chooses, neither the sender
--- nor the new one; where there is none, the new name is welcomed.
+-- The walk of a new name goes on, with `ttl` steps left, to the active name that word 1 chooses, other than the sender
+-- and the new name; if there is no such name, the new name is welcomed.
 abbrev pub walk_on : Dice → Name → Name → ℕ → Turn → Turn
 walk_on dice sender new ttl t =
     option_map_or
@@ -27,7 +27,7 @@ walk_on dice sender new ttl t =
     (chosen (word dice 1) (others (sender ∷ new ∷ []) t.views.active))
     (welcome dice new t)
 
--- FORWARDJOIN about oneself: nothing. At the walk's end, or with at most one active name: the new name is welcomed.
+-- FORWARDJOIN of the owner: nothing. At the walk's end, or with at most one active name: the new name is welcomed.
 -- Otherwise, with PRWL steps left the name is added to the passive view; then its walk goes on with one step less.
 abbrev pub on_forward_join : Dice → Name → Name → ℕ → Turn → Turn
 on_forward_join dice sender new ttl t =
@@ -37,15 +37,16 @@ on_forward_join dice sender new ttl t =
     let noted = if ttl == t.views.limits.prwl then record t { views = view.add_passive dice new t.views } else t in
     walk_on dice sender new (ttl - 1) noted)
 
--- NEIGHBOR: a high one is accepted. A low one is accepted where the sender is active or has room, and else refused.
+-- NEIGHBOR: with high priority it is accepted. With low priority it is accepted if the sender is active or the active
+-- view has room, and refused otherwise.
 abbrev pub on_neighbor : Dice → Name → Bool → Turn → Turn
 on_neighbor dice sender high t =
     if high || (has_name t.views.active sender || view.has_room t.views)
     then send sender (body.NeighborReply true) (admit dice sender t)
     else send sender (body.NeighborReply false) t
 
--- NEIGHBORREPLY closes a request to its sender. Accepted: an active sender stays so, another becomes active if it has
--- room, and else gets DISCONNECT. Refused: an active sender is demoted.
+-- NEIGHBORREPLY closes a request to its sender. Accepted: an active sender stays active; another becomes active if
+-- there is room, and otherwise is sent DISCONNECT. Refused: an active sender is demoted.
 abbrev pub on_reply : Dice → Name → Bool → Turn → Turn
 on_reply dice sender true t =
     let closed = close_request sender t in
@@ -54,32 +55,33 @@ on_reply dice sender true t =
     else send sender body.Disconnect closed
 on_reply dice sender false t = step_down dice sender (close_request sender t)
 
--- DISCONNECT: an active sender is demoted, and a promotion follows that does not ask it.
+-- DISCONNECT: an active sender is demoted, and a promotion follows that does not ask the sender.
 abbrev pub on_disconnect : Dice → Name → Turn → Turn
 on_disconnect dice sender t =
     if has_name t.views.active sender then promote dice (sender ∷ []) (step_down dice sender t) else t
 
--- A failed link to an active peer: it is kept in neither view, a request to it is closed, and a promotion follows. To
--- one that is asked: it leaves the passive view, the request is closed, and a promotion follows. To another: nothing.
+-- A failed link to an active peer: it leaves the views, a request to it is closed, and a promotion follows. To a name
+-- that is asked: it leaves the passive view, the request is closed, and a promotion follows. To any other: nothing.
 abbrev pub on_down : Dice → Name → Turn → Turn
 on_down dice peer t =
     if has_name t.views.active peer then promote dice [] (close_request peer (lose peer t))
     else if is_asked peer t.asked then promote dice [] (close_request peer (forget peer t))
     else t
 
--- a shuffle with the active name that word 1 chooses, if there is any
+-- a shuffle starts with the active name that word 1 chooses, if there is one
 abbrev pub start_shuffle : Dice → Turn → Turn
 start_shuffle dice t = option_map_or (λ target. shuffle_with dice target t) (chosen (word dice 1) t.views.active) t
 
--- The tick: a shuffle. Then, if the active view has room, a
--- standing request is forgotten, and a promotion follows.
+-- The tick: a shuffle starts. Then, if the active view has room, a standing request is forgotten, and a promotion
+-- follows.
 abbrev pub on_tick : Dice → Turn → Turn
 on_tick dice t =
     let shuffled = start_shuffle dice t in
     if view.has_room shuffled.views then promote dice [] (record shuffled { asked = None }) else shuffled
 
--- SHUFFLE of one's own: nothing. Otherwise one step is taken off; where steps are left, and there is more than one
--- active name, it goes on to the one that word 1 chooses, neither the sender nor the origin; else it is accepted.
+-- SHUFFLE of the owner: nothing. Otherwise it loses one step. If steps are left and more than one name is active, it
+-- goes on to the active name that word 1 chooses, other than the sender and the origin. If it does not go on, it is
+-- accepted.
 abbrev pub on_shuffle : Dice → Name → Name → ℕ → List Name → Turn → Turn
 on_shuffle dice sender origin ttl names t =
     if same_name origin t.views.owner then t
@@ -91,11 +93,11 @@ on_shuffle dice sender origin ttl names t =
     (accept_shuffle dice origin names t)
     else accept_shuffle dice origin names t
 
--- SHUFFLEREPLY: its names are integrated, those remembered leave first, and nothing is remembered.
+-- SHUFFLEREPLY: its names are integrated, for which the remembered names leave first, and then none are remembered.
 abbrev pub on_shuffle_reply : Dice → List Name → Turn → Turn
 on_shuffle_reply dice names t = record t { views = view.integrate names t.shuffled dice t.views; shuffled = [] }
 
--- The table, one case an event. To join is to send JOIN to the contact.
+-- The table, with one case for each event. To join is to send JOIN to the contact.
 abbrev pub table : Event → Dice → Turn → Turn
 table (Joins contact) dice t = send contact body.Join t
 table (Join sender) dice t = on_join dice sender t

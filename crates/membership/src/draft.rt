@@ -1,4 +1,4 @@
-//! A turn of a node in the making. One that a refused allocation cuts short is dropped.
+//! A node's turn while an event is processed. If memory is refused halfway, the draft is dropped.
 ghost use Rattle.std.specs.Prelude.{◌≡◌, ◌+◌, ◌≤◌, [], ◌∷◌, OnOk, length, map, take};
 ghost use Rattle.node_names.specs.Same.{has_name};
 ghost use Rattle.views.specs.Names.{others};
@@ -12,7 +12,7 @@ use node_names::{Dice, Listed, NodeName};
 use std::alloc::{AllocError, Allocator, Global};
 use views::Views;
 
-/// Where a node stands in the course of an event, and what it has sent and told since the event came.
+/// The state of a node while it processes an event: its membership so far, and what the event has caused so far.
 #[derive(Drop)]
 pub(crate) struct Draft<A: Allocator = Global> {
     pub(crate) views: Views<A>,
@@ -23,7 +23,7 @@ pub(crate) struct Draft<A: Allocator = Global> {
     pub(crate) ups: Listed<NodeName, A>,
 }
 
-/// Whether this name is asked.
+/// Returns whether `name` is the one that is asked.
 pub(crate) fn is_asked(name: &NodeName, asked: &Option<NodeName>) -> bool
     ensures { result ≡ block.is_asked name.now asked.now }
 {
@@ -34,35 +34,36 @@ pub(crate) fn is_asked(name: &NodeName, asked: &Option<NodeName>) -> bool
 }
 
 impl<A: Allocator + Copy> Draft<A> {
-    /// Whether the active view has room for one more name.
+    /// Returns whether the active view has room for one more name.
     pub(crate) fn has_room(&self) -> bool
         ensures { result ≡ has_room self.now.views }
     {
         self.views.active().len() < usize::from(self.views.limits().active())
     }
 
-    /// Whether the name is active.
+    /// Returns whether `name` is active.
     pub(crate) fn is_active(&self, name: &NodeName) -> bool
         ensures { result ≡ has_name self.now.views.active name.now }
     {
         self.views.active().contains(name)
     }
 
-    /// Whether the name is the owner's or active.
+    /// Returns whether `name` is the owner's or active.
     fn is_settled(&self, name: &NodeName) -> bool
         ensures { result ≡ is_settled self.now.views name.now }
     {
         *name == self.views.owner() || self.is_active(name)
     }
 
-    /// Sends a message.
+    /// Appends a message to the sends.
     pub(crate) fn send(&mut self, to: NodeName, body: Body<A>) -> Result<(), AllocError>
         ensures { OnOk result (turn_of self.new ≡ block.send to body (turn_of self.old)) }
     {
         self.sends.push((to, body))
     }
 
-    /// Adds a name to the active view.
+    /// Adds a name to the active view and reports it as up. A name that is dropped for it is sent DISCONNECT and
+    /// reported as down. Does nothing for a name that is the owner's or active.
     pub(crate) fn admit(&mut self, name: NodeName, dice: &Dice) -> Result<(), AllocError>
         ensures { OnOk result (turn_of self.new ≡ block.admit dice.now name (turn_of self.old)) }
     {
@@ -76,7 +77,7 @@ impl<A: Allocator + Copy> Draft<A> {
         self.ups.push(name)
     }
 
-    /// Adds a name to the active view, and tells it.
+    /// Admits a name to the active view as `admit` does, and sends it NEIGHBOR with high priority.
     pub(crate) fn welcome(&mut self, name: NodeName, dice: &Dice) -> Result<(), AllocError>
         ensures { OnOk result (turn_of self.new ≡ block.welcome dice.now name (turn_of self.old)) }
     {
@@ -84,7 +85,7 @@ impl<A: Allocator + Copy> Draft<A> {
         self.send(name, BodyOf::Neighbor { high: true })
     }
 
-    /// Moves an active name to the passive view.
+    /// Moves an active name to the passive view and reports it as down. Does nothing for a name that is not active.
     pub(crate) fn step_down(&mut self, name: NodeName, dice: &Dice) -> Result<(), AllocError>
         ensures { OnOk result (turn_of self.new ≡ block.step_down dice.now name (turn_of self.old)) }
     {
@@ -95,7 +96,7 @@ impl<A: Allocator + Copy> Draft<A> {
         self.downs.push(name)
     }
 
-    /// Closes a request to the name, if there is one.
+    /// Closes the request to `name`, if one stands.
     pub(crate) fn close_request(&mut self, name: &NodeName)
         ensures { turn_of self.new ≡ block.close_request name.now (turn_of self.old) }
     {
@@ -104,7 +105,8 @@ impl<A: Allocator + Copy> Draft<A> {
         }
     }
 
-    /// Asks a passive name to become a neighbour, where there is room and nobody is asked.
+    /// Sends NEIGHBOR to the passive name, other than those `excepted`, that word 2 chooses, with high priority if no
+    /// name is active. Does nothing if the active view is full, if a request stands, or if there is no such name.
     pub(crate) fn promote(&mut self, excepted: &[NodeName], dice: &Dice) -> Result<(), AllocError>
         ensures { OnOk result (turn_of self.new ≡ block.promote dice.now excepted.now (turn_of self.old)) }
     {

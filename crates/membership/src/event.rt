@@ -1,55 +1,56 @@
-//! What a node's membership hears of.
+//! The events that a node's membership handles.
 use node_names::NodeName;
 
-/// An event whose names are lent.
+/// An event that borrows its names.
 pub type Event<'a> = EventOf<&'a [NodeName]>;
 
-/// An event, by its kind. `L` is a list of names.
+/// An event of the membership protocol. `L` is the type of its lists of names.
 ///
-/// Join to ShuffleReply are messages of HyParView that came from a sender.
+/// The variants from `Join` to `ShuffleReply` are HyParView messages that came from a sender.
 #[derive(Drop)]
 pub enum EventOf<L> {
-    /// The node is to join the group by a contact.
+    /// The request that this node join the group through a contact.
     Joins {
         contact: NodeName,
     },
-    /// The sender joins the group by this node.
+    /// A JOIN: the sender joins the group through this node.
     Join {
         sender: NodeName,
     },
-    /// The name of a node that joins, with the steps that its walk has left.
+    /// A FORWARDJOIN: the name of a node that joins, on a random walk with `ttl` steps left.
     ForwardJoin {
         sender: NodeName,
         new: NodeName,
         ttl: u8,
     },
-    /// The sender asks to be taken into the active view, or, with high priority, demands it.
+    /// A NEIGHBOR: the request of the sender to be added to the active view, which cannot be refused if its priority is
+    /// high.
     Neighbor {
         sender: NodeName,
         high: bool,
     },
-    /// The answer to that.
+    /// A NEIGHBORREPLY: the sender's answer to such a request.
     Reply {
         sender: NodeName,
         accepted: bool,
     },
-    /// The sender has taken this node out of its active view.
+    /// A DISCONNECT: the sender has removed this node from its active view.
     Disconnect {
         sender: NodeName,
     },
-    /// Names that `origin` knows, with the steps that they have left.
+    /// A SHUFFLE: names that `origin` knows, on a random walk with `ttl` steps left.
     Shuffle {
         sender: NodeName,
         origin: NodeName,
         ttl: u8,
         names: L,
     },
-    /// The names that a shuffle of this node is answered with.
+    /// A SHUFFLEREPLY: the names that answer a shuffle of this node.
     ShuffleReply {
         sender: NodeName,
         names: L,
     },
-    /// The link to a peer failed.
+    /// The failure of the link to a peer.
     Down {
         peer: NodeName,
     },

@@ -1,4 +1,4 @@
-//! Membership after HyParView: which nodes a node keeps links to, and which it could turn to.
+//! The membership protocol HyParView: which nodes a node keeps links to, and which it can turn to when links fail.
 #![tactic(auto)]
 
 mod draft;

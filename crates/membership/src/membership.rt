@@ -1,4 +1,4 @@
-//! A node's membership.
+//! A node's part in the membership protocol.
 ghost use Rattle.std.specs.Prelude.{◌≡◌, [], IfOk, OnOk, OnErr, None};
 ghost use Rattle.views.specs.Views.{ArePeers, fresh};
 ghost use Rattle.membership.specs.Membership.{Ends, ended, moves_of, still};
@@ -15,7 +15,7 @@ use std::alloc::{AllocError, Allocator, Global};
 use std::marker::Model;
 use views::Views;
 
-/// The part of a node that keeps its views, and answers the messages that are about them.
+/// The part of a node that keeps its views, and answers the messages of the membership protocol.
 #[derive(Drop)]
 pub struct Membership<A: Allocator = Global> {
     views: Views<A>,
@@ -32,14 +32,14 @@ impl<A: Allocator> Model for Membership<A> {
 }
 
 impl<A: Allocator> Membership<A> {
-    /// The two views.
+    /// Returns the two views.
     pub fn views(&self) -> &Views<A>
         ensures { result.now ≡ self.now.views }
     {
         &self.views
     }
 
-    /// The name that was asked to become a neighbour and has not answered.
+    /// Returns the name that was asked to become a neighbour and has not answered, if there is one.
     pub fn asked(&self) -> Option<NodeName>
         ensures { result ≡ self.now.asked }
     {
@@ -48,7 +48,8 @@ impl<A: Allocator> Membership<A> {
 }
 
 impl<A: Allocator + Copy> Membership<A> {
-    /// The membership of a node whose active names are the peers.
+    /// Creates the membership of `owner` with the `peers` as its active names. No passive name is known, and no request
+    /// stands.
     pub fn new(
         alloc: A,
         owner: NodeName,
@@ -66,7 +67,7 @@ impl<A: Allocator + Copy> Membership<A> {
         })
     }
 
-    /// A copy of it.
+    /// Returns a copy of the membership.
     pub fn copy(&self) -> Result<Membership<A>, AllocError>
         ensures { IfOk result (λ copy. copy ≡ self.now) }
     {
@@ -79,7 +80,7 @@ impl<A: Allocator + Copy> Membership<A> {
         })
     }
 
-    /// A turn in which nothing is done yet.
+    /// Returns a draft of a turn that has sent and reported nothing yet.
     fn draft(&self) -> Result<Draft<A>, AllocError>
         ensures { IfOk result (λ draft. turn_of draft ≡ still self.now) }
     {
@@ -96,8 +97,8 @@ impl<A: Allocator + Copy> Membership<A> {
         })
     }
 
-    /// The membership after the event, and what the event makes the node send and tell. This membership stays as it is:
-    /// a caller that goes through with the event puts the new one in its place, which takes no memory.
+    /// Returns the membership after the event, and the moves that the event causes. This membership stays as it is: a
+    /// caller that goes through with the event replaces it by the new one, which does not allocate.
     pub fn prepare(
         &self,
         event: &Event<'_>,
@@ -124,7 +125,8 @@ impl<A: Allocator + Copy> Membership<A> {
         Ok((next, Moves { sends, downs, ups }))
     }
 
-    /// Takes the event, and appends what it makes the node send and tell.
+    /// Handles the event, and appends the moves that it causes to `moves`. If memory is refused, neither the membership
+    /// nor `moves` changes. The same holds of all methods below that handle an event.
     fn take(
         &mut self,
         event: &Event<'_>,
@@ -140,7 +142,7 @@ impl<A: Allocator + Copy> Membership<A> {
         Ok(())
     }
 
-    /// Joins the group by a contact.
+    /// Joins the group through `contact`, to which it sends JOIN.
     pub fn join(&mut self, contact: NodeName, moves: &mut Moves<A>) -> Result<(), AllocError>
         ensures ok { (dice : _) → OnOk result (Ends (table (Event.Joins contact) dice (still self.old)) moves.old self.new moves.new) }
         ensures err { OnErr result ((self.new ≡ self.old) × (moves.new ≡ moves.old)) }
@@ -148,7 +150,7 @@ impl<A: Allocator + Copy> Membership<A> {
         self.take(&EventOf::Joins { contact }, &Dice([0; 16]), moves)
     }
 
-    /// A node joins by this one.
+    /// Handles a JOIN: `sender` joins the group through this node.
     pub fn on_join(
         &mut self,
         sender: NodeName,
@@ -161,7 +163,7 @@ impl<A: Allocator + Copy> Membership<A> {
         self.take(&EventOf::Join { sender }, dice, moves)
     }
 
-    /// The name of a node that joins, with the steps that its walk has left.
+    /// Handles a FORWARDJOIN: the name `new` of a node that joins, on a random walk with `ttl` steps left.
     pub fn on_forward_join(
         &mut self,
         sender: NodeName,
@@ -176,7 +178,7 @@ impl<A: Allocator + Copy> Membership<A> {
         self.take(&EventOf::ForwardJoin { sender, new, ttl }, dice, moves)
     }
 
-    /// A request to become a neighbour.
+    /// Handles a NEIGHBOR: the request of `sender` to become a neighbour, of high or low priority.
     pub fn on_neighbor(
         &mut self,
         sender: NodeName,
@@ -190,7 +192,7 @@ impl<A: Allocator + Copy> Membership<A> {
         self.take(&EventOf::Neighbor { sender, high }, dice, moves)
     }
 
-    /// The answer to such a request.
+    /// Handles a NEIGHBORREPLY: the answer of `sender` to such a request.
     pub fn on_reply(
         &mut self,
         sender: NodeName,
@@ -204,7 +206,7 @@ impl<A: Allocator + Copy> Membership<A> {
         self.take(&EventOf::Reply { sender, accepted }, dice, moves)
     }
 
-    /// The sender has dropped this node out of its active view.
+    /// Handles a DISCONNECT: `sender` has removed this node from its active view.
     pub fn on_disconnect(
         &mut self,
         sender: NodeName,
@@ -217,7 +219,7 @@ impl<A: Allocator + Copy> Membership<A> {
         self.take(&EventOf::Disconnect { sender }, dice, moves)
     }
 
-    /// Names that `origin` knows, with the steps that they have left.
+    /// Handles a SHUFFLE: `names` that `origin` knows, on a random walk with `ttl` steps left.
     pub fn on_shuffle(
         &mut self,
         sender: NodeName,
@@ -242,7 +244,7 @@ impl<A: Allocator + Copy> Membership<A> {
         )
     }
 
-    /// The names that a shuffle of this node is answered with.
+    /// Handles a SHUFFLEREPLY: the `names` that answer a shuffle of this node.
     pub fn on_shuffle_reply(
         &mut self,
         sender: NodeName,
@@ -256,7 +258,7 @@ impl<A: Allocator + Copy> Membership<A> {
         self.take(&EventOf::ShuffleReply { sender, names }, dice, moves)
     }
 
-    /// The link to a peer failed.
+    /// Handles the failure of the link to `peer`.
     pub fn on_down(
         &mut self,
         peer: NodeName,
@@ -269,7 +271,7 @@ impl<A: Allocator + Copy> Membership<A> {
         self.take(&EventOf::Down { peer }, dice, moves)
     }
 
-    /// The membership tick.
+    /// Handles the membership tick: starts a shuffle, and asks for a new neighbour if the active view has room.
     pub fn tick(&mut self, dice: &Dice, moves: &mut Moves<A>) -> Result<(), AllocError>
         ensures ok { OnOk result (Ends (table (Event.Tick) dice.now (still self.old)) moves.old self.new moves.new) }
         ensures err { OnErr result ((self.new ≡ self.old) × (moves.new ≡ moves.old)) }

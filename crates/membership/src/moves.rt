@@ -1,4 +1,4 @@
-//! What an event makes a node send and tell.
+//! The messages that an event causes, and the changes of the active view.
 ghost use Rattle.std.specs.Prelude.{◌≡◌, [], ◌++◌, OnOk, OnErr};
 
 use frames::Body;
@@ -6,13 +6,13 @@ use node_names::{Listed, NodeName};
 use std::alloc::{AllocError, Allocator, Global};
 use std::marker::Model;
 
-/// The messages to send, each with the name that it goes to, and the names that the active view has lost and gained,
-/// all in order. An event appends to them.
+/// The messages to send, each with its receiver, and the names that the active view has lost and gained, all in order.
+/// Each event appends to these lists.
 #[derive(Drop)]
 pub struct Moves<A: Allocator = Global> {
     /// The messages, each with its receiver.
     pub sends: Listed<(NodeName, Body<A>), A>,
-    /// The names that are active no longer.
+    /// The names that are no longer active.
     pub downs: Listed<NodeName, A>,
     /// The names that have become active.
     pub ups: Listed<NodeName, A>,
@@ -32,7 +32,7 @@ impl<A: Allocator> Model for Moves<A> {
 }
 
 impl<A: Allocator + Copy> Moves<A> {
-    /// Nothing to send and nothing to tell.
+    /// Creates empty lists. Does not allocate.
     pub fn new(alloc: A) -> Moves<A>
         ensures { result ≡ record { sends = []; downs = []; ups = [] } }
     {
@@ -43,7 +43,7 @@ impl<A: Allocator + Copy> Moves<A> {
         }
     }
 
-    /// Appends to each of the lists.
+    /// Appends the lists of `more` to these. If memory is refused, nothing changes.
     pub(crate) fn append(&mut self, more: Moves<A>) -> Result<(), AllocError>
         ensures ok { OnOk result (self.new ≡ record {
           sends = self.old.sends ++ more.sends;

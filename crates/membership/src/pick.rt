@@ -1,10 +1,10 @@
-//! One name out of a view, by a word of the dice.
+//! Choosing one name of a view by a word of the dice.
 ghost use Rattle.std.specs.Prelude.{◌≡◌, ◌%◌, ◌<◌, ◌≤◌, length, slice_get};
 ghost use Rattle.views.specs.Names.{chosen, others};
 
 use node_names::{NodeName, has_name};
 
-/// The number of the names that are not excepted.
+/// Returns the number of `names` that are not `excepted`.
 fn count_others(excepted: &[NodeName], names: &[NodeName]) -> usize
     ensures value { result ≡ length (others excepted.now names.now) }
     ensures few { result ≤ length names.now }
@@ -18,7 +18,7 @@ fn count_others(excepted: &[NodeName], names: &[NodeName]) -> usize
     count
 }
 
-/// The name at a place among those that are not excepted.
+/// Returns the name at index `place` among the `names` that are not `excepted`, or `None` if there are too few.
 fn nth_other(excepted: &[NodeName], names: &[NodeName], place: usize) -> Option<NodeName>
     ensures { result ≡ slice_get (others excepted.now names.now) place }
 {
@@ -34,7 +34,7 @@ fn nth_other(excepted: &[NodeName], names: &[NodeName], place: usize) -> Option<
     None
 }
 
-/// The name that a word chooses among those that are not excepted, if there are any.
+/// Returns the name that `word` chooses among the `names` that are not `excepted`, or `None` if there are none.
 pub(crate) fn pick(excepted: &[NodeName], names: &[NodeName], word: u64) -> Option<NodeName>
     ensures { result ≡ chosen word (others excepted.now names.now) }
 {
@@ -45,7 +45,7 @@ pub(crate) fn pick(excepted: &[NodeName], names: &[NodeName], word: u64) -> Opti
     nth_other(excepted, names, (word % count as u64) as usize)
 }
 
-/// The name that a word chooses, if there are any.
+/// Returns the name that `word` chooses among the `names`, or `None` if there are none.
 pub(crate) fn choose(names: &[NodeName], word: u64) -> Option<NodeName>
     ensures { result ≡ chosen word names.now }
 {

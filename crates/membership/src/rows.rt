@@ -1,4 +1,4 @@
-//! The rows of the table, each as it changes a draft.
+//! The rows of the table: how each event changes a draft.
 ghost use Rattle.std.specs.Prelude.{◌≡◌, ◌+◌, ◌≤◌, [], ◌∷◌, ◌++◌, OnOk, IfOk, length, take};
 ghost use Rattle.frames.specs.declared.body.BodyOf.TheVariants as body;
 ghost use Rattle.views.specs.Names.{others, sample};
@@ -14,10 +14,10 @@ use frames::BodyOf;
 use node_names::{Dice, Listed, NodeName};
 use std::alloc::{AllocError, Allocator};
 
-/// The number of words that an answer to a shuffle may use.
+/// The number of words, and so of names, that an answer to a shuffle uses at most.
 const ANSWER_WORDS: usize = 8;
 
-/// The owner's name, and then the active and the passive ones.
+/// Returns a list of the `owner`'s name, the `active` names and the `passive` names, in this order.
 fn joined<A: Allocator + Copy>(
     alloc: A,
     owner: NodeName,
@@ -34,7 +34,7 @@ fn joined<A: Allocator + Copy>(
 }
 
 impl<A: Allocator + Copy> Draft<A> {
-    /// Does what the event's row of the table says.
+    /// Handles the event as its row of the table says.
     pub(crate) fn take(&mut self, event: &Event<'_>, dice: &Dice) -> Result<(), AllocError>
         ensures { OnOk result (turn_of self.new ≡ row.table (lent event.now) dice.now (turn_of self.old)) }
     {
@@ -59,7 +59,7 @@ impl<A: Allocator + Copy> Draft<A> {
         }
     }
 
-    /// Sends a name on a walk of this length from each of the others.
+    /// Sends `new` on a walk with `ttl` steps to each of the `receivers` other than `new` itself.
     fn send_walks(
         &mut self,
         new: NodeName,
@@ -76,7 +76,7 @@ impl<A: Allocator + Copy> Draft<A> {
         Ok(())
     }
 
-    /// JOIN.
+    /// Handles a JOIN: welcomes the sender, and sends its name on a walk to each other active name.
     fn on_join(&mut self, sender: NodeName, dice: &Dice) -> Result<(), AllocError>
         ensures { OnOk result (turn_of self.new ≡ row.on_join dice.now sender (turn_of self.old)) }
     {
@@ -86,7 +86,7 @@ impl<A: Allocator + Copy> Draft<A> {
         self.send_walks(sender, ttl, active.as_slice())
     }
 
-    /// A copy of the active names.
+    /// Returns a copy of the active names.
     fn active_names(&self) -> Result<Vec<NodeName, A>, AllocError>
         ensures { IfOk result (λ names. names.items ≡ self.now.views.active) }
     {
@@ -94,7 +94,8 @@ impl<A: Allocator + Copy> Draft<A> {
         Vec::from_slice(*active.allocator(), active.as_slice())
     }
 
-    /// FORWARDJOIN.
+    /// Handles a FORWARDJOIN: welcomes the new name at its walk's end or with at most one active name, and otherwise
+    /// sends it on. Does nothing if the new name is the owner's.
     fn on_forward_join(
         &mut self,
         sender: NodeName,
@@ -116,7 +117,8 @@ impl<A: Allocator + Copy> Draft<A> {
         self.walk_on(sender, new, ttl - 1, dice)
     }
 
-    /// Sends a name on, or welcomes it where there is nobody to send it to.
+    /// Sends `new` on, with `ttl` steps left, to the active name other than `sender` and `new` that word 1 chooses.
+    /// Welcomes `new` if there is no such name.
     fn walk_on(
         &mut self,
         sender: NodeName,
@@ -133,7 +135,7 @@ impl<A: Allocator + Copy> Draft<A> {
         self.send(next, BodyOf::ForwardJoin { new, ttl })
     }
 
-    /// NEIGHBOR.
+    /// Handles a NEIGHBOR: answers whether the sender is accepted, and admits it if it is.
     fn on_neighbor(&mut self, sender: NodeName, high: bool, dice: &Dice) -> Result<(), AllocError>
         ensures { OnOk result (turn_of self.new ≡ row.on_neighbor dice.now sender high (turn_of self.old)) }
     {
@@ -144,7 +146,8 @@ impl<A: Allocator + Copy> Draft<A> {
         self.send(sender, BodyOf::NeighborReply { accepted })
     }
 
-    /// NEIGHBORREPLY.
+    /// Handles a NEIGHBORREPLY: closes a request to the sender. If it accepted and is not active, it is admitted if
+    /// there is room, and otherwise sent DISCONNECT. If it refused and is active, it is demoted.
     fn on_reply(&mut self, sender: NodeName, accepted: bool, dice: &Dice) -> Result<(), AllocError>
         ensures { OnOk result (turn_of self.new ≡ row.on_reply dice.now sender accepted (turn_of self.old)) }
     {
@@ -161,7 +164,8 @@ impl<A: Allocator + Copy> Draft<A> {
         self.send(sender, BodyOf::Disconnect)
     }
 
-    /// DISCONNECT.
+    /// Handles a DISCONNECT: demotes the sender, and asks another name in its place. Does nothing if the sender is not
+    /// active.
     fn on_disconnect(&mut self, sender: NodeName, dice: &Dice) -> Result<(), AllocError>
         ensures { OnOk result (turn_of self.new ≡ row.on_disconnect dice.now sender (turn_of self.old)) }
     {
@@ -172,7 +176,8 @@ impl<A: Allocator + Copy> Draft<A> {
         self.promote(&[sender], dice)
     }
 
-    /// The link to a peer failed.
+    /// Handles the failure of the link to `peer`: forgets an active or asked name, and asks another in its place. Does
+    /// nothing for any other name.
     fn on_down(&mut self, peer: NodeName, dice: &Dice) -> Result<(), AllocError>
         ensures { OnOk result (turn_of self.new ≡ row.on_down dice.now peer (turn_of self.old)) }
     {
@@ -186,7 +191,7 @@ impl<A: Allocator + Copy> Draft<A> {
         self.promote(&[], dice)
     }
 
-    /// The active names of a shuffle with the target.
+    /// Draws the active names for a shuffle with `target`.
     fn shuffled_active(&self, target: NodeName, dice: &Dice) -> Result<Vec<NodeName, A>, AllocError>
         ensures { IfOk result (λ names. names.items ≡ block.shuffled_active dice.now target self.now.views) }
     {
@@ -196,7 +201,7 @@ impl<A: Allocator + Copy> Draft<A> {
             .sample_active(usize::from(limits.ka()), target, words)
     }
 
-    /// The passive names of a shuffle.
+    /// Draws the passive names for a shuffle.
     fn shuffled_passive(&self, dice: &Dice) -> Result<Vec<NodeName, A>, AllocError>
         ensures { IfOk result (λ names. names.items ≡ block.shuffled_passive dice.now self.now.views) }
     {
@@ -206,7 +211,7 @@ impl<A: Allocator + Copy> Draft<A> {
         self.views.sample_passive(kp, &dice.0[4 + ka..])
     }
 
-    /// A shuffle with the target.
+    /// Sends a SHUFFLE to `target`, and remembers its passive names.
     fn shuffle_with(&mut self, target: NodeName, dice: &Dice) -> Result<(), AllocError>
         ensures { OnOk result (turn_of self.new ≡ block.shuffle_with dice.now target (turn_of self.old)) }
     {
@@ -220,7 +225,7 @@ impl<A: Allocator + Copy> Draft<A> {
         self.send(target, BodyOf::Shuffle { origin, ttl, names })
     }
 
-    /// The tick.
+    /// Handles the tick: starts a shuffle. Then, if the active view has room, forgets a standing request and asks anew.
     fn on_tick(&mut self, dice: &Dice) -> Result<(), AllocError>
         ensures { OnOk result (turn_of self.new ≡ row.on_tick dice.now (turn_of self.old)) }
     {
@@ -232,7 +237,7 @@ impl<A: Allocator + Copy> Draft<A> {
         self.promote(&[], dice)
     }
 
-    /// A shuffle with an active name, if there is any.
+    /// Starts a shuffle with the active name that word 1 chooses. Does nothing if there is no active name.
     fn start_shuffle(&mut self, dice: &Dice) -> Result<(), AllocError>
         ensures { OnOk result (turn_of self.new ≡ row.start_shuffle dice.now (turn_of self.old)) }
     {
@@ -242,7 +247,7 @@ impl<A: Allocator + Copy> Draft<A> {
         self.shuffle_with(target, dice)
     }
 
-    /// Answers a shuffle, and takes its names in.
+    /// Sends `origin` an answer to its shuffle, and integrates the `names` of the shuffle.
     fn accept_shuffle(
         &mut self,
         origin: NodeName,
@@ -258,7 +263,8 @@ impl<A: Allocator + Copy> Draft<A> {
         self.send(origin, BodyOf::ShuffleReply { names: answer })
     }
 
-    /// SHUFFLE.
+    /// Handles a SHUFFLE: passes it on with one step less, or accepts it if no step is left, at most one name is active,
+    /// or there is no active name to pass it on to. Does nothing for a shuffle of the owner.
     fn on_shuffle(
         &mut self,
         sender: NodeName,
@@ -285,7 +291,8 @@ impl<A: Allocator + Copy> Draft<A> {
         self.send(next, BodyOf::Shuffle { origin, ttl, names })
     }
 
-    /// SHUFFLEREPLY.
+    /// Handles a SHUFFLEREPLY: integrates its names, for which the remembered names leave first, and then remembers
+    /// none.
     fn on_shuffle_reply(&mut self, names: &[NodeName], dice: &Dice) -> Result<(), AllocError>
         ensures { OnOk result (turn_of self.new ≡ row.on_shuffle_reply dice.now names.now (turn_of self.old)) }
     {

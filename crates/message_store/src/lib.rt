@@ -1,4 +1,4 @@
-//! The messages that a node holds, in order of delivery: all, or the last so many.
+//! The messages that a node holds, in order of delivery: all of them, or a limited number of the latest.
 #![tactic(auto)]
 
 mod message_store;

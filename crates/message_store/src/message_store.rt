@@ -1,4 +1,4 @@
-//! The held messages.
+//! The store of held messages.
 ghost use Rattle.std.specs.Prelude.{◌≡◌, ◌*◌, ◌<◌, ◌≤◌, ◌++◌, ◌∷◌, [], None, drop, IfOk, OnOk};
 ghost use Rattle.std.specs.List.{IsDistinct};
 ghost use Rattle.std.specs.Map.{keys_of, lookup};
@@ -14,18 +14,19 @@ use std::alloc::{AllocError, Allocator, Global};
 use std::hash::{BuildHasherDefault, FoldHasher};
 use std::marker::Model;
 
-/// Messages in order of delivery, those that were forgotten first.
+/// Messages in order of delivery, including forgotten ones at the front.
 type Delivered<A> = IndexMap<MsgId, Bytes<A>, BuildHasherDefault<FoldHasher>, A>;
 
-/// The payloads of the messages that are held, by their ids and in order of delivery.
+/// The payloads of the held messages, by message id and in order of delivery.
 ///
-/// What is forgotten leaves at the front, which keeps it until it is longer than the rest: so a message is moved once
-/// at most on average, and the memory is that of at most twice as many messages as are held.
+/// Messages are forgotten at the front. A forgotten message stays in memory until the forgotten ones outnumber the held
+/// ones, and then all forgotten ones are dropped at once. So forgetting moves each message at most once on average, and
+/// at most twice as many messages as are held are in memory.
 #[derive(Drop)]
 pub struct MessageStore<A: Allocator = Global> {
-    /// The messages, behind those that were forgotten.
+    /// The held messages, preceded by the forgotten ones.
     messages: Delivered<A>,
-    /// How many of the front were forgotten.
+    /// The number of forgotten messages at the front.
     gone: usize,
 }
 
@@ -42,7 +43,7 @@ impl<A: Allocator> Model for MessageStore<A> {
     ghost invariant = { λ s. IsUnique same_id s.messages × (2 * s.gone ≤ index_map_len s.messages) };
 }
 
-/// Drops so many of the front. It moves all the others, and takes no memory.
+/// Drops the first `gone` messages. Moves all others, and does not allocate.
 fn drop_front<A: Allocator>(messages: &mut Delivered<A>, gone: usize)
     requires { gone ≤ index_map_len messages.old }
     ensures messages { messages.new.entries ≡ drop gone messages.old.entries }
@@ -52,8 +53,8 @@ fn drop_front<A: Allocator>(messages: &mut Delivered<A>, gone: usize)
     messages.drain(..gone);
 }
 
-/// Drops the front if the id is in it, since a message that is put again takes the place that its id has. How many of
-/// the front are gone then.
+/// Drops the `gone` forgotten messages at the front if `id` is among them, since inserting an id that is present keeps
+/// its old place. Returns how many forgotten messages are left at the front: 0 or `gone`.
 fn free_place<A: Allocator>(messages: &mut Delivered<A>, gone: usize, id: &MsgId) -> usize
     requires front { 2 * gone ≤ index_map_len messages.old }
     requires absent { lookup (same_id id.now) (drop gone messages.old.entries) ≡ None }
@@ -71,7 +72,7 @@ fn free_place<A: Allocator>(messages: &mut Delivered<A>, gone: usize, id: &MsgId
 }
 
 impl<A: Allocator + Copy> MessageStore<A> {
-    /// Nothing is held. It takes no memory.
+    /// Creates a store that holds nothing. Does not allocate.
     pub fn new(alloc: A) -> Self
         ensures { result.messages ≡ [] }
     {
@@ -81,7 +82,7 @@ impl<A: Allocator + Copy> MessageStore<A> {
         }
     }
 
-    /// Takes the memory for one more message. Refused or not, the same messages are held as before.
+    /// Reserves the memory for one more message. Changes no held message, even if memory is refused.
     pub fn make_room(&mut self) -> Result<(), AllocError>
         ensures room { OnOk result (0 < self.new.room) }
         ensures same { self.new.messages ≡ self.old.messages }
@@ -89,7 +90,7 @@ impl<A: Allocator + Copy> MessageStore<A> {
         self.messages.reserve(1)
     }
 
-    /// A copy of all that is held.
+    /// Returns a copy that holds the same messages.
     pub fn copy(&self) -> Result<Self, AllocError>
         ensures { IfOk result (λ copy. copy.messages ≡ self.now.messages) }
     {
@@ -101,7 +102,7 @@ impl<A: Allocator + Copy> MessageStore<A> {
 }
 
 impl<A: Allocator> MessageStore<A> {
-    /// Forgets the oldest where more than `keep` are held, if `keep` is not 0.
+    /// Forgets the oldest messages so that at most `keep` are held. Does nothing if `keep` is 0.
     fn forget(&mut self, keep: u32)
         ensures { self.new.messages ≡ kept_last keep self.old.messages }
     {
@@ -116,10 +117,11 @@ impl<A: Allocator> MessageStore<A> {
         }
     }
 
-    /// Holds a message, in the room that there is, and then the last `keep` messages alone, or all for 0.
+    /// Appends a message, without allocating, and then forgets all but the last `keep` messages. If `keep` is 0, it
+    /// forgets none.
     ///
-    /// It takes the same time on average however many are held, unless the message was held before: to hold one again
-    /// that was forgotten may move all.
+    /// Takes amortized constant time, unless the message was held before and has been forgotten: this may move all
+    /// messages.
     pub fn push(&mut self, id: &MsgId, payload: Bytes<A>, keep: u32)
         requires room { 0 < self.old.room }
         requires absent { lookup (same_id id.now) self.old.messages ≡ None }
@@ -130,7 +132,7 @@ impl<A: Allocator> MessageStore<A> {
         self.forget(keep);
     }
 
-    /// The payload of a message, if it is held.
+    /// Returns the payload of the message `id`, or `None` if it is not held.
     pub fn payload(&self, id: &MsgId) -> Option<&Bytes<A>>
         ensures { option_copied result ≡ lookup (same_id id.now) self.now.messages }
     {
@@ -142,7 +144,7 @@ impl<A: Allocator> MessageStore<A> {
         }
     }
 
-    /// The ids of the messages that are held, in order of delivery.
+    /// Returns the ids of the held messages, in order of delivery.
     pub fn ids(&self) -> &[MsgId]
         ensures ids { result.now ≡ keys_of self.now.messages }
         ensures distinct { IsDistinct same_id result.now }
@@ -150,7 +152,7 @@ impl<A: Allocator> MessageStore<A> {
         &self.messages.keys().as_slice()[self.gone..]
     }
 
-    /// What allocates its memory.
+    /// Returns the allocator of the store.
     pub fn allocator(&self) -> &A {
         self.messages.allocator()
     }

@@ -7,7 +7,7 @@ use Rattle.node_names.specs.Same.{same_name}
 use Rattle.node_names.specs.declared.ids.MsgId.{MsgId}
 use Rattle.missing.specs.Wants.{place_of, same_place, is_wanted, with_want, without_peer, without_peers}
 
--- whether an entry stands there is whether its place does
+-- an entry is in the list exactly if its place is among the places
 pub is_wanted-places : (id : MsgId) (peer : Name) (wants : List (MsgId × Name × ℕ)) → list_any (same_place (id, peer)) (map place_of wants) ≡ is_wanted id peer wants
 is_wanted-places id peer [] = refl
 is_wanted-places id peer (entry ∷ wants) = ap (λ b. same_place (id, peer) (place_of entry) || b) (is_wanted-places id peer wants)

@@ -80,7 +80,7 @@ once-filter test (entry ∷ wants) once = go (test entry) (once-filter test want
     go true later = IsDistinct-cons same_place (place_of entry) (map place_of (filter test wants)) others later
     go false later = later
 
--- what holds of each entry holds of each but the first of an id
+-- what holds of each entry still holds without the first of an id
 each-without_first : (P : MsgId × Name × ℕ → Type 0) (id : MsgId) (wants : List (MsgId × Name × ℕ)) → Each P wants → Each P (without_first id wants)
 each-without_first P id [] h = tt
 each-without_first P id (entry ∷ wants) h = go (same_id id entry.0) (each-without_first P id wants h.1)

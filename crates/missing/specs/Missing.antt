@@ -12,7 +12,8 @@ pub record Missing : Type 0 where
   pub wants : List (MsgId × Name × ℕ)
   pub timers : List MsgId
 
--- What always holds: there is one announcement at most for an id and a peer, its id is armed, and no id is armed twice.
+-- What always holds: there is at most one announcement for each id and peer, the id of each announcement is armed, and
+-- no id is armed twice.
 pub record IsSound (missing : Missing) : Type 0 where
   pub once : IsDistinct same_place (map place_of missing.wants)
   pub armed : Each (λ entry. has_id missing.timers entry.0 ≡ true) missing.wants
@@ -26,7 +27,7 @@ announced peer id round missing = record { wants = with_want id peer round missi
 abbrev pub announced_all : Name → List (MsgId × ℕ) → Missing → Missing
 announced_all peer entries missing = record { wants = with_wants peer entries missing.wants; timers = with_timers entries missing.timers }
 
--- after the first announcement of the id was taken; where there is none, the timer goes
+-- after the first announcement of the id was removed, or its timer if there is no announcement of it
 abbrev pub taken_first : MsgId → Missing → Missing
 taken_first id missing =
     record {
@@ -34,14 +35,14 @@ taken_first id missing =
       timers = if is_some (first_want id missing.wants) then missing.timers else without_timer id missing.timers;
     }
 
--- after the message came: its announcements and its timer go
+-- after the message arrived: its announcements and its timer are gone
 abbrev pub got : MsgId → Missing → Missing
 got id missing = record { wants = without_id id missing.wants; timers = without_timer id missing.timers }
 
--- after the peer went down: its announcements go, and the timers stay
+-- after the peer went down: its announcements are gone, and the timers stay
 abbrev pub without : Name → Missing → Missing
 without peer missing = record missing { wants = without_peer peer missing.wants }
 
--- after these peers went down: their announcements go, and the timers stay
+-- after these peers went down: their announcements are gone, and the timers stay
 abbrev pub without_all : List Name → Missing → Missing
 without_all peers missing = record missing { wants = without_peers peers missing.wants }

@@ -3,15 +3,15 @@ use Rattle.std.specs.Prelude.{ℕ, not, List, [], ◌∷◌, ◌++◌, filter, i
 use Rattle.node_names.specs.Same.{same_id, has_id}
 use Rattle.node_names.specs.declared.ids.MsgId.{MsgId}
 
--- the timers and this one, which goes last; an armed one stays where it is
+-- the timers with that of the id added last; a timer that is armed already keeps its place
 abbrev pub with_timer : MsgId → List MsgId → List MsgId
 with_timer id timers = if has_id timers id then timers else timers ++ id ∷ []
 
--- the timers and one for each of these announcements, in turn
+-- the timers with those of the announced ids added in turn
 abbrev pub with_timers : List (MsgId × ℕ) → List MsgId → List MsgId
 with_timers [] timers = timers
 with_timers (announced ∷ more) timers = with_timers more (with_timer announced.0 timers)
 
--- the timers but the one of the id
+-- the timers without that of the id
 abbrev pub without_timer : MsgId → List MsgId → List MsgId
 without_timer id timers = filter (λ armed. not (same_id id armed)) timers

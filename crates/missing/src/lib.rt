@@ -1,4 +1,4 @@
-//! Announced messages that a node lacks: who announced them, and the timers that will ask for them.
+//! The announced messages that a node lacks: who announced each, and the timers after which the node asks for them.
 #![tactic(auto)]
 
 mod missing;

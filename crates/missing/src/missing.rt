@@ -1,4 +1,4 @@
-//! The messages that a node knows of and lacks.
+//! The messages that were announced to a node and that it lacks.
 ghost use Rattle.std.specs.Prelude.{◌≡◌, ◌+◌, ◌<◌, ◌≤◌, [], not, is_some, length, map, vec_len, vec_capacity, if◌then◌else◌, IfOk, OnOk, OnErr};
 ghost use Rattle.indexmap.specs.IndexSet.{spare};
 ghost use Rattle.node_names.specs.Same.{has_id};
@@ -13,13 +13,14 @@ use node_names::{MsgId, NodeName};
 use std::alloc::{AllocError, Allocator, Global};
 use std::marker::Model;
 
-/// The announcements of messages that a node lacks, and the timers that will ask for them.
+/// The announcements of messages that a node lacks, and the timers after which it asks for them.
 ///
-/// Announcements keep the order in which they came, and timers the order in which they were armed. Each announced id is
-/// armed; a timer may outlive the announcements of its id. Whether an id is armed, and whether a peer has announced it,
-/// costs the same however many are. Only the first announcement of an armed id is looked for from the front. Both lists
-/// can be read as slices, so what is taken out lets all behind it move up: a call that takes something out goes over
-/// what is there.
+/// Announcements keep the order in which they came, and timers the order in which they were armed. The timer of each
+/// announced id is armed; a timer may outlive the announcements of its id.
+///
+/// Whether an id is armed, and whether a peer has announced it, is looked up by hash in constant time. Finding the
+/// first announcement of an armed id searches from the oldest one. Both lists can be read as slices and so have no
+/// holes: a call that removes something takes time linear in what is there.
 #[derive(Drop)]
 pub struct Missing<A: Allocator = Global> {
     wants: Wants<A>,
@@ -38,8 +39,8 @@ impl<A: Allocator> Model for Missing<A> {
     ghost invariant = { λ m. IsSound (record { wants = m.wants.list.items; timers = m.timers.keys }) × (m.wants.places.keys ≡ map place_of m.wants.list.items) };
 }
 
-/// Puts an announcement of the peer last, in the room that there is, unless it is there, and arms its id. Whether the
-/// id was not armed before.
+/// Appends an announcement, unless its peer has announced its id already, and arms the timer of its id. Does not
+/// allocate. Returns whether the timer was newly armed.
 fn put<A: Allocator + Copy>(wants: &mut Wants<A>, timers: &mut Timers<A>, entry: &Want) -> bool
     requires room { vec_len wants.old.list < vec_capacity wants.old.list }
     requires places { 0 < spare wants.old.places }
@@ -58,7 +59,8 @@ fn put<A: Allocator + Copy>(wants: &mut Wants<A>, timers: &mut Timers<A>, entry:
     timers::arm(timers, &entry.0)
 }
 
-/// Puts the announcements of the peer last, in the room that there is, but those that are there, and arms their ids.
+/// Appends the announcements of `entries` by `peer`, except those that are already there, and arms the timers of their
+/// ids. Does not allocate.
 fn put_all<A: Allocator + Copy>(
     wants: &mut Wants<A>,
     timers: &mut Timers<A>,
@@ -78,7 +80,8 @@ fn put_all<A: Allocator + Copy>(
     }
 }
 
-/// Takes the first announcement of the id, or, where there is none, its timer.
+/// Removes the first announcement of `id` and returns its peer and round. If there is no announcement of `id`, drops
+/// its timer and returns `None`.
 fn take_first<A: Allocator>(
     wants: &mut Wants<A>,
     timers: &mut Timers<A>,
@@ -101,7 +104,7 @@ fn take_first<A: Allocator>(
     first
 }
 
-/// Takes the announcements and the timer of the id out.
+/// Removes the announcements and the timer of `id`.
 fn forget<A: Allocator>(wants: &mut Wants<A>, timers: &mut Timers<A>, id: &MsgId)
     requires sound { IsSound (record { wants = wants.old.list.items; timers = timers.old.keys }) }
     requires matched { wants.old.places.keys ≡ map place_of wants.old.list.items }
@@ -115,7 +118,7 @@ fn forget<A: Allocator>(wants: &mut Wants<A>, timers: &mut Timers<A>, id: &MsgId
     }
 }
 
-/// Who announced the id first, and at which round.
+/// Returns the peer and the round of the first announcement of `id`.
 fn first<A: Allocator>(wants: &[Want], timers: &Timers<A>, id: &MsgId) -> Option<(NodeName, u32)>
     requires { IsSound (record { wants = wants.now; timers = timers.now.keys }) }
     ensures { result ≡ first_want id.now wants.now }
@@ -127,7 +130,7 @@ fn first<A: Allocator>(wants: &[Want], timers: &Timers<A>, id: &MsgId) -> Option
 }
 
 impl<A: Allocator + Copy> Missing<A> {
-    /// Nothing is announced and nothing armed. It takes no memory.
+    /// Creates a value with no announcements and no armed timers. Does not allocate.
     pub fn new(alloc: A) -> Self
         ensures wants { result.wants ≡ [] }
         ensures timers { result.timers ≡ [] }
@@ -141,9 +144,11 @@ impl<A: Allocator + Copy> Missing<A> {
         }
     }
 
-    /// The peer announced the id. True: its timer was armed now.
+    /// Records that `peer` announced `id` at `round`, and arms the timer of `id`. Returns whether the timer was newly
+    /// armed.
     ///
-    /// A second announcement of the same id by the same peer is not kept.
+    /// A second announcement of the same id by the same peer is not kept, not even its round. If memory is refused,
+    /// nothing changes.
     pub fn announce(&mut self, id: &MsgId, peer: &NodeName, round: u32) -> Result<bool, AllocError>
         ensures armed { IfOk result (λ armed. armed ≡ not (has_id self.old.timers id.now)) }
         ensures ok { OnOk result (self.new ≡ announced peer.now id.now round self.old) }
@@ -156,7 +161,8 @@ impl<A: Allocator + Copy> Missing<A> {
         Ok(put(&mut self.wants, &mut self.timers, &entry))
     }
 
-    /// The peer announced all of these, or, where memory is refused, none of them.
+    /// Records each of the `entries`, an id and a round, as announced by `peer`, as `announce` does. If memory is
+    /// refused, nothing changes.
     pub fn announce_all(
         &mut self,
         peer: &NodeName,
@@ -172,7 +178,7 @@ impl<A: Allocator + Copy> Missing<A> {
         Ok(())
     }
 
-    /// A copy of the announcements and timers.
+    /// Returns a copy of the announcements and timers.
     pub fn copy(&self) -> Result<Self, AllocError>
         ensures { IfOk result (λ copy. copy ≡ self.now) }
     {
@@ -188,8 +194,8 @@ impl<A: Allocator + Copy> Missing<A> {
 }
 
 impl<A: Allocator> Missing<A> {
-    /// Takes the first announcement of the id: by whom, and at which round. None: there is none, and the timer is
-    /// dropped.
+    /// Removes the first announcement of `id` and returns its peer and round. If there is no announcement of `id`,
+    /// drops its timer and returns `None`.
     pub fn take_first(&mut self, id: &MsgId) -> Option<(NodeName, u32)>
         ensures taken { result ≡ first_want id.now self.old.wants }
         ensures left { self.new ≡ taken_first id.now self.old }
@@ -197,42 +203,42 @@ impl<A: Allocator> Missing<A> {
         take_first(&mut self.wants, &mut self.timers, id)
     }
 
-    /// The message came: its announcements and its timer go.
+    /// Removes the announcements and the timer of `id`, whose message has arrived.
     pub fn got(&mut self, id: &MsgId)
         ensures { self.new ≡ got id.now self.old }
     {
         forget(&mut self.wants, &mut self.timers, id);
     }
 
-    /// The peer went down: its announcements go, and the timers stay.
+    /// Removes the announcements by `peer`, which went down. The timers stay.
     pub fn down(&mut self, peer: &NodeName)
         ensures { self.new ≡ without peer.now self.old }
     {
         wants::remove_peer(&mut self.wants, peer);
     }
 
-    /// These peers went down: their announcements go in one pass, and the timers stay.
+    /// Removes the announcements by all of the `peers`, which went down, in one pass. The timers stay.
     pub fn down_all(&mut self, peers: &[NodeName])
         ensures { self.new ≡ without_all peers.now self.old }
     {
         wants::remove_peers(&mut self.wants, peers);
     }
 
-    /// Whether the timer of the id is armed.
+    /// Returns whether the timer of `id` is armed.
     pub fn armed(&self, id: &MsgId) -> bool
         ensures { result ≡ has_id self.now.timers id.now }
     {
         self.timers.contains(id)
     }
 
-    /// The first announcement of the id: by whom, and at which round.
+    /// Returns the peer and the round of the first announcement of `id`.
     pub fn first(&self, id: &MsgId) -> Option<(NodeName, u32)>
         ensures { result ≡ first_want id.now self.now.wants }
     {
         first(&self.wants.list, &self.timers, id)
     }
 
-    /// The announcements, oldest first.
+    /// Returns the announcements, oldest first.
     pub fn wants(&self) -> &[Want]
         ensures wants { result.now ≡ self.now.wants }
         ensures sound { IsSound self.now }
@@ -240,7 +246,7 @@ impl<A: Allocator> Missing<A> {
         self.wants.list.as_slice()
     }
 
-    /// The armed ids, in order of arming.
+    /// Returns the ids whose timers are armed, in order of arming.
     pub fn timers(&self) -> &[MsgId]
         ensures { result.now ≡ self.now.timers }
     {

@@ -1,4 +1,4 @@
-//! Sets of armed ids, in order of arming.
+//! The set of ids whose timers are armed, in order of arming.
 ghost use Rattle.std.specs.Prelude.{◌≡◌, ◌+◌, ◌<◌, ◌≤◌, not};
 ghost use Rattle.std.specs.List.{IsDistinct};
 ghost use Rattle.indexmap.specs.IndexSet.{spare};
@@ -10,10 +10,10 @@ use node_names::MsgId;
 use std::alloc::Allocator;
 use std::hash::{BuildHasherDefault, FoldHasher};
 
-/// The armed ids, in order of arming.
+/// The ids whose timers are armed, in order of arming.
 pub(crate) type Timers<A> = IndexSet<MsgId, BuildHasherDefault<FoldHasher>, A>;
 
-/// Arms the id in the room that there is. Whether it was not armed before.
+/// Arms the timer of `id`, without allocating. Returns whether it was newly armed.
 pub(crate) fn arm<A: Allocator + Copy>(timers: &mut Timers<A>, id: &MsgId) -> bool
     requires { 0 < spare timers.old }
     ensures new { result ≡ not (has_id timers.old.keys id.now) }
@@ -23,7 +23,7 @@ pub(crate) fn arm<A: Allocator + Copy>(timers: &mut Timers<A>, id: &MsgId) -> bo
     timers.insert(*id).unwrap()
 }
 
-/// Takes the timer of the id out. The timers behind it move up.
+/// Drops the timer of `id`, if it is armed. The order of the other timers stays.
 pub(crate) fn disarm<A: Allocator>(timers: &mut Timers<A>, id: &MsgId)
     requires { IsDistinct same_id timers.old.keys }
     ensures { timers.new.keys ≡ without_timer id.now timers.old.keys }

@@ -1,4 +1,4 @@
-//! Lists of announcements.
+//! The list of announcements of messages that a node lacks.
 ghost use Rattle.std.specs.Prelude.{◌≡◌, ◌+◌, ◌<◌, ◌≤◌, map, position, vec_len, vec_capacity};
 ghost use Rattle.std.specs.List.{list_any};
 ghost use Rattle.indexmap.specs.IndexSet.{spare};
@@ -10,22 +10,22 @@ use node_names::{MsgId, NodeName};
 use std::alloc::Allocator;
 use std::hash::{BuildHasherDefault, FoldHasher};
 
-/// An announcement of a message that is not there: which id, by whom, at which round.
+/// An announcement of a message that the node lacks: the message id, the announcing peer and the round.
 pub type Want = (MsgId, NodeName, u32);
 
-/// Which ids were announced, and by whom.
+/// The ids that were announced, each with the peer that announced it.
 type Places<A> = IndexSet<(MsgId, NodeName), BuildHasherDefault<FoldHasher>, A>;
 
-/// Announcements, of which one at most is of an id and by a peer.
+/// Announcements, at most one for each id and peer.
 #[derive(Drop)]
 pub(crate) struct Wants<A: Allocator> {
     /// The announcements, oldest first.
     pub(crate) list: Vec<Want, A>,
-    /// The id and the peer of each, in the same order: by them an announcement is found however many there are.
+    /// The id and the peer of each announcement, in the same order, so that an announcement is looked up by its hash.
     pub(crate) places: Places<A>,
 }
 
-/// Puts an entry last in the room that there is, unless the peer has announced the id.
+/// Appends `entry`, without allocating, unless its peer has announced its id already.
 pub(crate) fn put<A: Allocator + Copy>(wants: &mut Wants<A>, entry: &Want)
     requires room { vec_len wants.old.list < vec_capacity wants.old.list }
     requires spare { 0 < spare wants.old.places }
@@ -42,14 +42,14 @@ pub(crate) fn put<A: Allocator + Copy>(wants: &mut Wants<A>, entry: &Want)
     }
 }
 
-/// The index of the first entry of the id.
+/// Returns the index of the first announcement of `id`.
 fn first_index(wants: &[Want], id: &MsgId) -> Option<usize>
     ensures { result ≡ position (λ entry. same_id id.now entry.0) wants.now }
 {
     wants.iter().position(|entry| *id == entry.0)
 }
 
-/// Who announced the id first, and at which round.
+/// Returns the peer and the round of the first announcement of `id`.
 pub(crate) fn first(wants: &[Want], id: &MsgId) -> Option<(NodeName, u32)>
     ensures { result ≡ first_want id.now wants.now }
 {
@@ -62,7 +62,7 @@ pub(crate) fn first(wants: &[Want], id: &MsgId) -> Option<(NodeName, u32)>
     }
 }
 
-/// Takes the first entry of the id out. The entries behind it move up.
+/// Removes the first announcement of `id` and returns its peer and round. The order of the others stays.
 pub(crate) fn take_first<A: Allocator>(wants: &mut Wants<A>, id: &MsgId) -> Option<(NodeName, u32)>
     requires { wants.old.places.keys ≡ map place_of wants.old.list.items }
     ensures taken { result ≡ first_want id.now wants.old.list.items }
@@ -79,7 +79,7 @@ pub(crate) fn take_first<A: Allocator>(wants: &mut Wants<A>, id: &MsgId) -> Opti
     }
 }
 
-/// Takes the entries of the id out. It goes over all entries.
+/// Removes the announcements of `id`. Passes over the whole list.
 pub(crate) fn remove_id<A: Allocator>(wants: &mut Wants<A>, id: &MsgId)
     requires { wants.old.places.keys ≡ map place_of wants.old.list.items }
     ensures items { wants.new.list.items ≡ without_id id.now wants.old.list.items }
@@ -89,7 +89,7 @@ pub(crate) fn remove_id<A: Allocator>(wants: &mut Wants<A>, id: &MsgId)
     wants.places.retain(|place| *id != place.0);
 }
 
-/// Takes the entries of the peer out. It goes over all entries.
+/// Removes the announcements by `peer`. Passes over the whole list.
 pub(crate) fn remove_peer<A: Allocator>(wants: &mut Wants<A>, peer: &NodeName)
     requires { wants.old.places.keys ≡ map place_of wants.old.list.items }
     ensures items { wants.new.list.items ≡ without_peer peer.now wants.old.list.items }
@@ -99,14 +99,14 @@ pub(crate) fn remove_peer<A: Allocator>(wants: &mut Wants<A>, peer: &NodeName)
     wants.places.retain(|place| *peer != place.1);
 }
 
-/// Whether the name is one of these.
+/// Returns whether `name` is one of the `names`.
 fn is_one_of(names: &[NodeName], name: &NodeName) -> bool
     ensures { result ≡ list_any (λ other. same_name other name.now) names.now }
 {
     names.iter().any(|other| *other == *name)
 }
 
-/// Takes the entries of these peers out, in one pass.
+/// Removes the announcements by all of the `peers`, in one pass over the list.
 pub(crate) fn remove_peers<A: Allocator>(wants: &mut Wants<A>, peers: &[NodeName])
     requires { wants.old.places.keys ≡ map place_of wants.old.list.items }
     ensures items { wants.new.list.items ≡ without_peers peers.now wants.old.list.items }

@@ -5,7 +5,7 @@ use Rattle.std.proofs.lemmas.Grind.{take-set_at}
 use Rattle.rand_core.specs.Stream.{Stream, next_u64}
 use Rattle.node_names.specs.Draws.{after_words, words}
 
--- So many words hold the answers so far, in order, and the generator goes on behind them.
+-- The first words hold the answers so far, in order, and the generator continues after them.
 pub record AreDrawn (first : Stream) (n : ℕ) (drawn : List ℕ) (now : Stream) : Type 0 where
   pub long : length drawn ≡ 16
   pub in_order : take n drawn ≡ words n first

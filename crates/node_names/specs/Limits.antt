@@ -1,8 +1,8 @@
--- The numbers that bound what a node keeps, how far its messages walk and how long a way they may take.
+-- The numbers that bound a node's views, random walks, shuffles and stored payloads, and Plumtree's threshold.
 use Rattle.std.specs.Prelude.{ℕ, ◌≤◌, ◌+◌}
 
--- The limits of a node, by the names that the papers on HyParView and Plumtree give them; and how many of the messages
--- that it delivered last it keeps at least, where 0 stands for all.
+-- The limits of a node, named as in the papers on HyParView and Plumtree; and keep, the minimum number of messages,
+-- those delivered last, whose payloads it keeps, where 0 stands for all.
 pub record Limits : Type 0 where
   pub active : ℕ
   pub passive : ℕ
@@ -13,9 +13,8 @@ pub record Limits : Type 0 where
   pub threshold : ℕ
   pub keep : ℕ
 
--- The limits that a node may have: 1 to 16 places in the active view and 1 to 64 in the passive one,
--- walks of at most 32 steps, the passive length no greater than the active one, and at most 7 names
--- out of the views in a shuffle.
+-- The limits that a node may have: an active view of 1 to 16 peers and a passive one of 1 to 64, random walks of
+-- at most 32 steps, prwl no greater than arwl, and at most 7 names from the views in a shuffle.
 pub record IsAllowed (limits : Limits) : Type 0 where
   pub active_from : 1 ≤ limits.active
   pub active_to : limits.active ≤ 16

@@ -1,4 +1,4 @@
--- The printed forms of a name's faults.
+-- The printed forms of name faults.
 use Rattle.std.specs.Prelude.{ℕ, List, ◌++◌, codes}
 use Rattle.std.specs.Fmt.{decimal}
 use Rattle.node_names.specs.declared.name.NameFault.{NameFault}

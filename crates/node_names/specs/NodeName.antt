@@ -10,21 +10,21 @@ Name = List ℕ
 abbrev pub dash : ℕ
 dash = 45
 
--- whether a byte is a small letter, a digit or a dash
+-- whether a byte is a lowercase letter, a digit or a dash
 abbrev pub is_name_byte : ℕ → Bool
 is_name_byte b = is_ascii_lowercase b || is_ascii_digit b || b == dash
 
--- A name has 1 to 32 bytes, each of them a small letter, a digit or a dash.
+-- A name has 1 to 32 bytes, each of them a lowercase letter, a digit or a dash.
 pub record IsNodeName (bytes : Name) : Type 0 where
   pub not_empty : 0 < length bytes
   pub short : length bytes ≤ 32
   pub alphabet : All (λ b. IsTrue (is_name_byte b)) bytes
 
--- the place of the first byte that no name has
+-- the index of the first byte that is not allowed in a name
 abbrev pub first_bad_byte : List ℕ → Option ℕ
 first_bad_byte bytes = position (λ b. not (is_name_byte b)) bytes
 
--- the name with zeros after it, 32 bytes in all
+-- the name, padded with zeros to 32 bytes
 abbrev pub padded : Name → List ℕ
 padded name = name ++ replicate (32 - length name) 0
 

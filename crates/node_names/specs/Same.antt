@@ -1,4 +1,4 @@
--- What `==` computes of names and ids, and that it tells apart just those that differ.
+-- What `==` computes on names and ids, and that it decides equality.
 use Rattle.std.specs.Prelude.{◌≡◌, ◌&&◌, Bool, false, List, Contains, Option, None, Some, nat_eq}
 use Rattle.std.specs.Bool.{Decides}
 use Rattle.std.specs.List.{list_any}
@@ -23,16 +23,16 @@ same_origin a b = same_name a.name b.name && nat_eq a.incarnation.0 b.incarnatio
 abbrev pub same_id : MsgId → MsgId → Bool
 same_id a b = same_origin a.origin b.origin && nat_eq a.seq b.seq
 
--- whether a list has a name
+-- whether a list contains a name
 abbrev pub has_name : List Name → Name → Bool
 has_name names name = list_any (same_name name) names
 
--- whether the name is the one that is left out, if one is
+-- whether the name is left out, where None leaves out no name
 abbrev pub is_left_out : Option Name → Name → Bool
 is_left_out None name = false
 is_left_out (Some left_out) name = same_name left_out name
 
--- whether a list has an id
+-- whether a list contains an id
 abbrev pub has_id : List MsgId → MsgId → Bool
 has_id ids id = list_any (same_id id) ids
 
@@ -55,7 +55,7 @@ same_id-Decides a b =
     (λ e. (ap (λ (id : MsgId). id.origin) e, ap (λ (id : MsgId). id.seq) e))
     (Decides-and _ _ (same_origin-Decides a.origin b.origin) (unsigned_Decides a.seq b.seq))
 
--- ---- each test is an equivalence, which lemmas on maps and sets ask for
+-- ---- each test is an equivalence, as the lemmas on maps and sets require
 
 pub same_name-laws : IsEquivalence same_name
 same_name-laws = decided same_name same_name-Decides

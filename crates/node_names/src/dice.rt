@@ -6,16 +6,16 @@ use rand_core::Rng;
 
 /// Sixteen random words, for the choices of one step.
 ///
-/// Each choice of a step has a word of its own, and a choice among `n` candidates takes the candidate whose
-/// place is that word modulo `n`.
+/// Each choice of a step uses a word of its own. A choice among `n` candidates takes the one whose index is that
+/// word modulo `n`.
 #[derive(Clone, Copy, Debug, PartialEq, Eq, Hash)]
 pub struct Dice(pub [u64; 16]);
 
 impl Dice {
-    /// Sixteen zeros, with which each choice takes the first candidate.
+    /// Sixteen zeros. With them, each choice takes the first candidate.
     pub const ZEROS: Dice = Dice([0; 16]);
 
-    /// The next sixteen words of a generator, in order.
+    /// Draws the next sixteen words of `rng`, in order.
     pub fn draw<R: Rng>(rng: &mut R) -> Dice
         ensures words { result.0 ≡ words 16 (R.stream rng.old) }
         ensures left { R.stream rng.new ≡ after_words 16 (R.stream rng.old) }

@@ -1,4 +1,4 @@
-//! Which run of which node something comes from, and the id of a message.
+//! Runs of nodes and the ids of messages.
 ghost use Rattle.std.specs.Prelude.{Some};
 ghost use Rattle.std.specs.Fmt.{decimal};
 ghost use Rattle.node_names.specs.Ids.{origin_text, msg_id_text};
@@ -6,7 +6,7 @@ ghost use Rattle.node_names.specs.Ids.{origin_text, msg_id_text};
 use crate::name::NodeName;
 use std::fmt;
 
-/// The number of a run of a node. Each start of the node takes a greater one than its starts before.
+/// The number of a run of a node. Each start of the node takes a greater number than all its earlier starts.
 #[derive(Clone, Copy, Debug, PartialEq, Eq, PartialOrd, Ord, Hash)]
 pub struct Incarnation(pub u64);
 
@@ -22,7 +22,7 @@ pub struct Origin {
 pub struct MsgId {
     /// The run that broadcast the message.
     pub origin: Origin,
-    /// The number of the message among those of its origin, counted from 1.
+    /// The number of the message among the messages of its origin, counted from 1.
     pub seq: u64,
 }
 

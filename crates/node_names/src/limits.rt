@@ -6,10 +6,10 @@ use std::error::Error;
 use std::fmt;
 use std::marker::Model;
 
-/// The sizes of a node's views, walks and shuffles, under the names that the HyParView paper gives them, the threshold
-/// of Plumtree's optimisation by hop count, and how many payloads a node keeps.
+/// The sizes of a node's views, random walks and shuffles, named as in the HyParView paper, the threshold of Plumtree's
+/// optimisation by hop count, and the number of payloads that a node keeps.
 ///
-/// A contract sees them as the record of these numbers, and each reader says that they are allowed.
+/// Contracts see them as the record of these numbers, and each getter ensures that they are allowed.
 #[derive(Clone, Copy, Debug, PartialEq, Eq, Hash)]
 pub struct Limits {
     active: u8,
@@ -37,15 +37,15 @@ impl Model for Limits {
         record { active = l.active; passive = l.passive; arwl = l.arwl; prwl = l.prwl; ka = l.ka; kp = l.kp; threshold = l.threshold; keep = l.keep } };
 }
 
-/// Why numbers are no limits.
+/// The reason why numbers are not valid limits.
 #[derive(Clone, Copy, Debug, PartialEq, Eq)]
 pub enum LimitsFault {
-    /// A number is out of its range, or two of them do not fit together.
+    /// A number is out of its range, or two numbers do not fit together.
     BadLimits,
 }
 
 impl Limits {
-    /// The sizes that the paper's experiments use.
+    /// The sizes used in the experiments of the HyParView paper, with `threshold` 0 and `keep` 0.
     pub const STANDARD: Limits = Limits {
         active: 5,
         passive: 30,
@@ -57,10 +57,10 @@ impl Limits {
         keep: 0,
     };
 
-    /// The limits of these sizes.
+    /// Creates limits with these sizes, the threshold 0 and no bound on the payloads that are kept.
     ///
-    /// An active view has 1 to 16 places and a passive one 1 to 64. `prwl` is at most `arwl`, which is at
-    /// most 32. `ka` and `kp` are at most 7 together. The threshold is 0, and all payloads are kept.
+    /// Returns `BadLimits` unless `active` is 1 to 16, `passive` is 1 to 64, `prwl` is at most `arwl`, `arwl` is at
+    /// most 32, and `ka + kp` is at most 7.
     pub fn new(
         active: u8,
         passive: u8,
@@ -92,21 +92,21 @@ impl Limits {
         })
     }
 
-    /// The same limits with this threshold. With 0 no branch of a tree is swapped for a shorter one.
+    /// Returns the same limits with this threshold. 0 disables Plumtree's optimisation by hop count.
     pub fn tuned(self, threshold: u32) -> Limits
         ensures { result ≡ record self { threshold = threshold } }
     {
         Limits { threshold, ..self }
     }
 
-    /// The same limits with this number of payloads that a node keeps. With 0 it keeps all of them.
+    /// Returns the same limits with this number of payloads to keep. With 0, a node keeps all payloads.
     pub fn keeping(self, keep: u32) -> Limits
         ensures { result ≡ record self { keep = keep } }
     {
         Limits { keep, ..self }
     }
 
-    /// The number of places in the active view.
+    /// Returns the capacity of the active view.
     pub fn active(&self) -> u8
         ensures value { result ≡ self.now.active }
         ensures allowed { IsAllowed self.now }
@@ -114,7 +114,7 @@ impl Limits {
         self.active
     }
 
-    /// The number of places in the passive view.
+    /// Returns the capacity of the passive view.
     pub fn passive(&self) -> u8
         ensures value { result ≡ self.now.passive }
         ensures allowed { IsAllowed self.now }
@@ -122,7 +122,7 @@ impl Limits {
         self.passive
     }
 
-    /// The active random walk length (ARWL): the greatest number of steps that a joining name is passed on.
+    /// Returns the active random walk length (ARWL): the `ttl` with which ForwardJoin and Shuffle start their walks.
     pub fn arwl(&self) -> u8
         ensures value { result ≡ self.now.arwl }
         ensures allowed { IsAllowed self.now }
@@ -130,8 +130,8 @@ impl Limits {
         self.arwl
     }
 
-    /// The passive random walk length (PRWL): with this many steps left, a joining name is put into the
-    /// passive view of the node that its walk has reached.
+    /// Returns the passive random walk length (PRWL): the `ttl` at which the node that a ForwardJoin reaches adds the
+    /// joining node to its passive view.
     pub fn prwl(&self) -> u8
         ensures value { result ≡ self.now.prwl }
         ensures allowed { IsAllowed self.now }
@@ -139,7 +139,7 @@ impl Limits {
         self.prwl
     }
 
-    /// The greatest number of names from the active view in a shuffle.
+    /// Returns the maximum number of names from the active view in a shuffle.
     pub fn ka(&self) -> u8
         ensures value { result ≡ self.now.ka }
         ensures allowed { IsAllowed self.now }
@@ -147,7 +147,7 @@ impl Limits {
         self.ka
     }
 
-    /// The greatest number of names from the passive view in a shuffle.
+    /// Returns the maximum number of names from the passive view in a shuffle.
     pub fn kp(&self) -> u8
         ensures value { result ≡ self.now.kp }
         ensures allowed { IsAllowed self.now }
@@ -155,8 +155,8 @@ impl Limits {
         self.kp
     }
 
-    /// How many links longer than an announcement's a message's way must be for its sender to be swapped for the
-    /// announcer as a branch of the tree; 0 where none is swapped.
+    /// Returns the threshold of Plumtree's optimisation, in links: a peer that announced a message over a path shorter
+    /// by at least this much than its sender's takes the sender's place as an eager peer. 0 disables this.
     pub fn threshold(&self) -> u32
         ensures value { result ≡ self.now.threshold }
         ensures allowed { IsAllowed self.now }
@@ -164,7 +164,8 @@ impl Limits {
         self.threshold
     }
 
-    /// How many payloads a node keeps at least, those of the messages that it delivered last; 0 where it keeps all.
+    /// Returns the minimum number of payloads that a node keeps, those of the messages delivered last. With 0, it keeps
+    /// all payloads.
     pub fn keep(&self) -> u32
         ensures value { result ≡ self.now.keep }
         ensures allowed { IsAllowed self.now }

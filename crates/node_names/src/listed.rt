@@ -9,8 +9,8 @@ use std::marker::Model;
 
 /// A growable list in the memory of its allocator.
 ///
-/// A contract sees it as the list of its items. Unlike a `Vec`, it does not show how much room is left, so a
-/// type that holds it can be said to be as it was.
+/// Contracts see it as the list of its items. Unlike a `Vec`, it does not expose its spare capacity, so a contract
+/// can state that a type that holds it is unchanged.
 #[derive(Drop)]
 pub struct Listed<T: Drop, A: Allocator = Global> {
     items: Vec<T, A>,
@@ -25,7 +25,7 @@ impl<T: Drop, A: Allocator> Model for Listed<T, A> {
 }
 
 impl<T: Drop, A: Allocator> Listed<T, A> {
-    /// An empty list, which takes no memory.
+    /// Creates an empty list, without allocating.
     pub fn new(alloc: A) -> Listed<T, A>
         ensures { result ≡ [] }
     {
@@ -34,14 +34,14 @@ impl<T: Drop, A: Allocator> Listed<T, A> {
         }
     }
 
-    /// The items of a vector, which is not copied.
+    /// Turns a vector into a list without copying its items.
     pub fn from_vec(vec: Vec<T, A>) -> Listed<T, A>
         ensures { result ≡ vec.items }
     {
         Listed { items: vec }
     }
 
-    /// The vector of the items, which is not copied.
+    /// Turns the list into a vector without copying its items.
     pub fn into_vec(self) -> Vec<T, A>
         ensures { result.items ≡ self }
     {
@@ -49,28 +49,28 @@ impl<T: Drop, A: Allocator> Listed<T, A> {
         items
     }
 
-    /// The items in order.
+    /// Returns the items, in order.
     pub fn as_slice(&self) -> &[T]
         ensures { result.now ≡ self.now }
     {
         self.items.as_slice()
     }
 
-    /// The number of items.
+    /// Returns the number of items.
     pub fn len(&self) -> usize
         ensures { result ≡ length self.now }
     {
         self.items.len()
     }
 
-    /// Whether there is no item.
+    /// Returns whether the list has no items.
     pub fn is_empty(&self) -> bool
         ensures { IsTrue result ↔ (self.now ≡ []) }
     {
         self.items.is_empty()
     }
 
-    /// Puts an item at the end. Where there is no memory, the item is dropped.
+    /// Appends `item`. When memory runs out, `item` is dropped and the list is unchanged.
     pub fn push(&mut self, item: T) -> Result<(), AllocError>
         ensures ok { OnOk result (self.new ≡ self.old ++ item ∷ []) }
         ensures err { OnErr result (self.new ≡ self.old) }
@@ -79,7 +79,7 @@ impl<T: Drop, A: Allocator> Listed<T, A> {
         Ok(())
     }
 
-    /// Moves the items of a vector to the end. Without memory they are dropped.
+    /// Appends the items of `more`. When memory runs out, they are dropped and the list is unchanged.
     pub fn append(&mut self, mut more: Vec<T, A>) -> Result<(), AllocError>
         ensures ok { OnOk result (self.new ≡ self.old ++ more.items) }
         ensures err { OnErr result (self.new ≡ self.old) }
@@ -87,7 +87,7 @@ impl<T: Drop, A: Allocator> Listed<T, A> {
         self.items.append(&mut more)
     }
 
-    /// Takes the last item away.
+    /// Removes the last item and returns it, or returns `None` if the list is empty.
     pub fn pop(&mut self) -> Option<T>
         ensures last { self.old ≡ self.new ++ option_to_list result }
         ensures none { IsNone result ↔ (self.old ≡ []) }
@@ -95,21 +95,21 @@ impl<T: Drop, A: Allocator> Listed<T, A> {
         self.items.pop()
     }
 
-    /// Drops all but the first `n` items.
+    /// Drops all items after the first `n`. Changes nothing if there are at most `n`.
     pub fn truncate(&mut self, n: usize)
         ensures { self.new ≡ take n self.old }
     {
         self.items.truncate(n);
     }
 
-    /// The allocator of the list.
+    /// Returns the allocator of the list.
     pub fn allocator(&self) -> &A {
         self.items.allocator()
     }
 }
 
 impl<T: Copy, A: Allocator + Copy> Listed<T, A> {
-    /// A list of the same items on the same allocator.
+    /// Copies the items into a new list on the same allocator.
     pub fn copy(&self) -> Result<Listed<T, A>, AllocError>
         ensures { IfOk result (λ list. list ≡ self.now) }
     {

@@ -15,9 +15,9 @@ use std::hash::{Hash, Hasher};
 use std::marker::Model;
 use std::{fmt, str};
 
-/// The name of a node: 1 to 32 bytes, each a small letter, a digit or `-`.
+/// The name of a node: 1 to 32 bytes, each a lowercase ASCII letter, an ASCII digit or `-`.
 ///
-/// Names are ordered by their bytes, a proper prefix first. A contract sees a name as its bytes.
+/// Names are ordered by their bytes, a proper prefix first. Contracts see a name as its bytes.
 #[derive(Clone, Copy)]
 pub struct NodeName {
     bytes: [u8; NodeName::MAX_LEN],
@@ -39,14 +39,14 @@ impl Model for NodeName {
     ghost inverse_ok = { λ n h i. record { bytes = h.zeros i; len = h.whole i } };
 }
 
-/// Why bytes are no name.
+/// The reason why bytes are not a name.
 #[derive(Clone, Copy, Debug, PartialEq, Eq)]
 pub enum NameFault {
     /// There are no bytes.
     Empty,
     /// There are more than 32 bytes.
     TooLong,
-    /// The byte at this place, the first such one, is no small letter, no digit and no `-`.
+    /// The byte at index `at` is not a lowercase ASCII letter, a digit or `-`. It is the first such byte.
     BadByte { at: usize },
 }
 
@@ -64,10 +64,10 @@ fn first_bad_byte(bytes: &[u8]) -> Option<usize>
 }
 
 impl NodeName {
-    /// The greatest length of a name, in bytes.
+    /// The maximum length of a name, in bytes.
     pub const MAX_LEN: usize = 32;
 
-    /// Reads a name. It reports the lack of any byte first, then too many bytes, then the first bad byte.
+    /// Parses a name. Checks for empty input first, then for too many bytes, then for the first bad byte.
     pub fn parse(bytes: &[u8]) -> Result<NodeName, NameFault>
         ensures ok { IfOk result (λ name. name ≡ bytes.now) }
         ensures accepted { IsOk result ↔ IsNodeName bytes.now }
@@ -100,7 +100,7 @@ impl NodeName {
         }
     }
 
-    /// The name as bytes.
+    /// Returns the name as bytes.
     pub fn as_bytes(&self) -> &[u8]
         ensures value { result.now ≡ self.now }
         ensures valid { IsNodeName self.now }
@@ -108,7 +108,7 @@ impl NodeName {
         &self.bytes[..usize::from(self.len)]
     }
 
-    /// The name as text.
+    /// Returns the name as text.
     pub fn as_str(&self) -> &str
         ensures value { result.now ≡ self.now }
         ensures valid { IsNodeName self.now }

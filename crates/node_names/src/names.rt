@@ -8,10 +8,10 @@ use indexmap::IndexSet;
 use std::alloc::{AllocError, Allocator, Global};
 use std::hash::{BuildHasherDefault, FoldHasher};
 
-/// Names in the order in which they were added.
+/// A set of names, in the order in which they were added.
 pub type NameSet<A = Global> = IndexSet<NodeName, BuildHasherDefault<FoldHasher>, A>;
 
-/// The set of these names, in their order.
+/// Makes a set of `names`, in their order.
 pub fn set_of<A: Allocator + Copy>(alloc: A, names: &[NodeName]) -> Result<NameSet<A>, AllocError>
     requires { IsDistinct same_name names.now }
     ensures { IfOk result (λ set. set.keys ≡ names.now) }
@@ -23,14 +23,14 @@ pub fn set_of<A: Allocator + Copy>(alloc: A, names: &[NodeName]) -> Result<NameS
     Ok(set)
 }
 
-/// Whether the list has the name. It compares one after the other.
+/// Returns whether `names` contains `name`, by a linear search.
 pub fn has_name(names: &[NodeName], name: &NodeName) -> bool
     ensures { result ≡ has_name names.now name.now }
 {
     names.iter().any(|other| name == other)
 }
 
-/// Whether the name is the one that is left out, if one is.
+/// Returns whether `left_out` is `Some` and equal to `name`.
 pub fn is_left_out(left_out: &Option<NodeName>, name: &NodeName) -> bool
     ensures { result ≡ is_left_out left_out.now name.now }
 {

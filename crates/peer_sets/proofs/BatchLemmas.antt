@@ -88,7 +88,7 @@ waiting_for-push peer queued entry =
     go true = refl
     go false = refl
 
--- for a peer that nothing waits for, nothing waits
+-- the batch of a peer that is no receiver is empty
 nothing_waits : (peer : Name) (queued : List (Name × MsgId × ℕ)) → list_any (same_name peer) (receivers queued) ≡ false → waiting_for peer queued ≡ []
 nothing_waits peer [] none = refl
 nothing_waits peer (entry ∷ queued) none = go (same_name peer entry.0) refl none (nothing_waits peer queued)

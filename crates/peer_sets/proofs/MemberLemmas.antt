@@ -106,7 +106,7 @@ stays-without_member name members other is apart =
     any-filter_same (λ m. same_name other m.0) (λ m. not (same_name name m.0)) true (λ m same. ap (λ n. not (same_name name n)) (sym ((same_name-Decides other m.0).0 same)) ∙ apart) members
     ∙ is
 
--- ---- the lazy members but one
+-- ---- the lazy members except one
 
 pub distinct-lazy_but : (left_out : Option Name) (members : List (Name × PeerKind)) → IsDistinct same_name (names members) → IsDistinct same_name (lazy_but left_out members)
 distinct-lazy_but left_out members distinct = IsDistinct-keys_filter same_name (λ m. not (is_eager_kind m.1) && not (is_left_out left_out m.0)) members distinct

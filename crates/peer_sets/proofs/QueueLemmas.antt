@@ -52,7 +52,7 @@ is_queued-entries peer id (entry ∷ queued) = ap (λ b. same_place (peer, id) (
 pub is_queued-when : (peer : Name) (id : MsgId) (queued entries : List (Name × MsgId × ℕ)) (found : Bool) → entries ≡ queued → found ≡ list_any (λ entry. same_place (peer, id) (place_of entry)) entries → is_queued peer id queued ≡ found
 is_queued-when peer id queued entries found are is = sym (is_queued-entries peer id queued) ∙ ap (list_any (λ entry. same_place (peer, id) (place_of entry))) (sym are) ∙ sym is
 
--- where none of the id waits, none of it waits for a peer
+-- where no entry of the id waits, none waits for any one peer
 not_queued : (peer : Name) (id : MsgId) (queued : List (Name × MsgId × ℕ)) → has_entry_of id queued ≡ false → is_queued peer id queued ≡ false
 not_queued peer id [] none = refl
 not_queued peer id (entry ∷ queued) none = go (same_name peer entry.0) (same_id id entry.1) none (not_queued peer id queued)

@@ -1,4 +1,4 @@
--- What a node's peer sets are seen as.
+-- The view that contracts have of a node's peer sets.
 use Rattle.std.specs.Prelude.{◌≡◌, ℕ, true, List, map}
 use Rattle.std.specs.List.{AllByRecursion as Each, IsDistinct}
 use Rattle.node_names.specs.NodeName.{Name}
@@ -13,13 +13,14 @@ pub record PeerSets : Type 0 where
   pub members : List (Name × PeerKind)
   pub queued : List (Name × MsgId × ℕ)
 
--- What always holds: no member is there twice, announcements wait for members, and one at most for a member and an id.
+-- What always holds: no member is there twice, announcements wait for members only, and at most one waits for each
+-- member and id.
 pub record IsSound (peers : PeerSets) : Type 0 where
   pub distinct : IsDistinct same_name (names peers.members)
   pub for_members : Each (λ entry. is_member peers.members entry.0 ≡ true) peers.queued
   pub once : IsDistinct same_place (map place_of peers.queued)
 
--- after these members went down and then these came up
+-- after the members `downs` went down and then the members `ups` came up
 abbrev pub relinked : List Name → List Name → PeerSets → PeerSets
 relinked downs ups peers =
     record {

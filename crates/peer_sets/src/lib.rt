@@ -1,4 +1,4 @@
-//! The peers that a node spreads messages to: eager ones, lazy ones, and what waits to be announced to them.
+//! The peers that a node spreads messages to, each eager or lazy, and the queue of announcements for them.
 #![tactic(auto)]
 
 mod kind;

@@ -7,17 +7,17 @@ use crate::kind::PeerKind;
 use node_names::NodeName;
 use std::alloc::{AllocError, Allocator};
 
-/// A member and how it gets messages.
+/// A member's name, and how it gets messages.
 pub type Member = (NodeName, PeerKind);
 
-/// Whether the name is a member.
+/// Returns whether `name` is a member.
 pub(crate) fn is_member(members: &[Member], name: &NodeName) -> bool
     ensures { result ≡ is_member members.now name.now }
 {
     members.iter().any(|member| *name == member.0)
 }
 
-/// Whether the name is an eager member.
+/// Returns whether `name` is an eager member.
 pub(crate) fn is_eager(members: &[Member], name: &NodeName) -> bool
     ensures { result ≡ is_eager members.now name.now }
 {
@@ -26,7 +26,7 @@ pub(crate) fn is_eager(members: &[Member], name: &NodeName) -> bool
         .any(|member| *name == member.0 && member.1.is_eager())
 }
 
-/// These peers as eager members.
+/// Makes each of the `peers` an eager member, in order.
 pub(crate) fn all_eager<A: Allocator>(
     alloc: A,
     peers: &[NodeName],
@@ -40,7 +40,7 @@ pub(crate) fn all_eager<A: Allocator>(
     Ok(members)
 }
 
-/// Adds an eager member, unless it is there.
+/// Appends `name` as an eager member. Does nothing if it is a member already.
 pub(crate) fn add<A: Allocator>(
     members: &mut Vec<Member, A>,
     name: &NodeName,
@@ -55,14 +55,15 @@ pub(crate) fn add<A: Allocator>(
     Ok(())
 }
 
-/// Takes a member out.
+/// Removes the member `name`, if it is there.
 pub(crate) fn remove<A: Allocator>(members: &mut Vec<Member, A>, name: &NodeName)
     ensures { members.new.items ≡ without_member name.now members.old.items }
 {
     members.retain(|member| *name != member.0);
 }
 
-/// Adds an eager member for each of these names, unless it is there. Where memory is refused, some may be added.
+/// Appends each of the `names` that is not a member yet as an eager member. If memory is refused, some of them may have
+/// been added.
 pub(crate) fn add_all<A: Allocator>(
     members: &mut Vec<Member, A>,
     names: &[NodeName],
@@ -75,7 +76,7 @@ pub(crate) fn add_all<A: Allocator>(
     Ok(())
 }
 
-/// Takes these members out.
+/// Removes those of the `names` that are members.
 pub(crate) fn remove_all<A: Allocator>(members: &mut Vec<Member, A>, names: &[NodeName])
     ensures { members.new.items ≡ without_members names.now members.old.items }
 {
@@ -84,7 +85,7 @@ pub(crate) fn remove_all<A: Allocator>(members: &mut Vec<Member, A>, names: &[No
     }
 }
 
-/// The member, of this kind if it has this name.
+/// Returns `member` with its kind replaced by `kind` if its name is `name`, and unchanged otherwise.
 fn changed(member: &Member, name: &NodeName, kind: PeerKind) -> Member
     ensures { result ≡ (if same_name name.now member.now.0 then (member.now.0, kind) else member.now) }
 {
@@ -95,7 +96,7 @@ fn changed(member: &Member, name: &NodeName, kind: PeerKind) -> Member
     }
 }
 
-/// The members, where the one of this name is of this kind.
+/// Sets the kind of the member `name` to `kind`. Does nothing if there is no such member.
 fn set_kind_in(members: &mut [Member], name: &NodeName, kind: PeerKind)
     ensures { members.new ≡ with_kind name.now kind members.old }
 {
@@ -104,7 +105,7 @@ fn set_kind_in(members: &mut [Member], name: &NodeName, kind: PeerKind)
     }
 }
 
-/// Makes the member of this name eager or lazy.
+/// Sets the kind of the member `name` to `kind`. Does nothing if there is no such member.
 pub(crate) fn set_kind<A: Allocator>(members: &mut Vec<Member, A>, name: &NodeName, kind: PeerKind)
     ensures { members.new.items ≡ with_kind name.now kind members.old.items }
 {

@@ -35,7 +35,7 @@ impl<A: Allocator> Model for PeerSets<A> {
 }
 
 impl<A: Allocator + Copy> PeerSets<A> {
-    /// These peers, all eager. They are distinct.
+    /// Creates sets whose members are the `peers`, which must be distinct. All are eager, and nothing is queued.
     pub fn new(alloc: A, peers: &[NodeName]) -> Result<Self, AllocError>
         requires { IsDistinct same_name peers.now }
         ensures { IfOk result (λ sets. sets ≡ record { members = all_eager peers.now; queued = [] }) }
@@ -46,7 +46,7 @@ impl<A: Allocator + Copy> PeerSets<A> {
         })
     }
 
-    /// Adds an eager member. One that is there stays what it is.
+    /// Adds `name` as an eager member. A name that is a member already keeps its kind.
     pub fn up(&mut self, name: &NodeName) -> Result<(), AllocError>
         ensures ok { OnOk result (self.new ≡ record self.old { members = with_member name.now self.old.members }) }
         ensures err { OnErr result (self.new ≡ self.old) }
@@ -54,8 +54,8 @@ impl<A: Allocator + Copy> PeerSets<A> {
         members::add(&mut self.members, name)
     }
 
-    /// Takes a member out, and the announcements that wait for it. The announcements that stay close up, so this goes
-    /// over all that wait.
+    /// Removes a member together with the announcements that wait for it. Does nothing if `name` is no member. Takes
+    /// time linear in the members and the queue.
     pub fn down(&mut self, name: &NodeName)
         ensures { self.new ≡ record { members = without_member name.now self.old.members; queued = without_entries name.now self.old.queued } }
     {
@@ -63,9 +63,9 @@ impl<A: Allocator + Copy> PeerSets<A> {
         queue::remove(&mut self.queued, name);
     }
 
-    /// Takes these members out, with the announcements that wait for them, and then adds eager members as `up` does.
-    /// Where memory is refused, nothing is changed. It copies the members, and goes over all that waits once, where a
-    /// member is taken out at all.
+    /// Removes the members `downs` together with the announcements that wait for them, and then adds each of `ups` as
+    /// `up` does. If memory is refused, nothing changes. Copies the members, and passes over the queue once if `downs`
+    /// is not empty.
     pub fn relink(&mut self, downs: &[NodeName], ups: &[NodeName]) -> Result<(), AllocError>
         ensures ok { OnOk result (self.new ≡ relinked downs.now ups.now self.old) }
         ensures err { OnErr result (self.new ≡ self.old) }
@@ -78,7 +78,7 @@ impl<A: Allocator + Copy> PeerSets<A> {
         Ok(())
     }
 
-    /// Makes a member eager. False: the name is no member, and nothing is changed.
+    /// Makes a member eager. Returns whether `name` is a member; if it is not, nothing changes.
     pub fn make_eager(&mut self, name: &NodeName) -> bool
         ensures found { result ≡ is_member self.old.members name.now }
         ensures changed { self.new ≡ record self.old { members = with_kind name.now Eager self.old.members } }
@@ -88,7 +88,7 @@ impl<A: Allocator + Copy> PeerSets<A> {
         found
     }
 
-    /// Makes a member lazy. False: the name is no member, and nothing is changed.
+    /// Makes a member lazy. Returns whether `name` is a member; if it is not, nothing changes.
     pub fn make_lazy(&mut self, name: &NodeName) -> bool
         ensures found { result ≡ is_member self.old.members name.now }
         ensures changed { self.new ≡ record self.old { members = with_kind name.now Lazy self.old.members } }
@@ -98,8 +98,8 @@ impl<A: Allocator + Copy> PeerSets<A> {
         found
     }
 
-    /// Queues an announcement for a member. A second one for the same member and id is not made. It looks through all
-    /// that waits; `queue_lazy` does not.
+    /// Queues an announcement of `id` for the member `peer`. Does nothing if one of the same id waits for it already.
+    /// Searches the whole queue, which `queue_lazy` does not.
     pub fn queue(&mut self, peer: &NodeName, id: &MsgId, round: u32) -> Result<(), AllocError>
         requires { IsTrue (is_member self.old.members peer.now) }
         ensures ok { OnOk result (self.new ≡ record self.old { queued = with_entry peer.now id.now round self.old.queued }) }
@@ -108,8 +108,9 @@ impl<A: Allocator + Copy> PeerSets<A> {
         queue::queue(&mut self.queued, &(*peer, *id, round))
     }
 
-    /// Queues an announcement for each lazy member but one, or for none of them where memory is refused. None of the id
-    /// waits yet: an id is queued when it becomes known, and so once.
+    /// Queues an announcement of `id` for each lazy member except `left_out`. If memory is refused, nothing changes.
+    ///
+    /// No announcement of `id` may be waiting: an id is queued when it becomes known, and so only once.
     pub fn queue_lazy(
         &mut self,
         left_out: &Option<NodeName>,
@@ -123,7 +124,8 @@ impl<A: Allocator + Copy> PeerSets<A> {
         queue::queue_lazy(&mut self.queued, &self.members, left_out, id, round)
     }
 
-    /// Empties the queue and gives what waited, by member in the order of their first announcements.
+    /// Empties the queue and returns what waited, in one batch per member, ordered by the members' first announcements.
+    /// If memory is refused, the queue stays as it is.
     pub fn flush(&mut self) -> Result<Listed<Batch<A>, A>, AllocError>
         ensures batches { IfOk result (λ all. all ≡ batches self.old.queued) }
         ensures ok { OnOk result (self.new ≡ record self.old { queued = [] }) }
@@ -134,21 +136,21 @@ impl<A: Allocator + Copy> PeerSets<A> {
         Ok(batches)
     }
 
-    /// What a flush would give.
+    /// Returns the batches that `flush` would return, and leaves the queue as it is.
     pub fn batches(&self) -> Result<Listed<Batch<A>, A>, AllocError>
         ensures { IfOk result (λ all. all ≡ batches self.now.queued) }
     {
         queue::batches(*self.queued.allocator(), &self.queued)
     }
 
-    /// Drops all that waits.
+    /// Drops all announcements that wait.
     pub fn clear_queue(&mut self)
         ensures { self.new ≡ record self.old { queued = [] } }
     {
         self.queued.clear();
     }
 
-    /// A copy of the members and of what waits.
+    /// Returns a copy of the members and of the queue.
     pub fn copy(&self) -> Result<Self, AllocError>
         ensures { IfOk result (λ copy. copy ≡ self.now) }
     {
@@ -161,21 +163,21 @@ impl<A: Allocator + Copy> PeerSets<A> {
 }
 
 impl<A: Allocator> PeerSets<A> {
-    /// Whether the name is a member.
+    /// Returns whether `name` is a member.
     pub fn is_member(&self, name: &NodeName) -> bool
         ensures { result ≡ is_member self.now.members name.now }
     {
         members::is_member(&self.members, name)
     }
 
-    /// Whether the name is an eager member.
+    /// Returns whether `name` is an eager member.
     pub fn is_eager(&self, name: &NodeName) -> bool
         ensures { result ≡ is_eager self.now.members name.now }
     {
         members::is_eager(&self.members, name)
     }
 
-    /// The members in order, each with its kind.
+    /// Returns the members in the order in which they came up, each with its kind.
     pub fn members(&self) -> &[Member]
         ensures members { result.now ≡ self.now.members }
         ensures split { IsSplit self.now.members }
@@ -183,7 +185,7 @@ impl<A: Allocator> PeerSets<A> {
         self.members.as_slice()
     }
 
-    /// The announcements that wait, oldest first.
+    /// Returns the announcements that wait, oldest first.
     pub fn queued(&self) -> &[Announcement]
         ensures queued { result.now ≡ self.now.queued }
         ensures sound { IsSound self.now }

@@ -1,4 +1,4 @@
-//! The queue of announcements: what waits to be announced, in the order in which it came.
+//! The queue of announcements, oldest first.
 ghost use Rattle.std.specs.Prelude.{◌≡◌, ◌+◌, ◌++◌, ◌<◌, ◌≤◌, false, map, length, vec_len, vec_capacity, OnOk, OnErr, IfOk};
 ghost use Rattle.std.specs.List.{list_any, position_or_len};
 ghost use Rattle.indexmap.specs.IndexSet.{insert_key};
@@ -11,13 +11,13 @@ use indexmap::IndexSet;
 use node_names::{Listed, MsgId, NameSet, NodeName, is_left_out};
 use std::alloc::{AllocError, Allocator, Global};
 
-/// An announcement that waits: to whom, of which id, at which round.
+/// An announcement that waits to be sent: the receiver, the message id and the round.
 pub type Announcement = (NodeName, MsgId, u32);
 
-/// What waits for one peer: ids and rounds, oldest first.
+/// The announcements that wait for one peer: the peer, and the ids and rounds, oldest first.
 pub type Batch<A = Global> = (NodeName, Listed<(MsgId, u32), A>);
 
-/// Whether an entry of the id waits for the peer.
+/// Returns whether an announcement of `id` waits for `peer`.
 fn is_queued(queued: &[Announcement], peer: &NodeName, id: &MsgId) -> bool
     ensures { result ≡ list_any (λ entry. same_place (peer.now, id.now) (place_of entry)) queued.now }
 {
@@ -26,7 +26,7 @@ fn is_queued(queued: &[Announcement], peer: &NodeName, id: &MsgId) -> bool
         .any(|entry| *peer == entry.0 && *id == entry.1)
 }
 
-/// Queues an entry, unless the peer has one of the id.
+/// Appends `entry`, unless an announcement of the same id waits for the same peer.
 pub(crate) fn queue<A: Allocator>(
     queued: &mut Vec<Announcement, A>,
     entry: &Announcement,
@@ -41,7 +41,7 @@ pub(crate) fn queue<A: Allocator>(
     Ok(())
 }
 
-/// Puts an entry of the id last for each lazy member but one, in the room that there is.
+/// Appends an announcement of `id` for each lazy member except `left_out`, without allocating.
 fn push_lazy<A: Allocator>(
     queued: &mut Vec<Announcement, A>,
     members: &[Member],
@@ -59,7 +59,7 @@ fn push_lazy<A: Allocator>(
     }
 }
 
-/// Queues an entry of the id, of which none waits, for each lazy member but one.
+/// Appends an announcement of `id` for each lazy member except `left_out`. No announcement of `id` may be waiting.
 pub(crate) fn queue_lazy<A: Allocator>(
     queued: &mut Vec<Announcement, A>,
     members: &[Member],
@@ -76,21 +76,21 @@ pub(crate) fn queue_lazy<A: Allocator>(
     Ok(())
 }
 
-/// Takes out the entries for the peer.
+/// Removes the announcements for `peer`.
 pub(crate) fn remove<A: Allocator>(queued: &mut Vec<Announcement, A>, peer: &NodeName)
     ensures { queued.new.items ≡ without_entries peer.now queued.old.items }
 {
     queued.retain(|entry| *peer != entry.0);
 }
 
-/// Whether the name is one of these.
+/// Returns whether `name` is one of the `names`.
 fn is_one_of(names: &[NodeName], name: &NodeName) -> bool
     ensures { result ≡ list_any (λ other. same_name other name.now) names.now }
 {
     names.iter().any(|other| *other == *name)
 }
 
-/// Takes out the entries for these peers, in one pass.
+/// Removes the announcements for all of the `peers`, in one pass over the queue.
 pub(crate) fn remove_all<A: Allocator>(queued: &mut Vec<Announcement, A>, peers: &[NodeName])
     ensures { queued.new.items ≡ without_all_entries peers.now queued.old.items }
 {
@@ -100,7 +100,7 @@ pub(crate) fn remove_all<A: Allocator>(queued: &mut Vec<Announcement, A>, peers:
     queued.retain(|entry| !is_one_of(peers, &entry.0));
 }
 
-/// Puts an entry last in the batch at the place.
+/// Appends `entry` to the batch at index `place`.
 fn put_in_slice<A: Allocator>(
     batches: &mut [Batch<A>],
     place: usize,
@@ -114,7 +114,7 @@ fn put_in_slice<A: Allocator>(
     Ok(())
 }
 
-/// Puts an entry last in the batch at the place.
+/// Appends `entry` to the batch at index `place`.
 fn put_in<A: Allocator>(
     batches: &mut Vec<Batch<A>, A>,
     place: usize,
@@ -127,7 +127,7 @@ fn put_in<A: Allocator>(
     Ok(())
 }
 
-/// Where the receiver's batch stands. A new receiver gets one, which is empty and goes last.
+/// Returns the index of the batch for `peer`. A new receiver gets an empty batch, which is appended.
 fn batch_of<A: Allocator + Copy>(
     receivers: &mut NameSet<A>,
     batches: &mut Vec<Batch<A>, A>,
@@ -147,7 +147,7 @@ fn batch_of<A: Allocator + Copy>(
     Ok(place)
 }
 
-/// Puts an entry last in the batch of its receiver. A new receiver's batch goes last.
+/// Appends `entry` to the batch of its receiver. The batch of a new receiver goes last.
 fn put_batch<A: Allocator + Copy>(
     receivers: &mut NameSet<A>,
     batches: &mut Vec<Batch<A>, A>,
@@ -162,7 +162,7 @@ fn put_batch<A: Allocator + Copy>(
     Ok(())
 }
 
-/// What waits, by receiver.
+/// Groups the queue into one batch per receiver, ordered by the receivers' first announcements.
 pub(crate) fn batches<A: Allocator + Copy>(
     alloc: A,
     queued: &[Announcement],

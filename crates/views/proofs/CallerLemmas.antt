@@ -1,17 +1,14 @@
--- What a caller cites: what each change makes of the active view, and what it leaves.
-use Rattle.std.proofs.Common.{◌≡◌, ◌≢◌, ◌≤◌, ◌<◌, ◌+◌, ◌%◌, ℕ, zero, suc, Bool, true, false, cond, not, if◌then◌else◌, ◌||◌, List, [], ◌∷◌, ◌++◌, length, filter, take, refl, sym, ap, subst, ◌∙◌, true≢false, arith, Option, None, Some, slice_get, nat_lt}
+-- Lemmas for callers: what each operation makes of the active view, and what it leaves as it is.
+use Rattle.std.proofs.Common.{◌≡◌, ◌≢◌, ◌≤◌, ◌<◌, ◌+◌, ◌%◌, ℕ, suc, Bool, true, false, cond, not, if◌then◌else◌, ◌||◌, List, [], ◌∷◌, ◌++◌, length, refl, sym, ap, subst, ◌∙◌, true≢false, arith, Option, None, Some, nat_lt}
 use Rattle.std.specs.Option.{option_map_or, option_to_list}
-use Rattle.std.specs.Prelude.{remove, fold}
-use Rattle.std.specs.List.{IsDistinct, list_any, AllByRecursion}
-use Rattle.std.specs.Set.{remove_key}
-use Rattle.std.proofs.lemmas.Option.{slice_get_cases}
+use Rattle.std.specs.Prelude.{fold}
+use Rattle.std.specs.List.{IsDistinct, AllByRecursion}
 use Rattle.std.proofs.lemmas.Map.Keys.{IsDistinct-head, IsDistinct-tail, any_passes_from_place}
 use Rattle.node_names.specs.NodeName.{Name}
-use Rattle.node_names.specs.Limits.{Limits}
-use Rattle.node_names.specs.Same.{same_name, has_name, same_name-laws, same_name-Decides}
+use Rattle.node_names.specs.Same.{same_name, has_name, same_name-laws}
 use Rattle.node_names.specs.declared.dice.Dice.{Dice}
 use Rattle.views.specs.Names.{word, chosen, without, without_chosen, others, evicted, sample}
-use Rattle.views.specs.Views.{Views, AreSound, Integration, knows, has_room, is_settled, add_passive, demote, drop_active, make_room, dropped_for, forget_passive, put_active, put_passive, add_active, forget, clear_place, integrate_one, integrate}
+use Rattle.views.specs.Views.{Views, AreSound, Integration, knows, has_room, is_settled, add_passive, demote, make_room, forget_passive, put_active, put_passive, add_active, forget, clear_place, integrate_one, integrate}
 use Rattle.views.proofs.Lists.{true_of_whole}
 pub use Rattle.views.proofs.Sound.{sound-add_passive, sound-demote, sound-add_active, sound-forget, active-add_passive, owner-add_passive, limits-add_passive, owner-demote, limits-demote, owner-add_active, limits-add_active}
 pub use Rattle.views.proofs.Integration.{sound-integrate}
@@ -21,7 +18,7 @@ use Rattle.views.proofs.Integration.{same-clear_place}
 
 -- ---- candidates
 
--- with nobody excepted all are candidates
+-- if no name is excepted, all are candidates
 pub others-none : (names : List Name) → others [] names ≡ names
 others-none [] = refl
 others-none (name ∷ names) = ap (λ rest. name ∷ rest) (others-none names)
@@ -42,13 +39,13 @@ chosen_is_there w names q is = any_passes_from_place (same_name q) names (w % le
 pub chosen_other_is_there : (w : ℕ) (excepted names : List Name) (q : Name) → chosen w (others excepted names) ≡ Some q → has_name names q ≡ true
 chosen_other_is_there w excepted names q is = true_of_whole (has_name (others excepted names) q) (has_name names q) (lacks-others excepted names q) (chosen_is_there w (others excepted names) q is)
 
--- one who is there is another than one who is not
+-- a name that is in a list differs from one that is not
 pub is_another : (names : List Name) (q owner : Name) → has_name names q ≡ true → has_name names owner ≡ false → q ≢ owner
 is_another names q owner there lacks same = true≢false (sym there ∙ ap (has_name names) same ∙ lacks)
 
 -- ---- one name leaves
 
--- none of those that differ from a name like q is left out with q
+-- no name that differs from a name like q is left out with q
 all_others : (q name : Name) (names : List Name) → same_name q name ≡ true → AllByRecursion (λ other. same_name name other ≡ false) names → others (q ∷ []) names ≡ names
 all_others q name [] same differ = refl
 all_others q name (other ∷ names) same differ =
@@ -68,7 +65,7 @@ others-one q (name ∷ names) distinct = by (same_name q name) refl (others-one 
     by true is rest = ap (λ c. cond (not c) (name ∷ others (q ∷ []) names) (others (q ∷ []) names)) (flipped true is) ∙ all_others q name names is (IsDistinct-head same_name name names distinct)
     by false is rest = ap (λ c. cond (not c) (name ∷ others (q ∷ []) names) (others (q ∷ []) names)) (flipped false is) ∙ ap (λ left. name ∷ left) rest
 
--- nobody leaves with one who is not there
+-- removing a name that is not there changes nothing
 pub without-absent : (q : Name) (names : List Name) → has_name names q ≡ false → without q names ≡ names
 without-absent q [] lacks = refl
 without-absent q (name ∷ names) lacks =
@@ -83,7 +80,7 @@ shorter-others excepted (name ∷ names) = by (not (has_name excepted name)) (sh
     by true rest = omega arith
     by false rest = omega arith
 
--- fewer are left without one who is there
+-- removing a name that is there leaves fewer names
 pub fewer-others : (q : Name) (names : List Name) → has_name names q ≡ true → length (others (q ∷ []) names) < length names
 fewer-others q [] there = absurd (true≢false (sym there))
 fewer-others q (name ∷ names) there = by (same_name q name) refl there (fewer-others q names)

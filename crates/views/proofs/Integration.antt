@@ -1,5 +1,5 @@
 -- An integration keeps the views sound.
-use Rattle.std.proofs.Common.{◌≡◌, ◌≤◌, ◌<◌, ◌+◌, ◌%◌, ℕ, Bool, true, false, cond, if◌then◌else◌, List, [], ◌∷◌, length, refl, sym, ap, subst, ◌∙◌, true≢false, arith, Option, None, Some, nat_lt}
+use Rattle.std.proofs.Common.{◌≡◌, ◌≤◌, ◌<◌, ◌+◌, ◌%◌, Bool, true, false, cond, if◌then◌else◌, List, [], ◌∷◌, length, refl, sym, ap, subst, ◌∙◌, arith, Option, None, Some, nat_lt}
 use Rattle.std.specs.Option.{option_map_or}
 use Rattle.std.specs.Prelude.{find, fold}
 use Rattle.std.proofs.lemmas.Bool.Decides.{nat_tests}
@@ -8,7 +8,7 @@ use Rattle.std.proofs.lemmas.Map.Made.{length-remove_key}
 use Rattle.node_names.specs.NodeName.{Name}
 use Rattle.node_names.specs.Same.{same_name, has_name}
 use Rattle.node_names.specs.declared.dice.Dice.{Dice}
-use Rattle.views.specs.Names.{word, without, without_chosen}
+use Rattle.views.specs.Names.{word, without_chosen}
 use Rattle.views.specs.Views.{Views, AreSound, Integration, knows, forget_passive, put_passive, clear_place, integrate_one, integrate}
 use Rattle.views.proofs.Lists.{or_both, lacks-remove_key, lacks-remove, IsDistinct-remove, shorter-remove}
 use Rattle.views.proofs.Sound.{sound-fewer_passive, sound-forget_passive, sound-put_passive, unknown_is_other, unknown_not_active, unknown_not_passive}

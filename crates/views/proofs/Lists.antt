@@ -1,11 +1,10 @@
--- What leaving a list, or coming into it, does to who is in it.
-use Rattle.std.proofs.Common.{◌≡◌, ◌≤◌, ◌<◌, ◌+◌, ℕ, zero, suc, Bool, true, false, cond, ◌||◌, ◌⊎◌, inl, inr, List, [], ◌∷◌, ◌++◌, length, take, drop, refl, sym, ap, subst, ◌∙◌, true≢false, arith, Option, None, Some, slice_get}
+-- What removing a name from a list, or adding one, does to the names in it.
+use Rattle.std.proofs.Common.{◌≡◌, ◌≤◌, ◌+◌, ℕ, zero, suc, Bool, true, false, cond, ◌||◌, ◌⊎◌, inl, inr, List, [], ◌∷◌, ◌++◌, length, refl, sym, ap, ◌∙◌, true≢false, arith}
 use Rattle.std.specs.Prelude.{remove}
 use Rattle.std.specs.List.{IsDistinct, list_any, AllByRecursion}
 use Rattle.std.specs.Set.{remove_key}
 use Rattle.std.specs.Cmp.{IsEquivalence}
 use Rattle.std.proofs.lemmas.List.Folds.{list_any-append}
-use Rattle.std.proofs.lemmas.List.Edits.{length-remove}
 use Rattle.std.proofs.lemmas.Map.Keys.{IsDistinct-head, IsDistinct-tail, IsDistinct-cons}
 
 -- ---- tests
@@ -42,7 +41,7 @@ module _ {K : Type 0} (test : K → Bool) where
   lacks-remove (k ∷ ks) zero h = or_right (test k) (list_any test ks) h
   lacks-remove (k ∷ ks) (suc i) h = or_both (test k) _ (or_left (test k) (list_any test ks) h) (lacks-remove ks i (or_right (test k) (list_any test ks) h))
 
-  -- one that is put last is there, and nobody else is new
+  -- a name that is put last is there, and no other name is new
   pub lacks-push : (ks : List K) (k : K) → list_any test ks ≡ false → test k ≡ false → list_any test (ks ++ k ∷ []) ≡ false
   lacks-push ks k h e = list_any-append test ks (k ∷ []) ∙ or_both (list_any test ks) _ h (or_both (test k) false e refl)
 

@@ -1,8 +1,7 @@
 -- Each change of the views keeps them sound.
-use Rattle.std.proofs.Common.{◌≡◌, ◌≤◌, ◌<◌, ◌+◌, ◌%◌, ℕ, zero, suc, Bool, true, false, cond, if◌then◌else◌, ◌||◌, ◌⊎◌, inl, inr, List, [], ◌∷◌, ◌++◌, length, length-append, refl, sym, ap, subst, ◌∙◌, true≢false, arith, Option, None, Some, slice_get, nat_lt}
+use Rattle.std.proofs.Common.{◌≡◌, ◌≤◌, ◌<◌, ◌+◌, ◌%◌, ℕ, Bool, true, false, if◌then◌else◌, inl, inr, List, [], ◌∷◌, ◌++◌, length, length-append, refl, sym, ap, subst, ◌∙◌, true≢false, arith, Option, None, Some, nat_lt}
 use Rattle.std.specs.Option.{option_map_or}
-use Rattle.std.specs.Prelude.{remove}
-use Rattle.std.specs.List.{IsDistinct, list_any}
+use Rattle.std.specs.List.{IsDistinct}
 use Rattle.std.proofs.lemmas.Bool.Decides.{nat_tests}
 use Rattle.std.proofs.lemmas.List.Edits.{length-remove}
 use Rattle.std.proofs.lemmas.Option.{slice_get_cases}
@@ -10,10 +9,10 @@ use Rattle.std.proofs.lemmas.Map.Keys.{IsDistinct-push, any_passes_from_place}
 use Rattle.std.proofs.lemmas.Map.Made.{length-remove_key}
 use Rattle.std.proofs.lemmas.Map.Steps.{list_any_congr}
 use Rattle.node_names.specs.NodeName.{Name}
-use Rattle.node_names.specs.Limits.{Limits, IsAllowed}
+use Rattle.node_names.specs.Limits.{Limits}
 use Rattle.node_names.specs.Same.{same_name, has_name, same_name-laws}
 use Rattle.node_names.specs.declared.dice.Dice.{Dice}
-use Rattle.views.specs.Names.{word, chosen, without, without_chosen, evicted, with_room}
+use Rattle.views.specs.Names.{word, chosen, without, without_chosen, with_room}
 use Rattle.views.specs.Views.{Views, AreSound, knows, has_room, add_passive, demote, drop_active, make_room, is_settled, forget_passive, put_active, put_passive, add_active, forget}
 use Rattle.views.proofs.Lists.{or_left, or_right, or_both, true_of_whole, lacks-remove_key, lacks-remove, lacks-push, has-push, IsDistinct-remove_key, IsDistinct-remove, length-remove_key-le, lacks-removed, shorter-remove}
 

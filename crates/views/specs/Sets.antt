@@ -1,4 +1,4 @@
--- The two views as they are kept.
+-- The two views as the code stores them.
 use Rattle.views.specs.Views.{Views}
 use Rattle.views.specs.declared.sets.Sets.{Sets}
 

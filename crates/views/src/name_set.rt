@@ -1,4 +1,4 @@
-//! Names drawn out of sets, and room made in them.
+//! Choosing, removing and adding names of a view by words of the dice.
 ghost use Rattle.std.specs.Prelude.{◌≡◌, ◌+◌, ◌%◌, ◌<◌, ◌≤◌, [], ◌∷◌, ◌++◌, false, IsTrue, length};
 ghost use Rattle.indexmap.specs.IndexSet.{spare};
 ghost use Rattle.node_names.specs.Same.{has_name};
@@ -7,7 +7,7 @@ ghost use Rattle.views.specs.Names.{chosen, evicted, with_room, without_chosen};
 use node_names::{NameSet, NodeName};
 use std::alloc::Allocator;
 
-/// The place that a word chooses among so many candidates.
+/// Returns the index that `word` chooses, `word % candidates`, where `candidates` is their number.
 pub(crate) fn place(word: u64, candidates: usize) -> usize
     requires { 0 < candidates }
     ensures value { result ≡ word % candidates }
@@ -16,7 +16,7 @@ pub(crate) fn place(word: u64, candidates: usize) -> usize
     (word % candidates as u64) as usize
 }
 
-/// The name that a word chooses, if there is any.
+/// Returns the name that `word` chooses, or `None` if there are no names.
 pub(crate) fn chosen<A: Allocator>(names: &NameSet<A>, word: u64) -> Option<NodeName>
     ensures { result ≡ chosen word names.now.keys }
 {
@@ -26,7 +26,7 @@ pub(crate) fn chosen<A: Allocator>(names: &NameSet<A>, word: u64) -> Option<Node
     names.get_index(place(word, names.len())).copied()
 }
 
-/// Takes out the name that a word chooses, and gives it.
+/// Removes and returns the name that `word` chooses, or returns `None` if there are no names.
 pub(crate) fn take_chosen<A: Allocator>(names: &mut NameSet<A>, word: u64) -> Option<NodeName>
     ensures name { result ≡ chosen word names.old.keys }
     ensures left { names.new.keys ≡ without_chosen word names.old.keys }
@@ -39,7 +39,8 @@ pub(crate) fn take_chosen<A: Allocator>(names: &mut NameSet<A>, word: u64) -> Op
     names.shift_remove_index(at)
 }
 
-/// Takes out the name that a word chooses if the names fill all the places, and gives it.
+/// Removes and returns the name that `word` chooses if the names fill all `places`. Otherwise returns `None` and
+/// changes nothing.
 pub(crate) fn make_room<A: Allocator>(
     names: &mut NameSet<A>,
     places: u8,
@@ -55,7 +56,7 @@ pub(crate) fn make_room<A: Allocator>(
     take_chosen(names, word)
 }
 
-/// Puts a name that is not there last, in the room that there is.
+/// Appends `name`, which is not in the set, without allocating.
 pub(crate) fn put_last<A: Allocator>(names: &mut NameSet<A>, name: NodeName)
     requires room { 0 < spare names.old }
     requires absent { has_name names.old.keys name ≡ false }

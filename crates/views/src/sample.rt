@@ -1,4 +1,4 @@
-//! Names drawn at random from a view.
+//! Drawing random names from a view.
 ghost use Rattle.std.specs.Prelude.{◌≡◌, ◌≤◌, [], ◌∷◌, IfOk, OnOk, length, take};
 ghost use Rattle.views.specs.Names.{chosen, others, sample, without_chosen};
 
@@ -6,7 +6,7 @@ use crate::name_set::place;
 use node_names::{NodeName, has_name};
 use std::alloc::{AllocError, Allocator};
 
-/// The names but for those excepted, in their order.
+/// Returns the `names` that are not among those `excepted`, in their order.
 pub(crate) fn others<A: Allocator + Copy>(
     alloc: A,
     excepted: &[NodeName],
@@ -23,7 +23,7 @@ pub(crate) fn others<A: Allocator + Copy>(
     Ok(left)
 }
 
-/// Takes out the candidate that a word chooses.
+/// Removes and returns the candidate that `word` chooses, or returns `None` if there are no candidates.
 fn draw<A: Allocator>(candidates: &mut Vec<NodeName, A>, word: u64) -> Option<NodeName>
     ensures name { result ≡ chosen word candidates.old.items }
     ensures left { candidates.new.items ≡ without_chosen word candidates.old.items }
@@ -35,7 +35,7 @@ fn draw<A: Allocator>(candidates: &mut Vec<NodeName, A>, word: u64) -> Option<No
     Some(candidates.remove(at))
 }
 
-/// The candidates that the words draw, one after the other, as long as there are any.
+/// Draws one candidate for each of the `words`, in turn, without replacement, as long as any is left.
 pub(crate) fn sample<A: Allocator + Copy>(
     alloc: A,
     mut candidates: Vec<NodeName, A>,

@@ -1,4 +1,4 @@
-//! The two views as sets, with no promise yet that they are sound.
+//! The two views as sets, without the invariant that they are sound.
 ghost use Rattle.std.specs.Prelude.{◌≡◌, ◌<◌, ◌≤◌, ◌+◌, ◌^◌, OnOk, OnErr, IfOk, IsTrue, find, length, fold};
 ghost use Rattle.indexmap.specs.IndexSet.{spare};
 ghost use Rattle.node_names.specs.Same.{has_name};
@@ -21,7 +21,7 @@ pub(crate) struct Sets<A: Allocator = Global> {
 }
 
 impl<A: Allocator + Copy> Sets<A> {
-    /// A copy of the sets.
+    /// Returns a copy of the sets.
     pub(crate) fn copy(&self) -> Result<Sets<A>, AllocError>
         ensures { IfOk result (λ copy. views_of copy ≡ views_of self.now) }
     {
@@ -36,21 +36,21 @@ impl<A: Allocator + Copy> Sets<A> {
 }
 
 impl<A: Allocator> Sets<A> {
-    /// Whether the name is the owner's, active or passive.
+    /// Returns whether `name` is the owner's, active or passive.
     pub(crate) fn knows(&self, name: &NodeName) -> bool
         ensures { result ≡ knows (views_of self.now) name.now }
     {
         *name == self.owner || self.active.contains(name) || self.passive.contains(name)
     }
 
-    /// Whether the name is the owner's or active.
+    /// Returns whether `name` is the owner's or active.
     pub(crate) fn is_settled(&self, name: &NodeName) -> bool
         ensures { result ≡ is_settled (views_of self.now) name.now }
     {
         *name == self.owner || self.active.contains(name)
     }
 
-    /// Makes room for one more name in each view.
+    /// Reserves the memory for one more name in each view. The views stay the same, even if memory is refused.
     pub(crate) fn reserve(&mut self) -> Result<(), AllocError>
         ensures views { views_of self.new ≡ views_of self.old }
         ensures active { OnOk result (0 < spare self.new.active) }
@@ -61,7 +61,8 @@ impl<A: Allocator> Sets<A> {
         Ok(())
     }
 
-    /// Adds a name to the passive view, and gives the one that is evicted for it.
+    /// Adds a name to the passive view, and returns the name that is evicted for it: if the view is full, the one that
+    /// word 3 chooses. Does nothing for a name that is the owner's, active or passive.
     pub(crate) fn add_passive(&mut self, name: NodeName, dice: &Dice) -> Option<NodeName>
         requires { 0 < spare self.old.passive }
         ensures views { views_of self.new ≡ add_passive dice.now name (views_of self.old) }
@@ -76,7 +77,7 @@ impl<A: Allocator> Sets<A> {
         evicted
     }
 
-    /// Moves an active name to the passive view, and says whether it was active.
+    /// Moves an active name to the passive view. Returns whether `name` was active; if it was not, nothing changes.
     pub(crate) fn demote(&mut self, name: NodeName, dice: &Dice) -> bool
         requires { 0 < spare self.old.passive }
         ensures views { views_of self.new ≡ demote dice.now name (views_of self.old) }
@@ -90,7 +91,7 @@ impl<A: Allocator> Sets<A> {
         true
     }
 
-    /// Demotes the active name that word 0 chooses, and gives it.
+    /// Demotes and returns the active name that word 0 chooses, or returns `None` if there is no active name.
     pub(crate) fn drop_active(&mut self, dice: &Dice) -> Option<NodeName>
         requires { 0 < spare self.old.passive }
         ensures views { views_of self.new ≡ drop_active dice.now (views_of self.old) }
@@ -102,7 +103,7 @@ impl<A: Allocator> Sets<A> {
         Some(name)
     }
 
-    /// Demotes the active name that word 0 chooses if the active view is full, and gives it.
+    /// Demotes and returns the active name that word 0 chooses if the active view is full. Otherwise returns `None`.
     fn make_active_room(&mut self, dice: &Dice) -> Option<NodeName>
         requires { 0 < spare self.old.passive }
         ensures views { views_of self.new ≡ make_room dice.now (views_of self.old) }
@@ -115,7 +116,8 @@ impl<A: Allocator> Sets<A> {
         self.drop_active(dice)
     }
 
-    /// Adds a name to the active view, and gives the one that is demoted for it.
+    /// Adds a name to the active view, and returns the name that is demoted for it: if the view is full, the one that
+    /// word 0 chooses. Removes `name` from the passive view. Does nothing for a name that is the owner's or active.
     pub(crate) fn add_active(&mut self, name: NodeName, dice: &Dice) -> Option<NodeName>
         requires active { 0 < spare self.old.active }
         requires passive { 0 < spare self.old.passive }
@@ -131,7 +133,7 @@ impl<A: Allocator> Sets<A> {
         dropped
     }
 
-    /// Takes a name out of whichever view has it, and says whether one had it.
+    /// Removes a name from whichever view has it. Returns whether one had it.
     pub(crate) fn forget(&mut self, name: &NodeName) -> bool
         ensures views { views_of self.new ≡ forget name.now (views_of self.old) }
         ensures found { result ≡ has_either (views_of self.old) name.now }
@@ -141,7 +143,7 @@ impl<A: Allocator> Sets<A> {
         was_active || was_passive
     }
 
-    /// The first of the names that is passive.
+    /// Returns the first of the `names` that is passive.
     fn first_passive(&self, names: &[NodeName]) -> Option<NodeName>
         ensures { result ≡ find (has_name self.now.passive.keys) names.now }
     {
@@ -151,8 +153,8 @@ impl<A: Allocator> Sets<A> {
             .find(|name| self.passive.contains(name))
     }
 
-    /// Takes the first of the sent names that is there out of the passive view, or else the one that the next of the
-    /// words 12 to 15 chooses.
+    /// Removes one name from the passive view: the first of the `sent` names that is in it, or else the one that the
+    /// next of the words 12 to 15 chooses. These words are used in turn, counted by `evictions`.
     fn clear_place(&mut self, sent: &[NodeName], dice: &Dice, evictions: &mut usize)
         requires { evictions.old + 1 < 2 ^ 64 }
         ensures cleared { record { views = views_of self.new; evictions = evictions.new }
@@ -168,7 +170,8 @@ impl<A: Allocator> Sets<A> {
         *evictions += 1;
     }
 
-    /// Adds a name that is not known to the passive view, after a place is cleared if it is full.
+    /// Adds a name to the passive view, and clears a place in it first if it is full. Does nothing for a name that is
+    /// the owner's, active or passive.
     fn integrate_one(
         &mut self,
         sent: &[NodeName],
@@ -192,7 +195,8 @@ impl<A: Allocator> Sets<A> {
         put_last(&mut self.passive, *name);
     }
 
-    /// Adds each of the names that is not known to the passive view; those sent leave it first.
+    /// Adds each of the `names` that is neither the owner's nor in a view to the passive view, in order. If it is full,
+    /// the `sent` names leave it first.
     pub(crate) fn integrate(&mut self, names: &[NodeName], sent: &[NodeName], dice: &Dice)
         requires { length names.now ≤ spare self.old.passive }
         ensures { views_of self.new ≡ integrate names.now sent.now dice.now (views_of self.old) }
@@ -203,7 +207,7 @@ impl<A: Allocator> Sets<A> {
         }
     }
 
-    /// Makes room for so many more passive names.
+    /// Reserves the memory for `additional` more passive names. The views stay the same, even if memory is refused.
     pub(crate) fn reserve_passive(&mut self, additional: usize) -> Result<(), AllocError>
         ensures views { views_of self.new ≡ views_of self.old }
         ensures room { OnOk result (additional ≤ spare self.new.passive) }

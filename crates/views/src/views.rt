@@ -29,7 +29,7 @@ impl<A: Allocator> Model for Views<A> {
 }
 
 impl<A: Allocator + Copy> Views<A> {
-    /// Views whose active names are the peers.
+    /// Creates the views of `owner` with the `peers` as active names, in order, and no passive names.
     pub fn new(
         alloc: A,
         owner: NodeName,
@@ -52,7 +52,8 @@ impl<A: Allocator + Copy> Views<A> {
         })
     }
 
-    /// Active names other than one, drawn by the first `count` words, or fewer where there are not so many.
+    /// Draws `count` active names other than `except` by the first `count` words, without replacement. Draws fewer if
+    /// there are not enough.
     pub fn sample_active(
         &self,
         count: usize,
@@ -67,7 +68,8 @@ impl<A: Allocator + Copy> Views<A> {
         sample(alloc, candidates, &words[..count])
     }
 
-    /// Passive names, drawn by the first `count` words, or fewer where there are not so many.
+    /// Draws `count` passive names by the first `count` words, without replacement. Draws fewer if there are not
+    /// enough.
     pub fn sample_passive(
         &self,
         count: usize,
@@ -81,7 +83,7 @@ impl<A: Allocator + Copy> Views<A> {
         sample(alloc, candidates, &words[..count])
     }
 
-    /// A copy of the views.
+    /// Returns a copy of the views.
     pub fn copy(&self) -> Result<Views<A>, AllocError>
         ensures { IfOk result (λ copy. copy ≡ self.now) }
     {
@@ -92,7 +94,7 @@ impl<A: Allocator + Copy> Views<A> {
 }
 
 impl<A: Allocator> Views<A> {
-    /// The node whose views these are.
+    /// Returns the name of the node whose views these are.
     pub fn owner(&self) -> NodeName
         ensures value { result ≡ self.now.owner }
         ensures sound { AreSound self.now }
@@ -100,7 +102,7 @@ impl<A: Allocator> Views<A> {
         self.sets.owner
     }
 
-    /// The limits of the node.
+    /// Returns the limits of the node.
     pub fn limits(&self) -> Limits
         ensures value { result ≡ self.now.limits }
         ensures sound { AreSound self.now }
@@ -108,7 +110,7 @@ impl<A: Allocator> Views<A> {
         self.sets.limits
     }
 
-    /// The active names, in the order in which they came.
+    /// Returns the active names, in the order in which they were added.
     pub fn active(&self) -> &NameSet<A>
         ensures names { result.now.keys ≡ self.now.active }
         ensures sound { AreSound self.now }
@@ -116,7 +118,7 @@ impl<A: Allocator> Views<A> {
         &self.sets.active
     }
 
-    /// The passive names, in the order in which they came.
+    /// Returns the passive names, in the order in which they were added.
     pub fn passive(&self) -> &NameSet<A>
         ensures names { result.now.keys ≡ self.now.passive }
         ensures sound { AreSound self.now }
@@ -124,7 +126,9 @@ impl<A: Allocator> Views<A> {
         &self.sets.passive
     }
 
-    /// Adds a name to the passive view, and returns the one that is evicted for it.
+    /// Adds a name to the passive view, and returns the name that is evicted for it: if the view is full, the one that
+    /// word 3 chooses. Does nothing for a name that is the owner's, active or passive. If memory is refused, nothing
+    /// changes.
     pub fn add_passive(
         &mut self,
         name: NodeName,
@@ -138,7 +142,8 @@ impl<A: Allocator> Views<A> {
         Ok(self.sets.add_passive(name, dice))
     }
 
-    /// Moves an active name to the passive view. `false` says that it was not active, and nothing changed.
+    /// Moves an active name to the passive view, which evicts a name if it is full. Returns whether `name` was active;
+    /// if it was not, or if memory is refused, nothing changes.
     pub fn demote(&mut self, name: NodeName, dice: &Dice) -> Result<bool, AllocError>
         ensures ok { OnOk result (self.new ≡ demote dice.now name self.old) }
         ensures found { IfOk result (λ found. found ≡ has_name self.old.active name) }
@@ -148,7 +153,8 @@ impl<A: Allocator> Views<A> {
         Ok(self.sets.demote(name, dice))
     }
 
-    /// Demotes the active name that word 0 chooses, and returns it.
+    /// Demotes and returns the active name that word 0 chooses, or returns `None` if there is no active name. If memory
+    /// is refused, nothing changes.
     pub fn drop_active(&mut self, dice: &Dice) -> Result<Option<NodeName>, AllocError>
         ensures ok { OnOk result (self.new ≡ drop_active dice.now self.old) }
         ensures dropped { IfOk result (λ dropped. dropped ≡ chosen (word dice.now 0) self.old.active) }
@@ -158,7 +164,9 @@ impl<A: Allocator> Views<A> {
         Ok(self.sets.drop_active(dice))
     }
 
-    /// Adds a name to the active view, and returns the one that is demoted for it.
+    /// Adds a name to the active view, and returns the name that is demoted for it: if the view is full, the one that
+    /// word 0 chooses. Removes `name` from the passive view. Does nothing for a name that is the owner's or active. If
+    /// memory is refused, nothing changes.
     pub fn add_active(
         &mut self,
         name: NodeName,
@@ -172,7 +180,7 @@ impl<A: Allocator> Views<A> {
         Ok(self.sets.add_active(name, dice))
     }
 
-    /// Takes a name out of whichever view has it. `false` says that none had it.
+    /// Removes a name from whichever view has it. Returns whether one had it.
     pub fn forget(&mut self, name: NodeName) -> bool
         ensures views { self.new ≡ forget name self.old }
         ensures found { result ≡ has_either self.old name }
@@ -180,9 +188,9 @@ impl<A: Allocator> Views<A> {
         self.sets.forget(&name)
     }
 
-    /// Adds each of the names that is neither the owner's nor in a view to the passive view, in order. Where that is
-    /// full, the first of the sent names that it has leaves it, or else one that the next of the words 12 to 15
-    /// chooses.
+    /// Adds each of the `names` that is neither the owner's nor in a view to the passive view, in order. If the passive
+    /// view is full, the first of the `sent` names that is in it leaves it, or else the one that the next of the words
+    /// 12 to 15 chooses. If memory is refused, nothing changes.
     pub fn integrate(
         &mut self,
         names: &[NodeName],

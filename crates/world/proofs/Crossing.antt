@@ -156,7 +156,7 @@ announces_none {N} content id to sends none =
     go true n nothing = nothing
     go false n nothing = refl
 
--- sends that ask for nothing neither
+-- and so do sends that ask for nothing
 asks_none : {N : Type 0} (content : N → Content) (id : MsgId) (to : Name) (sends : List (Name × N)) → AsksNothing content sends → asked_of content id to sends ≡ 0
 asks_none {N} content id to sends none =
     all_none (λ (send : Name × N). (content send.1).asked ≡ None) (λ (send : Name × N). cond {A = ℕ} (same_name to send.0 && is_asked id (content send.1).asked) 1 0) sends

@@ -93,7 +93,7 @@ one_counted {X} test (y ∷ ys) some = go (test y) refl (λ is. one_counted test
     go true is later = (y, inl refl, is)
     go false is later = let found = later is in (found.0, inr found.1, found.2)
 
--- a place that is one of so many
+-- a place in a range of places is one of them
 one_place : (from n k : ℕ) → suc k ≤ n → IsOneOf (from + k) (places from n)
 one_place from zero k less = absurd (omega arith)
 one_place from (suc n) zero less = inl (omega arith)

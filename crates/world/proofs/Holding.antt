@@ -47,7 +47,7 @@ stands_in (y ∷ xs) x one =
       | inr later ↦ (let found = stands_in xs x later in (y ∷ found.0, found.1, ap (λ zs. y ∷ zs) found.2))
     ]
 
--- An id stands among the last ones if no more than those that are kept at least stand from it on.
+-- An id is held if `keep` is 0, or if at most `keep` ids stand from it on, it included.
 pub held_last : (keep : ℕ) (all held : List MsgId) (id : MsgId) → AreLast keep all held → (0 < keep → (earlier later : List MsgId) → all ≡ earlier ++ id ∷ later → length (id ∷ later) ≤ keep) → IsOneOf id all → IsOneOf id held
 held_last keep all held id last few one =
     elim (either_of last.forgotten held id (subst (λ is. IsOneOf id is) last.in_order one)) [

@@ -62,7 +62,7 @@ parents_longer sent more (entry ∷ past) h = (
   parents_longer sent more past h.1,
 )
 
--- nothing given has any parent
+-- where nothing is given, every delivery has a parent
 none_given : {N : Type 0} (sent : List (Packet N)) (past : List Entry) (entry : Entry) → entry.given ≡ [] → Each (λ d. HasParent sent past entry d) entry.given
 none_given sent past entry none = subst (λ ds. Each (λ (d : Delivery). HasParent sent past entry d) ds) (sym none) tt
 

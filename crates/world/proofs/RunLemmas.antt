@@ -39,7 +39,7 @@ pub same_world :
     ◌≡◌ {A = Logged C N} (record { limits = limits; group = record { nodes = nodes; sent = sent; flight = flight }; log = entries }) (record { limits = limits; group = group; log = log })
 same_world limits group log nodes sent flight entries p q r s = λ i. record { limits = limits; group = record { nodes = p i; sent = q i; flight = r i }; log = s i }
 
--- what holds anyway holds where it was refused
+-- what holds in any case holds after a refusal
 pub refused_anyway : {X E : Type 0} (result : Result X E) (P : Type 0) → P → OnErr result P
 refused_anyway (Ok x) P p = tt
 refused_anyway (Err e) P p = p

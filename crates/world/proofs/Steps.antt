@@ -1,4 +1,5 @@
--- The events that step a core, seen alike: whose core it is, what it steps by, and that its step meets the laws.
+-- What the events that step a core have in common: whose core it is, by what stimulus it steps, and that its step meets
+-- the laws.
 use Rattle.std.proofs.Common.{◌≡◌, ◌∙◌, ◌+◌, ℕ, List, arith, sym, ap, refl, subst, inl, inr}
 use Rattle.std.specs.Prelude.{◌⊎◌, Option, Some, remove, slice_get}
 use Rattle.node_names.specs.NodeName.{Name}

@@ -79,7 +79,7 @@ flying_same w sent more (number ∷ flight) sound =
     let same : flying_weight w (sent ++ more) (number ∷ flight) ≡ flying_weight w sent (number ∷ flight) = omega arith in
     same
 
--- what stands at so many places from one on weighs what a list of it does
+-- the packets at consecutive places weigh as much as the list of them
 places_weigh : {N : Type 0} (w : Packet N → ℕ) (all rest : List (Packet N)) (from : ℕ) → ((k : ℕ) → slice_get all (from + k) ≡ slice_get rest k) → flying_weight w all (places from (length rest)) ≡ sum_by w rest
 places_weigh w all [] from there = refl
 places_weigh w all (packet ∷ rest) from there =

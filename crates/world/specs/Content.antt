@@ -1,4 +1,4 @@
--- What a packet says to whoever reads it.
+-- The content of a packet, as its receiver reads it.
 use Rattle.std.specs.Prelude.{ℕ, Bool, List, Option}
 use Rattle.node_names.specs.declared.ids.MsgId.{MsgId}
 

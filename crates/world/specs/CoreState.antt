@@ -1,4 +1,4 @@
--- What a core shows of itself: every law speaks of this record, and of nothing else in a core.
+-- The observable state of a core: every law speaks of this record, and of nothing else in a core.
 use Rattle.std.specs.Prelude.{ℕ, Bool, List, Option}
 use Rattle.node_names.specs.NodeName.{Name}
 use Rattle.node_names.specs.declared.ids.Origin.{Origin}

@@ -114,7 +114,7 @@ flood_after core Flush = core
 flood_after core (Down peer dice) = record core { peers = remove_key (same_name peer) core.peers }
 flood_after core (Shuffle dice) = core
 
--- Of a step that was worked out the core keeps nothing; a broadcast has a number left.
+-- The core keeps nothing between the two halves of a step; for a broadcast, a sequence number is left.
 abbrev pub IsFloodTurn : Flooding → Stimulus Message → Unit {0} → Type 0
 IsFloodTurn core (Broadcast payload) turn = core.count < 2 ^ 64 - 1
 IsFloodTurn core (Arrive sender note dice) turn = Unit {0}
@@ -123,7 +123,7 @@ IsFloodTurn core Flush turn = Unit {0}
 IsFloodTurn core (Down peer dice) turn = Unit {0}
 IsFloodTurn core (Shuffle dice) turn = Unit {0}
 
--- The core has spent all its sequence numbers.
+-- The stimulus is a broadcast, and the core has spent all its sequence numbers.
 abbrev pub FloodIsSpent : Flooding → Stimulus Message → Type 0
 FloodIsSpent core (Broadcast payload) = core.count ≡ 2 ^ 64 - 1
 FloodIsSpent core (Arrive sender note dice) = ⊥

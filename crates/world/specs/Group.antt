@@ -40,7 +40,7 @@ core_in (Some node) = node.core
 abbrev pub core_of : {C : Type 0} → Name → List (NodeState C) → Option C
 core_of name nodes = core_in (node_of name nodes)
 
--- the nodes with this one in the place of the one of its name, or last where there is none
+-- the nodes, with this one in place of the first of the same name, or appended if no node has its name
 abbrev pub put_node : {C : Type 0} → NodeState C → List (NodeState C) → List (NodeState C)
 put_node node [] = node ∷ []
 put_node node (other ∷ others) = if same_name node.name other.name then node ∷ others else other ∷ put_node node others
@@ -49,6 +49,6 @@ put_node node (other ∷ others) = if same_name node.name other.name then node �
 abbrev pub origin_of : {C : Type 0} → NodeState C → Origin
 origin_of node = record { name = node.name; incarnation = node.highest }
 
--- the packets that the sender's sends make
+-- the sends of this sender as packets, in order
 abbrev pub packets : {N : Type 0} → Origin → List (Name × N) → List (Packet N)
 packets sender sends = map (λ send. record { sender = sender; to = send.0; note = send.1 }) sends

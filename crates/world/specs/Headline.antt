@@ -14,11 +14,11 @@ use Rattle.world.specs.UnderWay.{IsCarriedOn}
 
 -- Each delivery is of a message that was said by then, with the payload that was said; a message is said with one
 -- payload alone; no run of a node delivers a message twice; and no view of a running node exceeds its bound, names a
--- node twice or names its owner. Each delivery is its origin's own, or came from one who had delivered the message
--- before. Where the group stayed undisturbed since a message was said, it is carried on between every two linked nodes;
--- where no packet was repeated either, it crosses from any node to any other once at most, as a payload, as an
--- announcement and as a request; and where the group is also at rest for it, every node in reach of its origin has
--- delivered it.
+-- node twice or names its owner. Each delivery is its origin's own, or came from a node that had delivered the message
+-- before. If the group stayed undisturbed since a message was said, the message is carried on between every two linked
+-- nodes. If no packet was repeated either, then from any node to any other at most one copy and one announcement of it
+-- were sent, and at most one request for it was sent back. If the group was undisturbed and is at rest for the message,
+-- every node in reach of its origin has delivered it.
 pub record Headline {C N : Type 0} (state : C → CoreState) (content : N → Content) (world : Logged C N) : Type 0 where
   pub honest : Honest (reverse world.log)
   pub agreed : HasOnePayload (reverse world.log)

@@ -11,7 +11,7 @@ use Rattle.world.specs.Entry.{Entry}
 use Rattle.world.specs.Event.{Event}
 use Rattle.world.specs.declared.event.EventOf.TheVariants.{Start, Broadcast, Arrive, Lose, Again, Fire, Flush, Down, Shuffle, Stop}
 
--- the incarnation in the last start of the name, after an event and what it was before
+-- the incarnation in the last start of the name after this event, given what it was before
 abbrev pub started_by : Name → Event → Option Incarnation → Option Incarnation
 started_by name (Start started incarnation peers contact) before = if same_name name started then Some incarnation else before
 started_by name (Broadcast sender payload) before = before
@@ -29,7 +29,7 @@ abbrev pub incarnation_of : Name → List Entry → Option Incarnation
 incarnation_of name [] = None
 incarnation_of name (entry ∷ past) = started_by name entry.event (incarnation_of name past)
 
--- how many broadcasts of the name there were since its last start, after an event and how many before
+-- how many broadcasts of the name there were since its last start after this event, given how many there were before
 abbrev pub counted_by : Name → Event → ℕ → ℕ
 counted_by name (Start started incarnation peers contact) before = if same_name name started then 0 else before
 counted_by name (Broadcast sender payload) before = if same_name name sender then suc before else before

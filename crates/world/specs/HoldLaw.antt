@@ -20,15 +20,15 @@ HoldsWhatItHas core = (id : MsgId) → core.has id ≡ true → IsSome (core.pay
 abbrev pub HoldsWhatItLists : CoreState → Type 0
 HoldsWhatItLists core = (id : MsgId) → IsSome (core.payload id) ↔ IsOneOf id core.held
 
--- Of all these messages, in order of delivery, the last ones are held: all of them, or at least as many as are to be
--- kept, where 0 stands for all.
+-- Of all these messages, in order of delivery, the last ones are held: all of them, or, where `keep` is not 0, at least
+-- `keep` of them.
 pub record AreLast (keep : ℕ) (all held : List MsgId) : Type 0 where
   pub forgotten : List MsgId
   pub in_order : all ≡ forgotten ++ held
   pub enough : (forgotten ≡ []) ⊎ ((0 < keep) × (keep ≤ length held))
 
--- A step lists what it delivers last. Only then ids leave the list, from its front, and only while there are more of
--- them than are to be kept.
+-- A step appends what it delivers to the list. Only a step that delivers takes ids off the list, from its front, and
+-- only while there are more of them than are to be kept.
 pub record KeepsLast (keep : ℕ) (before delivered after : List MsgId) : Type 0 where
   pub last : AreLast keep (before ++ delivered) after
   pub stays : delivered ≡ [] → after ≡ before
@@ -42,7 +42,7 @@ IsAskedBy content Flush id name = ⊥
 IsAskedBy content (Down peer dice) id name = ⊥
 IsAskedBy content (Shuffle dice) id name = ⊥
 
--- how many packets carry the message, to whomever
+-- how many packets carry the message, whoever they go to
 abbrev pub packets_with : {N : Type 0} → (N → Content) → MsgId → List (Name × N) → ℕ
 packets_with content id sends = count_by (λ send. is_carried id (content send.1).carried) sends
 

@@ -27,12 +27,12 @@ pub record IsSymmetric {C N : Type 0} (state : C → CoreState) (group : Group C
   pub both_ways : (name peer : Name) → Linked state group name peer ↔ Linked state group peer name
   pub members_run : (name peer : Name) (core : C) → Runs group name core → has_name (state core).active peer ≡ true → IsRunning group peer
 
--- A path of so many links leads from one name to the other, and the first runs.
+-- A path of this number of links leads from the first name to the second, and the first runs.
 abbrev pub Path : {C N : Type 0} → (C → CoreState) → Group C N → ℕ → Name → Name → Type 0
 Path state group zero name end = (name ≡ end) × IsRunning group name
 Path state group (suc n) name end = (next : Name) × Linked state group name next × Path state group n next end
 
--- A path leads from one name to the other.
+-- A path leads from the first name to the second.
 abbrev pub Reaches : {C N : Type 0} → (C → CoreState) → Group C N → Name → Name → Type 0
 Reaches state group name end = (n : ℕ) × Path state group n name end
 

@@ -1,4 +1,4 @@
--- Words on lists that the definitions here share.
+-- Definitions on lists that the other definitions here share.
 use Rattle.std.specs.Prelude.{◌≡◌, ℕ, zero, suc, ◌⊎◌, List, [], ◌∷◌}
 
 -- x is one of the list
@@ -6,7 +6,7 @@ abbrev pub IsOneOf : {X : Type 0} → X → List X → Type 0
 IsOneOf x [] = ⊥
 IsOneOf x (y ∷ ys) = (x ≡ y) ⊎ IsOneOf x ys
 
--- the numbers of so many places, from this one on
+-- the given count of consecutive numbers, the first of which is `from`
 abbrev pub places : ℕ → ℕ → List ℕ
 places from zero = []
 places from (suc n) = from ∷ places (suc from) n

@@ -13,7 +13,7 @@ use Rattle.world.specs.declared.packet.Packet.{Packet}
 abbrev pub HasParent : {N : Type 0} → List (Packet N) → List Entry → Entry → Delivery → Type 0
 HasParent sent past entry d = (GaveFrom sent entry.event entry None × (d.node ≡ d.id.origin)) ⊎ ((sender : Origin) × GaveFrom sent entry.event entry (Some sender) × Delivered past sender d.id)
 
--- Every delivery of the history did.
+-- Every delivery of the history was made in this way.
 abbrev pub HaveParents : {N : Type 0} → List (Packet N) → List Entry → Type 0
 HaveParents sent [] = Unit {0}
 HaveParents sent (entry ∷ past) = Each (λ d. HasParent sent past entry d) entry.given × HaveParents sent past

@@ -14,7 +14,7 @@ abbrev pub is_contact : Option Name → Name → Bool
 is_contact None name = false
 is_contact (Some contact) name = same_name contact name
 
--- whether a node of this name may start so: its peers fit its active view and are distinct others, and its contact is
--- another
+-- whether a node of this name may start with these peers and this contact: the peers fit its active view, are distinct
+-- and do not include its own name, and the contact is not its own name either
 abbrev pub are_peers : Limits → Name → List Name → Option Name → Bool
 are_peers limits owner peers contact = nat_le (length peers) limits.active && (are_distinct peers && (not (has_name peers owner) && not (is_contact contact owner)))

@@ -17,22 +17,24 @@ use Rattle.world.specs.declared.plan.Change.{Change}
 use Rattle.world.specs.declared.plan.Change.TheVariants.{Nothing, Put, Step}
 use Rattle.world.specs.declared.stimulus.StimulusOf.TheVariants as stimulus
 
--- the flight without the place that is left, if one is
+-- the flight without the packet at this place, if a place is given
 abbrev pub staying : List ℕ → Option ℕ → List ℕ
 staying flight None = flight
 staying flight (Some place) = remove flight place
 
--- what is put into flight: the packet that flies once more, or else the newly sent ones
+-- the numbers that are put into flight: that of the packet that flies once more, if one does, or else the newly sent
+-- ones
 abbrev pub launched : Option ℕ → ℕ → ℕ → List ℕ
 launched None first count = places first count
 launched (Some number) first count = number ∷ []
 
--- the nodes with the one that changes, if one does
+-- the nodes after this one is put among them, if one is given
 abbrev pub nodes_after : {C : Type 0} → Option (NodeState C) → List (NodeState C) → List (NodeState C)
 nodes_after None nodes = nodes
 nodes_after (Some node) nodes = put_node node nodes
 
--- the group after a plan: a node, packets that are sent, a place that is left, and a packet that flies once more
+-- the group after a plan: with the node that is put, the packets that are sent, without the place that leaves the
+-- flight, and with the packet that flies once more
 abbrev pub group_after : {C N : Type 0} → Group C N → Option (NodeState C) → List (Packet N) → Option ℕ → Option ℕ → Group C N
 group_after group node packets leaving again =
     record {
@@ -45,12 +47,12 @@ group_after group node packets leaving again =
 abbrev pub names_of : {C : Type 0} → List (NodeState C) → List Name
 names_of nodes = map (λ node. node.name) nodes
 
--- the stimulus that the arrival of a packet is
+-- the stimulus by which the packet arrives, if there is a packet
 abbrev pub arrival : {N : Type 0} → Option (Packet N) → Dice → Option (Stimulus N)
 arrival None dice = None
 arrival (Some packet) dice = Some (stimulus.Arrive packet.sender packet.note dice)
 
--- the stimulus that an event is to the core that it steps, where it steps one; that of an arrival is the packet of the
+-- the stimulus by which the event steps a core, if it steps one; for an arrival, by the packet that was sent under the
 -- number
 abbrev pub stimulus_by : {N : Type 0} → List (Packet N) → Event → Option ℕ → Option (Stimulus N)
 stimulus_by sent (Broadcast name payload) number = Some (stimulus.Broadcast payload)
@@ -64,13 +66,13 @@ stimulus_by sent (Lose place) number = None
 stimulus_by sent (Again other) number = None
 stimulus_by sent (Stop name) number = None
 
--- the node with its core gone on by the stimulus
+-- the node after its core's step by the stimulus
 abbrev pub stepped_node : {C N : Type 0} → (C → Stimulus N → C) → Option (NodeState C) → Option (Stimulus N) → Option (NodeState C)
 stepped_node after None told = None
 stepped_node after (Some node) None = None
 stepped_node after (Some node) (Some told) = Some (record node { core = option_map (λ core. after core told) node.core })
 
--- the node that a change puts, as it will be
+-- the node that a change puts, as it is after the change
 abbrev pub changed : {C N T A : Type 0} → (C → Stimulus N → C) → List (NodeState C) → List (Packet N) → Entry → Change C T A → Option (NodeState C)
 changed after nodes sent entry Nothing = None
 changed after nodes sent entry (Put node) = Some node.value
@@ -87,7 +89,7 @@ pub record RunsAt {C : Type 0} (name : Name) (nodes : List (NodeState C)) (at : 
   pub first : position (λ other. same_name node.name other.name) nodes ≡ Some at
   pub running : node.core ≡ Some core
 
--- The node at this place runs and is the first of its name, and its core can make the step that was worked out for the
+-- The node at this place runs and is the first of its name, and its core can make the step that was prepared for the
 -- entry.
 pub record CanStep {C N T : Type 0} (is_turn : C → Stimulus N → T → Type 0) (nodes : List (NodeState C)) (sent : List (Packet N)) (entry : Entry) (at : ℕ) (turn : T) : Type 0 where
   pub node : NodeState C

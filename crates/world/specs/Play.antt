@@ -17,7 +17,7 @@ pub record Given : Type 0 where
   pub at : ℕ
   pub delivery : Delivery
 
--- Where a run stopped, why, and what it gave until then.
+-- Where a run stopped, why, and what it delivered until then.
 pub record Fault : Type 0 where
   pub at : ℕ
   pub why : WorldError
@@ -39,7 +39,7 @@ Plays {C} {N} state starts steps at (event ∷ events) given old new =
     (between : Logged C N) × (first : List Delivery) × (later : List Given)
     × Applied state starts steps event first old between × (given ≡ given_at at first ++ later) × Plays state starts steps (suc at) events later between new
 
--- The event at this place is applied, and its deliveries come behind those that were given.
+-- The event at this place is applied, and its deliveries are appended to the earlier ones.
 pub record PlaysOn
     {C N : Type 0}
     (state : C → CoreState)
@@ -56,7 +56,7 @@ pub record PlaysOn
   pub applied : Applied state starts steps event delivered old new
   pub noted : more ≡ given ++ given_at at delivered
 
--- The event at the fault's place is refused so by the group.
+-- The group refuses the event at the fault's place for the fault's reason.
 pub record RefusesAt {C N : Type 0} (is_spent : C → Stimulus N → Type 0) (events : List Event) (fault : Fault) (group : Logged C N) : Type 0 where
   pub event : Event
   pub listed : slice_get events fault.at ≡ Some event

@@ -18,7 +18,7 @@ use Rattle.world.specs.declared.protocol.CoreError.{CoreError}
 use Rattle.world.specs.declared.protocol.CoreError.TheVariants as core
 use Rattle.world.specs.declared.stimulus.StimulusOf.TheVariants as stimulus
 
--- the refusal that a core's refusal of the step is
+-- the refusal of an event whose step a core refuses for this reason
 abbrev pub IsRefusalOf : CoreError → WorldError → Type 0
 IsRefusalOf core.PayloadTooLong e = e ≡ PayloadTooLong
 IsRefusalOf core.SeqSpent e = e ≡ SeqSpent
@@ -33,21 +33,21 @@ first_of None later = later
 abbrev pub unless : Bool → WorldError → Option WorldError
 unless holds e = if holds then None else Some e
 
--- of a node that is to run: it is unknown, or does not run
+-- the refusal for a node that has to run: it is unknown, or does not run
 abbrev pub absent : {C : Type 0} → Option (NodeState C) → Option WorldError
 absent None = Some UnknownNode
 absent (Some node) = unless (is_some node.core) NotRunning
 
--- of a node that is to start: it was started before, under no smaller incarnation
+-- the refusal for a node that is to start: it was started before, and its last incarnation is not smaller
 abbrev pub stale : {C : Type 0} → Option (NodeState C) → Incarnation → Option WorldError
 stale None incarnation = None
 stale (Some node) incarnation = unless (nat_lt node.highest.0 incarnation.0) (StaleIncarnation node.highest)
 
--- of a node that is to start under this origin, with these peers and this contact
+-- the refusal for a node that is to start under this origin, with these peers and this contact
 abbrev pub start_refusal : {C N : Type 0} → Limits → Group C N → Origin → List Name → Option Name → Option WorldError
 start_refusal limits group me peers contact = first_of (stale (node_of me.name group.nodes) me.incarnation) (unless (are_peers limits me.name peers contact) BadPeers)
 
--- of a packet that is to arrive: there is none, or its receiver does not run
+-- the refusal for a packet that is to arrive: there is no such packet, or its receiver is unknown or does not run
 abbrev pub undeliverable : {C N : Type 0} → Group C N → Option (Packet N) → Option WorldError
 undeliverable group None = Some NoPacket
 undeliverable group (Some packet) = absent (node_of packet.to group.nodes)
@@ -57,7 +57,7 @@ abbrev pub sent_under : {N : Type 0} → List (Packet N) → Option ℕ → Opti
 sent_under sent None = None
 sent_under sent (Some number) = slice_get sent number
 
--- the packet at the place of the flight
+-- the packet at the place in the flight
 abbrev pub packet_at : {C N : Type 0} → Group C N → ℕ → Option (Packet N)
 packet_at group place = sent_under group.sent (slice_get group.flight place)
 
@@ -96,7 +96,7 @@ module _ {C N : Type 0} (is_spent : C → Stimulus N → Type 0) (group : Group 
   IsSpentBy (Shuffle name dice) = IsSpentAt name (stimulus.Shuffle dice)
   IsSpentBy (Stop name) = ⊥
 
--- The event is refused so: by the first refusal that applies, or, where none does, because a core's numbers are spent
--- or an allocation is refused.
+-- The event may be refused for this reason: it is the first refusal that applies, or, where none applies, a core's
+-- numbers are spent or an allocation is refused.
 abbrev pub IsRefusal : {C N : Type 0} → (C → Stimulus N → Type 0) → Limits → Group C N → Event → WorldError → Type 0
 IsRefusal is_spent limits group event e = (refusal limits group event ≡ Some e) ⊎ ((refusal limits group event ≡ None) × ((e ≡ OutOfMemory) ⊎ ((e ≡ SeqSpent) × IsSpentBy is_spent group event)))

@@ -40,7 +40,7 @@ abbrev pub SaidAndCalm : List Entry → MsgId → Type 0
 SaidAndCalm [] id = ⊥
 SaidAndCalm (entry ∷ past) id = IsSaying entry.event past id ⊎ (IsCalm entry.event × (entry.moved ≡ false) × SaidAndCalm past id)
 
--- No run of a node delivered more than so many messages from its delivery of this one on, this one counted.
+-- No run of a node delivered more than `keep` messages from its delivery of this one on, this one counted.
 abbrev pub AreFewSince : ℕ → List Delivery → MsgId → Type 0
 AreFewSince keep given id = (node : Origin) (earlier later : List MsgId) → delivered_by node given ≡ earlier ++ id ∷ later → length (id ∷ later) ≤ keep
 
@@ -67,14 +67,14 @@ pub record IsAtRest {C N : Type 0} (state : C → CoreState) (content : N → Co
   pub nothing_flies : Each (λ number. IfSome (slice_get group.sent number) (λ packet. IsSilentOn (content packet.note) id)) group.flight
   pub nodes_are_quiet : (name : Name) (core : C) → Runs group name core → IsQuiet (state core) id
 
--- The event of the entry gave the deliveries on the arrival of a packet of this sender, or, where there is none, by a
--- broadcast.
+-- The event made the deliveries of the entry by the arrival of a packet from this sender, or, if no sender is given, by
+-- a broadcast.
 abbrev pub GaveFrom : {N : Type 0} → List (Packet N) → Event → Entry → Option Origin → Type 0
 GaveFrom {N} sent (Arrive place dice) entry (Some sender) = (number : ℕ) × (packet : Packet N) × (entry.packet ≡ Some number) × (slice_get sent number ≡ Some packet) × (packet.sender ≡ sender)
 GaveFrom {N} sent (Broadcast name payload) entry None = Unit {0}
 GaveFrom {N} sent event entry parent = ⊥
 
--- The run of the node delivered the message that it had from this parent, or from itself.
+-- This run of the node delivered the message, which came from this parent, or, if no parent is given, from a broadcast.
 abbrev pub IsParent : {N : Type 0} → List (Packet N) → List Entry → Origin → MsgId → Option Origin → Type 0
 IsParent sent [] node id parent = ⊥
 IsParent sent (entry ∷ past) node id parent = (HasDelivery entry.given node id × GaveFrom sent entry.event entry parent) ⊎ IsParent sent past node id parent

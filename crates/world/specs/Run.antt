@@ -21,7 +21,7 @@ use Rattle.world.specs.declared.stimulus.StimulusOf.TheVariants as stimulus
 abbrev pub SameNames : List Name → List Name → Type 0
 SameNames names others = (name : Name) → has_name names name ≡ has_name others name
 
--- The sends are put last among all packets and last into flight, behind what stays in flight.
+-- The sends are appended to all packets that were sent, and put into flight behind what stays in flight.
 pub record Sends {C N : Type 0} (before : Group C N) (staying : List ℕ) (sender : Origin) (sends : List (Name × N)) (after : Group C N) : Type 0 where
   pub sent : after.sent ≡ before.sent ++ packets sender sends
   pub flight : after.flight ≡ staying ++ places (length before.sent) (length sends)
@@ -71,7 +71,7 @@ pub record Acts
   pub sending : Sends before staying (origin_of node) sends after
   pub moved : (entry.moved ≡ false) ↔ SameNames (state old).active (state new).active
 
--- The packet at a place of the flight reaches the node that runs under its receiver's name.
+-- The packet at a place in the flight reaches the node that runs under its receiver's name.
 pub record Arrives
     {C N : Type 0}
     (state : C → CoreState)
@@ -96,7 +96,7 @@ pub record OnlyFlies {C N : Type 0} (before : Group C N) (entry : Entry) (after 
   pub nothing_given : entry.given ≡ []
   pub nothing_moved : entry.moved ≡ false
 
--- The packet at a place of the flight leaves it.
+-- The packet at a place in the flight leaves it.
 pub record Loses {C N : Type 0} (before : Group C N) (place : ℕ) (entry : Entry) (after : Group C N) : Type 0 where
   pub number : ℕ
   pub in_flight : slice_get before.flight place ≡ Some number
@@ -147,7 +147,7 @@ module _
     abbrev pub Happens : Group C N → Entry → Group C N → Type 0
     Happens before entry after = (entry.first_sent ≡ length before.sent) × Effect before entry after entry.event
 
-    -- The history, newest first, is a run that leaves this group.
+    -- The history, newest first, is a run that leads to this group.
     abbrev pub Run : List Entry → Group C N → Type 0
     Run [] group = IsEmptyGroup group
     Run (entry ∷ past) group = (before : Group C N) × Run past before × Happens before entry group
@@ -168,8 +168,8 @@ pub record Tells
   pub first_sent : entry.first_sent ≡ length before.sent
   pub effect : Effect state starts steps limits before entry after event
 
--- A call takes the group on by one event: the log grows by an entry that says what happened, and the deliveries are its
--- own.
+-- A call applies one event to the group: the log grows by an entry that says what happened, and the deliveries are
+-- those of the entry.
 pub record Applied
     {C N : Type 0}
     (state : C → CoreState)

@@ -3,7 +3,7 @@ use Rattle.std.specs.Prelude.{◌≡◌, ◌<◌, ◌≤◌, ◌+◌, ℕ, List,
 use Rattle.std.specs.List.{flat_map}
 use Rattle.world.specs.Trace.{Step}
 
--- Steps that stand in a trace from this place on.
+-- Steps of a trace, of which the first is at this place.
 pub record Segment (N : Type 0) : Type 0 where
   pub first : ℕ
   pub steps : List (Step N)
@@ -21,7 +21,7 @@ abbrev pub Abut : {N : Type 0} → ℕ → List (Segment N) → Type 0
 Abut first [] = Unit {0}
 Abut first (s ∷ rest) = (s.first ≡ first) × Abut (first + length s.steps) rest
 
--- So many of the segments, the first ones, begin before this place, and no others do.
+-- The first `count` segments begin before this place, and no others do.
 pub record BeginBefore {N : Type 0} (place : ℕ) (segments : List (Segment N)) (count : ℕ) : Type 0 where
   pub bound : count ≤ length segments
   pub before : (i : ℕ) (d : Segment N) → i < count → (get_or segments i d).first < place

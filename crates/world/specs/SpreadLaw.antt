@@ -10,7 +10,7 @@ use Rattle.node_names.specs.Same.{has_name, same_name, same_id}
 use Rattle.world.specs.Stimulus.{Stimulus}
 use Rattle.world.specs.declared.stimulus.StimulusOf.TheVariants.{Broadcast, Arrive, Fire, Flush, Down, Shuffle}
 
--- whether a packet that carries this carries the message
+-- whether a packet that carries this, if anything, carries the message
 abbrev pub is_carried : MsgId → Option (MsgId × List ℕ) → Bool
 is_carried id None = false
 is_carried id (Some carried) = same_id id carried.0

@@ -1,4 +1,4 @@
--- What makes a core step, and what else such a step speaks of.
+-- The stimuli that make a core step.
 use denote.Ref.{Bor}
 use Rattle.std.specs.Prelude.{◌≢◌, ℕ, List}
 use Rattle.node_names.specs.NodeName.{Name}
@@ -9,7 +9,7 @@ use Rattle.world.specs.declared.stimulus.StimulusOf.TheVariants.{Broadcast, Arri
 abbrev pub Stimulus : Type 0 → Type 0
 Stimulus N = StimulusOf (List ℕ) N
 
--- the stimulus whose payload or packet is lent
+-- the stimulus itself, where its payload or packet is borrowed
 abbrev pub lent : {P N : Type 0} → StimulusOf (Bor P) (Bor N) → StimulusOf P N
 lent (Broadcast payload) = Broadcast payload.now
 lent (Arrive sender note dice) = Arrive sender note.now dice

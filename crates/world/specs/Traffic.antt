@@ -16,7 +16,7 @@ use Rattle.world.specs.declared.packet.Packet.{Packet}
 abbrev pub goes : {N : Type 0} → Name → Name → Packet N → Bool
 goes from to packet = same_name from packet.sender.name && same_name to packet.to
 
--- whether a packet that asks for this asks for the message
+-- whether a packet that asks for this id, if for any, asks for the message
 abbrev pub is_asked : MsgId → Option MsgId → Bool
 is_asked id None = false
 is_asked id (Some asked) = same_id id asked
@@ -37,8 +37,8 @@ announcements_of content id from to sent = sum_by (λ packet. if goes from to pa
 abbrev pub requests : {N : Type 0} → (N → Content) → MsgId → Name → Name → List (Packet N) → ℕ
 requests content id from to sent = count_by (λ packet. goes from to packet && is_asked id (content packet.note).asked) sent
 
--- The message crossed the link from the name to its peer once at most, it was announced over it once at most, and the
--- peer asked for it once at most.
+-- The message was sent from the name to its peer at most once, it was announced to the peer at most once, and the peer
+-- asked the name for it at most once.
 pub record CrossesOnce {N : Type 0} (content : N → Content) (sent : List (Packet N)) (id : MsgId) (name peer : Name) : Type 0 where
   pub one_copy : copies content id name peer sent ≤ 1
   pub one_announcement : announcements_of content id name peer sent ≤ 1

@@ -48,8 +48,8 @@ pub data IsUnderWay {N : Type 0} (content : N → Content) (sent : List (Packet 
   Wanted : IsWanted other id name → IsUnderWay content sent flight id name peer one other
   Asked : IsInFlight content sent flight (AsksForIt id) peer name → IsUnderWay content sent flight id name peer one other
 
--- For each two running nodes, active members of one another, of which the first has the message and the second lacks
--- it, something is under way.
+-- For every two running nodes that are active members of one another, where the first has the message and the second
+-- lacks it, something is under way.
 abbrev pub IsCarriedOn : {C N : Type 0} → (C → CoreState) → (N → Content) → Group C N → MsgId → Type 0
 IsCarriedOn {C} state content group id =
     (name peer : Name)

@@ -1,4 +1,4 @@
-//! Playing events: one, or a whole list.
+//! The playing of events: of one, or of a whole list.
 ghost use Rattle.std.specs.Prelude.{◌≡◌, ◌<◌, [], ◌∷◌, ◌++◌, List, Some, None, IfOk, IfErr, OnOk, OnErr, MatchResult, length, slice_get, take};
 ghost use Rattle.std.specs.Option.{ForSome};
 ghost use Rattle.world.specs.Delivery.{Delivery as Delivered};
@@ -20,8 +20,8 @@ use node_names::Listed;
 use std::alloc::{AllocError, Allocator};
 
 impl<C: Core<A>, A: Allocator + Copy> World<C, A> {
-    /// Does what a plan says, all or nothing. All room is made first; the step of a core is the last that can be
-    /// refused.
+    /// Carries out a plan entirely, or changes nothing if an allocation is refused. All room is reserved first, so the
+    /// step of a core is the last action that can fail.
     fn commit(&mut self, plan: Plan<C, A>) -> Result<(), AllocError>
         requires happens { Happens C.state C.starts C.steps self.old.limits self.old.group plan.entry (planned C.after self.old.group plan.entry plan.change plan.packets.items plan.leaving plan.again) }
         requires leaving { ForSome plan.leaving (λ place. place < length self.old.group.flight) }
@@ -54,14 +54,15 @@ impl<C: Core<A>, A: Allocator + Copy> World<C, A> {
 
     /// Plays one event, and returns what it delivered.
     ///
-    /// The refusals are tested in the order of `WorldError`'s variants as far as they can meet one event; a refused
-    /// allocation comes last. A refused event changes nothing.
+    /// If several refusals up to `PayloadTooLong` apply to the event, it is the first of them in the order of
+    /// `WorldError`'s variants that is returned; `SeqSpent` and `OutOfMemory` come only if none of those applies. A
+    /// refused event changes nothing.
     pub fn apply(&mut self, event: Event<A>) -> Result<Vec<Delivery<A>, A>, WorldError>
         ensures applied { IfOk result (λ given. Applied C.state C.starts C.steps event given.items self.old self.new) }
         ensures err { OnErr result (self.new ≡ self.old) }
 
-        // Each refusal comes exactly where its condition holds and no earlier one does; those for numbers and memory
-        // only then.
+        // Each refusal up to `PayloadTooLong` comes exactly when its condition holds and that of no earlier one does.
+        // `SeqSpent` and `OutOfMemory` come only when no such condition holds.
         ensures refused { IfErr result (IsRefusal C.is_spent self.old.limits self.old.group event) }
         ensures accepted { OnOk result (refusal self.old.limits self.old.group event ≡ None) }
     {
@@ -71,10 +72,9 @@ impl<C: Core<A>, A: Allocator + Copy> World<C, A> {
         Ok(given)
     }
 
-    /// Plays the events in order until one is refused, and returns what they delivered, each with the place of its
-    /// event.
+    /// Plays the events in order until one is refused, and returns their deliveries, each with the place of its event.
     ///
-    /// At a fault the group stands after the events before that one; a caller may go on from there.
+    /// On a fault the group is in the state after the events before the refused one; a caller may go on from there.
     pub fn run(&mut self, events: &[Event<A>]) -> Result<Vec<Given<A>, A>, RunFault<A>>
         ensures played { IfOk result (λ given. Plays C.state C.starts C.steps 0 events.now given.items self.old self.new) }
         ensures stopped { IfErr result (λ fault. Plays C.state C.starts C.steps 0 (take fault.at events.now) fault.given self.old self.new) }
@@ -93,8 +93,7 @@ impl<C: Core<A>, A: Allocator + Copy> World<C, A> {
         Ok(given)
     }
 
-    /// Plays one event. What it delivered stands in the log's last entry. It is `apply` without a copy of the
-    /// deliveries.
+    /// Plays one event as `apply` does, but does not copy its deliveries, which are in the log's last entry.
     pub fn play(&mut self, event: &Event<A>) -> Result<(), WorldError>
         ensures applied { OnOk result ((given : List Delivered) × Applied C.state C.starts C.steps event.now given self.old self.new) }
         ensures err { OnErr result (self.new ≡ self.old) }
@@ -106,7 +105,8 @@ impl<C: Core<A>, A: Allocator + Copy> World<C, A> {
         Ok(())
     }
 
-    /// Plays one event of a list, and notes what it delivered.
+    /// Plays the event at place `at` of a list, and appends its deliveries to `given`. If it is refused, nothing
+    /// changes.
     fn play_one(
         &mut self,
         at: usize,
@@ -129,7 +129,7 @@ impl<C: Core<A>, A: Allocator + Copy> World<C, A> {
     }
 }
 
-/// Notes the deliveries of the event at this place, all or none.
+/// Appends the deliveries of the event at place `at` to `given`: all of them, or none if an allocation is refused.
 fn note<A: Allocator + Copy>(
     given: &mut Vec<Given<A>, A>,
     at: usize,
@@ -142,7 +142,7 @@ fn note<A: Allocator + Copy>(
     given.append(&mut more)
 }
 
-/// The deliveries, each with the place of the event that made it.
+/// Returns copies of the deliveries, each with `at`, the place of the event that made it.
 fn given_of<A: Allocator + Copy>(
     alloc: A,
     at: usize,

@@ -1,4 +1,4 @@
-//! The changes that a plan makes, in room that was made before.
+//! The changes that a plan makes, in room that is reserved beforehand.
 ghost use Rattle.std.specs.Prelude.{◌≡◌, ◌≤◌, ◌<◌, ◌+◌, ◌-◌, ◌++◌, ◌∷◌, [], false, Some, OnOk, OnErr, length, slice_get, vec_len, vec_capacity};
 ghost use Rattle.std.specs.Option.{ForSome};
 ghost use Rattle.indexmap.specs.IndexSet.{spare};
@@ -18,7 +18,8 @@ use node_names::{NameSet, NodeName};
 use std::alloc::{AllocError, Allocator};
 use std::boxed::Box;
 
-/// Makes room for one more entry and one more node, and for so many packets, one at least in flight.
+/// Reserves room for one more log entry, one more node with its name, `packets` more sent packets, and as many more
+/// packets in flight, but at least one. Contents never change, even if an allocation is refused.
 pub(crate) fn make_room<C, N, A: Allocator + Copy>(
     log: &mut Vec<Entry<A>, A>,
     names: &mut NameSet<A>,
@@ -49,7 +50,7 @@ pub(crate) fn make_room<C, N, A: Allocator + Copy>(
     Ok(())
 }
 
-/// Puts an item last, in the room that there is.
+/// Appends an item, for which room is reserved.
 pub(crate) fn put_last<T: Drop, A: Allocator>(items: &mut Vec<T, A>, item: T)
     requires { vec_len items.old < vec_capacity items.old }
     ensures items { items.new.items ≡ items.old.items ++ item ∷ [] }
@@ -59,7 +60,7 @@ pub(crate) fn put_last<T: Drop, A: Allocator>(items: &mut Vec<T, A>, item: T)
     items.push(item).unwrap();
 }
 
-/// Puts a name last that is not there, in the room that there is.
+/// Appends a name that is not in the set, for which room is reserved.
 fn put_name<A: Allocator + Copy>(names: &mut NameSet<A>, name: NodeName)
     requires room { 0 < spare names.old }
     requires absent { has_name names.old.keys name ≡ false }
@@ -68,7 +69,7 @@ fn put_name<A: Allocator + Copy>(names: &mut NameSet<A>, name: NodeName)
     let _ = names.insert(name).unwrap();
 }
 
-/// Puts a node in the place of the one of its name, or last where there is none, in the room that there is.
+/// Replaces the node of the same name, or appends the node if no node has its name. The room is reserved.
 fn put_node<C: Drop, A: Allocator + Copy>(
     names: &mut NameSet<A>,
     nodes: &mut Vec<NodeState<C>, A>,
@@ -89,7 +90,8 @@ fn put_node<C: Drop, A: Allocator + Copy>(
     }
 }
 
-/// Makes the step of a node's core that was worked out for the entry.
+/// Carries out the step that was prepared for the entry, on the core of the node at place `at`. If an allocation is
+/// refused, nothing changes.
 fn advance<C: Core<A>, A: Allocator + Copy>(
     nodes: &mut Vec<NodeState<C>, A>,
     sent: &[Packet<C::Note>],
@@ -111,7 +113,7 @@ fn advance<C: Core<A>, A: Allocator + Copy>(
     core.advance(&stimulus, turn)
 }
 
-/// Makes the change of the nodes: all of it, or nothing where an allocation is refused.
+/// Makes the planned change of the nodes entirely, or changes nothing if an allocation is refused.
 pub(crate) fn make_change<C: Core<A>, A: Allocator + Copy>(
     names: &mut NameSet<A>,
     nodes: &mut Vec<NodeState<C>, A>,
@@ -137,7 +139,8 @@ pub(crate) fn make_change<C: Core<A>, A: Allocator + Copy>(
     }
 }
 
-/// Sends the packets, and changes the flight, in the room that there is.
+/// Appends `packets` to `sent`, takes the packet at place `leaving` out of flight, and puts into flight the packet
+/// numbered `again`, or else the new packets. The room is reserved.
 pub(crate) fn post<N: Drop, A: Allocator>(
     sent: &mut Vec<Packet<N>, A>,
     flight: &mut Flight<A>,

@@ -1,4 +1,4 @@
-//! What a node hands to its application.
+//! The messages that a node delivers to its application.
 ghost use Rattle.std.specs.Prelude.{◌≡◌, IfOk};
 
 use bytes::Bytes;
@@ -9,11 +9,11 @@ use std::marker::Model;
 /// A message that one run of a node has delivered.
 #[derive(Drop)]
 pub struct Delivery<A: Allocator = Global> {
-    /// Which run of which node delivered it.
+    /// The run of the node that delivered it.
     pub node: Origin,
-    /// Which message it is.
+    /// The id of the message.
     pub id: MsgId,
-    /// What its origin broadcast under that id.
+    /// The payload that its origin broadcast under that id.
     pub payload: Bytes<A>,
 }
 
@@ -31,7 +31,7 @@ impl<A: Allocator> Model for Delivery<A> {
 }
 
 impl<A: Allocator> Delivery<A> {
-    /// A copy, which shares the payload.
+    /// Copies the delivery. The copy shares the payload.
     pub fn copy(&self) -> Result<Delivery<A>, AllocError>
         ensures { IfOk result (λ copy. copy ≡ self.now) }
     {
@@ -43,7 +43,7 @@ impl<A: Allocator> Delivery<A> {
     }
 }
 
-/// A copy of the deliveries, which shares their payloads.
+/// Copies the deliveries. The copies share the payloads.
 pub fn copy_deliveries<A: Allocator + Copy>(
     alloc: A,
     given: &[Delivery<A>],

@@ -10,13 +10,13 @@ use std::marker::Model;
 pub struct Entry<A: Allocator = Global> {
     /// The event.
     pub event: KeptEvent<A>,
-    /// The place among all packets ever sent of the packet that the event named, if it names one.
+    /// The number of the packet that the event names, if it names one: its index among all packets ever sent.
     pub packet: Option<usize>,
-    /// How many packets had been sent before the event: its own stand from there on.
+    /// The number of packets that were sent before the event, which is the number of its first own packet.
     pub first_sent: usize,
-    /// Whether an active view is, as a set, another than before. A start or a stop moves none.
+    /// Whether the event changed an active view as a set. It is `false` for every start and stop.
     pub moved: bool,
-    /// The event's deliveries.
+    /// The deliveries of the event.
     pub given: Listed<Delivery<A>, A>,
 }
 

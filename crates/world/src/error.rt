@@ -1,11 +1,11 @@
-//! Why a group refuses an event.
+//! The reasons for which a group refuses an event.
 use crate::protocol::CoreError;
 use node_names::Incarnation;
 use std::alloc::AllocError;
 use std::error::Error;
 use std::fmt;
 
-/// Why an event was refused. The group is then as it was.
+/// The reason why an event was refused. The group is then unchanged.
 #[derive(Clone, Copy, Debug, PartialEq, Eq)]
 pub enum WorldError {
     /// No node of that name was ever started.
@@ -16,11 +16,11 @@ pub enum WorldError {
     StaleIncarnation { highest: Incarnation },
     /// The peers are too many, name a node twice or name the node itself, or the contact is the node itself.
     BadPeers,
-    /// No packet is at that place of the flight, or none was sent under that number.
+    /// No packet is at that place in the flight, or none was sent under that number.
     NoPacket,
     /// The payload has more than 32,768 bytes.
     PayloadTooLong,
-    /// A number that the step needs is used up: of the messages or of the packets of this incarnation.
+    /// The step needs a number for a message or for a packet, and this incarnation has used up those numbers.
     SeqSpent,
     /// An allocation was refused.
     OutOfMemory,

@@ -1,10 +1,10 @@
-//! What can happen to a group of nodes.
+//! The events that can happen to a group of nodes.
 use crate::kept_dice::KeptDice;
 use bytes::Bytes;
 use node_names::{Dice, Incarnation, Listed, MsgId, NodeName};
 use std::alloc::Global;
 
-/// An event of a group whose payloads and lists stand on the allocator `A`.
+/// An event of a group whose payloads and lists are allocated by `A`.
 pub type Event<A = Global> = EventOf<Bytes<A>, Listed<NodeName, A>>;
 
 /// An event as the log keeps it: dice that are all 0 take no memory.
@@ -13,7 +13,7 @@ pub type KeptEvent<A = Global> = EventOf<Bytes<A>, Listed<NodeName, A>, KeptDice
 /// An event, by its kind. `P` is a payload, `L` a list of names and `D` the dice.
 #[derive(Drop)]
 pub enum EventOf<P, L, D = Dice> {
-    /// A node runs under a fresh incarnation, with `peers` as its active view. One that runs under that name is
+    /// A node starts under a fresh incarnation, with `peers` as its active view. If a node runs under that name, it is
     /// replaced.
     Start {
         name: NodeName,
@@ -26,20 +26,20 @@ pub enum EventOf<P, L, D = Dice> {
         name: NodeName,
         payload: P,
     },
-    /// The packet at a place of the flight reaches the node that runs under its receiver's name.
+    /// The packet at `place` in the flight, counted from 0, reaches the node that runs under its receiver's name.
     Arrive {
         place: usize,
         dice: D,
     },
-    /// The packet at a place of the flight is lost.
+    /// The packet at `place` in the flight is lost.
     Lose {
         place: usize,
     },
-    /// A packet that was sent before, by its number there, is in flight once more.
+    /// The packet of this number, which is its index among all packets ever sent, is put into flight once more.
     Again {
         number: usize,
     },
-    /// A node's timer for an id fires.
+    /// A node's timer for a message id fires.
     Fire {
         name: NodeName,
         id: MsgId,

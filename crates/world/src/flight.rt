@@ -7,18 +7,18 @@ use std::alloc::{AllocError, Allocator};
 
 /// The numbers of the packets in flight.
 ///
-/// The oldest packet leaves without moving those behind it: the front keeps what has left until it is as long as the
-/// rest.
+/// Removing the oldest packet does not move those behind it: the numbers that have left stay at the front, and
+/// `reserve` drops them once they are at least as many as the rest.
 #[derive(Drop)]
 pub(crate) struct Flight<A: Allocator> {
-    /// The numbers, behind those that have left.
+    /// The numbers that have left, followed by those in flight.
     pub(crate) numbers: Vec<usize, A>,
-    /// How many of the front have left.
+    /// The count of the numbers at the front that have left.
     pub(crate) gone: usize,
 }
 
 impl<A: Allocator + Copy> Flight<A> {
-    /// Nothing is in flight.
+    /// Creates a flight without packets.
     pub(crate) fn new(alloc: A) -> Self
         ensures numbers { flying result ≡ [] }
         ensures whole { result.gone ≤ vec_len result.numbers }
@@ -31,7 +31,7 @@ impl<A: Allocator + Copy> Flight<A> {
 }
 
 impl<A: Allocator> Flight<A> {
-    /// The numbers in flight.
+    /// Returns the numbers in flight, the oldest first.
     pub(crate) fn as_slice(&self) -> &[usize]
         requires { self.now.gone ≤ vec_len self.now.numbers }
         ensures { result.now ≡ flying self.now }
@@ -39,7 +39,7 @@ impl<A: Allocator> Flight<A> {
         &self.numbers[self.gone..]
     }
 
-    /// Drops the front that has left, once it is as long as the rest.
+    /// Drops the numbers that have left, if they are at least as many as the rest.
     fn forget_gone(&mut self)
         requires { self.old.gone ≤ vec_len self.old.numbers }
         ensures numbers { flying self.new ≡ flying self.old }
@@ -51,7 +51,7 @@ impl<A: Allocator> Flight<A> {
         }
     }
 
-    /// Makes room for so many more.
+    /// Reserves room for `more` further numbers. The flight stays the same, even if an allocation is refused.
     pub(crate) fn reserve(&mut self, more: usize) -> Result<(), AllocError>
         requires { self.old.gone ≤ vec_len self.old.numbers }
         ensures numbers { flying self.new ≡ flying self.old }
@@ -62,7 +62,7 @@ impl<A: Allocator> Flight<A> {
         self.numbers.reserve(more)
     }
 
-    /// Takes the one at the place out of flight.
+    /// Takes the number at `place` out of flight.
     pub(crate) fn remove(&mut self, place: usize)
         requires whole { self.old.gone ≤ vec_len self.old.numbers }
         requires place { place < length (flying self.old) }
@@ -78,7 +78,7 @@ impl<A: Allocator> Flight<A> {
         }
     }
 
-    /// Puts a packet into flight, in the room that there is.
+    /// Puts the packet of this number into flight, behind all others. The room is reserved.
     pub(crate) fn push(&mut self, number: usize)
         requires whole { self.old.gone ≤ vec_len self.old.numbers }
         requires room { vec_len self.old.numbers < vec_capacity self.old.numbers }
@@ -90,7 +90,7 @@ impl<A: Allocator> Flight<A> {
         self.numbers.push(number).unwrap();
     }
 
-    /// Puts the packets from one number up to another into flight, in the room that there is.
+    /// Puts the packets numbered `first` up to, but not including, `last` into flight. The room is reserved.
     pub(crate) fn launch(&mut self, first: usize, last: usize)
         requires whole { self.old.gone ≤ vec_len self.old.numbers }
         requires order { first ≤ last }

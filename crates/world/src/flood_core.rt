@@ -24,8 +24,8 @@ type Held<A> = IndexMap<MsgId, Bytes<A>, BuildHasherDefault<FoldHasher>, A>;
 
 /// A core that delivers and holds each new message, and sends it to every peer but the one that it came from.
 ///
-/// A message of its own incarnation that it does not know does nothing when it arrives. Its peers change by failed
-/// links alone; its contact, firings, flushes and ticks do nothing.
+/// A message of its own incarnation has no effect when it arrives, even if the core does not hold it. Only failed links
+/// change its peers; its contact, firing timers, flushes and membership ticks have no effect.
 #[derive(Drop)]
 pub struct FloodCore<A: Allocator = Global> {
     me: Origin,
@@ -46,7 +46,7 @@ impl<A: Allocator> Model for FloodCore<A> {
     ghost invariant = { λ core. (core.passive.keys ≡ []) × HoldsCounted core.me core.held.entries core.count };
 }
 
-/// Puts the packet that carries the message to the peer last.
+/// Appends the packet that carries the message to `peer`.
 fn push_note<A: Allocator + Copy>(
     notes: &mut Vec<(NodeName, FloodNote<A>), A>,
     peer: &NodeName,
@@ -63,7 +63,7 @@ fn push_note<A: Allocator + Copy>(
     Ok(())
 }
 
-/// The packets that carry the message to each of the peers but one.
+/// Returns the packets that carry the message, one to each of `peers` but `except`.
 fn notes_for<A: Allocator + Copy>(
     alloc: A,
     peers: &[NodeName],
@@ -82,7 +82,7 @@ fn notes_for<A: Allocator + Copy>(
     Ok(notes)
 }
 
-/// Puts a message that is not there last, in the room that there is.
+/// Appends a message that is not held yet, for which room is reserved.
 fn put_new<A: Allocator + Copy>(held: &mut Held<A>, id: &MsgId, payload: Bytes<A>)
     requires room { 0 < spare held.old }
     requires absent { lookup (same_id id.now) held.old.entries ≡ None }
@@ -91,7 +91,8 @@ fn put_new<A: Allocator + Copy>(held: &mut Held<A>, id: &MsgId, payload: Bytes<A
     let _ = held.insert(*id, payload).unwrap();
 }
 
-/// Appends the delivery of a message, and its packets to all peers but one.
+/// Appends the delivery of a message to `out`, and the packets that carry it to all `peers` but `except`. If an
+/// allocation is refused, nothing changes.
 fn spread<A: Allocator + Copy>(
     me: &Origin,
     peers: &[NodeName],
@@ -114,7 +115,7 @@ fn spread<A: Allocator + Copy>(
     out.extend(notes, delivery)
 }
 
-/// Holds a message that is new.
+/// Holds a message that is not held yet. If an allocation is refused, nothing changes.
 fn hold<A: Allocator + Copy>(
     held: &mut Held<A>,
     id: &MsgId,
@@ -130,7 +131,7 @@ fn hold<A: Allocator + Copy>(
     Ok(())
 }
 
-/// A step that leaves the peers as they are.
+/// Returns a prepared step that does not change the peers.
 const fn still() -> Prepared<()>
     ensures { result.moved ≡ false }
 {
@@ -141,14 +142,14 @@ const fn still() -> Prepared<()>
 }
 
 impl<A: Allocator + Copy> FloodCore<A> {
-    /// Whether the message is new, and of another run.
+    /// Returns whether the message is new: not held, and of another origin than this core.
     fn is_news(&self, id: &MsgId) -> bool
         ensures { result ≡ is_news self.now id.now }
     {
         !self.held.contains_key(id) && id.origin != self.me
     }
 
-    /// Works out a broadcast of the core's own next message.
+    /// Prepares a broadcast of the core's own next message.
     fn prepare_broadcast(
         &self,
         payload: &Bytes<A>,
@@ -175,7 +176,7 @@ impl<A: Allocator + Copy> FloodCore<A> {
         Ok(still())
     }
 
-    /// Works out what a packet's message does, if it is news.
+    /// Prepares the arrival of a packet, which has an effect only if its message is new.
     fn prepare_arrival(
         &self,
         sender: &Origin,
@@ -212,7 +213,7 @@ impl<A: Allocator + Copy> FloodCore<A> {
         Ok(())
     }
 
-    /// Holds a packet's message, if it is news.
+    /// Holds a packet's message, if it is new.
     fn advance_arrival(&mut self, note: &FloodNote<A>) -> Result<(), AllocError>
         ensures ok { OnOk result (self.new ≡ with_news self.old note.now) }
         ensures err { OnErr result (self.new ≡ self.old) }

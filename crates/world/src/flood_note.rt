@@ -7,12 +7,12 @@ use node_names::MsgId;
 use std::alloc::{AllocError, Allocator, Global};
 use std::marker::Model;
 
-/// One message.
+/// A packet that carries one message.
 #[derive(Drop)]
 pub struct FloodNote<A: Allocator = Global> {
-    /// Which message it is.
+    /// The id of the message.
     pub id: MsgId,
-    /// What its origin broadcast.
+    /// The payload that its origin broadcast.
     pub payload: Bytes<A>,
 }
 

@@ -1,16 +1,16 @@
-//! What a whole run of events gives.
+//! The outcome of playing a list of events.
 use crate::delivery::Delivery;
 use crate::error::WorldError;
 use node_names::Listed;
 use std::alloc::{Allocator, Global};
 use std::marker::Model;
 
-/// A delivery of a run, and the place in the list of events, from 0, of the event that gave it.
+/// A delivery of a run, with the place of the event that made it.
 #[derive(Drop)]
 pub struct Given<A: Allocator = Global> {
-    /// Which event gave it.
+    /// The place of that event in the list of events, counted from 0.
     pub at: usize,
-    /// What was delivered.
+    /// The delivery.
     pub delivery: Delivery<A>,
 }
 
@@ -27,14 +27,14 @@ impl<A: Allocator> Model for Given<A> {
     ghost inverse_ok = { λ g held. refl };
 }
 
-/// Why a run stopped. The group stands after the events before that one.
+/// The reason why a run stopped. The group is then in the state after the events before the refused one.
 #[derive(Drop)]
 pub struct RunFault<A: Allocator = Global> {
-    /// The place, from 0, of the event that was refused.
+    /// The place in the list of events, counted from 0, of the event that was refused.
     pub at: usize,
-    /// Why it was refused.
+    /// The reason why it was refused.
     pub why: WorldError,
-    /// What the events before it gave.
+    /// The deliveries of the events before it.
     pub given: Listed<Given<A>, A>,
 }
 

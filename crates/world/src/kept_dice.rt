@@ -1,4 +1,4 @@
-//! Dice as the log keeps them.
+//! The dice as the log keeps them.
 ghost use Rattle.std.specs.Prelude.{◌≡◌, IfOk};
 
 use node_names::Dice;
@@ -6,7 +6,7 @@ use std::alloc::{AllocError, Allocator, Global};
 use std::boxed::Box;
 use std::marker::Model;
 
-/// The dice of an event that happened. Sixteen zeros take no memory of their own.
+/// The dice of an accepted event. Dice that are all 0 take no memory of their own.
 #[derive(Drop)]
 pub struct KeptDice<A: Allocator = Global> {
     drawn: Option<Box<Dice, A>>,
@@ -22,7 +22,7 @@ impl<A: Allocator> Model for KeptDice<A> {
 }
 
 impl<A: Allocator> KeptDice<A> {
-    /// Keeps these dice.
+    /// Copies the dice, and allocates nothing if they are all 0.
     pub(crate) fn new(alloc: A, dice: &Dice) -> Result<Self, AllocError>
         ensures { IfOk result (λ kept. kept ≡ dice.now) }
     {
@@ -34,7 +34,7 @@ impl<A: Allocator> KeptDice<A> {
         })
     }
 
-    /// The dice.
+    /// Returns the dice.
     pub fn get(&self) -> Dice
         ensures { result ≡ self.now }
     {

@@ -46,5 +46,5 @@ pub use trace::{Step, Trace};
 pub use wire::Wire;
 pub use world::World;
 
-/// The most bytes that a payload may have.
+/// The maximum length of a payload, in bytes.
 pub const MAX_PAYLOAD: usize = 32_768;

@@ -1,4 +1,4 @@
-//! Finding a node by its name, and a packet by its place.
+//! The lookup of a node by its name, and of a packet by its place in the flight.
 ghost use Rattle.std.specs.Prelude.{◌≡◌, Some, None, IfOk, IfErr, IfSome, IfNone, option_copied, position, slice_get};
 ghost use Rattle.node_names.specs.Same.{same_name};
 ghost use Rattle.world.specs.Group.{core_of, node_of};
@@ -22,14 +22,14 @@ pub(crate) struct Running<'a, C> {
     pub(crate) core: &'a C,
 }
 
-/// The place of the name among the names of all nodes, which are in the nodes' order.
+/// Returns the place of the name in `names`, which are the names of all nodes in the nodes' order.
 pub(crate) fn place_of<A: Allocator>(names: &NameSet<A>, name: &NodeName) -> Option<usize>
     ensures { result ≡ position (same_name name.now) names.now.keys }
 {
     names.get_index_of(name)
 }
 
-/// The node of this name. `names` are the names of all nodes.
+/// Returns the node of this name, if there is one. `names` are the names of all nodes.
 pub(crate) fn node_of<'a, C, A: Allocator>(
     names: &NameSet<A>,
     nodes: &'a [NodeState<C>],
@@ -44,7 +44,7 @@ pub(crate) fn node_of<'a, C, A: Allocator>(
     }
 }
 
-/// The core that runs under this name.
+/// Returns the core that runs under this name, if one does.
 pub(crate) fn core_of<'a, C, A: Allocator>(
     names: &NameSet<A>,
     nodes: &'a [NodeState<C>],
@@ -56,7 +56,8 @@ pub(crate) fn core_of<'a, C, A: Allocator>(
     node_of(names, nodes, name)?.core.as_ref()
 }
 
-/// The node that runs under this name.
+/// Returns the node that runs under this name. Fails with `UnknownNode` if no node of this name was ever started, and
+/// with `NotRunning` if it is stopped.
 pub(crate) fn find_running<'a, C, A: Allocator>(
     names: &NameSet<A>,
     nodes: &'a [NodeState<C>],
@@ -76,14 +77,14 @@ pub(crate) fn find_running<'a, C, A: Allocator>(
     }
 }
 
-/// The number of the packet at the place of the flight.
+/// Returns the number of the packet at `place` in the flight, if there is one.
 pub(crate) fn number_at(flight: &[usize], place: usize) -> Option<usize>
     ensures { result ≡ slice_get flight.now place }
 {
     flight.get(place).copied()
 }
 
-/// The number and the packet at the place of the flight.
+/// Returns the packet at `place` in the flight, with its number, if there is one.
 pub(crate) fn packet_at<'a, N>(
     flight: &[usize],
     sent: &'a [Packet<N>],

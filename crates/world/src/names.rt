@@ -1,10 +1,11 @@
-//! Whether a node may start with these peers.
+//! The check of the peers and the contact that a node starts with.
 ghost use Rattle.std.specs.Prelude.{◌≡◌, length};
 ghost use Rattle.world.specs.Peers.{are_distinct, are_peers, is_contact};
 
 use node_names::{Limits, NodeName, has_name};
 
-/// Whether no name is in the list twice. It compares each with all behind it, so it is for short lists.
+/// Returns whether no name is in the list twice. It compares each name with all later ones, so it is meant for short
+/// lists.
 fn are_distinct(names: &[NodeName]) -> bool
     ensures { result ≡ are_distinct names.now }
 {
@@ -14,7 +15,7 @@ fn are_distinct(names: &[NodeName]) -> bool
     }
 }
 
-/// Whether the contact is this name.
+/// Returns whether the contact is this name.
 fn is_contact(contact: &Option<NodeName>, name: &NodeName) -> bool
     ensures { result ≡ is_contact contact.now name.now }
 {
@@ -24,8 +25,8 @@ fn is_contact(contact: &Option<NodeName>, name: &NodeName) -> bool
     }
 }
 
-/// Whether a node of this name may start with these peers and this contact: the peers fit its active view, and are
-/// distinct and others than itself, and so is the contact.
+/// Returns whether the node `owner` may start with these peers and this contact: the peers fit its active view, are
+/// distinct and do not include `owner`, and the contact is not `owner`.
 pub fn are_peers(
     limits: &Limits,
     owner: &NodeName,

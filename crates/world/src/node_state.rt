@@ -1,7 +1,7 @@
 //! A node as the group knows it.
 use node_names::{Incarnation, NodeName};
 
-/// A node that was started, running or stopped.
+/// A node that was started at least once, and now runs or is stopped.
 #[derive(Drop)]
 pub struct NodeState<C> {
     /// Its name.

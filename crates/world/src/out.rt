@@ -1,4 +1,4 @@
-//! What a core's step gives: packets to send and messages to deliver.
+//! The output of a core's step: packets to send and messages to deliver.
 ghost use Rattle.std.specs.Prelude.{◌≡◌, [], ◌∷◌, ◌++◌, OnOk, OnErr};
 
 use crate::Delivery;
@@ -9,9 +9,9 @@ use std::marker::Model;
 /// The packets to send, each with its receiver, and the deliveries, both in order. A step appends to both.
 #[derive(Drop)]
 pub struct Out<N: Drop, A: Allocator = Global> {
-    /// The packets, each with the name that it goes to.
+    /// The packets to send, each with the name that it goes to.
     pub sends: Listed<(NodeName, N), A>,
-    /// The messages for the application.
+    /// The messages that are delivered to the application.
     pub deliveries: Listed<Delivery<A>, A>,
 }
 
@@ -29,7 +29,7 @@ impl<N: Drop, A: Allocator> Model for Out<N, A> {
 }
 
 impl<N: Drop, A: Allocator + Copy> Out<N, A> {
-    /// An output with nothing in it.
+    /// Creates an empty output.
     pub fn new(alloc: A) -> Self
         ensures sends { result.sends ≡ [] }
         ensures deliveries { result.deliveries ≡ [] }
@@ -40,7 +40,7 @@ impl<N: Drop, A: Allocator + Copy> Out<N, A> {
         }
     }
 
-    /// Appends packets and one delivery.
+    /// Appends packets and one delivery. If an allocation is refused, nothing changes.
     pub(crate) fn extend(
         &mut self,
         sends: Vec<(NodeName, N), A>,

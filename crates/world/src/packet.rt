@@ -1,13 +1,13 @@
 //! A packet on its way between two nodes.
 use node_names::{NodeName, Origin};
 
-/// What one run of a node sent to a name. Whoever runs under that name when it arrives gets it.
+/// A packet that one run of a node sent to a name. The node that runs under that name when the packet arrives gets it.
 #[derive(Drop)]
 pub struct Packet<N> {
-    /// Which run of which node sent it.
+    /// The run of the node that sent it.
     pub sender: Origin,
     /// The name that it goes to.
     pub to: NodeName,
-    /// What was sent.
+    /// The content that was sent.
     pub note: N,
 }

@@ -1,4 +1,4 @@
-//! What each event will do to a group, by its kind.
+//! The planning of what an event will do to a group, by its kind.
 ghost use Rattle.std.specs.Prelude.{◌≡◌, ◌⊎◌, ◌<◌, [], false, Some, None, IfOk, IfErr, OnOk, length};
 ghost use Rattle.std.specs.Option.{ForSome};
 ghost use Rattle.world.specs.Group.{node_of};
@@ -24,7 +24,7 @@ use node_names::{Dice, Incarnation, Listed, MsgId, NodeName, Origin};
 use std::alloc::{AllocError, Allocator};
 
 impl<C: Core<A>, A: Allocator + Copy> World<C, A> {
-    /// The plan of an event.
+    /// Plans an event. The group does not change.
     pub(crate) fn plan(&self, event: &Event<A>) -> Result<Plan<C, A>, WorldError>
         ensures tells { IfOk result (λ plan. Tells C.state C.starts C.steps self.now.limits event.now self.now.group plan.entry (planned C.after self.now.group plan.entry plan.change plan.packets.items plan.leaving plan.again)) }
         ensures leaving { IfOk result (λ plan. ForSome plan.leaving (λ place. place < length self.now.group.flight)) }
@@ -51,7 +51,7 @@ impl<C: Core<A>, A: Allocator + Copy> World<C, A> {
         }
     }
 
-    /// Refuses an origin that is no fresh run of its node.
+    /// Rejects an origin whose incarnation does not exceed that of its name's last start.
     fn is_fresh(&self, me: &Origin) -> Result<(), WorldError>
         ensures ok { OnOk result (stale (node_of me.now.name self.now.group.nodes) me.now.incarnation ≡ None) }
         ensures stale { IfErr result (λ e. stale (node_of me.now.name self.now.group.nodes) me.now.incarnation ≡ Some e) }
@@ -64,7 +64,7 @@ impl<C: Core<A>, A: Allocator + Copy> World<C, A> {
         }
     }
 
-    /// The node that runs under the name.
+    /// Returns the node that runs under the name. Fails with `UnknownNode` or `NotRunning` if none does.
     fn find_running(&self, name: &NodeName) -> Result<Running<'_, C>, WorldError>
         ensures found { IfOk result (λ found. RunsAt name.now self.now.group.nodes found.at found.node.now found.core.now) }
         ensures absent { IfErr result (λ e. absent (node_of name.now self.now.group.nodes) ≡ Some e) }
@@ -72,7 +72,7 @@ impl<C: Core<A>, A: Allocator + Copy> World<C, A> {
         find_running(&self.names, &self.nodes, name)
     }
 
-    /// The plan of a step of a running node's core.
+    /// Plans a step of the core of the running node `found`.
     fn plan_step(
         &self,
         name: &NodeName,
@@ -118,7 +118,7 @@ impl<C: Core<A>, A: Allocator + Copy> World<C, A> {
         })
     }
 
-    /// The plan of a start.
+    /// Plans a start.
     fn plan_start(
         &self,
         name: &NodeName,
@@ -161,7 +161,7 @@ impl<C: Core<A>, A: Allocator + Copy> World<C, A> {
         })
     }
 
-    /// The entry of an event that delivers nothing and moves no view.
+    /// Returns the log entry of an event that delivers nothing and changes no active view.
     fn quiet_entry(&self, event: &Event<A>, packet: Option<usize>) -> Result<Entry<A>, AllocError>
         ensures { IfOk result (λ entry. entry ≡ record { event = event.now; packet = packet; first_sent = length self.now.group.sent; moved = false; given = [] }) }
     {
@@ -174,7 +174,7 @@ impl<C: Core<A>, A: Allocator + Copy> World<C, A> {
         })
     }
 
-    /// The plan of a broadcast.
+    /// Plans a broadcast.
     fn plan_broadcast(
         &self,
         name: &NodeName,
@@ -197,7 +197,7 @@ impl<C: Core<A>, A: Allocator + Copy> World<C, A> {
         Ok(plan)
     }
 
-    /// The plan of an arrival.
+    /// Plans the arrival of a packet.
     fn plan_arrive(
         &self,
         place: usize,
@@ -231,7 +231,7 @@ impl<C: Core<A>, A: Allocator + Copy> World<C, A> {
         Ok(plan)
     }
 
-    /// The plan of a loss.
+    /// Plans the loss of a packet.
     fn plan_lose(&self, place: usize, event: &Event<A>) -> Result<Plan<C, A>, WorldError>
         requires { event.now ≡ EventOf.Lose place }
         ensures tells { IfOk result (λ plan. Tells C.state C.starts C.steps self.now.limits event.now self.now.group plan.entry (planned C.after self.now.group plan.entry plan.change plan.packets.items plan.leaving plan.again)) }
@@ -252,7 +252,7 @@ impl<C: Core<A>, A: Allocator + Copy> World<C, A> {
         })
     }
 
-    /// The plan of a repeat.
+    /// Plans to put a packet into flight once more.
     fn plan_again(&self, number: usize, event: &Event<A>) -> Result<Plan<C, A>, WorldError>
         requires { event.now ≡ EventOf.Again number }
         ensures tells { IfOk result (λ plan. Tells C.state C.starts C.steps self.now.limits event.now self.now.group plan.entry (planned C.after self.now.group plan.entry plan.change plan.packets.items plan.leaving plan.again)) }
@@ -273,7 +273,7 @@ impl<C: Core<A>, A: Allocator + Copy> World<C, A> {
         })
     }
 
-    /// The plan of a firing.
+    /// Plans the firing of a timer.
     fn plan_fire(
         &self,
         name: &NodeName,
@@ -293,7 +293,7 @@ impl<C: Core<A>, A: Allocator + Copy> World<C, A> {
         Ok(plan)
     }
 
-    /// The plan of a flush.
+    /// Plans a flush of the queued announcements.
     fn plan_flush(&self, name: &NodeName, event: &Event<A>) -> Result<Plan<C, A>, WorldError>
         requires { event.now ≡ EventOf.Flush name.now }
         ensures tells { IfOk result (λ plan. Tells C.state C.starts C.steps self.now.limits event.now self.now.group plan.entry (planned C.after self.now.group plan.entry plan.change plan.packets.items plan.leaving plan.again)) }
@@ -308,7 +308,7 @@ impl<C: Core<A>, A: Allocator + Copy> World<C, A> {
         Ok(plan)
     }
 
-    /// The plan of a failed link.
+    /// Plans the failure of a link.
     fn plan_down(
         &self,
         name: &NodeName,
@@ -332,7 +332,7 @@ impl<C: Core<A>, A: Allocator + Copy> World<C, A> {
         Ok(plan)
     }
 
-    /// The plan of a membership tick.
+    /// Plans a membership tick.
     fn plan_shuffle(
         &self,
         name: &NodeName,
@@ -352,7 +352,7 @@ impl<C: Core<A>, A: Allocator + Copy> World<C, A> {
         Ok(plan)
     }
 
-    /// The plan of a stop.
+    /// Plans a stop.
     fn plan_stop(&self, name: &NodeName, event: &Event<A>) -> Result<Plan<C, A>, WorldError>
         requires { event.now ≡ EventOf.Stop name.now }
         ensures tells { IfOk result (λ plan. Tells C.state C.starts C.steps self.now.limits event.now self.now.group plan.entry (planned C.after self.now.group plan.entry plan.change plan.packets.items plan.leaving plan.again)) }

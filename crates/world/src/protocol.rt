@@ -22,14 +22,14 @@ use std::alloc::{AllocError, Allocator};
 use std::error::Error;
 use std::fmt;
 
-/// Why a core refused a step. Core and output are then as they were.
+/// The reason why a core refused a step. The core and the output are then unchanged.
 #[derive(Clone, Copy, Debug, PartialEq, Eq)]
 pub enum CoreError {
     /// The payload of the broadcast has more than 32,768 bytes.
     PayloadTooLong,
-    /// A number that the step needs is used up: of the messages or of the packets of this incarnation.
+    /// The step needs a number for a message or for a packet, and this incarnation has used up those numbers.
     SeqSpent,
-    /// An allocation is refused.
+    /// An allocation was refused.
     OutOfMemory,
 }
 
@@ -61,45 +61,46 @@ impl From<AllocError> for CoreError {
     }
 }
 
-/// A step that is worked out and not yet made.
+/// A step that is prepared but not yet carried out.
 #[derive(Drop)]
 pub struct Prepared<T> {
-    /// What the core keeps for the second half of the step.
+    /// What the core needs to carry out the step.
     pub turn: T,
-    /// Whether the core's active view will be another set.
+    /// Whether the step changes the core's active view as a set.
     pub moved: bool,
 }
 
-/// A node's protocol: it starts, and then takes one stimulus after the other.
+/// A node's protocol: a core starts, and then takes one stimulus after another.
 pub trait Core<A: Allocator>: Sized + Drop {
     /// The packets that it sends.
     type Note: Wire<A>;
 
-    /// What it keeps between the two halves of a step.
+    /// What it keeps between `prepare` and `advance`, the two halves of a step.
     type Turn: Drop;
 
-    /// What it shows of itself.
+    /// The observable state of a core. The laws speak of nothing else in it.
     ghost state: { Self → CoreState };
 
-    /// What holds of it at any time under these limits.
+    /// What holds of it at any time, under these limits.
     ghost is_sound: { Limits → Self → Type 0 };
 
-    /// From this origin, limits, peers and contact it may start with these packets, as this core.
+    /// With this origin and these limits, peers and contact, a start may send these packets and lead to this core.
     ghost starts: { Origin → Limits → List Name → Option Name → List (Name × Self.Note) → Self → Type 0 };
 
-    /// At this stimulus it may send these packets, deliver these messages and go on as the second core.
+    /// At this stimulus the first core may send these packets, deliver these messages and become the second core.
     ghost steps: { Self → Stimulus Self.Note → List (Name × Self.Note) → List Delivery → Self → Type 0 };
 
-    /// Some number that this step needs is used up.
+    /// A number that the step at this stimulus needs is used up.
     ghost is_spent: { Self → Stimulus Self.Note → Type 0 };
 
-    /// The core that goes on after the stimulus.
+    /// The core after the step at this stimulus.
     ghost after: { Self → Stimulus Self.Note → Self };
 
-    /// The turn is what the core keeps of this stimulus, which it does not refuse.
+    /// The turn is what the core keeps between the two halves of the step at this stimulus, which it does not refuse.
     ghost is_turn: { Self → Stimulus Self.Note → Self.Turn → Type 0 };
 
-    /// Starts a node with `peers` as its active view. It is refused only where an allocation is.
+    /// Starts a node with `peers` as its active view, and appends the packets that the start sends to `out`. Fails only
+    /// if an allocation is refused; `out` is then unchanged.
     fn start(
         alloc: A,
         me: Origin,
@@ -113,8 +114,8 @@ pub trait Core<A: Allocator>: Sized + Drop {
         ensures refused { IfErr result (λ e. e ≡ CoreError.OutOfMemory) }
         ensures err { OnErr result (out.new ≡ out.old) };
 
-    /// Works a step out: appends what it sends and delivers, and changes nothing of the core. All refusals but those of
-    /// memory come here.
+    /// Prepares a step: appends what it sends and delivers to `out`, and leaves the core unchanged. Only this half of a
+    /// step can fail for another reason than memory; `out` is then unchanged.
     fn prepare(
         &self,
         stimulus: &StimulusRef<'_, Self::Note, A>,
@@ -128,7 +129,8 @@ pub trait Core<A: Allocator>: Sized + Drop {
         ensures numbers { IsOutOfNumbers (state self.now) (lent stimulus.now) → IsErrOf result CoreError.SeqSpent }
         ensures err { OnErr result (out.new ≡ out.old) };
 
-    /// Makes a step that was worked out on this core as it is: all of it, or nothing where an allocation is refused.
+    /// Carries out a step that was prepared on this core in its present state. If an allocation is refused, the core is
+    /// unchanged.
     fn advance(
         &mut self,
         stimulus: &StimulusRef<'_, Self::Note, A>,
@@ -138,7 +140,7 @@ pub trait Core<A: Allocator>: Sized + Drop {
         ensures ok { OnOk result (self.new ≡ after self.old (lent stimulus.now)) }
         ensures err { OnErr result (self.new ≡ self.old) };
 
-    /// Takes one stimulus, and appends what it sends and delivers.
+    /// Takes one stimulus, and appends what the step sends and delivers to `out`. If it is refused, nothing changes.
     fn step(
         &mut self,
         stimulus: &Stimulus<Self::Note, A>,
@@ -162,43 +164,43 @@ pub trait Core<A: Allocator>: Sized + Drop {
         Ok(())
     }
 
-    /// A copy of the core, which costs as much as what it holds.
+    /// Copies the core. The cost grows with what it holds.
     fn copy(&self) -> Result<Self, AllocError>
         ensures { IfOk result (λ copy. copy ≡ self.now) };
 
-    /// Who it is: its name and incarnation.
+    /// Returns its name and incarnation.
     fn me(&self) -> Origin
         ensures { result ≡ (state self.now).me };
 
-    /// Whether it has delivered the message.
+    /// Returns whether it has delivered the message.
     fn has(&self, id: &MsgId) -> bool
         ensures { result ≡ (state self.now).has id.now };
 
-    /// The payload that it holds under the id.
+    /// Returns the payload that it holds under the id, if it holds one.
     fn payload(&self, id: &MsgId) -> Option<&Bytes<A>>
         ensures { option_copied result ≡ (state self.now).payload id.now };
 
-    /// The ids of the messages that it holds, in order of delivery.
+    /// Returns the ids of the messages that it holds, in order of delivery.
     fn held(&self) -> &[MsgId]
         ensures { result.now ≡ (state self.now).held };
 
-    /// The names that it keeps links to.
+    /// Returns its active view: the names that it keeps links to.
     fn active(&self) -> &NameSet<A>
         ensures { result.now.keys ≡ (state self.now).active };
 
-    /// The names that it may turn to when a link fails.
+    /// Returns its passive view: the names that it may turn to when a link fails.
     fn passive(&self) -> &NameSet<A>
         ensures { result.now.keys ≡ (state self.now).passive };
 
-    /// The announcements that wait to be sent: to whom, of which id, at which round.
+    /// Returns the announcements that wait to be sent, each as its receiver, message id and round.
     fn queued(&self) -> &[(NodeName, MsgId, u32)]
         ensures { result.now ≡ (state self.now).queued };
 
-    /// The announced messages that it lacks: which id, by whom, at which round.
+    /// Returns the announcements of messages that it lacks, each as its message id, announcing peer and round.
     fn wants(&self) -> &[(MsgId, NodeName, u32)]
         ensures { result.now ≡ (state self.now).wants };
 
-    /// The ids whose timers are armed, in order of arming.
+    /// Returns the ids whose timers are armed, in order of arming.
     fn timers(&self) -> &[MsgId]
         ensures { result.now ≡ (state self.now).timers };
 

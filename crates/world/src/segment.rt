@@ -1,4 +1,4 @@
-//! Parts of a trace that no longer change.
+//! The parts of a trace that no longer change.
 ghost use Rattle.std.specs.Prelude.{◌≡◌, ◌+◌, ◌-◌, ◌≤◌, ◌<◌, length, take, option_copied};
 ghost use Rattle.std.specs.List.{slice_get};
 ghost use Rattle.std.specs.Arc.{arc_value};
@@ -9,7 +9,7 @@ use std::alloc::{Allocator, Global};
 use std::marker::Model;
 use std::sync::Arc;
 
-/// Steps of a trace that no longer change. The trace shares them with whoever it was handed out to.
+/// A part of a trace whose steps no longer change. The trace shares it with everyone who was given it.
 #[derive(Drop)]
 pub struct Segment<N: Drop, A: Allocator = Global> {
     /// The place in the trace of the first of its steps.
@@ -31,11 +31,11 @@ impl<N: Drop, A: Allocator> Model for Segment<N, A> {
     ghost inverse_ok = { λ s held. refl };
 }
 
-/// The first steps of a segment: those of it that a trace has.
+/// The first steps of a segment: those that the trace still has.
 #[derive(Drop)]
 pub(crate) struct Part<N: Drop, A: Allocator> {
     segment: Arc<Segment<N, A>, A>,
-    /// How many of its steps.
+    /// The number of its steps that the trace still has.
     len: usize,
 }
 
@@ -52,7 +52,7 @@ impl<N: Drop, A: Allocator> Model for Part<N, A> {
 }
 
 impl<N: Drop, A: Allocator> Part<N, A> {
-    /// All steps of a segment.
+    /// Creates the part that has all steps of a segment.
     pub(crate) fn new(segment: Arc<Segment<N, A>, A>) -> Part<N, A>
         ensures { result ≡ arc_value segment }
     {
@@ -60,21 +60,21 @@ impl<N: Drop, A: Allocator> Part<N, A> {
         Part { segment, len }
     }
 
-    /// The place in the trace of the first of its steps.
+    /// Returns the place in the trace of the first of its steps.
     pub(crate) fn first(&self) -> usize
         ensures { result ≡ self.now.first }
     {
         self.segment.first
     }
 
-    /// How many steps it has.
+    /// Returns the number of its steps.
     pub(crate) fn len(&self) -> usize
         ensures { result ≡ length self.now.steps }
     {
         self.len
     }
 
-    /// The step at a place of its own.
+    /// Returns the step at `place` in this part, counted from 0.
     pub(crate) fn get(&self, place: usize) -> Option<&Step<N, A>>
         ensures { option_copied result ≡ slice_get self.now.steps place }
     {
@@ -85,7 +85,7 @@ impl<N: Drop, A: Allocator> Part<N, A> {
         }
     }
 
-    /// Leaves out all steps but the first `len`.
+    /// Drops all steps but the first `len`.
     pub(crate) fn truncate(&mut self, len: usize)
         ensures { self.new ≡ record self.old { steps = take len self.old.steps } }
     {

@@ -32,7 +32,7 @@ impl<N: Drop, A: Allocator> Model for StepList<N, A> {
     ghost invariant = { λ s. Abut 0 s.parts.items × (length (joined s.parts.items ++ s.tail) < 2 ^ 64) };
 }
 
-/// How many steps the parts have.
+/// Returns the number of steps that the parts have.
 fn end_of<N: Drop, A: Allocator>(parts: &[Part<N, A>]) -> usize
     requires abut { Abut 0 parts.now }
     requires bound { length (joined parts.now) < 2 ^ 64 }
@@ -44,7 +44,7 @@ fn end_of<N: Drop, A: Allocator>(parts: &[Part<N, A>]) -> usize
     }
 }
 
-/// How many of the parts begin before a place.
+/// Returns how many of the parts begin before `place`.
 fn begun_before<N: Drop, A: Allocator>(parts: &[Part<N, A>], place: usize) -> usize
     requires { Abut 0 parts.now }
     ensures { BeginBefore place parts.now result }
@@ -52,7 +52,7 @@ fn begun_before<N: Drop, A: Allocator>(parts: &[Part<N, A>], place: usize) -> us
     parts.partition_point(|part| part.first() < place)
 }
 
-/// The step at a place that lies in one of the parts.
+/// Returns the step at `place`, which lies in one of the parts.
 fn step_in<N: Drop, A: Allocator>(parts: &[Part<N, A>], place: usize) -> Option<&Step<N, A>>
     requires abut { Abut 0 parts.now }
     requires inside { place < length (joined parts.now) }
@@ -64,7 +64,7 @@ fn step_in<N: Drop, A: Allocator>(parts: &[Part<N, A>], place: usize) -> Option<
     part.get(place - part.first())
 }
 
-/// Leaves out all steps from a place on.
+/// Drops all steps from `place` on.
 fn cut<N: Drop, A: Allocator>(parts: &mut Vec<Part<N, A>, A>, place: usize)
     requires { Abut 0 parts.old.items }
     ensures abut { Abut 0 parts.new.items }
@@ -77,7 +77,7 @@ fn cut<N: Drop, A: Allocator>(parts: &mut Vec<Part<N, A>, A>, place: usize)
     }
 }
 
-/// Adds a segment that begins where the parts end, unless it is empty. There is room for it.
+/// Appends a segment that begins where the parts end, unless it is empty. The room is reserved.
 fn add<N: Drop, A: Allocator>(parts: &mut Vec<Part<N, A>, A>, segment: Arc<Segment<N, A>, A>)
     requires abut { Abut 0 parts.old.items }
     requires first { (arc_value segment).first ≡ length (joined parts.old.items) }
@@ -91,7 +91,7 @@ fn add<N: Drop, A: Allocator>(parts: &mut Vec<Part<N, A>, A>, segment: Arc<Segme
 }
 
 impl<N: Drop, A: Allocator> StepList<N, A> {
-    /// No steps.
+    /// Creates an empty list.
     pub(crate) fn new(alloc: A) -> Self
     where
         A: Copy,
@@ -103,14 +103,14 @@ impl<N: Drop, A: Allocator> StepList<N, A> {
         }
     }
 
-    /// The number of steps.
+    /// Returns the number of steps.
     pub(crate) fn len(&self) -> usize
         ensures { result ≡ length self.now }
     {
         end_of(&self.parts) + self.tail.len()
     }
 
-    /// The step at a place.
+    /// Returns the step at `place`, counted from 0.
     pub(crate) fn get(&self, place: usize) -> Option<&Step<N, A>>
         ensures { option_copied result ≡ slice_get self.now place }
     {
@@ -122,7 +122,7 @@ impl<N: Drop, A: Allocator> StepList<N, A> {
         }
     }
 
-    /// Adds a step. Where an allocation is refused, or there are `usize::MAX` steps, it is dropped.
+    /// Appends a step. If an allocation is refused, or there are `usize::MAX` steps already, the step is dropped.
     pub(crate) fn push(&mut self, step: Step<N, A>) -> Result<(), AllocError>
         ensures ok { OnOk result (self.new ≡ self.old ++ step ∷ []) }
         ensures err { OnErr result (self.new ≡ self.old) }
@@ -133,7 +133,7 @@ impl<N: Drop, A: Allocator> StepList<N, A> {
         self.tail.push(step)
     }
 
-    /// Leaves out all steps but the first `len`.
+    /// Drops all steps but the first `len`.
     pub(crate) fn truncate(&mut self, len: usize)
         ensures { self.new ≡ take len self.old }
     {
@@ -142,7 +142,8 @@ impl<N: Drop, A: Allocator> StepList<N, A> {
         cut(&mut self.parts, len);
     }
 
-    /// Makes a segment of the steps in the tail, and shares it. It is kept unless it is empty.
+    /// Turns the tail into a segment and returns it. The list shares the segment, unless it is empty. The steps of the
+    /// list stay the same, even if an allocation is refused.
     pub(crate) fn seal(&mut self) -> Result<Arc<Segment<N, A>, A>, AllocError>
     where
         A: Copy,

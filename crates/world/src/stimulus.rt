@@ -1,4 +1,4 @@
-//! What makes a core step.
+//! The stimuli that make a core step.
 ghost use Rattle.std.specs.Prelude.{◌≡◌};
 ghost use Rattle.world.specs.Stimulus.{lent};
 
@@ -6,10 +6,10 @@ use bytes::Bytes;
 use node_names::{Dice, MsgId, NodeName, Origin};
 use std::alloc::Global;
 
-/// A stimulus whose payload stands on the allocator `A` and whose packet is an `N`.
+/// A stimulus whose payload is allocated by `A` and whose packet is an `N`.
 pub type Stimulus<N, A = Global> = StimulusOf<Bytes<A>, N>;
 
-/// A stimulus whose payload or packet stands elsewhere, as in a list of packets.
+/// A stimulus that borrows its payload or packet, for example from a list of packets.
 pub type StimulusRef<'a, N, A = Global> = StimulusOf<&'a Bytes<A>, &'a N>;
 
 /// A stimulus, by its kind. `P` is a payload and `N` a packet.
@@ -17,20 +17,20 @@ pub type StimulusRef<'a, N, A = Global> = StimulusOf<&'a Bytes<A>, &'a N>;
 pub enum StimulusOf<P, N> {
     /// The application broadcasts a message.
     Broadcast(P),
-    /// A packet came.
+    /// A packet arrives.
     Arrive { sender: Origin, note: N, dice: Dice },
     /// The timer for an id fires.
     Fire(MsgId),
-    /// Queued announcements are to be sent.
+    /// All queued announcements are to be sent.
     Flush,
-    /// The link to a peer failed.
+    /// The link to a peer fails.
     Down { peer: NodeName, dice: Dice },
-    /// The membership tick.
+    /// The membership tick comes.
     Shuffle(Dice),
 }
 
 impl<P, N> StimulusOf<P, N> {
-    /// The same stimulus, its payload or packet lent.
+    /// Returns the same stimulus with its payload or packet borrowed.
     pub fn as_ref(&self) -> StimulusOf<&P, &N>
         ensures { lent result ≡ self.now }
     {

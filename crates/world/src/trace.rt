@@ -1,4 +1,4 @@
-//! What one run of a node did.
+//! The history of one run of a node.
 ghost use Rattle.std.specs.Prelude.{◌≡◌, [], ◌∷◌, ◌++◌, ◌↔◌, length, take, IfOk, IsTrue, OnOk, OnErr, option_copied};
 ghost use Rattle.std.specs.List.{slice_get};
 ghost use Rattle.std.specs.Arc.{arc_value};
@@ -13,12 +13,12 @@ use std::alloc::{AllocError, Allocator, Global};
 use std::marker::Model;
 use std::sync::Arc;
 
-/// A step of a core: what made it, and what it sent and delivered.
+/// A step of a core: its stimulus, and what it sent and delivered.
 #[derive(Drop)]
 pub struct Step<N: Drop, A: Allocator = Global> {
-    /// What the core took.
+    /// The stimulus that the core took.
     pub stimulus: Stimulus<N, A>,
-    /// What it sent and delivered.
+    /// The packets that it sent, and the messages that it delivered.
     pub out: Out<N, A>,
 }
 
@@ -37,7 +37,7 @@ impl<N: Drop, A: Allocator> Model for Step<N, A> {
 
 /// The history of one run of a node: how it started, and every step since.
 ///
-/// It is seen as the list of its steps, however often some of them were handed out as a segment.
+/// Contracts see a single list of steps, regardless of which of them were handed out in segments.
 #[derive(Drop)]
 pub struct Trace<N: Drop, A: Allocator = Global> {
     origin: Origin,
@@ -56,7 +56,8 @@ impl<N: Drop, A: Allocator> Model for Trace<N, A> {
 }
 
 impl<N: Drop, A: Allocator + Copy> Trace<N, A> {
-    /// The history of a run that started with these peers, this contact and this opening, and has made no step.
+    /// Creates the history of a run that started with these peers and this contact, whose start gave `opening`, and
+    /// that has made no step.
     pub fn new(
         alloc: A,
         origin: Origin,
@@ -75,8 +76,8 @@ impl<N: Drop, A: Allocator + Copy> Trace<N, A> {
         }
     }
 
-    /// Hands out the steps since the last segment as a segment of its own, which the trace shares from now on. No step
-    /// is copied. Without such steps the segment is empty. Where an allocation is refused, nothing changes.
+    /// Returns the steps since the last segment as a new segment, which the trace shares from now on. No step is
+    /// copied. If there are no such steps, the segment is empty. If an allocation is refused, the trace is unchanged.
     pub fn seal(&mut self) -> Result<Arc<Segment<N, A>, A>, AllocError>
         ensures same { self.new ≡ self.old }
         ensures ends { IfOk result (λ segment. Ends self.old.steps (arc_value segment)) }
@@ -86,56 +87,56 @@ impl<N: Drop, A: Allocator + Copy> Trace<N, A> {
 }
 
 impl<N: Drop, A: Allocator> Trace<N, A> {
-    /// Which run of which node it is.
+    /// Returns the name and incarnation of the node.
     pub fn origin(&self) -> Origin
         ensures { result ≡ self.now.origin }
     {
         self.origin
     }
 
-    /// The active view that it started with.
+    /// Returns the active view that it started with.
     pub fn peers(&self) -> &[NodeName]
         ensures { result.now ≡ self.now.peers }
     {
         self.peers.as_slice()
     }
 
-    /// The node by which it joined, if it joined by one.
+    /// Returns the node through which it joined, if it joined through one.
     pub fn contact(&self) -> Option<NodeName>
         ensures { result ≡ self.now.contact }
     {
         self.contact
     }
 
-    /// What its start sent.
+    /// Returns the output of its start.
     pub fn opening(&self) -> &Out<N, A>
         ensures { result.now ≡ self.now.opening }
     {
         &self.opening
     }
 
-    /// The number of its steps.
+    /// Returns the number of its steps.
     pub fn len(&self) -> usize
         ensures { result ≡ length self.now.steps }
     {
         self.steps.len()
     }
 
-    /// Whether it has made no step.
+    /// Returns whether it has made no step.
     pub fn is_empty(&self) -> bool
         ensures { IsTrue result ↔ (self.now.steps ≡ []) }
     {
         self.steps.len() == 0
     }
 
-    /// The step at a place, counted from 0.
+    /// Returns the step at `place`, counted from 0.
     pub fn step(&self, place: usize) -> Option<&Step<N, A>>
         ensures { option_copied result ≡ slice_get self.now.steps place }
     {
         self.steps.get(place)
     }
 
-    /// Records a step. Where an allocation is refused, or the trace has `usize::MAX` steps, the step is dropped.
+    /// Records a step. If an allocation is refused, or the trace has `usize::MAX` steps already, the step is dropped.
     pub fn push(&mut self, step: Step<N, A>) -> Result<(), AllocError>
         ensures ok { OnOk result (self.new ≡ record self.old { steps = self.old.steps ++ step ∷ [] }) }
         ensures err { OnErr result (self.new ≡ self.old) }
@@ -143,7 +144,8 @@ impl<N: Drop, A: Allocator> Trace<N, A> {
         self.steps.push(step)
     }
 
-    /// Forgets all steps but the first `len`: a step that is recorded before it is made may turn out not to be.
+    /// Drops all steps but the first `len`. This takes back a step that was recorded in advance and then could not be
+    /// made.
     pub fn truncate(&mut self, len: usize)
         ensures { self.new ≡ record self.old { steps = take len self.old.steps } }
     {

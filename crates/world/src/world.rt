@@ -1,4 +1,4 @@
-//! A group of nodes that takes one event after the other.
+//! A group of nodes that plays one event after another.
 ghost use Rattle.std.specs.Prelude.{◌≡◌, [], option_copied, reverse};
 ghost use Rattle.world.specs.Group.{core_of};
 ghost use Rattle.world.specs.Headline.{Headline};
@@ -20,7 +20,7 @@ use std::marker::Model;
 #[derive(Drop)]
 pub struct World<C: Core<A>, A: Allocator = Global> {
     pub(crate) limits: Limits,
-    /// The names of the nodes, in their order, to find them by.
+    /// The names of the nodes, in the same order, by which a node is looked up.
     pub(crate) names: NameSet<A>,
     pub(crate) nodes: Vec<NodeState<C>, A>,
     pub(crate) sent: Vec<Packet<C::Note>, A>,
@@ -44,7 +44,7 @@ impl<C: Core<A>, A: Allocator> Model for World<C, A> {
 }
 
 impl<C: Core<A>, A: Allocator + Copy> World<C, A> {
-    /// A group without nodes.
+    /// Creates a group without nodes.
     pub fn new(alloc: A, limits: Limits) -> Self
         ensures limits { result.limits ≡ limits }
         ensures nodes { result.group.nodes ≡ [] }
@@ -62,68 +62,69 @@ impl<C: Core<A>, A: Allocator + Copy> World<C, A> {
         }
     }
 
-    /// The allocator that the group was made with.
+    /// Returns the allocator that the group was created with.
     pub(crate) fn allocator(&self) -> A {
         *self.log.allocator()
     }
 
-    /// The limits of every node.
+    /// Returns the limits that every node runs under.
     pub fn limits(&self) -> Limits
         ensures { result ≡ self.now.limits }
     {
         self.limits
     }
 
-    /// The nodes, in the order of their first starts.
+    /// Returns the nodes, in the order of their first starts.
     pub fn nodes(&self) -> &[NodeState<C>]
         ensures { result.now ≡ self.now.group.nodes }
     {
         self.nodes.as_slice()
     }
 
-    /// The core that runs under the name, if one does.
+    /// Returns the core that runs under the name, if one does.
     pub fn core(&self, name: &NodeName) -> Option<&C>
         ensures { option_copied result ≡ core_of name.now self.now.group.nodes }
     {
         core_of(&self.names, &self.nodes, name)
     }
 
-    /// All packets that were ever sent, in their order.
+    /// Returns all packets that were ever sent, in order. A packet's number is its index here.
     pub fn sent(&self) -> &[Packet<C::Note>]
         ensures { result.now ≡ self.now.group.sent }
     {
         self.sent.as_slice()
     }
 
-    /// The places among the sent packets of those in flight, the oldest first.
+    /// Returns the numbers of the packets in flight, the oldest first.
     pub fn flight(&self) -> &[usize]
         ensures { result.now ≡ self.now.group.flight }
     {
         self.flight.as_slice()
     }
 
-    /// The accepted events and what came of them, in their order.
+    /// Returns the accepted events and what came of them, in order.
     pub fn log(&self) -> &[Entry<A>]
         ensures { result.now ≡ self.now.log }
     {
         self.log.as_slice()
     }
 
-    /// The names of the nodes, in the order of their first starts. The place of a name among them is that of its node.
+    /// Returns the names of the nodes, in the order of their first starts. A name has the same place here as its node
+    /// has in `nodes`.
     pub fn names(&self) -> &NameSet<A>
         ensures { result.now.keys ≡ names_of self.now.group.nodes }
     {
         &self.names
     }
 
-    /// Tells a caller's proof that the log is a run that leaves this group. It does nothing.
+    /// Tells a caller's proof that the log is a run that leads to this group. At run time it does nothing.
     pub fn history(&self)
         ensures { Run C.state C.starts C.steps self.now.limits (reverse self.now.log) self.now.group }
     {
         let _log = &self.log;
     }
 
-    /// Tells a caller's proof what holds of every group of lawful cores. It does nothing.
+    /// Tells a caller's proof what holds of every group of lawful cores. At run time it does nothing.
     pub fn headline(&self)
         ensures { Headline C.state C.Note.content self.now }
     {

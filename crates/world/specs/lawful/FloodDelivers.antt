@@ -1,4 +1,4 @@
--- A step of the flooding core delivers at most one message: a proof, and nothing to believe.
+-- A step of the flooding core delivers at most one message: a proof, with nothing to take on trust.
 use Rattle.std.specs.Prelude.{◌≡◌, ◌≤◌, Bool, true, false, List, [], ◌∷◌, Some, length}
 use Rattle.std.specs.Bool.{MatchBool}
 use Rattle.std.proofs.Common.{ap, arith}

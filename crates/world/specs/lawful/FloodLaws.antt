@@ -1,4 +1,4 @@
--- The flooding core meets all nine laws: a proof, and nothing to believe.
+-- The flooding core meets all nine laws: a proof, with nothing to take on trust.
 use Rattle.std.specs.Prelude.{◌≡◌, ◌≢◌, ◌⊎◌, ◌+◌, ◌<◌, ◌≤◌, ◌&&◌, ℕ, Bool, true, false, not, List, [], ◌∷◌, ◌++◌, Option, Some, None, is_some, IsSome, length, refl, IsTrue, nat_le}
 use Rattle.std.specs.Bool.{MatchBool}
 use Rattle.std.specs.List.{AllByRecursion as Each, IsDistinct}

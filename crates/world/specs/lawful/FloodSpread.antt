@@ -1,5 +1,5 @@
--- The flooding core sends a message to each of its peers but the one that is left out, and once: proofs, and nothing to
--- believe.
+-- The flooding core sends a message to each of its peers but the one that is left out, once each: proofs, with nothing
+-- to take on trust.
 use Rattle.std.specs.Prelude.{◌≡◌, ◌+◌, ◌&&◌, ◌||◌, ℕ, Bool, true, false, not, cond, List, [], ◌∷◌, Option, map, count_by, refl}
 use Rattle.std.specs.List.{AllByRecursion as Each, IsDistinct}
 use Rattle.std.proofs.Common.{sym, ◌∙◌, ap, subst, add-zero, zero-add}

@@ -1,4 +1,4 @@
--- What the flooding core does when it takes a message, law by law: proofs, and nothing to believe.
+-- What the flooding core does when it takes a message, law by law: proofs, with nothing to take on trust.
 use Rattle.std.specs.Prelude.{◌≡◌, ◌≢◌, ◌⊎◌, ℕ, not, true, false, List, [], ◌∷◌, ◌++◌, Option, Some, None, map, is_some, refl}
 use Rattle.std.specs.List.{AllByRecursion as Each}
 use Rattle.std.specs.Map.{lookup}

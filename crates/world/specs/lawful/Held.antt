@@ -1,4 +1,4 @@
--- Lemmas on a list of messages to which one more is added: proofs, and nothing to believe.
+-- Lemmas on a list of messages to which one more is added: proofs, with nothing to take on trust.
 use Rattle.std.specs.Prelude.{◌≡◌, ◌⊎◌, ◌↔◌, ◌+◌, ◌<◌, ◌≤◌, ℕ, Bool, true, false, cond, List, [], ◌∷◌, ◌++◌, Option, Some, None, IsSome, is_some, if◌then◌else◌, refl}
 use Rattle.std.specs.Map.{keys_of, lookup}
 use Rattle.std.proofs.Common.{inl, inr, sym, ◌∙◌, ap, subst}
@@ -16,7 +16,7 @@ use Rattle.world.specs.Lists.{IsOneOf}
 pub same_inside : {X : Type 0} (x y : X) → Some x ≡ Some y → x ≡ y
 same_inside x y e = ap (λ o. unwrap_or o x) e
 
--- the added entry is found where none was
+-- an added entry is found if it passes the test and none was found before
 pub lookup-push : {K X : Type 0} (test : K → Bool) (es : List (K × X)) (k : K) (v : X) → lookup test (es ++ (k, v) ∷ []) ≡ (if is_some (lookup test es) then lookup test es else (if test k then Some v else None))
 lookup-push test [] k v = refl
 lookup-push {K} {X} test (e ∷ es) k v = go (test e.0) (lookup-push test es k v)

@@ -1,4 +1,4 @@
--- Lemmas on tests and on lists of names, for the laws of the flooding core: proofs, and nothing to believe.
+-- Lemmas on tests and on lists of names, for the laws of the flooding core: proofs, with nothing to take on trust.
 use Rattle.std.specs.Prelude.{◌≡◌, ◌≢◌, ◌≤◌, ◌&&◌, ◌||◌, ℕ, Bool, true, false, not, cond, List, [], ◌∷◌, length, map, filter, refl, nat_le}
 use Rattle.std.specs.List.{AllByRecursion as Each, IsDistinct}
 use Rattle.std.specs.Set.{remove_key}
@@ -87,7 +87,7 @@ unfolding IsDistinct
 distinct_names [] h = tt
 distinct_names (name ∷ names) h = (each_differs name names (not_true (has_name names name) (and_left (not (has_name names name)) (are_distinct names) h)), distinct_names names (and_right (not (has_name names name)) (are_distinct names) h))
 
--- no list is nothing but distinct
+-- the empty list is distinct
 pub distinct_none : IsDistinct same_name []
 unfolding IsDistinct
 distinct_none = tt

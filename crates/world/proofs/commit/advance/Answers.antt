@@ -1,4 +1,4 @@
--- The node at the place is the one whose step was worked out.
+-- The node at the place is the one whose step was prepared.
 use Rattle.std.proofs.Common.{◌≡◌, ap, sym, ◌∙◌}
 use Rattle.std.specs.Prelude.{Some, option_map}
 use Rattle.world.specs.Entry.{Entry}

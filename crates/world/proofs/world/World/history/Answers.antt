@@ -1,4 +1,4 @@
--- The log of a group is a run that leaves it.
+-- The log of a group is a run that leads to it.
 use Rattle.std.proofs.Common.{subst}
 use Rattle.std.specs.Prelude.{reverse}
 use Rattle.world.specs.Group.{Logged}
