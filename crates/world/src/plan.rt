@@ -1,4 +1,4 @@
-//! What an event will do to a group, worked out before anything changes.
+//! The plan of what an event will do to a group, made before anything changes.
 ghost use Rattle.std.specs.Prelude.{◌≡◌, ◌≤◌, ◌<◌, ◌+◌, ◌⊎◌, ◌↔◌, ◌++◌, [], ◌∷◌, ℕ, false, true, Some, None, IsTrue, IfOk, IfErr, OnOk, IsErrOf, length, map, option_map, slice_get};
 ghost use Rattle.world.specs.Group.{packets};
 ghost use Rattle.world.specs.IdentityLaw.{IsTooLong};
@@ -21,56 +21,57 @@ use node_names::{Limits, NodeName, Origin};
 use std::alloc::{AllocError, Allocator};
 use std::boxed::Box;
 
-/// What changes of the nodes.
+/// The change of the nodes.
 #[derive(Drop)]
 pub(crate) enum Change<C, T, A: Allocator> {
-    /// Nothing.
+    /// No change.
     Nothing,
-    /// This node is put in the place of the one of its name, or last. It is boxed, since a plan is moved about and few
-    /// put one.
+    /// A node that replaces the node of the same name, or is appended if no node has its name. It is boxed to keep
+    /// plans small, since they are moved and few of them have one.
     Put(Box<NodeState<C>, A>),
-    /// The core of the node at this place makes the step that was worked out.
+    /// The prepared step of the core of the node at place `at`.
     Step { at: usize, turn: T },
 }
 
-/// An event's whole effect on a group, worked out and not yet made.
+/// The whole effect of an event on a group, planned but not yet carried out.
 #[derive(Drop)]
 pub(crate) struct Plan<C: Core<A>, A: Allocator> {
-    /// What changes of the nodes.
+    /// The change of the nodes.
     pub(crate) change: Change<C, C::Turn, A>,
-    /// The packets that are sent.
+    /// The packets to send.
     pub(crate) packets: Vec<Packet<C::Note>, A>,
-    /// The place of the flight that is left.
+    /// The place in the flight of the packet that leaves it, if one does.
     pub(crate) leaving: Option<usize>,
-    /// The number of the packet that flies once more; without one, those that are sent fly.
+    /// The number of the packet that is put into flight once more. If it is `None`, the packets to send are put into
+    /// flight.
     pub(crate) again: Option<usize>,
-    /// What the log will keep.
+    /// The entry that the log will keep.
     pub(crate) entry: Entry<A>,
 }
 
-/// A core's step, worked out.
+/// A prepared step of a core.
 #[derive(Drop)]
 pub(crate) struct CoreStep<C: Core<A>, A: Allocator> {
-    /// What the core keeps of it.
+    /// What the core needs to carry it out.
     pub(crate) turn: C::Turn,
-    /// What it sends.
+    /// The packets that it sends, each with the name that it goes to.
     pub(crate) sends: Vec<(NodeName, C::Note), A>,
-    /// What it delivers.
+    /// The messages that it delivers.
     pub(crate) given: Vec<Delivery<A>, A>,
-    /// Whether its active view will be another set.
+    /// Whether it changes the core's active view as a set.
     pub(crate) moved: bool,
 }
 
-/// A core that has started, with what it sends.
+/// A core that has started, with the packets that it sends.
 #[derive(Drop)]
 pub(crate) struct CoreStart<C: Core<A>, A: Allocator> {
     /// The core.
     pub(crate) core: C,
-    /// What it sends.
+    /// The packets that it sends, each with the name that it goes to.
     pub(crate) sends: Vec<(NodeName, C::Note), A>,
 }
 
-/// Starts a core.
+/// Starts a core. Fails only if an allocation is refused.
 pub(crate) fn start_core<C: Core<A>, A: Allocator + Copy>(
     alloc: A,
     me: &Origin,
@@ -91,7 +92,7 @@ pub(crate) fn start_core<C: Core<A>, A: Allocator + Copy>(
     })
 }
 
-/// The node in a box.
+/// Returns the node in a box.
 pub(crate) fn boxed<C: Drop, A: Allocator>(
     alloc: A,
     node: NodeState<C>,
@@ -101,7 +102,7 @@ pub(crate) fn boxed<C: Drop, A: Allocator>(
     Ok(Box::new(alloc, node)?)
 }
 
-/// Works out a core's step.
+/// Prepares a core's step. The core does not change.
 pub(crate) fn prepare_step<C: Core<A>, A: Allocator + Copy>(
     alloc: A,
     core: &C,
@@ -126,7 +127,8 @@ pub(crate) fn prepare_step<C: Core<A>, A: Allocator + Copy>(
     })
 }
 
-/// The stimulus that an event is to the core that it steps. Of an arrival, `packet` is the packet's number.
+/// Returns the stimulus by which the event steps a core, or `None` if it steps none. For an arrival, `packet` is the
+/// number of the packet that arrives.
 pub(crate) fn stimulus_by<'a, N, A: Allocator>(
     sent: &'a [Packet<N>],
     event: &'a KeptEvent<A>,
@@ -158,7 +160,7 @@ pub(crate) fn stimulus_by<'a, N, A: Allocator>(
     }
 }
 
-/// The packets that the sender's sends make.
+/// Turns the sends into packets of `sender`, in order.
 pub(crate) fn packets_of<N: Drop, A: Allocator + Copy>(
     alloc: A,
     sender: &Origin,
@@ -166,14 +168,18 @@ pub(crate) fn packets_of<N: Drop, A: Allocator + Copy>(
 ) -> Result<Vec<Packet<N>, A>, AllocError>
     ensures { IfOk result (λ made. made.items ≡ packets sender.now sends.items) }
 {
-    let sender = *sender;
-    sends
-        .into_iter()
-        .map(|(to, note)| Packet { sender, to, note })
-        .collect(alloc)
+    let mut made = Vec::with_capacity(alloc, sends.len())?;
+    for (to, note) in sends {
+        made.push(Packet {
+            sender: *sender,
+            to,
+            note,
+        })?;
+    }
+    Ok(made)
 }
 
-/// The event as the log keeps it, which shares its payload.
+/// Returns the event as the log keeps it. Both share the payload.
 pub(crate) fn keep_event<A: Allocator + Copy>(
     alloc: A,
     event: &Event<A>,
