@@ -9,11 +9,11 @@ use Rattle.node_names.specs.declared.ids.MsgId.{MsgId}
 use Rattle.missing.specs.Missing.{Missing}
 use Rattle.peer_sets.specs.PeerSets.{PeerSets}
 
--- The node and its run; the threshold, by how many links a message's path must be longer than that of its first
--- announcement for its sender to be swapped for the announcer (0 for never); how many of the messages that it delivered
--- last it holds (0 for all); how many messages the node has broadcast; its eager and lazy peers with the announcements
--- that are queued for them; what it knows of messages that it lacks; the ids that it knows; and the messages that it
--- holds, in order of delivery.
+-- The node and its run; the threshold, by how many links at least a message's path must be longer than that of its
+-- first announcement for the announcer to take the sender's place (0 for never); how many of the messages that it
+-- delivered last it holds (0 for all); how many messages the node has broadcast; its eager and lazy peers with the
+-- announcements that are queued for them; the announcements and timers of messages that it lacks; the ids that it
+-- knows; and the messages that it holds, in order of delivery.
 pub record GossipState : Type 0 where
   pub me : Origin
   pub threshold : ℕ

@@ -9,7 +9,7 @@ use Rattle.node_names.specs.Same.{same_id}
 use Rattle.node_names.specs.declared.ids.Origin.{Origin}
 use Rattle.node_names.specs.declared.ids.MsgId.{MsgId}
 
--- Of this run's own messages only those that were counted are known.
+-- Of this run's own messages, only those with the numbers 1 to `spent` are known.
 pub record AreCounted (me : Origin) (known : set.FinSet id_cmp) (spent : ℕ) : Type 0 where
   pub each : (id : MsgId) → set.contains known id ≡ true → id.origin ≡ me → (0 < id.seq) × (id.seq ≤ spent)
 

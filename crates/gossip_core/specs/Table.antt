@@ -76,7 +76,7 @@ spread left_out id round payload g =
 abbrev pub next_id : GossipState → MsgId
 next_id g = record { origin = g.me; seq = g.spent + 1 }
 
--- the round one step further; the greatest round stays
+-- the next round; the greatest round stays as it is
 abbrev pub next_round : ℕ → ℕ
 next_round round = min (round + 1) (2 ^ 32 - 1)
 
@@ -104,8 +104,8 @@ passed_by threshold sender round None = None
 passed_by threshold sender round (Some first) =
     if not (same_name first.0 sender) && nat_le (first.1 + threshold) round then Some first.0 else None
 
--- The peer that takes the sender's place when a member sends the first copy of a message: the peer that announced the
--- message first, if a threshold is set and its path was shorter by that much.
+-- The nearer announcer that takes the sender's place when a member sends the first copy of a message: the peer that
+-- announced the message first, if a threshold is set and its path was shorter by that much.
 abbrev pub shortcut : GossipState → Name → MsgId → ℕ → Option Name
 shortcut g sender id round =
     if g.threshold == 0 then None
@@ -128,7 +128,7 @@ abbrev pub asked : MsgId → Option (Name × ℕ) → GossipState → Outcome
 asked id None g = quiet g
 asked id (Some first) g = record { state = with_peer first.0 Eager g; sends = (first.0, Graft id first.1) ∷ []; delivered = None }
 
--- the answer to a peer that asks
+-- the answer to a peer that asks for a message: its payload, if it is held
 abbrev pub answer : Name → MsgId → ℕ → Option (List ℕ) → List (Name × Body)
 answer peer id round None = []
 answer peer id round (Some payload) = gossip_to id round payload peer ∷ []
@@ -156,17 +156,17 @@ outcome g (Up peer) = quiet (record g { peers = record g.peers { members = with_
 outcome g (Down peer) =
     quiet (record g { peers = record { members = without_member peer g.peers.members; queued = without_entries peer g.peers.queued }; missing = without peer g.missing })
 
--- the gossip after these links went down
+-- the state after the links to these peers went down
 abbrev pub after_downs : List Name → GossipState → GossipState
 after_downs [] g = g
 after_downs (name ∷ names) g = after_downs names (outcome g (Down name)).state
 
--- and after these came up
+-- the state after the links to these peers came up
 abbrev pub after_ups : List Name → GossipState → GossipState
 after_ups [] g = g
 after_ups (name ∷ names) g = after_ups names (outcome g (Up name)).state
 
--- the delivery that stands after a call
+-- the delivery after a call: the call's own, or else the earlier one
 abbrev pub latest : Option (MsgId × List ℕ) → Option (MsgId × List ℕ) → Option (MsgId × List ℕ)
 latest before None = before
 latest before (Some delivered) = Some delivered

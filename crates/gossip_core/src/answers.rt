@@ -1,4 +1,4 @@
-//! What a call of a node's gossip will send and deliver.
+//! Computing what a call of a node's gossip will send and deliver. Nothing here changes the state.
 ghost use Rattle.std.specs.Prelude.{◌≡◌, [], ◌∷◌, ◌++◌, None, IfOk, OnOk};
 ghost use Rattle.gossip_core.specs.Refusals.{CanTake};
 ghost use Rattle.gossip_core.specs.Table.{repeated, outcome, lent};
@@ -13,7 +13,7 @@ use frames::BodyOf;
 use node_names::{Listed, MsgId, NodeName};
 use std::alloc::{AllocError, Allocator};
 
-/// What the node's next message makes it send and deliver.
+/// Returns what a broadcast of the node's next message will send and deliver.
 fn to_broadcast<A: Allocator + Copy>(
     alloc: A,
     node: &Gossip<A>,
@@ -29,7 +29,7 @@ fn to_broadcast<A: Allocator + Copy>(
     spread(alloc, node.peers().members(), &None, &id, 0, payload)
 }
 
-/// What another copy of a known message makes the node send.
+/// Returns what another copy of a known message will send: a prune, if its sender is a member.
 fn to_repeated<A: Allocator + Copy>(
     alloc: A,
     node: &Gossip<A>,
@@ -44,7 +44,7 @@ fn to_repeated<A: Allocator + Copy>(
     }
 }
 
-/// Appends what a node also sends when the announcer takes the sender's place in the tree.
+/// Appends what a node also sends when `announcer` takes the place of `sender` in the tree: a graft and a prune.
 fn send_swap<A: Allocator + Copy>(
     effects: &mut Effects<A>,
     sender: &NodeName,
@@ -56,7 +56,7 @@ fn send_swap<A: Allocator + Copy>(
     effects.send(sender, BodyOf::Prune)
 }
 
-/// What a packet that carries a message makes the node send and deliver.
+/// Returns what a packet that carries a message will send and deliver.
 fn to_gossip<A: Allocator + Copy>(
     alloc: A,
     node: &Gossip<A>,
@@ -82,7 +82,7 @@ fn to_gossip<A: Allocator + Copy>(
     Ok(effects)
 }
 
-/// What the id's timer makes the node send.
+/// Returns what the timer of `id` will send: a graft to the peer that announced `id` first, if there is one.
 fn to_fire<A: Allocator + Copy>(
     alloc: A,
     node: &Gossip<A>,
@@ -99,7 +99,7 @@ fn to_fire<A: Allocator + Copy>(
     }
 }
 
-/// What a packet that asks for a message makes the node send.
+/// Returns what a packet that asks for a message will send: the message, if it is held.
 fn to_graft<A: Allocator + Copy>(
     alloc: A,
     node: &Gossip<A>,
@@ -115,7 +115,7 @@ fn to_graft<A: Allocator + Copy>(
     }
 }
 
-/// The packets that announce everything in the queue.
+/// Returns the packets that announce everything in the queue.
 fn to_flush<A: Allocator + Copy>(alloc: A, node: &Gossip<A>) -> Result<Effects<A>, AllocError>
     ensures { IfOk result (λ effects. effects ≡ record { sends = (outcome node.now CallOf.Flush).sends; delivered = None }) }
 {
@@ -126,7 +126,7 @@ fn to_flush<A: Allocator + Copy>(alloc: A, node: &Gossip<A>) -> Result<Effects<A
     })
 }
 
-/// What the call will send and deliver.
+/// Returns what the call will send and deliver.
 pub(crate) fn answers<A: Allocator + Copy>(
     alloc: A,
     node: &Gossip<A>,

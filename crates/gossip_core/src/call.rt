@@ -6,61 +6,61 @@ use std::alloc::Global;
 /// A call of a node's gossip, generic in the types of its payload and of its list of announcements.
 #[derive(Drop)]
 pub enum CallOf<P, E> {
-    /// The application broadcasts its next message.
+    /// The broadcast of the application's next message.
     Broadcast {
         /// The message's payload.
         payload: P,
     },
-    /// A packet that carries a message came.
+    /// The arrival of a packet that carries a message.
     OnGossip {
-        /// Who sent the packet.
+        /// The sender of the packet.
         sender: NodeName,
-        /// Which message it carries.
+        /// The id of the message that it carries.
         id: MsgId,
         /// The round of the packet.
         round: u32,
         /// The message's payload.
         payload: P,
     },
-    /// A packet that announces messages came.
+    /// The arrival of a packet that announces messages.
     OnIHave {
-        /// Who sent the packet.
+        /// The sender of the packet.
         sender: NodeName,
         /// The announced ids and their rounds.
         entries: E,
     },
-    /// The timer of an id fires.
+    /// The firing of the timer of an id.
     Fire {
         /// The timer's id.
         id: MsgId,
     },
-    /// A packet that asks for a message came.
+    /// The arrival of a packet that asks for a message.
     OnGraft {
-        /// Who sent the packet.
+        /// The sender of the packet.
         sender: NodeName,
-        /// Which message it asks for.
+        /// The id of the message that it asks for.
         id: MsgId,
         /// The round of the packet.
         round: u32,
     },
-    /// A packet came that asks for messages in place of announcements, and for no particular message.
+    /// The arrival of a packet that asks for messages in place of announcements, and for no particular message.
     OnGraftPeer {
-        /// Who sent the packet.
+        /// The sender of the packet.
         sender: NodeName,
     },
-    /// A packet came that asks for announcements in place of messages.
+    /// The arrival of a packet that asks for announcements in place of messages.
     OnPrune {
-        /// Who sent the packet.
+        /// The sender of the packet.
         sender: NodeName,
     },
-    /// Everything in the queue is to be announced.
+    /// The request to announce everything in the queue.
     Flush,
-    /// A link came up.
+    /// The news that a link came up.
     Up {
         /// The peer that it leads to.
         peer: NodeName,
     },
-    /// A link went down.
+    /// The news that a link went down.
     Down {
         /// The peer that it led to.
         peer: NodeName,

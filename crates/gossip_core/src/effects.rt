@@ -12,7 +12,7 @@ use std::marker::Model;
 pub struct Effects<A: Allocator = Global> {
     /// The packets in order, each with its receiver's name.
     pub sends: Listed<(NodeName, Body<A>), A>,
-    /// The message for the application; the last one if several calls delivered.
+    /// The message for the application: the last one, if several calls delivered one.
     pub delivered: Option<(MsgId, Bytes<A>)>,
 }
 
@@ -32,7 +32,7 @@ impl<A: Allocator> Model for Effects<A> {
 impl<A: Allocator + Copy> Effects<A> {
     ghost use Rattle.gossip_core.specs.Table.{latest};
 
-    /// Nothing to send and nothing to deliver. Allocates nothing.
+    /// Creates effects with nothing to send and nothing to deliver. Does not allocate.
     pub fn new(alloc: A) -> Self
         ensures sends { result.sends ≡ [] }
         ensures delivered { result.delivered ≡ None }
@@ -43,7 +43,7 @@ impl<A: Allocator + Copy> Effects<A> {
         }
     }
 
-    /// One packet, and nothing to deliver.
+    /// Creates effects with one packet and nothing to deliver.
     pub(crate) fn packet(alloc: A, to: &NodeName, body: Body<A>) -> Result<Self, AllocError>
         ensures { IfOk result (λ effects. effects ≡ record { sends = (to.now, body) ∷ []; delivered = None }) }
     {
@@ -83,7 +83,7 @@ impl<A: Allocator + Copy> Effects<A> {
         self.sends.truncate(n);
     }
 
-    /// Delivers the message, if there is one.
+    /// Replaces the message to deliver by `delivered`, if there is one.
     pub(crate) fn deliver(&mut self, delivered: Option<(MsgId, Bytes<A>)>)
         ensures { self.new ≡ record self.old { delivered = latest self.old.delivered delivered } }
     {

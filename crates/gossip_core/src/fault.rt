@@ -1,9 +1,9 @@
-//! Why a broadcast is refused.
+//! The reasons why a broadcast is refused.
 use std::alloc::AllocError;
 use std::error::Error;
 use std::fmt;
 
-/// Why a broadcast was refused. Nothing is then changed.
+/// The reason why a broadcast was refused. A refused broadcast changes nothing.
 #[derive(Clone, Copy, Debug, PartialEq, Eq)]
 pub enum GossipFault {
     /// The payload has more than 32,768 bytes.

@@ -31,9 +31,9 @@ use world::MAX_PAYLOAD;
 ///
 /// A call has two halves: `answer` returns what it will send and deliver, and `take` changes the state. A caller that
 /// makes room for the answer in between has nothing left that can fail after `take`. The other calls do both halves at
-/// once. A look-up of a message takes the same time however many are held; a copy takes time proportional to their
-/// number. The memory for the known messages depends on their origins and the gaps in their numbers, not on how many
-/// there are; the memory for the held messages depends on `keep`, or on all messages if that is 0.
+/// once. Looking up a held message takes constant time; a copy takes time proportional to the number of messages held.
+/// The memory for the known messages grows with their origins and with the numbers past a gap, not with the numbers
+/// known without a gap; the memory for the held messages grows with `keep`, or with all messages if that is 0.
 #[derive(Drop)]
 pub struct Gossip<A: Allocator = Global> {
     me: Origin,
@@ -128,19 +128,19 @@ impl<A: Allocator + Copy> Gossip<A> {
         ensures too_long { IsErrOf result GossipFault.PayloadTooLong ↔ IsTooLong (lent call.now) }
         ensures spent { IsErrOf result GossipFault.SeqSpent ↔ IsSpent self.now (lent call.now) }
     {
-        self.judge(call)?;
+        self.validate(call)?;
         Ok(answers(*self.held.allocator(), self, call)?)
     }
 
     /// Rejects a call that may not be made.
-    fn judge(&self, call: &Call<'_, A>) -> Result<(), GossipFault>
+    fn validate(&self, call: &Call<'_, A>) -> Result<(), GossipFault>
         ensures taken { OnOk result (CanTake self.now (lent call.now)) }
         ensures too_long { IsErrOf result GossipFault.PayloadTooLong ↔ IsTooLong (lent call.now) }
         ensures spent { IsErrOf result GossipFault.SeqSpent ↔ IsSpent self.now (lent call.now) }
         ensures memory { IsErrOf result GossipFault.OutOfMemory → ⊥ }
     {
         match call {
-            CallOf::Broadcast { payload } => self.judge_broadcast(payload),
+            CallOf::Broadcast { payload } => self.validate_broadcast(payload),
             CallOf::OnGossip { .. }
             | CallOf::OnIHave { .. }
             | CallOf::Fire { .. }
@@ -154,7 +154,7 @@ impl<A: Allocator + Copy> Gossip<A> {
     }
 
     /// Rejects a message that may not be broadcast.
-    fn judge_broadcast(&self, payload: &Bytes<A>) -> Result<(), GossipFault>
+    fn validate_broadcast(&self, payload: &Bytes<A>) -> Result<(), GossipFault>
         ensures taken { OnOk result (CanTake self.now (Broadcast payload.now)) }
         ensures too_long { IsErrOf result GossipFault.PayloadTooLong ↔ IsTooLong (Broadcast payload.now) }
         ensures spent { IsErrOf result GossipFault.SeqSpent ↔ IsSpent self.now (Broadcast payload.now) }
@@ -298,7 +298,7 @@ impl<A: Allocator + Copy> Gossip<A> {
         self.peers.make_lazy(sender);
     }
 
-    /// Handles the first copy of a message of another run.
+    /// Handles the first copy of a message of another origin.
     fn take_first_copy(
         &mut self,
         sender: &NodeName,
@@ -326,7 +326,7 @@ impl<A: Allocator + Copy> Gossip<A> {
         Ok(())
     }
 
-    /// Fires the id's timer: the peer that announced it first becomes eager.
+    /// Fires the timer of `id`: the peer that announced `id` first, if there is one, becomes eager.
     fn take_fire(&mut self, id: &MsgId)
         ensures { self.new ≡ (outcome self.old (Fire id.now)).state }
     {
@@ -371,7 +371,7 @@ impl<A: Allocator + Copy> Gossip<A> {
         ensures spent { IsErrOf result GossipFault.SeqSpent ↔ ((length payload.now ≤ MAX_PAYLOAD) × (self.old.spent ≡ u64.MAX)) }
         ensures err { OnErr result ((self.new ≡ self.old) × (out.new ≡ out.old)) }
     {
-        self.judge_broadcast(payload)?;
+        self.validate_broadcast(payload)?;
         let id = MsgId {
             origin: self.me,
             seq: self.spent + 1,
@@ -430,7 +430,7 @@ impl<A: Allocator + Copy> Gossip<A> {
         Ok(())
     }
 
-    /// Fires the id's timer.
+    /// Fires the timer of `id`: the peer that announced `id` first, if there is one, is asked for the message.
     pub fn fire(&mut self, id: &MsgId, out: &mut Effects<A>) -> Result<(), AllocError>
         ensures ok { OnOk result (Does (Fire id.now) self.old out.old self.new out.new) }
         ensures err { OnErr result ((self.new ≡ self.old) × (out.new ≡ out.old)) }
@@ -523,15 +523,15 @@ impl<A: Allocator + Copy> Gossip<A> {
 }
 
 impl<A: Allocator> Gossip<A> {
-    /// Whether the message was delivered here.
+    /// Returns whether the message `id` was delivered here.
     pub fn knows(&self, id: &MsgId) -> bool
         ensures { result ≡ set.contains self.now.known id.now }
     {
         self.known.contains(id)
     }
 
-    /// The highest number n such that the messages 1 to n of the origin are all known, and how many known numbers are
-    /// greater than n. Both are 0 for an origin of which nothing is known.
+    /// Returns the highest number up to which all messages of `origin` from 1 are known, and how many numbers are known
+    /// past it. Both are 0 for an origin of which nothing is known.
     pub fn span(&self, origin: &Origin) -> (u64, usize)
         ensures span { IsSpan self.now.known origin.now result.0 result.1 }
         ensures last { result.0 ≡ u64.MAX → result.1 ≡ 0 }
@@ -539,35 +539,35 @@ impl<A: Allocator> Gossip<A> {
         self.known.span(origin)
     }
 
-    /// The payload of the message, if it is held.
+    /// Returns the payload of the message `id`, or `None` if it is not held.
     pub fn payload(&self, id: &MsgId) -> Option<&Bytes<A>>
         ensures { option_copied result ≡ lookup (same_id id.now) self.now.held }
     {
         self.held.payload(id)
     }
 
-    /// The ids of the messages that are held, in order of delivery.
+    /// Returns the ids of the held messages, in order of delivery.
     pub fn held(&self) -> &[MsgId]
         ensures { result.now ≡ keys_of self.now.held }
     {
         self.held.ids()
     }
 
-    /// The node and the run that this gossip belongs to.
+    /// Returns the node and the run that this gossip belongs to.
     pub fn me(&self) -> Origin
         ensures { result ≡ self.now.me }
     {
         self.me
     }
 
-    /// How many messages the node has broadcast, including the count that it was created with.
+    /// Returns how many messages the node has broadcast, including the count that it was created with.
     pub fn spent(&self) -> u64
         ensures { result ≡ self.now.spent }
     {
         self.spent
     }
 
-    /// The eager and lazy peers.
+    /// Returns the eager and lazy peers with the queued announcements.
     pub fn peers(&self) -> &PeerSets<A>
         ensures peers { result.now ≡ self.now.peers }
         ensures sound { IsSound self.now }
@@ -575,7 +575,7 @@ impl<A: Allocator> Gossip<A> {
         &self.peers
     }
 
-    /// What the node knows of messages that it lacks.
+    /// Returns the announcements and timers of the messages that the node lacks.
     pub fn missing(&self) -> &Missing<A>
         ensures { result.now ≡ self.now.missing }
     {

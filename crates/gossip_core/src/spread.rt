@@ -10,7 +10,7 @@ use node_names::{Listed, MsgId, NodeName, is_left_out};
 use peer_sets::Member;
 use std::alloc::{AllocError, Allocator};
 
-/// The body that carries the message.
+/// Makes the body that carries the message.
 pub(crate) fn gossip<A: Allocator>(
     id: &MsgId,
     round: u32,
@@ -45,7 +45,8 @@ fn pushes<A: Allocator + Copy>(
     Ok(sends)
 }
 
-/// What a new message makes the node send and deliver: it goes to all eager members except `left_out`.
+/// Returns what a new message will send and deliver: it goes to all eager members except `left_out`, and to the
+/// application.
 pub(crate) fn spread<A: Allocator + Copy>(
     alloc: A,
     members: &[Member],

@@ -23,8 +23,8 @@ use std::time::{Duration, Instant};
 /// How many milliseconds pass between two turns while there is something to do.
 const TURN: u64 = 5;
 
-/// The most ticks that pass before the nodes begin to broadcast.
-const MOST_QUIET: u32 = 10;
+/// The maximum number of ticks that pass before the nodes begin to broadcast.
+const MAX_QUIET_TICKS: u32 = 10;
 
 /// How many links may have a writer before unused links lose theirs sooner: each takes two of the 1,024 descriptors
 /// that a process usually has, and the 64 nodes of a large group may each open one more in a turn.
@@ -143,7 +143,7 @@ where
     V: Watch,
 {
     let rt = common.rt;
-    let quiet = u64::from(MOST_QUIET.min(ticks / 10));
+    let quiet = u64::from(MAX_QUIET_TICKS.min(ticks / 10));
     let mut looked: u64 = 0;
     for _ in rt.forever() {
         let now = common.ticking.now();

@@ -5,7 +5,7 @@ ghost use Rattle.links.specs.Counting.{has_risen, moves_none};
 
 use crate::last_use::LastUse;
 use crate::shortage::Shortage;
-use crate::shortages::{Failures, PATIENCE, Shortages, pause};
+use crate::shortages::{Failures, MAX_FAILURES, Shortages, pause};
 use links::{LinkEnd, MeteredWrite, TcpWriter, dial};
 use node_threads::Dialler;
 use std::alloc::Global;
@@ -77,7 +77,7 @@ fn dial_on<R: Clock + Net<Listener = TcpListener, Stream = TcpStream>>(
     shortages: &Shortages,
 ) -> Option<TcpWriter> {
     let mut failures = Failures::new(shortages);
-    for _ in 0..PATIENCE {
+    for _ in 0..MAX_FAILURES {
         match dial(rt, port) {
             Ok(connection) => {
                 failures.end();

@@ -40,7 +40,7 @@ impl<C: NodeCore<Global> + Drop + Send + 'static> Node<C> {
         R: Machine,
     {
         let started = self.employ_all(common, listener, ticks);
-        self.judge(started)
+        self.name_shortage(started)
     }
 
     /// Starts the threads.
@@ -89,7 +89,7 @@ impl<C: NodeCore<Global> + Drop + Send + 'static> Node<C> {
     {
         let done = self.do_turn(common, most);
         let has_more = !self.is_said();
-        let is_busy = self.judge(done)?;
+        let is_busy = self.name_shortage(done)?;
         Ok(is_busy || has_more)
     }
 
@@ -103,7 +103,7 @@ impl<C: NodeCore<Global> + Drop + Send + 'static> Node<C> {
         self.links.take_back(outlets)?;
         let are_read = self.read_arrivals(common)?;
         self.speech
-            .go_on(common, self.name, &mut self.running, most)?;
+            .broadcast_next(common, self.name, &mut self.running, most)?;
         let are_written = self
             .links
             .write_all(common, &mut self.running, &self.shortages)?;
@@ -126,8 +126,8 @@ impl<C: NodeCore<Global> + Drop + Send + 'static> Node<C> {
 }
 
 impl<C: NodeCore<Global> + Drop> Node<C> {
-    /// The result of a call, with a shortage as the error of this node.
-    fn judge<T: Drop>(&self, done: Result<T, Shortage>) -> Result<T, RunError> {
+    /// Returns the result of a call, where a shortage becomes an error that names this node.
+    fn name_shortage<T: Drop>(&self, done: Result<T, Shortage>) -> Result<T, RunError> {
         match done {
             Ok(answer) => Ok(answer),
             Err(of) => Err(RunError::Short {
@@ -143,9 +143,9 @@ impl<C: NodeCore<Global> + Drop> Node<C> {
             self.shortages.note(Shortage::Memory);
         }
         if is_last {
-            self.judge(self.shortages.check_last())
+            self.name_shortage(self.shortages.check_last())
         } else {
-            self.judge(self.shortages.check())
+            self.name_shortage(self.shortages.check())
         }
     }
 

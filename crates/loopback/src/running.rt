@@ -164,12 +164,12 @@ impl<C: NodeCore<Global> + Drop> Running<C> {
             workers,
             closers: _,
         } = self;
-        judge(node, host.close(rt, ports, workers))
+        trace_of(node, host.close(rt, ports, workers))
     }
 }
 
 /// The history of a node that was closed, or why it is not as it should be.
-fn judge<C: NodeCore<Global> + Drop>(
+fn trace_of<C: NodeCore<Global> + Drop>(
     node: NodeName,
     closed: Result<Closed, CloseError<C>>,
 ) -> Result<Trace<Frame>, RunError>

@@ -6,7 +6,7 @@ use std::{io, thread};
 
 /// How many times in a row a call may have too few descriptors before this is noted: unused connections may be closed
 /// until then.
-pub(crate) const PATIENCE: u32 = 100;
+pub(crate) const MAX_FAILURES: u32 = 100;
 
 /// How many milliseconds pass before a failed call is made again.
 const PAUSE: u64 = 5;
@@ -91,7 +91,7 @@ impl<'a> Failures<'a> {
     }
 
     /// Notes the shortage that made the call fail, if that is why it failed. Returns whether it had too few
-    /// descriptors, but in fewer than `PATIENCE` calls in a row.
+    /// descriptors, but in fewer than `MAX_FAILURES` calls in a row.
     pub(crate) fn add(&mut self, error: &io::Error) -> bool {
         match Shortage::of(error) {
             Some(Shortage::Descriptors) => self.count(),
@@ -107,15 +107,15 @@ impl<'a> Failures<'a> {
         }
     }
 
-    /// Counts a call that had too few descriptors. Returns whether there were fewer than `PATIENCE` of these in a row.
+    /// Counts a call that had too few descriptors. Returns whether there were fewer than `MAX_FAILURES` of these in a row.
     fn count(&mut self) -> bool {
         if self.count == 0 {
             self.shortages.waiting.fetch_add(1, Ordering::SeqCst);
         }
         self.count = self.count.saturating_add(1);
-        if self.count >= PATIENCE {
+        if self.count >= MAX_FAILURES {
             self.shortages.note(Shortage::Descriptors);
         }
-        self.count < PATIENCE
+        self.count < MAX_FAILURES
     }
 }

@@ -61,8 +61,8 @@ impl Speech {
         self.left.is_empty() || self.refused.is_some()
     }
 
-    /// Has the node broadcast at most `most` of the next texts, until one is refused.
-    pub(crate) fn go_on<R, C>(
+    /// Broadcasts at most `most` of the next texts from the node, until one is refused.
+    pub(crate) fn broadcast_next<R, C>(
         &mut self,
         common: &Common<R>,
         node: NodeName,

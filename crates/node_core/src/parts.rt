@@ -114,7 +114,7 @@ pub(crate) fn work_out<A: Allocator + Copy>(
 
 /// Carries out what was worked out: all of it, or nothing if an allocation fails. The gossip is told which links went
 /// down and then which came up.
-pub(crate) fn go_on<A: Allocator + Copy>(
+pub(crate) fn commit<A: Allocator + Copy>(
     membership: &mut Membership<A>,
     gossip: &mut Gossip<A>,
     part: &Part<'_, A>,

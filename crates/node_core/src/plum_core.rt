@@ -14,7 +14,7 @@ ghost use Rattle.node_core.specs.Steps.{IsAllowed, PlumStartsCounted, opening, t
 
 use crate::dispatch::part_of;
 use crate::output::append_numbered;
-use crate::parts::{Worked, go_on, work_out};
+use crate::parts::{Worked, commit, work_out};
 use crate::prepared_step::PreparedStep;
 use bytes::Bytes;
 use frames::Frame;
@@ -212,7 +212,7 @@ impl<A: Allocator + Copy> Core<A> for PlumCore<A> {
         heed(stimulus);
         let part = part_of(&self.me, stimulus);
         let PreparedStep { moved, framed } = turn;
-        go_on(&mut self.membership, &mut self.gossip, &part, moved)?;
+        commit(&mut self.membership, &mut self.gossip, &part, moved)?;
         self.framed = framed;
         Ok(())
     }

@@ -65,7 +65,7 @@ fn calls_of<C: NodeCore<A> + Drop, A: Allocator + Copy>(
 }
 
 /// Compares the calls of the ports and the outlets of the workers with the trace.
-fn judge<C: NodeCore<A> + Drop, A: Allocator + Copy>(
+fn compare_records<C: NodeCore<A> + Drop, A: Allocator + Copy>(
     cell: &NodeCell<C, A>,
     ports: Vec<Port<C, A>, A>,
     workers: &[Outlets<A>],
@@ -116,7 +116,7 @@ fn hand_back<C: NodeCore<A> + Drop, A: Allocator + Copy>(
     ensures matches { IfOk result (λ closed. Matches closed.trace ports.items (outlets_of workers.items) closed.links.items) }
     ensures err { IfErr result (Finds C.starts C.steps ports.items (outlets_of workers.items)) }
 {
-    let verdict = judge(&cell, ports, workers.as_slice());
+    let verdict = compare_records(&cell, ports, workers.as_slice());
     let handed_out = cell.count_handed();
     let trace = cell.into_trace();
     match verdict {

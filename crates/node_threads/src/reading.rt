@@ -41,7 +41,7 @@ fn take_frames<R: Wait, C: NodeCore<A> + Drop, A: Allocator + Copy, G: Gate + Dr
 }
 
 /// The result of a reader whose link ended in this way: only a refusal of memory is an error.
-fn judge(end: LinkEnd) -> Result<(), HostError> {
+fn read_result(end: LinkEnd) -> Result<(), HostError> {
     if end == LinkEnd::OutOfMemory {
         return Err(HostError::OutOfMemory);
     }
@@ -82,7 +82,7 @@ where
         take_frames(rt, steps, basket.into_frames(), &mut link)?;
         if end != LinkEnd::TurnLimit {
             end_link(rt, steps, &mut link)?;
-            return judge(end);
+            return read_result(end);
         }
         if steps.shared.is_stopped() {
             return Err(HostError::Closed);

@@ -75,7 +75,7 @@ impl<C: NodeCore<A> + Drop, A: Allocator + Copy, G: Gate + Drop> Stepper<C, A, G
             if !self.gate.pass(self.number) {
                 let before = mem::replace(&mut passed, Vec::new(self.shared.alloc));
                 self.take_passed(rt, before, generator)?;
-                Self::judge(passes_later(&self.gate, self.number))?;
+                Self::require_pass(passes_later(&self.gate, self.number))?;
             }
             add(&mut passed, frame)?;
         }
@@ -98,11 +98,11 @@ impl<C: NodeCore<A> + Drop, A: Allocator + Copy, G: Gate + Drop> Stepper<C, A, G
 
     /// Asks the gate until it lets the worker pass, at most `ASKINGS` times.
     fn ask(&self) -> Result<(), HostError> {
-        Self::judge(passes(&self.gate, self.number))
+        Self::require_pass(passes(&self.gate, self.number))
     }
 
     /// Returns `GateShut` if the gate did not let the worker pass.
-    fn judge(is_passed: bool) -> Result<(), HostError> {
+    fn require_pass(is_passed: bool) -> Result<(), HostError> {
         if is_passed {
             Ok(())
         } else {

@@ -7,10 +7,10 @@ use std::alloc::{AllocError, Global};
 use toml::{Table, Value};
 
 /// The most nodes that a group may have.
-const MOST_NODES: usize = 64;
+const MAX_NODES: usize = 64;
 
 /// The most ticks that a run may have.
-const MOST_TICKS: u64 = 10_000;
+const MAX_TICKS: u64 = 10_000;
 
 /// How many ticks a run has if the scenario does not say.
 const TICKS: u64 = 100;
@@ -32,9 +32,9 @@ impl GroupScenario {
             table: document,
         };
         let seed = top.optional_number(Key::Seed, u64::MAX)?.unwrap_or(0);
-        let ticks = top.optional_number_between(Key::Ticks, 1, MOST_TICKS)?;
+        let ticks = top.optional_number_between(Key::Ticks, 1, MAX_TICKS)?;
         let limits = top.optional_table(Key::Limits)?;
-        let nodes = top.tables(Key::Node, MOST_NODES)?;
+        let nodes = top.tables(Key::Node, MAX_NODES)?;
         let plan = Plan {
             limits: limits_of(limits)?,
             seed,

@@ -14,9 +14,9 @@ ghost use Rattle.node_core.specs.Steps.{PlumIsSpent, PlumStarts, PlumSteps};
 
 use crate::error::{SimulationError, ended};
 use crate::output::OutputError;
-use crate::play::{MOST_ARRIVALS, PlayError, Player};
+use crate::play::{MAX_ARRIVALS, PlayError, Player};
 use crate::read::{MAX_SCENARIO_BYTES, read_document};
-use crate::scenario::{MOST_EVENTS, Scenario, ScenarioError};
+use crate::scenario::{MAX_EVENTS, Scenario, ScenarioError};
 use crate::tracing::{Stop, write_trace};
 use crate::{graph, output, trees};
 use node_core::PlumCore;
@@ -39,13 +39,13 @@ pub fn simulate<W: Write>(
     out: &mut W,
 ) -> Result<(), SimulationError>
     ensures printed { OnOk result ((seed : Option ℕ) × (sizes : Sizes) × (actions : List Action)
-        × IsScenario MAX_SCENARIO_BYTES MOST_EVENTS text.now seed sizes actions
-        × Prints plum_state frame_content PlumStarts PlumSteps MOST_ARRIVALS seed sizes actions (W.contents out.old) (W.contents out.new)) }
+        × IsScenario MAX_SCENARIO_BYTES MAX_EVENTS text.now seed sizes actions
+        × Prints plum_state frame_content PlumStarts PlumSteps MAX_ARRIVALS seed sizes actions (W.contents out.old) (W.contents out.new)) }
     ensures stopped { (fault : PlayError) → result ≡ Err (SimulationError.Stopped fault) → fault ≢ PlayError.OutOfMemory → (seed : Option ℕ) × (sizes : Sizes) × (actions : List Action)
-        × IsScenario MAX_SCENARIO_BYTES MOST_EVENTS text.now seed sizes actions
-        × PrintsHalted plum_state frame_content PlumStarts PlumSteps PlumIsSpent MOST_ARRIVALS seed sizes actions fault (W.contents out.old) (W.contents out.new) }
+        × IsScenario MAX_SCENARIO_BYTES MAX_EVENTS text.now seed sizes actions
+        × PrintsHalted plum_state frame_content PlumStarts PlumSteps PlumIsSpent MAX_ARRIVALS seed sizes actions fault (W.contents out.old) (W.contents out.new) }
     ensures refused { (fault : ScenarioError) → result ≡ Err (SimulationError.Refused fault) → fault ≢ ScenarioError.OutOfMemory → (seed : Option ℕ) (sizes : Sizes) (actions : List Action)
-        → ¬ IsScenario MAX_SCENARIO_BYTES MOST_EVENTS text.now seed sizes actions }
+        → ¬ IsScenario MAX_SCENARIO_BYTES MAX_EVENTS text.now seed sizes actions }
     ensures unplayed { (fault : ScenarioError) → result ≡ Err (SimulationError.Refused fault) → out.new ≡ out.old }
 {
     let scenario = read_scenario(alloc, text)?;
@@ -62,10 +62,10 @@ pub fn draw<W: Write>(
     out: &mut W,
 ) -> Result<(), SimulationError>
     ensures drawn { OnOk result ((seed : Option ℕ) × (sizes : Sizes) × (actions : List Action)
-        × IsScenario MAX_SCENARIO_BYTES MOST_EVENTS text.now seed sizes actions
-        × Draws MOST_ARRIVALS only.now seed sizes actions (W.contents out.old) (W.contents out.new)) }
+        × IsScenario MAX_SCENARIO_BYTES MAX_EVENTS text.now seed sizes actions
+        × Draws MAX_ARRIVALS only.now seed sizes actions (W.contents out.old) (W.contents out.new)) }
     ensures refused { (fault : ScenarioError) → result ≡ Err (SimulationError.Refused fault) → fault ≢ ScenarioError.OutOfMemory → (seed : Option ℕ) (sizes : Sizes) (actions : List Action)
-        → ¬ IsScenario MAX_SCENARIO_BYTES MOST_EVENTS text.now seed sizes actions }
+        → ¬ IsScenario MAX_SCENARIO_BYTES MAX_EVENTS text.now seed sizes actions }
     ensures unplayed { (fault : ScenarioError) → result ≡ Err (SimulationError.Refused fault) → out.new ≡ out.old }
 {
     let scenario = read_scenario(alloc, text)?;
@@ -82,10 +82,10 @@ pub fn trace<W: Write>(
     out: &mut W,
 ) -> Result<(), SimulationError>
     ensures traced { OnOk result ((seed : Option ℕ) × (sizes : Sizes) × (actions : List Action)
-        × IsScenario MAX_SCENARIO_BYTES MOST_EVENTS text.now seed sizes actions
-        × Traces MOST_ARRIVALS seed sizes actions (W.contents out.old) (W.contents out.new)) }
+        × IsScenario MAX_SCENARIO_BYTES MAX_EVENTS text.now seed sizes actions
+        × Traces MAX_ARRIVALS seed sizes actions (W.contents out.old) (W.contents out.new)) }
     ensures refused { (fault : ScenarioError) → result ≡ Err (SimulationError.Refused fault) → fault ≢ ScenarioError.OutOfMemory → (seed : Option ℕ) (sizes : Sizes) (actions : List Action)
-        → ¬ IsScenario MAX_SCENARIO_BYTES MOST_EVENTS text.now seed sizes actions }
+        → ¬ IsScenario MAX_SCENARIO_BYTES MAX_EVENTS text.now seed sizes actions }
     ensures unplayed { (fault : ScenarioError) → result ≡ Err (SimulationError.Refused fault) → out.new ≡ out.old }
 {
     let scenario = read_scenario(alloc, text)?;
@@ -94,9 +94,9 @@ pub fn trace<W: Write>(
 
 /// Reads a text as a scenario.
 fn read_scenario(alloc: Global, text: &[u8]) -> Result<Scenario, ScenarioError>
-    ensures ok { IfOk result (λ scenario. IsScenario MAX_SCENARIO_BYTES MOST_EVENTS text.now scenario.seed scenario.limits scenario.actions.items) }
+    ensures ok { IfOk result (λ scenario. IsScenario MAX_SCENARIO_BYTES MAX_EVENTS text.now scenario.seed scenario.limits scenario.actions.items) }
     ensures refused { IfErr result (λ fault. fault ≢ ScenarioError.OutOfMemory → (seed : Option ℕ) (sizes : Sizes) (actions : List Action)
-        → ¬ IsScenario MAX_SCENARIO_BYTES MOST_EVENTS text.now seed sizes actions) }
+        → ¬ IsScenario MAX_SCENARIO_BYTES MAX_EVENTS text.now seed sizes actions) }
 {
     let document = read_document(alloc, text)?;
     Scenario::from_document(alloc, &document)
@@ -109,8 +109,8 @@ pub fn play_and_print<A: Allocator + Copy, W: Write>(
     is_strict: bool,
     out: &mut W,
 ) -> Result<(), SimulationError>
-    ensures printed { OnOk result (Prints plum_state frame_content PlumStarts PlumSteps MOST_ARRIVALS scenario.now.seed scenario.now.limits scenario.now.actions.items (W.contents out.old) (W.contents out.new)) }
-    ensures stopped { (fault : PlayError) → result ≡ Err (SimulationError.Stopped fault) → fault ≢ PlayError.OutOfMemory → PrintsHalted plum_state frame_content PlumStarts PlumSteps PlumIsSpent MOST_ARRIVALS scenario.now.seed scenario.now.limits scenario.now.actions.items fault (W.contents out.old) (W.contents out.new) }
+    ensures printed { OnOk result (Prints plum_state frame_content PlumStarts PlumSteps MAX_ARRIVALS scenario.now.seed scenario.now.limits scenario.now.actions.items (W.contents out.old) (W.contents out.new)) }
+    ensures stopped { (fault : PlayError) → result ≡ Err (SimulationError.Stopped fault) → fault ≢ PlayError.OutOfMemory → PrintsHalted plum_state frame_content PlumStarts PlumSteps PlumIsSpent MAX_ARRIVALS scenario.now.seed scenario.now.limits scenario.now.actions.items fault (W.contents out.old) (W.contents out.new) }
     ensures read { (fault : ScenarioError) → result ≢ Err (SimulationError.Refused fault) }
 {
     let Ok(mut text) = String::with_capacity(alloc, LINE_ROOM) else {
@@ -131,7 +131,7 @@ fn play_and_draw<A: Allocator + Copy, W: Write>(
     is_strict: bool,
     out: &mut W,
 ) -> Result<(), SimulationError>
-    ensures drawn { OnOk result (Draws MOST_ARRIVALS only.now scenario.now.seed scenario.now.limits scenario.now.actions.items (W.contents out.old) (W.contents out.new)) }
+    ensures drawn { OnOk result (Draws MAX_ARRIVALS only.now scenario.now.seed scenario.now.limits scenario.now.actions.items (W.contents out.old) (W.contents out.new)) }
     ensures read { (fault : ScenarioError) → result ≢ Err (SimulationError.Refused fault) }
 {
     let mut player = Player::<PlumCore<A>, A>::new(alloc, scenario.seed, scenario.limits);
@@ -149,7 +149,7 @@ pub fn play_and_trace<A: Allocator + Copy, W: Write>(
     is_strict: bool,
     out: &mut W,
 ) -> Result<(), SimulationError>
-    ensures traced { OnOk result (Traces MOST_ARRIVALS scenario.now.seed scenario.now.limits scenario.now.actions.items (W.contents out.old) (W.contents out.new)) }
+    ensures traced { OnOk result (Traces MAX_ARRIVALS scenario.now.seed scenario.now.limits scenario.now.actions.items (W.contents out.old) (W.contents out.new)) }
     ensures read { (fault : ScenarioError) → result ≢ Err (SimulationError.Refused fault) }
 {
     let mut player = Player::<PlumCore<A>, A>::new(alloc, scenario.seed, scenario.limits);

@@ -20,7 +20,7 @@ use thiserror::Error;
 use world::{Core, Event, World, WorldError};
 
 /// The maximum number of arrivals that one action plays.
-pub const MOST_ARRIVALS: usize = 10_000;
+pub const MAX_ARRIVALS: usize = 10_000;
 
 /// Why a run ended before its scenario did. Events are counted from 0.
 #[derive(Clone, Copy, Debug, PartialEq, Eq, Error)]
@@ -29,7 +29,7 @@ pub enum PlayError {
     #[error("event {event}: {code}")]
     Refused { event: usize, code: Code },
     /// Packets were still in flight after the most arrivals.
-    #[error("event {event}: no end after {most} arrivals", most = MOST_ARRIVALS)]
+    #[error("event {event}: no end after {most} arrivals", most = MAX_ARRIVALS)]
     NoEnd { event: usize },
     /// The group was not brought to rest.
     #[error("event {event}: {code}")]
@@ -138,10 +138,10 @@ impl<C: Core<A>, A: Allocator + Copy> Player<C, A> {
 
     /// Lets the oldest packet arrive until none is in flight.
     fn arrive_all(&mut self) -> Result<(), ActionError>
-        ensures ok { OnOk result (PlaysAction C.state C.starts C.steps MOST_ARRIVALS Action.ArriveAll (record { rolls = rolls_in self.old.rolls; group = self.old.group }) (record { rolls = rolls_in self.new.rolls; group = self.new.group })) }
-        ensures halted { IfErr result (λ halt. halt ≢ ActionError.Refused WorldError.OutOfMemory → HaltsIn C.state C.starts C.steps C.Note.content C.is_spent MOST_ARRIVALS Action.ArriveAll halt (record { rolls = rolls_in self.old.rolls; group = self.old.group }) self.new.group) }
+        ensures ok { OnOk result (PlaysAction C.state C.starts C.steps MAX_ARRIVALS Action.ArriveAll (record { rolls = rolls_in self.old.rolls; group = self.old.group }) (record { rolls = rolls_in self.new.rolls; group = self.new.group })) }
+        ensures halted { IfErr result (λ halt. halt ≢ ActionError.Refused WorldError.OutOfMemory → HaltsIn C.state C.starts C.steps C.Note.content C.is_spent MAX_ARRIVALS Action.ArriveAll halt (record { rolls = rolls_in self.old.rolls; group = self.old.group }) self.new.group) }
     {
-        for _ in 0..MOST_ARRIVALS {
+        for _ in 0..MAX_ARRIVALS {
             if self.group.flight().is_empty() {
                 return Ok(());
             }
@@ -174,8 +174,8 @@ impl<C: Core<A>, A: Allocator + Copy> Player<C, A> {
 impl<A: Allocator + Copy> Player<PlumCore<A>, A> {
     /// Plays actions in order. If `is_strict`, an action that does nothing is an error.
     pub fn play(&mut self, alloc: A, actions: &[Action], is_strict: bool) -> Result<(), PlayError>
-        ensures ok { OnOk result (PlaysActions plum_state PlumStarts PlumSteps MOST_ARRIVALS actions.now (record { rolls = rolls_in self.old.rolls; group = self.old.group }) (record { rolls = rolls_in self.new.rolls; group = self.new.group })) }
-        ensures stopped { IfErr result (λ fault. fault ≢ PlayError.OutOfMemory → IsHalted plum_state PlumStarts PlumSteps frame_content PlumIsSpent MOST_ARRIVALS actions.now fault (record { rolls = rolls_in self.old.rolls; group = self.old.group }) self.new.group) }
+        ensures ok { OnOk result (PlaysActions plum_state PlumStarts PlumSteps MAX_ARRIVALS actions.now (record { rolls = rolls_in self.old.rolls; group = self.old.group }) (record { rolls = rolls_in self.new.rolls; group = self.new.group })) }
+        ensures stopped { IfErr result (λ fault. fault ≢ PlayError.OutOfMemory → IsHalted plum_state PlumStarts PlumSteps frame_content PlumIsSpent MAX_ARRIVALS actions.now fault (record { rolls = rolls_in self.old.rolls; group = self.old.group }) self.new.group) }
     {
         for (number, action) in actions.iter().enumerate() {
             let taken = self.group.log().len();
@@ -191,8 +191,8 @@ impl<A: Allocator + Copy> Player<PlumCore<A>, A> {
 
     /// Plays one action.
     fn play_action(&mut self, alloc: A, action: &Action, is_strict: bool) -> Result<(), ActionError>
-        ensures ok { OnOk result (PlaysAction plum_state PlumStarts PlumSteps MOST_ARRIVALS action.now (record { rolls = rolls_in self.old.rolls; group = self.old.group }) (record { rolls = rolls_in self.new.rolls; group = self.new.group })) }
-        ensures halted { IfErr result (λ halt. halt ≢ ActionError.Refused WorldError.OutOfMemory → HaltsIn plum_state PlumStarts PlumSteps frame_content PlumIsSpent MOST_ARRIVALS action.now halt (record { rolls = rolls_in self.old.rolls; group = self.old.group }) self.new.group) }
+        ensures ok { OnOk result (PlaysAction plum_state PlumStarts PlumSteps MAX_ARRIVALS action.now (record { rolls = rolls_in self.old.rolls; group = self.old.group }) (record { rolls = rolls_in self.new.rolls; group = self.new.group })) }
+        ensures halted { IfErr result (λ halt. halt ≢ ActionError.Refused WorldError.OutOfMemory → HaltsIn plum_state PlumStarts PlumSteps frame_content PlumIsSpent MAX_ARRIVALS action.now halt (record { rolls = rolls_in self.old.rolls; group = self.old.group }) self.new.group) }
     {
         if is_strict && let Some(why) = self.idle(action) {
             return Err(ActionError::Idle(why));
@@ -214,8 +214,8 @@ impl<A: Allocator + Copy> Player<PlumCore<A>, A> {
 
     /// Plays one action, whatever it does.
     fn take_action(&mut self, alloc: A, action: &Action) -> Result<(), ActionError>
-        ensures ok { OnOk result (PlaysAction plum_state PlumStarts PlumSteps MOST_ARRIVALS action.now (record { rolls = rolls_in self.old.rolls; group = self.old.group }) (record { rolls = rolls_in self.new.rolls; group = self.new.group })) }
-        ensures halted { IfErr result (λ halt. halt ≢ ActionError.Refused WorldError.OutOfMemory → HaltsIn plum_state PlumStarts PlumSteps frame_content PlumIsSpent MOST_ARRIVALS action.now halt (record { rolls = rolls_in self.old.rolls; group = self.old.group }) self.new.group) }
+        ensures ok { OnOk result (PlaysAction plum_state PlumStarts PlumSteps MAX_ARRIVALS action.now (record { rolls = rolls_in self.old.rolls; group = self.old.group }) (record { rolls = rolls_in self.new.rolls; group = self.new.group })) }
+        ensures halted { IfErr result (λ halt. halt ≢ ActionError.Refused WorldError.OutOfMemory → HaltsIn plum_state PlumStarts PlumSteps frame_content PlumIsSpent MAX_ARRIVALS action.now halt (record { rolls = rolls_in self.old.rolls; group = self.old.group }) self.new.group) }
     {
         match event_of(alloc, &mut self.rolls, action) {
             Ok(Some(event)) => match self.step(event) {
@@ -230,8 +230,8 @@ impl<A: Allocator + Copy> Player<PlumCore<A>, A> {
     /// Plays an action that consists of many events.
     fn play_many(&mut self, alloc: A, action: &Action) -> Result<(), ActionError>
         requires { event_of (rolled (rolls_in self.old.rolls)) action.now ≡ None }
-        ensures ok { OnOk result (PlaysAction plum_state PlumStarts PlumSteps MOST_ARRIVALS action.now (record { rolls = rolls_in self.old.rolls; group = self.old.group }) (record { rolls = rolls_in self.new.rolls; group = self.new.group })) }
-        ensures halted { IfErr result (λ halt. halt ≢ ActionError.Refused WorldError.OutOfMemory → HaltsIn plum_state PlumStarts PlumSteps frame_content PlumIsSpent MOST_ARRIVALS action.now halt (record { rolls = rolls_in self.old.rolls; group = self.old.group }) self.new.group) }
+        ensures ok { OnOk result (PlaysAction plum_state PlumStarts PlumSteps MAX_ARRIVALS action.now (record { rolls = rolls_in self.old.rolls; group = self.old.group }) (record { rolls = rolls_in self.new.rolls; group = self.new.group })) }
+        ensures halted { IfErr result (λ halt. halt ≢ ActionError.Refused WorldError.OutOfMemory → HaltsIn plum_state PlumStarts PlumSteps frame_content PlumIsSpent MAX_ARRIVALS action.now halt (record { rolls = rolls_in self.old.rolls; group = self.old.group }) self.new.group) }
     {
         match action {
             Action::ArriveAll => self.arrive_all(),
@@ -242,8 +242,8 @@ impl<A: Allocator + Copy> Player<PlumCore<A>, A> {
 
     /// Brings the group to rest.
     fn settle(&mut self, alloc: A) -> Result<(), ActionError>
-        ensures ok { OnOk result (PlaysAction plum_state PlumStarts PlumSteps MOST_ARRIVALS Action.Settle (record { rolls = rolls_in self.old.rolls; group = self.old.group }) (record { rolls = rolls_in self.new.rolls; group = self.new.group })) }
-        ensures halted { IfErr result (λ halt. HaltsIn plum_state PlumStarts PlumSteps frame_content PlumIsSpent MOST_ARRIVALS Action.Settle halt (record { rolls = rolls_in self.old.rolls; group = self.old.group }) self.new.group) }
+        ensures ok { OnOk result (PlaysAction plum_state PlumStarts PlumSteps MAX_ARRIVALS Action.Settle (record { rolls = rolls_in self.old.rolls; group = self.old.group }) (record { rolls = rolls_in self.new.rolls; group = self.new.group })) }
+        ensures halted { IfErr result (λ halt. HaltsIn plum_state PlumStarts PlumSteps frame_content PlumIsSpent MAX_ARRIVALS Action.Settle halt (record { rolls = rolls_in self.old.rolls; group = self.old.group }) self.new.group) }
     {
         match at_rest::settle(alloc, &mut self.group) {
             Ok(_) => Ok(()),

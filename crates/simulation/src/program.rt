@@ -2,9 +2,9 @@
 //! returns an exit status.
 ghost use Rattle.std.specs.Prelude.{◌≡◌, ◌≢◌, ◌⊎◌, false, ◌≤◌, ◌<◌, ℕ, List, Option, Err, IfSome, IsOk, OnOk};
 ghost use Rattle.node_names.specs.Limits.{Limits as Sizes};
-ghost use Rattle.simulation.specs.declared.play.TheConstants.{MOST_ARRIVALS};
+ghost use Rattle.simulation.specs.declared.play.TheConstants.{MAX_ARRIVALS};
 ghost use Rattle.simulation.specs.declared.read.TheConstants.{MAX_SCENARIO_BYTES};
-ghost use Rattle.simulation.specs.declared.scenario.TheConstants.{MOST_EVENTS};
+ghost use Rattle.simulation.specs.declared.scenario.TheConstants.{MAX_EVENTS};
 ghost use Rattle.simulation.specs.declared.scenario.action.Action.{Action};
 ghost use Rattle.simulation.specs.declared.scenario.error.ScenarioError.{ScenarioError};
 ghost use Rattle.simulation.specs.Form.{IsWritten};
@@ -36,8 +36,8 @@ pub fn play_input<R: Read, W: Write, F: Write>(
     ensures quiet { result ≡ 0 → faults.new ≡ faults.old }
     ensures unplayed { result ≡ 2 → out.new ≡ out.old }
     ensures played { result ≡ 0 → IfSome (R.remaining input.old) (λ text. (seed : Option ℕ) × (sizes : Sizes) × (actions : List Action)
-        × IsScenario MAX_SCENARIO_BYTES MOST_EVENTS text seed sizes actions
-        × IsWritten MOST_ARRIVALS form seed sizes actions (W.contents out.old) (W.contents out.new)) }
+        × IsScenario MAX_SCENARIO_BYTES MAX_EVENTS text seed sizes actions
+        × IsWritten MAX_ARRIVALS form seed sizes actions (W.contents out.old) (W.contents out.new)) }
 {
     match read_text(alloc, input) {
         Ok(text) => play(alloc, form, is_strict, text.as_slice(), out, faults),
@@ -58,9 +58,9 @@ fn play<W: Write, F: Write>(
     ensures quiet { result ≡ 0 → faults.new ≡ faults.old }
     ensures unplayed { result ≡ 2 → out.new ≡ out.old }
     ensures played { result ≡ 0 → (seed : Option ℕ) × (sizes : Sizes) × (actions : List Action)
-        × IsScenario MAX_SCENARIO_BYTES MOST_EVENTS text.now seed sizes actions
-        × IsWritten MOST_ARRIVALS form seed sizes actions (W.contents out.old) (W.contents out.new) }
-    ensures refused { result ≡ 2 → is_strict ≡ false → (seed : Option ℕ) (sizes : Sizes) (actions : List Action) → ¬ IsScenario MAX_SCENARIO_BYTES MOST_EVENTS text.now seed sizes actions }
+        × IsScenario MAX_SCENARIO_BYTES MAX_EVENTS text.now seed sizes actions
+        × IsWritten MAX_ARRIVALS form seed sizes actions (W.contents out.old) (W.contents out.new) }
+    ensures refused { result ≡ 2 → is_strict ≡ false → (seed : Option ℕ) (sizes : Sizes) (actions : List Action) → ¬ IsScenario MAX_SCENARIO_BYTES MAX_EVENTS text.now seed sizes actions }
 {
     if is_strict && let Some(status) = report_unknown(alloc, text, faults) {
         return status;
@@ -81,9 +81,9 @@ fn play_known<W: Write, F: Write>(
     ensures quiet { result ≡ 0 → faults.new ≡ faults.old }
     ensures unplayed { result ≡ 2 → out.new ≡ out.old }
     ensures played { result ≡ 0 → (seed : Option ℕ) × (sizes : Sizes) × (actions : List Action)
-        × IsScenario MAX_SCENARIO_BYTES MOST_EVENTS text.now seed sizes actions
-        × IsWritten MOST_ARRIVALS form seed sizes actions (W.contents out.old) (W.contents out.new) }
-    ensures refused { result ≡ 2 → (seed : Option ℕ) (sizes : Sizes) (actions : List Action) → ¬ IsScenario MAX_SCENARIO_BYTES MOST_EVENTS text.now seed sizes actions }
+        × IsScenario MAX_SCENARIO_BYTES MAX_EVENTS text.now seed sizes actions
+        × IsWritten MAX_ARRIVALS form seed sizes actions (W.contents out.old) (W.contents out.new) }
+    ensures refused { result ≡ 2 → (seed : Option ℕ) (sizes : Sizes) (actions : List Action) → ¬ IsScenario MAX_SCENARIO_BYTES MAX_EVENTS text.now seed sizes actions }
 {
     let ended = write_outcome(alloc, form, is_strict, text, out);
     if let Err(SimulationError::Stopped(PlayError::Idle { event, why })) = ended {
@@ -106,10 +106,10 @@ fn write_outcome<W: Write>(
     out: &mut W,
 ) -> Result<(), SimulationError>
     ensures played { OnOk result ((seed : Option ℕ) × (sizes : Sizes) × (actions : List Action)
-        × IsScenario MAX_SCENARIO_BYTES MOST_EVENTS text.now seed sizes actions
-        × IsWritten MOST_ARRIVALS form seed sizes actions (W.contents out.old) (W.contents out.new)) }
+        × IsScenario MAX_SCENARIO_BYTES MAX_EVENTS text.now seed sizes actions
+        × IsWritten MAX_ARRIVALS form seed sizes actions (W.contents out.old) (W.contents out.new)) }
     ensures refused { (fault : ScenarioError) → result ≡ Err (SimulationError.Refused fault) → fault ≢ ScenarioError.OutOfMemory → (seed : Option ℕ) (sizes : Sizes) (actions : List Action)
-        → ¬ IsScenario MAX_SCENARIO_BYTES MOST_EVENTS text.now seed sizes actions }
+        → ¬ IsScenario MAX_SCENARIO_BYTES MAX_EVENTS text.now seed sizes actions }
     ensures unplayed { (fault : ScenarioError) → result ≡ Err (SimulationError.Refused fault) → out.new ≡ out.old }
 {
     match form {

@@ -22,7 +22,7 @@ use std::alloc::Global;
 use toml::{Table, Value};
 
 /// The maximum number of events in a scenario.
-pub const MOST_EVENTS: usize = 100_000;
+pub const MAX_EVENTS: usize = 100_000;
 
 /// What a simulated group is to do.
 #[derive(Drop)]
@@ -38,8 +38,8 @@ pub struct Scenario {
 impl Scenario {
     /// Reads a document as a scenario: first the keys at its top, then the limits, then each event.
     pub fn from_document(alloc: Global, document: &Table) -> Result<Scenario, ScenarioError>
-        ensures ok { IfOk result (λ scenario. Describes MOST_EVENTS (table_view document.now) scenario.seed scenario.limits scenario.actions.items) }
-        ensures refused { IfErr result (λ e. e ≢ ScenarioError.OutOfMemory → (seed : Option ℕ) (sizes : Sizes) (actions : List Action) → ¬ Describes MOST_EVENTS (table_view document.now) seed sizes actions) }
+        ensures ok { IfOk result (λ scenario. Describes MAX_EVENTS (table_view document.now) scenario.seed scenario.limits scenario.actions.items) }
+        ensures refused { IfErr result (λ e. e ≢ ScenarioError.OutOfMemory → (seed : Option ℕ) (sizes : Sizes) (actions : List Action) → ¬ Describes MAX_EVENTS (table_view document.now) seed sizes actions) }
     {
         let top = Section {
             place: Place::Top,
@@ -47,7 +47,7 @@ impl Scenario {
         };
         let seed = top.optional_number(Key::Seed, u64::MAX)?;
         let limits = top.optional_table(Key::Limits)?;
-        let events = top.tables(Key::Event, MOST_EVENTS)?;
+        let events = top.tables(Key::Event, MAX_EVENTS)?;
         let limits = match limits {
             Some(table) => limits::limits(&Section {
                 place: Place::Limits,

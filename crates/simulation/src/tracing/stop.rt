@@ -1,7 +1,7 @@
 //! Prints why a run ended early.
 ghost use Rattle.std.specs.Prelude.{◌≡◌, ◌++◌, ℕ, List, OnOk, string_bytes};
 
-use crate::play::{MOST_ARRIVALS, PlayError};
+use crate::play::{MAX_ARRIVALS, PlayError};
 use crate::scenario::{Action, event_line};
 use node_core::PlumCore;
 use std::alloc::{AllocError, Allocator};
@@ -48,7 +48,7 @@ pub fn push_stop<A: Allocator + Copy>(
             push_event(text, stop, event)?;
             write!(
                 text,
-                "{flying} packets are in flight after {MOST_ARRIVALS} arrivals\n"
+                "{flying} packets are in flight after {MAX_ARRIVALS} arrivals\n"
             )
         }
         Some(PlayError::Unsettled { event, code }) => {

@@ -6,7 +6,7 @@ use Rattle.node_names.specs.Limits.{Limits as Sizes}
 use Rattle.simulation.specs.Scenario.{IsScenario}
 use Rattle.simulation.specs.declared.error.SimulationError.TheVariants.{Refused}
 use Rattle.simulation.specs.declared.read.TheConstants.{MAX_SCENARIO_BYTES}
-use Rattle.simulation.specs.declared.scenario.TheConstants.{MOST_EVENTS}
+use Rattle.simulation.specs.declared.scenario.TheConstants.{MAX_EVENTS}
 use Rattle.simulation.specs.declared.scenario.action.Action.{Action}
 use Rattle.simulation.specs.declared.scenario.error.ScenarioError.{ScenarioError}
 use Rattle.simulation.specs.declared.scenario.error.ScenarioError.TheVariants.{OutOfMemory}
@@ -17,5 +17,5 @@ returns-in_err-scenario-clause-refused g c fault is =
     let given = err_from_is_err_and c.from_residual.result c.from_residual.ensures.1 in
     let both : Err (Refused c.in_err-scenario.field-0.0) ≡ Err (Refused fault) = sym (given.1 ∙ ap Err given.2) ∙ is in
     let same : c.in_err-scenario.field-0.0 ≡ fault = cc both in
-    let IsNone : ScenarioError → Type 0 = λ f. f ≢ OutOfMemory → (seed : Option ℕ) (sizes : Sizes) (actions : List Action) → IsScenario MAX_SCENARIO_BYTES MOST_EVENTS c.args.text.now seed sizes actions → ⊥ in
+    let IsNone : ScenarioError → Type 0 = λ f. f ≢ OutOfMemory → (seed : Option ℕ) (sizes : Sizes) (actions : List Action) → IsScenario MAX_SCENARIO_BYTES MAX_EVENTS c.args.text.now seed sizes actions → ⊥ in
     subst IsNone same c.in_err-scenario.ensures.refused

@@ -4,11 +4,11 @@ use Rattle.std.proofs.lemmas.Option.{same_Some}
 use Rattle.std.proofs.lemmas.Result.{MatchResult-weaker}
 use Rattle.toml.specs.Data.{Members}
 use Rattle.simulation.specs.Scenario.{Describes}
-use Rattle.simulation.specs.declared.scenario.TheConstants.{MOST_EVENTS}
+use Rattle.simulation.specs.declared.scenario.TheConstants.{MAX_EVENTS}
 use Rattle.simulation.proofs.outcome.read_scenario.Goals as goal
 
 pub returns-clause-refused : goal.returns-clause-refused
 returns-clause-refused c =
     MatchResult-weaker c.from_document.result c.from_document.ensures.refused (λ _ h. h) (λ fault refused has_memory seed sizes actions scenario.
-    let P : Members → Type 0 = λ d. Describes MOST_EVENTS d seed sizes actions in
+    let P : Members → Type 0 = λ d. Describes MAX_EVENTS d seed sizes actions in
     refused has_memory seed sizes actions (subst P (same_Some _ _ (sym scenario.parsed ∙ c.in_ok-document.ensures.ok.1)) scenario.described))

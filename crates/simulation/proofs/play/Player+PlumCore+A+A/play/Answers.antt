@@ -4,7 +4,7 @@ use Rattle.std.proofs.lemmas.Option.{slice_get_read}
 use Rattle.node_core.specs.Plum.{plum_state}
 use Rattle.node_core.specs.Steps.{PlumStarts, PlumSteps}
 use Rattle.simulation.specs.Play.{fault_of}
-use Rattle.simulation.specs.declared.play.TheConstants.{MOST_ARRIVALS}
+use Rattle.simulation.specs.declared.play.TheConstants.{MAX_ARRIVALS}
 use Rattle.simulation.proofs.Plays.{PlaysActions-more}
 use Rattle.simulation.specs.Rolls.{rolls_in}
 use Rattle.simulation.proofs.play.Player+PlumCore+A+A.play.Goals as goal
@@ -25,4 +25,4 @@ returns-in-Err-clause-stopped g c has_memory = (
 
 pub loop-number-preserved : goal.loop-number-preserved
 loop-number-preserved g c =
-    PlaysActions-more plum_state PlumStarts PlumSteps MOST_ARRIVALS c.args.actions.now c.loop-number.number c.index-actions-number.result (record { rolls = rolls_in c.args.self.now.rolls; group = c.args.self.now.group }) (record { rolls = rolls_in c.loop-number.self.rolls; group = c.loop-number.self.group }) (record { rolls = rolls_in c.play_action.new.self.rolls; group = c.play_action.new.self.group }) c.loop-number-test.true c.index-actions-number.is c.loop-number.invariant c.in_default.ensures.ok
+    PlaysActions-more plum_state PlumStarts PlumSteps MAX_ARRIVALS c.args.actions.now c.loop-number.number c.index-actions-number.result (record { rolls = rolls_in c.args.self.now.rolls; group = c.args.self.now.group }) (record { rolls = rolls_in c.loop-number.self.rolls; group = c.loop-number.self.group }) (record { rolls = rolls_in c.play_action.new.self.rolls; group = c.play_action.new.self.group }) c.loop-number-test.true c.index-actions-number.is c.loop-number.invariant c.in_default.ensures.ok

@@ -5,7 +5,7 @@ use Rattle.node_names.specs.declared.dice.Dice.{Dice}
 use Rattle.simulation.specs.Play.{Refuses, oldest}
 use Rattle.simulation.specs.Rolls.{rolls_in}
 use Rattle.simulation.specs.declared.play.ActionError.TheVariants.{Refused}
-use Rattle.simulation.specs.declared.play.TheConstants.{MOST_ARRIVALS}
+use Rattle.simulation.specs.declared.play.TheConstants.{MAX_ARRIVALS}
 use Rattle.simulation.proofs.play.Player.arrive_all.Goals as goal
 
 pub returns-in-Err-clause-halted : goal.returns-in-Err-clause-halted
@@ -22,7 +22,7 @@ returns-in-Err-clause-halted g c has_memory =
 
 pub returns-else-is_empty-2-clause-halted : goal.returns-else-is_empty-2-clause-halted
 returns-else-is_empty-2-clause-halted g c _ =
-    let all : c.loop.counter ≡ MOST_ARRIVALS = omega arith in (
+    let all : c.loop.counter ≡ MAX_ARRIVALS = omega arith in (
       refl,
       c.loop.counter,
       all,

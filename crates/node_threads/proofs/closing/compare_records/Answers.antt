@@ -2,7 +2,7 @@ use Rattle.std.specs.Prelude.{IfErr, IfOk}
 use Rattle.std.proofs.Common.{◌∙◌, subst}
 use Rattle.node_threads.specs.Closing.{Matches, Mismatches}
 use Rattle.node_threads.specs.Leaving.{outlets_of}
-use Rattle.node_threads.proofs.closing.judge.Goals as goal
+use Rattle.node_threads.proofs.closing.compare_records.Goals as goal
 
 pub returns-clause-ok : goal.returns-clause-ok
 returns-clause-ok g c = subst (λ ports. IfOk c.compare.result (λ links. Matches c.args.cell.now.trace ports (outlets_of c.args.workers.now) links.items)) (c.as_slice.ensures.value ∙ c.in_ok-calls.ensures) c.compare.ensures.ok
