@@ -11,4 +11,4 @@ pub use frame_texts::push_frame;
 pub use ids::{first_run, message};
 pub use lending::lend;
 pub use letters::push_letters;
-pub use refusals::{refusal_of, retry, stop_refusing, sweep, sweep_each};
+pub use refusals::{refusal_of, retry, stop_refusing, sweep};

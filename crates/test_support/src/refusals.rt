@@ -61,21 +61,3 @@ pub fn sweep<E: Drop, F: FnMut(u64) -> Result<Option<bool>, E>>(
     }
     Ok(None)
 }
-
-/// Sweeps `count` calls, each of which is given its place and the number of the allocation that it must have refused.
-/// Returns the number of allocations of all calls together, or `None` if an answer is wrong.
-pub fn sweep_each<E: Drop, F: FnMut(usize, u64) -> Result<Option<bool>, E>>(
-    count: usize,
-    mut call: F,
-) -> Result<Option<u64>, E>
-    requires pre { (f : _) (x1 : _) (x2 : _) → F.pre f x1 x2 }
-{
-    let mut refused = 0u64;
-    for place in 0..count {
-        match sweep(|n| call(place, n))? {
-            Some(allocations) => refused = refused.saturating_add(allocations),
-            None => return Ok(None),
-        }
-    }
-    Ok(Some(refused))
-}

@@ -1,3 +1,0 @@
-//! The tests by what they are of, and what they share.
-mod allocations;
-mod names;

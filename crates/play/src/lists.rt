@@ -1,0 +1,43 @@
+//! Lists as text.
+use node_names::{MsgId, NodeName};
+use std::alloc::AllocError;
+use std::fmt::Write;
+
+/// The most bytes of a payload that are printed.
+const LONGEST: usize = 64;
+
+/// Appends a payload: its bytes as letters, `-` if there are none, or its length if it is long.
+pub(crate) fn push_payload(text: &mut String, bytes: &[u8]) -> Result<(), AllocError> {
+    if bytes.is_empty() {
+        return text.push('-');
+    }
+    if bytes.len() > LONGEST {
+        return write!(text, "*{}", bytes.len());
+    }
+    for byte in bytes {
+        text.push(char::from(*byte))?;
+    }
+    Ok(())
+}
+
+/// Appends names, each behind a blank.
+pub(crate) fn push_names(text: &mut String, names: &[NodeName]) -> Result<(), AllocError> {
+    for name in names {
+        write!(text, " {name}")?;
+    }
+    Ok(())
+}
+
+/// Appends ids, each behind a blank.
+pub(crate) fn push_ids(text: &mut String, ids: &[MsgId]) -> Result<(), AllocError> {
+    for id in ids {
+        write!(text, " {id}")?;
+    }
+    Ok(())
+}
+
+/// Ends a line of which each item ends with a comma.
+pub(crate) fn end_line(text: &mut String) -> Result<(), AllocError> {
+    text.pop();
+    text.push('\n')
+}
