@@ -1,19 +1,13 @@
 //! The layers by their names.
-use crate::layer::Layer;
-use crate::layers::cell::CellLayer;
-use crate::layers::frame_calls::FrameLayer;
-use crate::layers::gossip::GossipLayer;
-use crate::layers::groups::{FloodLayer, PlumLayer};
-use crate::layers::hyparview::MembershipLayer;
-use crate::layers::known::KnownLayer;
-use crate::layers::lacks::MissingLayer;
-use crate::layers::merging::MergeLayer;
-use crate::layers::naming::NameLayer;
-use crate::layers::peers::PeersLayer;
-use crate::layers::refusals::AllocatorLayer;
-use crate::layers::streams::StreamLayer;
-use crate::layers::two_views::ViewsLayer;
-use crate::script::Player;
+use crate::allocator_layer::AllocatorLayer;
+use play_cell::CellLayer;
+use play_gossip::{GossipLayer, KnownLayer, MissingLayer, PeersLayer};
+use play_groups::{FloodLayer, PlumLayer};
+use play_membership::{MembershipLayer, NameLayer, ViewsLayer};
+use play_merge::MergeLayer;
+use play_script::layer::Layer;
+use play_script::script::Player;
+use play_streams::{FrameLayer, StreamLayer};
 use refusing_allocator::RefusingAllocator;
 use std::alloc::{AllocError, Global};
 

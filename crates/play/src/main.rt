@@ -1,18 +1,8 @@
 //! Plays cases: reads commands from standard input, makes the calls, and prints the commands with what each gave.
 #![tactic(auto)]
 
-mod bodies;
+mod allocator_layer;
 mod casting;
-mod distinct;
-mod frame_words;
-mod hexes;
-mod layer;
-mod layers;
-mod lists;
-mod runs;
-mod script;
-mod starting;
-mod words;
 
 use crate::casting::play_all;
 use anyhow::Result;

@@ -1,0 +1,352 @@
+//! One node with the links that lead out of it, without threads: `start` makes it, and the others are its calls.
+use crate::texts::{push_applied, push_cell, push_frame, push_link};
+use frames::Frame;
+use node_core::PlumCore;
+use node_names::{Limits, NodeName, Origin};
+use node_threads::{Applied, HostError, NodeCell, Outlet};
+use play_script::frame_words::stimulus;
+use play_script::layer::{Layer, Outcome, Turn};
+use play_script::lists::{push_payload, yes_or_no};
+use play_script::words::{after, name, names, number_of, origin};
+use std::alloc::{AllocError, Allocator};
+use std::fmt::Write;
+use world::{Core, CoreError, Out, Stimulus, are_peers};
+
+/// A node of Plumtree with its links.
+pub(crate) type Cell<A> = NodeCell<PlumCore<A>, A>;
+
+/// A node, once it was started, and the ends of its links, in the order of their opening.
+#[derive(Drop)]
+pub struct CellLayer<A: Allocator + Copy> {
+    alloc: A,
+    cell: Option<Cell<A>>,
+    outlets: Vec<Outlet<A>, A>,
+}
+
+/// Returns what came of a refusal, which it says, unless it is one of memory.
+fn refused(error: HostError, said: &mut String) -> Result<Outcome, AllocError> {
+    match error {
+        HostError::OutOfMemory | HostError::Refused(CoreError::OutOfMemory) => {
+            return Ok(Outcome::NoMemory);
+        }
+        HostError::Refused(CoreError::PayloadTooLong) => said.push_str(
+            "the payload is too long\n",
+        )?,
+        HostError::Refused(CoreError::SeqSpent) => said.push_str("the numbers are used up\n")?,
+        error => writeln!(said, "{error}")?,
+    }
+    Ok(Outcome::Done)
+}
+
+/// Starts a node.
+fn start_cell<A: Allocator + Copy>(
+    alloc: A,
+    me: Origin,
+    peers: &[NodeName],
+    trace: usize,
+) -> Result<Cell<A>, HostError> {
+    let limits = Limits::STANDARD;
+    if !are_peers(&limits, &me.name, peers, &None) {
+        return Err(HostError::Closed);
+    }
+    let mut opening = Out::new(alloc);
+    match PlumCore::start(alloc, me, limits, peers, None, &mut opening) {
+        Ok(core) => NodeCell::new(alloc, core, opening, trace),
+        Err(error) => Err(HostError::Refused(error)),
+    }
+}
+
+/// Puts what was made in the place of what was there.
+fn put<T: Drop>(
+    place: &mut Option<T>,
+    made: Result<T, HostError>,
+    said: &mut String,
+) -> Result<Outcome, AllocError> {
+    match made {
+        Ok(made) => {
+            *place = Some(made);
+            Ok(Outcome::Done)
+        }
+        Err(error) => refused(error, said),
+    }
+}
+
+/// Has the node make a step, with the Downs of the links that turn out to be down if that is asked for.
+fn apply<A: Allocator + Copy>(
+    cell: &mut Cell<A>,
+    stimulus: Stimulus<Frame<A>, A>,
+    with_downs: bool,
+) -> Result<Applied<A>, HostError> {
+    if with_downs {
+        cell.apply_with_downs(stimulus)
+    } else {
+        cell.apply(stimulus)
+    }
+}
+
+/// Reads a step and has the node make it.
+fn step<A: Allocator + Copy>(
+    alloc: A,
+    cell: &mut Cell<A>,
+    words: &[&str],
+    with_downs: bool,
+    turn: &mut Turn<'_>,
+    said: &mut String,
+) -> Result<Outcome, AllocError> {
+    let Some(stimulus) = stimulus(alloc, words)? else {
+        return Ok(Outcome::Unknown);
+    };
+    turn.begin();
+    let answer = apply(cell, stimulus, with_downs);
+    turn.end();
+    match answer {
+        Ok(applied) => {
+            push_applied(said, &applied)?;
+            Ok(Outcome::Done)
+        }
+        Err(error) => refused(error, said),
+    }
+}
+
+/// Takes the next frame out of a link, and says its length and what it is.
+fn pop<A: Allocator + Copy>(
+    outlet: &mut Outlet<A>,
+    turn: &mut Turn<'_>,
+    said: &mut String,
+) -> Result<Outcome, AllocError> {
+    turn.begin();
+    let answer = outlet.pop();
+    turn.end();
+    match answer {
+        Ok(Some(bytes)) => push_frame(said, bytes.as_slice())?,
+        Ok(None) => said.push_str("none\n")?,
+        Err(_) => return Ok(Outcome::NoMemory),
+    }
+    Ok(Outcome::Done)
+}
+
+/// Says how far a link got, by the node's trace.
+fn report<A: Allocator + Copy>(
+    cell: &Cell<A>,
+    outlet: &Outlet<A>,
+    turn: &mut Turn<'_>,
+    said: &mut String,
+) -> Result<Outcome, AllocError> {
+    turn.begin();
+    let answer = cell.report(outlet);
+    turn.end();
+    match answer {
+        Ok(Some(report)) => {
+            writeln!(
+                said,
+                "{} frames came out, as the node sent them to {} from step {} on",
+                report.taken, report.peer, report.opened
+            )?;
+            Ok(Outcome::Done)
+        }
+        Ok(None) => {
+            said.push_str("other frames came out than the node sent\n")?;
+            Ok(Outcome::Done)
+        }
+        Err(error) => refused(error, said),
+    }
+}
+
+/// Hands out the steps since the last call, and says which they are and how many messages the core holds then.
+fn seal<A: Allocator + Copy>(
+    cell: &mut Cell<A>,
+    turn: &mut Turn<'_>,
+    said: &mut String,
+) -> Result<Outcome, AllocError> {
+    turn.begin();
+    let answer = cell.seal();
+    turn.end();
+    match answer {
+        Ok(sealed) => {
+            let (first, count) = (sealed.segment.first, sealed.segment.steps.len());
+            let held = sealed.state.held().len();
+            writeln!(
+                said,
+                "{count} steps from step {first} on, {held} messages held then"
+            )?;
+            Ok(Outcome::Done)
+        }
+        Err(error) => refused(error, said),
+    }
+}
+
+/// Hands out the deliveries, and says them.
+fn deliver<A: Allocator + Copy>(
+    cell: &mut Cell<A>,
+    said: &mut String,
+) -> Result<Outcome, AllocError> {
+    for delivery in cell.take_deliveries().as_slice() {
+        write!(said, "deliver {} ", delivery.id)?;
+        push_payload(said, delivery.payload.as_slice())?;
+        said.push('\n')?;
+    }
+    Ok(Outcome::Done)
+}
+
+impl<A: Allocator + Copy> CellLayer<A> {
+    pub fn new(alloc: A) -> CellLayer<A> {
+        CellLayer {
+            alloc,
+            cell: None,
+            outlets: Vec::new(alloc),
+        }
+    }
+
+    /// Makes the node of a run: `start a trace 9 peers p q`.
+    fn start(
+        &mut self,
+        me: &str,
+        words: &[&str],
+        turn: &mut Turn<'_>,
+        said: &mut String,
+    ) -> Result<Outcome, AllocError> {
+        let (Some(me), Some(trace), Some(peers)) = (
+            origin(me),
+            number_of(words, "trace"),
+            names(self.alloc, after(words, "peers"))?,
+        ) else {
+            return Ok(Outcome::Unknown);
+        };
+        let Ok(trace) = usize::try_from(trace) else {
+            return Ok(Outcome::Unknown);
+        };
+        turn.begin();
+        let made = start_cell(self.alloc, me, peers.as_slice(), trace);
+        turn.end();
+        let outcome = put(&mut self.cell, made, said)?;
+        if outcome == Outcome::Done {
+            self.outlets.clear();
+        }
+        Ok(outcome)
+    }
+
+    /// Opens a link with room for so many frames: `open p 4`.
+    fn open(
+        &mut self,
+        peer: &str,
+        room: &str,
+        turn: &mut Turn<'_>,
+        said: &mut String,
+    ) -> Result<Outcome, AllocError> {
+        let (Some(cell), Some(peer), Ok(room)) = (&mut self.cell, name(peer), room.parse::<usize>())
+        else {
+            return Ok(Outcome::Unknown);
+        };
+        self.outlets.reserve(1)?;
+        turn.begin();
+        let opened = cell.open_link(peer, room);
+        turn.end();
+        match opened {
+            Ok(outlet) => {
+                self.outlets.push(outlet)?;
+                Ok(Outcome::Done)
+            }
+            Err(error) => refused(error, said),
+        }
+    }
+
+    /// Closes a link, and says whether that closed it.
+    fn close(&mut self, peer: &str, said: &mut String) -> Result<Outcome, AllocError> {
+        let (Some(cell), Some(peer)) = (&mut self.cell, name(peer)) else {
+            return Ok(Outcome::Unknown);
+        };
+        said.push_str(if cell.close_link(&peer) {
+            "closed\n"
+        } else {
+            "was not open\n"
+        })?;
+        Ok(Outcome::Done)
+    }
+
+    /// Makes a call that is about the last link to a peer.
+    fn at_link(
+        &mut self,
+        verb: &str,
+        peer: &str,
+        turn: &mut Turn<'_>,
+        said: &mut String,
+    ) -> Result<Outcome, AllocError> {
+        let (Some(cell), Some(peer)) = (&self.cell, name(peer)) else {
+            return Ok(Outcome::Unknown);
+        };
+        let Some(outlet) = self
+            .outlets
+            .iter_mut()
+            .rev()
+            .find(|outlet| outlet.peer() == peer)
+        else {
+            return Ok(Outcome::Unknown);
+        };
+        match verb {
+            "pop" => pop(outlet, turn, said),
+            "report" => report(cell, outlet, turn, said),
+            "has-next" => {
+                writeln!(said, "{}", yes_or_no(outlet.has_next()))?;
+                Ok(Outcome::Done)
+            }
+            _ => Ok(Outcome::Unknown),
+        }
+    }
+
+    /// Makes a call that is about the node alone.
+    fn at_node(
+        &mut self,
+        words: &[&str],
+        turn: &mut Turn<'_>,
+        said: &mut String,
+    ) -> Result<Outcome, AllocError> {
+        let Some(cell) = &mut self.cell else {
+            return Ok(Outcome::Unknown);
+        };
+        match words {
+            ["deliver"] => deliver(cell, said),
+            ["seal"] => seal(cell, turn, said),
+            ["shut"] => {
+                cell.shut();
+                Ok(Outcome::Done)
+            }
+            ["with-downs", words @ ..] => step(self.alloc, cell, words, true, turn, said),
+            _ => step(self.alloc, cell, words, false, turn, said),
+        }
+    }
+}
+
+impl<A: Allocator + Copy> Layer for CellLayer<A> {
+    fn call(
+        &mut self,
+        words: &[&str],
+        turn: &mut Turn<'_>,
+        said: &mut String,
+    ) -> Result<Outcome, AllocError> {
+        match words {
+            ["start", me, words @ ..] => self.start(me, words, turn, said),
+            ["open", peer, room] => self.open(peer, room, turn, said),
+            ["close", peer] => self.close(peer, said),
+            ["pop", peer] => self.at_link("pop", peer, turn, said),
+            ["report", peer] => self.at_link("report", peer, turn, said),
+            ["has-next", peer] => self.at_link("has-next", peer, turn, said),
+            _ => self.at_node(words, turn, said),
+        }
+    }
+
+    fn clear(&mut self) {
+        self.cell = None;
+        self.outlets.clear();
+    }
+
+    fn show(&self, text: &mut String) -> Result<(), AllocError> {
+        let Some(cell) = &self.cell else {
+            return Ok(());
+        };
+        push_cell(text, cell)?;
+        for outlet in &self.outlets {
+            push_link(text, cell, outlet)?;
+        }
+        Ok(())
+    }
+}
