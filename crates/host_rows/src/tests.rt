@@ -8,6 +8,7 @@ mod group;
 mod inbox;
 mod lacking;
 mod node;
+mod readers;
 mod refused_calls;
 mod refused_closes;
 mod retiring;

@@ -1,25 +1,23 @@
 //! The dice of the steps that a reader makes.
-use crate::tests::ends::close;
-use crate::tests::node::{LOOKS, Started, keep, name, start_with_one};
+use crate::tests::node::{TestedCore, name};
+use crate::tests::readers::read;
 use bytes::Bytes;
 use frames::{Body, Frame, encode};
 use links::TapeReader;
-use node_names::Dice;
-use node_threads::{HostError, NodeCore, OpenGate, Worker, read_link};
-use rand_core::SeedableRng;
-use rand_pcg::Lcg128Xsl64;
+use node_core::PlumCore;
+use node_threads::{HostError, OpenGate};
 use std::alloc::{AllocError, Global};
 use std::process::Abort;
 use std::sync::Wait;
 use std::test::Fail;
-use std::thread;
 use std::thread::Threads;
-use std::time::{Clock, Duration};
+use std::time::Clock;
 use test_support::first_run;
-use world::{StimulusOf, Trace};
 
-/// The seed of the generator of the reader's dice.
-const SEED: u64 = 7;
+/// What the node leaves: it answers the JOIN over a link that it does not have, which a Down follows, and the end of the
+/// link that it read is another Down.
+const LEFT: &str =
+    "a/1 among p | from n/1 n/1#1 Join by dice; to n a/1#1 Neighbor { high: true }; to p a/1#2 ForwardJoin { new: \"n\", ttl: 6 } | down n by dice | down n by dice | handed out 0";
 
 /// Returns the bytes of a JOIN from the node with this name.
 fn join_from(rt: &impl Abort, alloc: Global, text: &str) -> Result<Bytes, AllocError> {
@@ -28,58 +26,22 @@ fn join_from(rt: &impl Abort, alloc: Global, text: &str) -> Result<Bytes, AllocE
     encode(alloc, &frame)
 }
 
-/// Returns the dice of the step at this place, if a frame arrived or a link went down in it.
-fn dice_at(trace: &Trace<Frame>, place: usize) -> Option<Dice> {
-    match &trace.step(place)?.stimulus {
-        StimulusOf::Arrive { dice, .. } => Some(*dice),
-        StimulusOf::Down { dice, .. } => Some(*dice),
-        _ => None,
-    }
-}
-
-/// Whether the first three steps have the first three dice that are drawn, in order.
-fn has_drawn_dice(trace: &Trace<Frame>) -> bool {
-    let mut generator = Lcg128Xsl64::seed_from_u64(SEED);
-    (0..3).all(|place| dice_at(trace, place) == Some(Dice::draw(&mut generator)))
-}
-
-/// Waits until a worker has ended. Returns whether it has.
-pub(crate) fn waits_for_end<R: Clock>(rt: &R, worker: &Worker) -> bool {
-    for _ in 0..LOOKS {
-        if worker.has_ended() {
-            return true;
-        }
-        thread::sleep(rt, Duration::from_millis(5));
-    }
-    false
-}
-
-/// Lets a node's reader take one frame, and closes the node. Returns whether the dice of its steps are the reader's.
-fn draws<R, C>(rt: R, alloc: Global, node: Started<C>) -> Result<bool, HostError>
+/// Lets a node read a JOIN. Returns whether its reader ends. Replaces the text with what the node leaves.
+fn read_join<C, R>(rt: R, alloc: Global, text: &mut String) -> Result<bool, HostError>
 where
+    C: TestedCore<Global> + Drop + Send + 'static,
     R: Threads + Wait + Clock + Abort + Copy + Send + Drop + 'static,
-    C: NodeCore<Global> + Drop + Send + 'static,
 {
-    let Started {
-        host,
-        ports,
-        outlets: _,
-    } = node;
     let tape = TapeReader::new(join_from(&rt, alloc, "n")?, Vec::new(alloc), None);
-    let reader = read_link(rt, &host, OpenGate, 0, tape, SEED)?;
-    let has_ended = waits_for_end(&rt, &reader);
-    let mut workers = Vec::new(alloc);
-    keep(&mut workers, reader)?;
-    let closed = close(&rt, host, ports, workers);
-    Ok(has_ended && closed.is_some_and(|closed| has_drawn_dice(&closed.trace)))
+    read::<C, _, _>(rt, alloc, text, OpenGate, tape)
 }
 
 /// A JOIN arrives from a node to which no link is open, so a Down follows it, and then its link ends, which is another
 /// Down. All three steps have the next dice of the reader's generator.
 #[test]
 fn a_reader_draws_all_dice(rt: HostRuntime) -> Result<(), Fail> {
-    let alloc = rt.alloc();
-    let node = start_with_one(&rt, alloc, "a", "p", 0)?;
-    assert!(rt; draws(rt, alloc, node)?);
+    let mut text = String::new(rt.alloc());
+    let has_ended = read_join::<PlumCore, _>(rt, rt.alloc(), &mut text)?;
+    assert!(rt; has_ended && text.as_str() == LEFT, "{text}");
     Ok(())
 }

@@ -1,13 +1,18 @@
 //! How nodes without links end.
-use crate::tests::node::{Started, start_alone};
+use crate::tests::node::{Node, TestedCore, close, start};
 use bytes::Bytes;
 use node_core::PlumCore;
-use node_threads::{CloseError, Closed, Host, HostError, NodeCore, Port, Receipt, Worker};
+use node_threads::{CloseError, Host, HostError, NodeCore, Port, Receipt};
 use std::alloc::{Allocator, Global};
+use std::mem;
 use std::process::Abort;
 use std::sync::Wait;
 use std::test::Fail;
 use std::thread::Threads;
+
+/// What a node leaves that broadcast once.
+pub(crate) const ONE_BROADCAST: &str =
+    "a/1 among | broadcast hello; a/1 delivers a/1/1 hello | handed out 0";
 
 /// Broadcasts through a port.
 pub(crate) fn broadcast<R: Wait, C: NodeCore<A> + Drop, A: Allocator + Copy>(
@@ -31,63 +36,36 @@ pub(crate) fn broadcast_by_each<R: Wait, C: NodeCore<A> + Drop, A: Allocator + C
     Ok(())
 }
 
-/// Closes a node. Returns what it leaves, if the close succeeds.
-pub(crate) fn close<R: Threads + Wait, C: NodeCore<Global> + Drop>(
-    rt: &R,
-    host: Host<C>,
-    ports: Vec<Port<C>>,
-    workers: Vec<Worker>,
-) -> Option<Closed> {
-    host.close(rt, ports, workers).ok()
-}
-
-/// Broadcasts through a node's first port, stops the node and broadcasts again. Returns the error if it refuses.
-fn refused_after_stop<R: Wait, C: NodeCore<Global> + Drop>(
+/// Broadcasts through a node's ports, stops the node and broadcasts again. Returns whether it refuses that.
+fn is_refused_after_stop<R: Wait, C: NodeCore<Global> + Drop>(
     rt: &R,
     alloc: Global,
-    node: &mut Started<C>,
-) -> Result<Option<HostError>, HostError> {
-    let Some(port) = node.ports.first_mut() else {
-        return Ok(None);
-    };
-    let _ = broadcast(rt, alloc, port)?;
-    node.host.stop(rt);
-    Ok(broadcast(rt, alloc, port).err())
-}
-
-/// Closes a node without workers. Returns whether it made one step and handed out no delivery.
-fn leaves_one_step<R: Threads + Wait, C: NodeCore<Global> + Drop>(
-    rt: &R,
-    alloc: Global,
-    node: Started<C>,
-) -> bool {
-    let Started {
-        host,
-        ports,
-        outlets: _,
-    } = node;
-    match close(rt, host, ports, Vec::new(alloc)) {
-        Some(closed) => closed.trace.len() == 1 && closed.handed_out == 0,
-        None => false,
-    }
-}
-
-/// Whether a node refuses its port after the stop, and closes with what was broadcast before.
-fn ends_after_stop<R: Threads + Wait, C: NodeCore<Global> + Drop>(
-    rt: &R,
-    alloc: Global,
-    mut node: Started<C>,
+    node: &mut Node<C>,
 ) -> Result<bool, HostError> {
-    let refused = refused_after_stop(rt, alloc, &mut node);
-    let is_left = leaves_one_step(rt, alloc, node);
-    Ok(matches!(refused?, Some(HostError::Closed)) && is_left)
+    broadcast_by_each(rt, alloc, node.ports.as_mut_slice())?;
+    node.host.stop(rt);
+    let answer = broadcast_by_each(rt, alloc, node.ports.as_mut_slice());
+    Ok(answer == Err(HostError::Closed))
+}
+
+/// Whether a node with one port refuses it after the stop. Replaces the text with what the node leaves.
+fn end_after_stop<C: TestedCore<Global> + Drop, R: Threads + Wait + Abort>(
+    rt: &R,
+    alloc: Global,
+    text: &mut String,
+) -> Result<bool, HostError> {
+    let mut node: Node<C> = start(rt, alloc, "a", "", 1)?;
+    let is_refused = is_refused_after_stop(rt, alloc, &mut node)?;
+    close(rt, text, node)?;
+    Ok(is_refused)
 }
 
 /// After the stop, a port is refused, and the node closes with what was broadcast before.
 #[test]
 fn stopped_host(rt: HostRuntime) -> Result<(), Fail> {
-    let node = start_alone(&rt, rt.alloc(), "a", 1)?;
-    assert!(rt; ends_after_stop(&rt, rt.alloc(), node)?);
+    let mut text = String::new(rt.alloc());
+    let is_refused = end_after_stop::<PlumCore, _>(&rt, rt.alloc(), &mut text)?;
+    assert!(rt; is_refused && text.as_str() == ONE_BROADCAST, "{text}");
     Ok(())
 }
 
@@ -106,7 +84,7 @@ fn hands_out<R: Wait, C: NodeCore<Global> + Drop>(
 fn hands_out_twice<R: Wait, C: NodeCore<Global> + Drop>(
     rt: &R,
     alloc: Global,
-    node: &mut Started<C>,
+    node: &mut Node<C>,
 ) -> Result<bool, HostError> {
     broadcast_by_each(rt, alloc, node.ports.as_mut_slice())?;
     let is_first = hands_out(rt, &node.host, 0, 1)?;
@@ -114,98 +92,86 @@ fn hands_out_twice<R: Wait, C: NodeCore<Global> + Drop>(
     Ok(is_first && hands_out(rt, &node.host, 1, 0)?)
 }
 
-/// Whether a node hands out its history in parts, and closes with all of it.
-fn ends_with_all_parts<R: Threads + Wait, C: NodeCore<Global> + Drop>(
+/// Whether a node hands out its history in parts. Replaces the text with what it leaves.
+fn end_with_all_parts<C: TestedCore<Global> + Drop, R: Threads + Wait + Abort>(
     rt: &R,
     alloc: Global,
-    mut node: Started<C>,
+    text: &mut String,
 ) -> Result<bool, HostError> {
-    let are_handed = hands_out_twice(rt, alloc, &mut node);
-    let is_left = leaves_one_step(rt, alloc, node);
-    Ok(are_handed? && is_left)
+    let mut node: Node<C> = start(rt, alloc, "a", "", 1)?;
+    let are_handed = hands_out_twice(rt, alloc, &mut node)?;
+    close(rt, text, node)?;
+    Ok(are_handed)
 }
 
 /// A node hands out its history in parts, even after the stop, and closes with all of it.
 #[test]
 fn parts_of_a_host(rt: HostRuntime) -> Result<(), Fail> {
-    let node = start_alone(&rt, rt.alloc(), "a", 1)?;
-    assert!(rt; ends_with_all_parts(&rt, rt.alloc(), node)?);
+    let mut text = String::new(rt.alloc());
+    let are_handed = end_with_all_parts::<PlumCore, _>(&rt, rt.alloc(), &mut text)?;
+    assert!(rt; are_handed && text.as_str() == ONE_BROADCAST, "{text}");
     Ok(())
 }
 
-/// Closes a node without its ports. Returns the host if the close finds a port or worker missing.
+/// Closes a node without its ports. Returns the node, still with its ports, if the close finds them missing.
 pub(crate) fn close_without_ports<R: Threads + Wait, C: NodeCore<A> + Drop, A: Allocator + Copy>(
     rt: &R,
     alloc: A,
-    host: Host<C, A>,
-) -> Option<Host<C, A>> {
-    match host.close(rt, Vec::new(alloc), Vec::new(alloc)) {
-        Err(
-            CloseError::PortMissing {
-                host,
-                ports: _ports,
-                workers: _workers,
-            },
-        ) => Some(host),
+    node: Node<C, A>,
+) -> Option<Node<C, A>> {
+    let Node {
+        host,
+        ports,
+        outlets,
+        workers,
+    } = node;
+    match host.close(rt, Vec::new(alloc), workers) {
+        Err(CloseError::PortMissing { host, workers, .. }) => Some(Node {
+            host,
+            ports,
+            outlets,
+            workers,
+        }),
         _other => None,
     }
 }
 
-/// Whether the receipts of the first port do not match the trace.
-fn is_unlike<C: NodeCore<Global> + Drop>(answer: &Result<Closed, CloseError<C>>) -> bool {
-    matches!(answer, Err(CloseError::Unlike { port: 0, .. }))
-}
-
-/// Whether a node is handed back when it is closed without its ports, and finds the receipts of these ports not to
-/// match its trace when it is closed with them.
-fn finds_unlike<R: Threads + Wait, C: NodeCore<Global> + Drop>(
-    rt: &R,
-    alloc: Global,
-    host: Host<C>,
-    ports: Vec<Port<C>>,
-) -> bool {
-    match close_without_ports(rt, alloc, host) {
-        Some(host) => is_unlike(&host.close(rt, ports, Vec::new(alloc))),
-        None => false,
-    }
-}
-
-/// Returns a node's host.
-pub(crate) fn host_of<C: NodeCore<A> + Drop, A: Allocator>(node: Started<C, A>) -> Host<C, A> {
-    let Started {
-        host,
-        ports: _,
-        outlets: _,
-    } = node;
-    host
-}
-
-/// Returns a node's ports.
-fn ports_of<C: NodeCore<A> + Drop, A: Allocator>(node: Started<C, A>) -> Vec<Port<C, A>, A> {
-    let Started {
-        host: _,
-        ports,
-        outlets: _,
-    } = node;
-    ports
-}
-
-/// Returns the port of another node, after a broadcast through it.
-pub(crate) fn used_ports<R: Wait + Abort, A: Allocator + Copy>(
+/// Starts node `a`, which has the port of another node, through which a broadcast was made.
+pub(crate) fn start_with_other_port<C: TestedCore<A> + Drop, R: Wait + Abort, A: Allocator + Copy>(
     rt: &R,
     alloc: A,
-) -> Result<Vec<Port<PlumCore<A>, A>, A>, HostError> {
-    let mut ports = ports_of(start_alone(rt, alloc, "b", 1)?);
-    broadcast_by_each(rt, alloc, ports.as_mut_slice())?;
-    Ok(ports)
+) -> Result<Node<C, A>, HostError> {
+    let mut node: Node<C, A> = start(rt, alloc, "a", "", 1)?;
+    let mut other: Node<C, A> = start(rt, alloc, "b", "", 1)?;
+    broadcast_by_each(rt, alloc, other.ports.as_mut_slice())?;
+    mem::swap(&mut node.ports, &mut other.ports);
+    Ok(node)
+}
+
+/// Closes a node without its port and then with another node's. Returns whether the first close finds the port missing.
+/// Replaces the text with the answer to the second one.
+fn swap_ports<C: TestedCore<Global> + Drop, R: Threads + Wait + Abort>(
+    rt: &R,
+    alloc: Global,
+    text: &mut String,
+) -> Result<bool, HostError> {
+    let node: Node<C> = start_with_other_port(rt, alloc)?;
+    let Some(node) = close_without_ports(rt, alloc, node) else {
+        return Ok(false);
+    };
+    close(rt, text, node)?;
+    Ok(true)
 }
 
 /// A host that is closed without its port is handed back, and one that is closed with another host's port finds that
 /// the receipts do not match its trace.
 #[test]
 fn swapped_ports(rt: HostRuntime) -> Result<(), Fail> {
-    let host = host_of(start_alone(&rt, rt.alloc(), "a", 1)?);
-    let ports = used_ports(&rt, rt.alloc())?;
-    assert!(rt; finds_unlike(&rt, rt.alloc(), host, ports));
+    let mut text = String::new(rt.alloc());
+    let is_missing = swap_ports::<PlumCore, _>(&rt, rt.alloc(), &mut text)?;
+    assert!(rt;
+        is_missing && text.as_str() == "unlike at 0: a/1 among",
+        "{text}"
+    );
     Ok(())
 }

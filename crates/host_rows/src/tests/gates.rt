@@ -1,10 +1,10 @@
 //! Readers whose order a gate decides.
-use crate::tests::ends::close;
-use crate::tests::node::{LOOKS, Started, keep, name, start_with_one, start_with_two};
+use crate::tests::node::{LOOKS, Node, TestedCore, keep, name, start};
 use bytes::Bytes;
 use frames::{Body, Frame, encode};
 use links::TapeReader;
-use node_threads::{Gate, Host, HostError, NodeCore, Worker, read_link};
+use node_core::PlumCore;
+use node_threads::{Gate, HostError, NodeCore, read_link};
 use std::alloc::{AllocError, Global};
 use std::process::Abort;
 use std::sync::{Arc, Mutex, Wait};
@@ -108,84 +108,81 @@ fn arrivals(trace: &Trace<Frame>) -> usize {
         .count()
 }
 
-/// Starts reader `number` behind a gate. One frame arrives at it.
-fn start_reader<R, C, G>(
+/// Starts reader `number` of a node behind a gate. One frame arrives at it.
+fn start_reader<C, R, G>(
     rt: R,
     alloc: Global,
-    host: &Host<C>,
+    node: &mut Node<C>,
     gate: G,
     number: usize,
     sender: &str,
-) -> Result<Worker, HostError>
+) -> Result<(), HostError>
 where
-    R: Threads + Wait + Clock + Abort + Copy + Send + Drop + 'static,
     C: NodeCore<Global> + Drop + Send + 'static,
+    R: Threads + Wait + Clock + Abort + Copy + Send + Drop + 'static,
     G: Gate + Send + Drop + 'static,
 {
-    let reader = TapeReader::new(prune_from(&rt, alloc, sender)?, Vec::new(alloc), None);
-    read_link(rt, host, gate, number, reader, 1)
+    let tape = TapeReader::new(prune_from(&rt, alloc, sender)?, Vec::new(alloc), None);
+    let reader = read_link(rt, &node.host, gate, number, tape, 1)?;
+    keep(&mut node.workers, reader)?;
+    Ok(())
 }
 
-/// Starts two readers.
-fn start_readers<R, C>(
+/// Starts two readers of a node, of which the second one goes first.
+fn start_readers<C, R>(
     rt: R,
     alloc: Global,
-    host: &Host<C>,
+    node: &mut Node<C>,
     watch: &Arc<Watch, Global>,
-) -> Result<Vec<Worker>, HostError>
+) -> Result<(), HostError>
 where
-    R: Threads + Wait + Clock + Abort + Copy + Send + Drop + 'static,
     C: NodeCore<Global> + Drop + Send + 'static,
+    R: Threads + Wait + Clock + Abort + Copy + Send + Drop + 'static,
 {
-    let mut workers = Vec::with_capacity(alloc, 2)?;
     for (number, sender) in ["p", "q"].iter().enumerate() {
         let watch = Arc::try_clone(watch)?;
         let gate = SecondFirst { rt, watch };
-        let reader = start_reader(rt, alloc, host, gate, number, sender)?;
-        keep(&mut workers, reader)?;
+        start_reader(rt, alloc, node, gate, number, sender)?;
     }
-    Ok(workers)
+    Ok(())
 }
 
 /// Closes a node. Returns whether `wanted` frames arrived.
-fn closes_with<R: Threads + Wait, C: NodeCore<Global> + Drop>(
+fn closes_with<C: NodeCore<Global> + Drop, R: Threads + Wait>(
     rt: &R,
-    node: Started<C>,
-    workers: Vec<Worker>,
+    node: Node<C>,
     wanted: usize,
 ) -> bool {
-    let Started {
+    let Node {
         host,
         ports,
         outlets: _,
+        workers,
     } = node;
-    close(rt, host, ports, workers).is_some_and(|closed| arrivals(&closed.trace) == wanted)
+    match host.close(rt, ports, workers) {
+        Ok(closed) => arrivals(&closed.trace) == wanted,
+        Err(_) => false,
+    }
 }
 
 /// Whether both readers of a node make their steps, and the node closes with both frames.
-fn reads_in_order<R, C>(
-    rt: R,
-    alloc: Global,
-    node: Started<C>,
-    watch: &Arc<Watch, Global>,
-) -> Result<bool, HostError>
+fn reads_in_order<C, R>(rt: R, alloc: Global, watch: &Arc<Watch, Global>) -> Result<bool, HostError>
 where
+    C: TestedCore<Global> + Drop + Send + 'static,
     R: Threads + Wait + Clock + Abort + Copy + Send + Drop + 'static,
-    C: NodeCore<Global> + Drop + Send + 'static,
 {
-    let workers = start_readers(rt, alloc, &node.host, watch)?;
+    let mut node: Node<C> = start(&rt, alloc, "a", "p q", 0)?;
+    start_readers(rt, alloc, &mut node, watch)?;
     let is_read = watch.wait_for_both(&rt);
-    Ok(closes_with(&rt, node, workers, 2) && is_read)
+    Ok(closes_with(&rt, node, 2) && is_read)
 }
 
 /// Two readers with one frame each, of which the second one goes first, after the first one was refused. Both frames
 /// arrive, and the first reader asks less often than it may.
 #[test]
 fn gated_readers(rt: HostRuntime) -> Result<(), Fail> {
-    let alloc = rt.alloc();
-    let watch = Arc::new(alloc, Watch::new())?;
-    let node = start_with_two(&rt, alloc, "a", ["p", "q"], 0)?;
-    assert!(rt; reads_in_order(rt, alloc, node, &watch)?);
+    let watch = Arc::new(rt.alloc(), Watch::new())?;
+    assert!(rt; reads_in_order::<PlumCore, _>(rt, rt.alloc(), &watch)?);
     Ok(())
 }
 
@@ -209,33 +206,27 @@ impl<R: Wait + Drop> Gate for Shut<R> {
 }
 
 /// Whether a reader that its gate never lets through ends, and the node takes nothing from it.
-fn ends_at_the_gate<R, C>(
+fn ends_at_the_gate<C, R>(
     rt: R,
     alloc: Global,
-    node: Started<C>,
     watch: &Arc<Watch, Global>,
 ) -> Result<bool, HostError>
 where
+    C: TestedCore<Global> + Drop + Send + 'static,
     R: Threads + Wait + Clock + Abort + Copy + Send + Drop + 'static,
-    C: NodeCore<Global> + Drop + Send + 'static,
 {
+    let mut node: Node<C> = start(&rt, alloc, "a", "p", 0)?;
     let watch = Arc::try_clone(watch)?;
     let gate = Shut { rt, watch };
-    let mut workers = Vec::new(alloc);
-    keep(
-        &mut workers,
-        start_reader(rt, alloc, &node.host, gate, 0, "p")?,
-    )?;
-    Ok(closes_with(&rt, node, workers, 0))
+    start_reader(rt, alloc, &mut node, gate, 0, "p")?;
+    Ok(closes_with(&rt, node, 0))
 }
 
 /// A reader asks a gate a thousand times before one step, and then ends.
 #[test]
 fn a_shut_gate(rt: HostRuntime) -> Result<(), Fail> {
-    let alloc = rt.alloc();
-    let watch = Arc::new(alloc, Watch::new())?;
-    let node = start_with_one(&rt, alloc, "a", "p", 0)?;
-    assert!(rt; ends_at_the_gate(rt, alloc, node, &watch)?);
-    assert!(rt; watch.reports(&rt).refused == 1_000);
+    let watch = Arc::new(rt.alloc(), Watch::new())?;
+    let is_shut = ends_at_the_gate::<PlumCore, _>(rt, rt.alloc(), &watch)?;
+    assert!(rt; is_shut && watch.reports(&rt).refused == 1_000);
     Ok(())
 }

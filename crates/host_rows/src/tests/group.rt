@@ -1,14 +1,13 @@
 //! Three nodes that are linked to each other.
-use crate::tests::ends::close;
 use crate::tests::inbox::{Inbox, ToInbox};
-use crate::tests::node::{Started, keep, start_with_two};
+use crate::tests::node::{Node, TestedCore, keep, start};
 use bytes::Bytes;
 use frames::Frame;
 use memory_links::{PipeDialler, PipeReader, PipeWriter, new_pipe};
 use node_core::PlumCore;
 use node_threads::{
-    Call, Closed, Host, HostError, NodeCore, OpenGate, Outlet, Port, Ticker, Worker, hand_out,
-    read_link, tick, write_link,
+    Call, Closed, HostError, NodeCore, OpenGate, Port, Ticker, hand_out, read_link, tick,
+    write_link,
 };
 use std::alloc::{AllocError, Global};
 use std::process::Abort;
@@ -35,195 +34,114 @@ impl<R: Clock + Drop> Ticker for Millisecond<R> {
     }
 }
 
-/// The ends of pipes that one node reads and writes. The writers are in the order of its peers.
-#[derive(Drop)]
-struct Ends<R: Wait + Drop> {
-    readers: Vec<PipeReader<R>>,
-    writers: Vec<PipeWriter<R>>,
-}
-
 /// A running node, the threads that broadcast through its ports, and what it handed out.
 #[derive(Drop)]
-struct Running<C: NodeCore<Global> + Drop> {
-    host: Host<C>,
-    ports: Vec<Port<C>>,
-    threads: Vec<JoinHandle<Option<Port<C>>>>,
-    workers: Vec<Worker>,
+struct Member<C: NodeCore<Global> + Drop> {
+    node: Node<C>,
+    threads: Vec<JoinHandle<Port<C>>>,
     inbox: Arc<Inbox, Global>,
 }
 
-/// Starts the workers that read.
-fn start_readers<R, C>(
-    rt: R,
-    host: &Host<C>,
-    readers: Vec<PipeReader<R>>,
-    workers: &mut Vec<Worker>,
-) -> Result<(), HostError>
-where
-    R: Threads + Wait + Clock + Copy + Send + Drop + 'static,
-    C: NodeCore<Global> + Drop + Send + 'static,
-{
-    for reader in readers {
-        keep(workers, read_link(rt, host, OpenGate, 0, reader, 1)?)?;
-    }
-    Ok(())
-}
-
-/// Starts the workers that write.
-fn start_writers<R, C>(
-    rt: R,
-    host: &Host<C>,
-    outlets: Vec<Outlet>,
-    writers: Vec<PipeWriter<R>>,
-    workers: &mut Vec<Worker>,
-) -> Result<(), HostError>
-where
-    R: Threads + Wait + Clock + Copy + Send + Drop + 'static,
-    C: NodeCore<Global> + Drop + Send + 'static,
-{
-    for (outlet, writer) in outlets.into_iter().zip(writers) {
-        let dialler = PipeDialler::new(writer);
-        keep(workers, write_link(rt, host, OpenGate, 1, outlet, dialler)?)?;
-    }
-    Ok(())
-}
-
 /// Starts the worker that ticks and the one that hands out deliveries.
-fn start_others<R, C>(
-    rt: R,
-    host: &Host<C>,
-    inbox: &Arc<Inbox, Global>,
-    workers: &mut Vec<Worker>,
-) -> Result<(), HostError>
+fn start_workers<C, R>(rt: R, member: &mut Member<C>) -> Result<(), HostError>
 where
-    R: Threads + Wait + Clock + Copy + Send + Drop + 'static,
     C: NodeCore<Global> + Drop + Send + 'static,
+    R: Threads + Wait + Clock + Copy + Send + Drop + 'static,
 {
-    keep(workers, tick(rt, host, OpenGate, 2, Millisecond { rt }, 1)?)?;
-    let sink = ToInbox::new(rt, Arc::try_clone(inbox)?);
-    keep(workers, hand_out(rt, host, OpenGate, 3, sink)?)?;
+    let node = &mut member.node;
+    let ticker = tick(rt, &node.host, OpenGate, 2, Millisecond { rt }, 1)?;
+    keep(&mut node.workers, ticker)?;
+    let sink = ToInbox::new(rt, Arc::try_clone(&member.inbox)?);
+    let hander = hand_out(rt, &node.host, OpenGate, 3, sink)?;
+    keep(&mut node.workers, hander)?;
     Ok(())
 }
 
-/// Starts all workers of a node.
-fn start_workers<R, C>(
-    rt: R,
-    node: &mut Running<C>,
-    outlets: Vec<Outlet>,
-    ends: Ends<R>,
-) -> Result<(), HostError>
+/// Starts a node with two ports, and its workers that need no link.
+fn start_member<C, R>(rt: R, alloc: Global, me: &str, peers: &str) -> Result<Member<C>, HostError>
 where
-    R: Threads + Wait + Clock + Copy + Send + Drop + 'static,
-    C: NodeCore<Global> + Drop + Send + 'static,
-{
-    let Ends { readers, writers } = ends;
-    start_readers(rt, &node.host, readers, &mut node.workers)?;
-    start_writers(rt, &node.host, outlets, writers, &mut node.workers)?;
-    start_others(rt, &node.host, &node.inbox, &mut node.workers)
-}
-
-/// Starts a node's workers.
-fn run<R, C>(rt: R, alloc: Global, node: Started<C>, ends: Ends<R>) -> Result<Running<C>, HostError>
-where
-    R: Threads + Wait + Clock + Copy + Send + Drop + 'static,
-    C: NodeCore<Global> + Drop + Send + 'static,
-{
-    let inbox = Inbox::shared(alloc)?;
-    let Started {
-        host,
-        ports,
-        outlets,
-    } = node;
-    let mut node = Running {
-        host,
-        ports,
-        threads: Vec::new(alloc),
-        workers: Vec::new(alloc),
-        inbox,
-    };
-    start_workers(rt, &mut node, outlets, ends)?;
-    Ok(node)
-}
-
-/// Gives a pipe's reading end to the node at this place.
-fn give_reader<R: Wait + Drop>(
-    ends: &mut [Ends<R>],
-    place: usize,
-    reader: PipeReader<R>,
-) -> Result<(), AllocError> {
-    if let Some(ends) = ends.get_mut(place) {
-        ends.readers.push(reader)?;
-    }
-    Ok(())
-}
-
-/// Gives a pipe's writing end to the node at this place.
-fn give_writer<R: Wait + Drop>(
-    ends: &mut [Ends<R>],
-    place: usize,
-    writer: PipeWriter<R>,
-) -> Result<(), AllocError> {
-    if let Some(ends) = ends.get_mut(place) {
-        ends.writers.push(writer)?;
-    }
-    Ok(())
-}
-
-/// Makes a pipe from one node to another.
-fn link<R: Wait + Copy + Drop>(
-    rt: R,
-    alloc: Global,
-    ends: &mut [Ends<R>],
-    from: usize,
-    to: usize,
-) -> Result<(), AllocError> {
-    let (reader, writer) = new_pipe(rt, alloc)?;
-    give_reader(ends, to, reader)?;
-    give_writer(ends, from, writer)
-}
-
-/// Makes the ends of three nodes that have no pipes.
-fn no_ends<R: Wait + Copy + Drop>(alloc: Global) -> Result<Vec<Ends<R>>, AllocError> {
-    let mut ends = Vec::with_capacity(alloc, 3)?;
-    for _ in 0..3 {
-        ends.push(Ends {
-            readers: Vec::new(alloc),
-            writers: Vec::new(alloc),
-        })?;
-    }
-    Ok(ends)
-}
-
-/// Makes the ends of three nodes with a pipe from each node to each other one.
-fn new_ends<R: Wait + Copy + Drop>(rt: R, alloc: Global) -> Result<Vec<Ends<R>>, AllocError> {
-    let mut ends = no_ends(alloc)?;
-    for (from, to) in [(0, 1), (0, 2), (1, 0), (1, 2), (2, 0), (2, 1)] {
-        link(rt, alloc, ends.as_mut_slice(), from, to)?;
-    }
-    Ok(ends)
-}
-
-/// Starts the node at this place, which has two ports and the other two nodes as its peers.
-fn start_at(rt: &impl Abort, alloc: Global, place: usize) -> Result<Started<PlumCore>, HostError> {
-    let (me, peers) = match place {
-        0 => ("a", ["b", "c"]),
-        1 => ("b", ["a", "c"]),
-        _ => ("c", ["a", "b"]),
-    };
-    start_with_two(rt, alloc, me, peers, 2)
-}
-
-/// Starts three nodes, each with links to the other two and with two ports.
-fn run_three<R>(rt: R, alloc: Global) -> Result<Vec<Running<PlumCore>>, HostError>
-where
+    C: TestedCore<Global> + Drop + Send + 'static,
     R: Threads + Wait + Clock + Abort + Copy + Send + Drop + 'static,
 {
-    let mut nodes = Vec::new(alloc);
-    for (place, ends) in new_ends(rt, alloc)?.into_iter().enumerate() {
-        let node = start_at(&rt, alloc, place)?;
-        keep(&mut nodes, run(rt, alloc, node, ends)?)?;
+    let mut member = Member {
+        node: start(&rt, alloc, me, peers, 2)?,
+        threads: Vec::new(alloc),
+        inbox: Inbox::shared(alloc)?,
+    };
+    start_workers(rt, &mut member)?;
+    Ok(member)
+}
+
+/// Starts the worker of a node that reads a pipe.
+fn start_reader<C, R>(rt: R, node: &mut Node<C>, reader: PipeReader<R>) -> Result<(), HostError>
+where
+    C: NodeCore<Global> + Drop + Send + 'static,
+    R: Threads + Wait + Clock + Copy + Send + Drop + 'static,
+{
+    let reader = read_link(rt, &node.host, OpenGate, 0, reader, 1)?;
+    keep(&mut node.workers, reader)?;
+    Ok(())
+}
+
+/// Starts the worker of a node that writes its last outlet that has no worker into a pipe.
+fn start_writer<C, R>(rt: R, node: &mut Node<C>, writer: PipeWriter<R>) -> Result<(), HostError>
+where
+    C: NodeCore<Global> + Drop + Send + 'static,
+    R: Threads + Wait + Clock + Copy + Send + Drop + 'static,
+{
+    if let Some(outlet) = node.outlets.pop() {
+        let dialler = PipeDialler::new(writer);
+        let writer = write_link(rt, &node.host, OpenGate, 1, outlet, dialler)?;
+        keep(&mut node.workers, writer)?;
     }
-    Ok(nodes)
+    Ok(())
+}
+
+/// Links one node to another, which is the last of its peers that it is not linked to.
+fn link<C, R>(
+    rt: R,
+    alloc: Global,
+    members: &mut [Member<C>],
+    from: usize,
+    to: usize,
+) -> Result<(), HostError>
+where
+    C: NodeCore<Global> + Drop + Send + 'static,
+    R: Threads + Wait + Clock + Copy + Send + Drop + 'static,
+{
+    let (reader, writer) = new_pipe(rt, alloc)?;
+    if let Some(member) = members.get_mut(to) {
+        start_reader(rt, &mut member.node, reader)?;
+    }
+    if let Some(member) = members.get_mut(from) {
+        start_writer(rt, &mut member.node, writer)?;
+    }
+    Ok(())
+}
+
+/// Links three nodes to each other.
+fn link_all<C, R>(rt: R, alloc: Global, members: &mut [Member<C>]) -> Result<(), HostError>
+where
+    C: NodeCore<Global> + Drop + Send + 'static,
+    R: Threads + Wait + Clock + Copy + Send + Drop + 'static,
+{
+    for (from, to) in [(0, 2), (0, 1), (1, 2), (1, 0), (2, 1), (2, 0)] {
+        link(rt, alloc, members, from, to)?;
+    }
+    Ok(())
+}
+
+/// Starts three nodes, which are not linked yet.
+fn start_three<C, R>(rt: R, alloc: Global) -> Result<Vec<Member<C>>, HostError>
+where
+    C: TestedCore<Global> + Drop + Send + 'static,
+    R: Threads + Wait + Clock + Abort + Copy + Send + Drop + 'static,
+{
+    let mut members = Vec::new(alloc);
+    for (me, peers) in [("a", "b c"), ("b", "a c"), ("c", "a b")] {
+        keep(&mut members, start_member(rt, alloc, me, peers)?)?;
+    }
+    Ok(members)
 }
 
 /// Broadcasts this byte.
@@ -252,56 +170,49 @@ fn broadcast_ten<R: Wait, C: NodeCore<Global> + Drop>(
     true
 }
 
-/// Broadcasts ten messages through a port. Returns the port if all of them were accepted.
-fn broadcast_by<R: Wait, C: NodeCore<Global> + Drop>(
-    rt: &R,
-    alloc: Global,
-    mut port: Port<C>,
-) -> Option<Port<C>> {
-    broadcast_ten(rt, alloc, &mut port).then_some(port)
-}
-
-/// Starts a thread that calls `broadcast_by`.
-fn start_broadcasts<R, C>(
+/// Starts a thread that broadcasts ten messages through a port and returns it.
+fn start_broadcasts<C, R>(
     rt: R,
     alloc: Global,
-    port: Port<C>,
-) -> Result<JoinHandle<Option<Port<C>>>, HostError>
+    mut port: Port<C>,
+) -> Result<JoinHandle<Port<C>>, HostError>
 where
-    R: Threads + Wait + Copy + Send + Drop + 'static,
     C: NodeCore<Global> + Drop + Send + 'static,
+    R: Threads + Wait + Copy + Send + Drop + 'static,
 {
-    match thread::spawn(&rt, move || broadcast_by(&rt, alloc, port)) {
+    let started = thread::spawn(&rt, move || {
+        // If one is refused, the trace has too few broadcasts.
+        let _ = broadcast_ten(&rt, alloc, &mut port);
+        port
+    });
+    match started {
         Ok(thread) => Ok(thread),
         Err(_) => Err(HostError::OutOfMemory),
     }
 }
 
 /// Starts such a thread for each port of a node.
-fn start_all_broadcasts<R, C>(rt: R, alloc: Global, node: &mut Running<C>) -> Result<(), HostError>
+fn start_all_broadcasts<C, R>(rt: R, alloc: Global, member: &mut Member<C>) -> Result<(), HostError>
 where
-    R: Threads + Wait + Copy + Send + Drop + 'static,
     C: NodeCore<Global> + Drop + Send + 'static,
+    R: Threads + Wait + Copy + Send + Drop + 'static,
 {
-    for port in mem::replace(&mut node.ports, Vec::new(alloc)) {
-        keep(&mut node.threads, start_broadcasts(rt, alloc, port)?)?;
+    for port in mem::replace(&mut member.node.ports, Vec::new(alloc)) {
+        keep(&mut member.threads, start_broadcasts(rt, alloc, port)?)?;
     }
     Ok(())
 }
 
-/// Waits for the threads. Returns the ports that come back from them.
-fn join_ports<R: Threads, C: NodeCore<Global> + Drop>(
+/// Waits for the threads of a node, which give its ports back.
+fn join_ports<C: NodeCore<Global> + Drop, R: Threads>(
     rt: &R,
     alloc: Global,
-    threads: Vec<JoinHandle<Option<Port<C>>>>,
-) -> Result<Vec<Port<C>>, AllocError> {
-    let mut ports = Vec::new(alloc);
-    for thread in threads {
-        if let Some(port) = thread.join(rt) {
-            ports.push(port)?;
-        }
+    member: &mut Member<C>,
+) -> Result<(), AllocError> {
+    for thread in mem::replace(&mut member.threads, Vec::new(alloc)) {
+        keep(&mut member.node.ports, thread.join(rt))?;
     }
-    Ok(ports)
+    Ok(())
 }
 
 /// Whether the receipt is the one of its payload's broadcast in the trace.
@@ -379,84 +290,89 @@ fn are_right(trace: &Trace<Frame>, calls: &[Call]) -> bool {
     calls.iter().all(|call| is_right(trace, call))
 }
 
-/// Closes a node with its ports. Returns whether `is_whole` holds and all receipts are right.
-fn closes_whole<R: Threads + Wait, C: NodeCore<Global> + Drop>(
+/// Closes a node. Returns whether `is_whole` holds and all receipts are right.
+fn closes_whole<C: NodeCore<Global> + Drop, R: Threads + Wait>(
     rt: &R,
     alloc: Global,
-    node: Running<C>,
+    node: Node<C>,
+    inbox: &Inbox,
 ) -> Result<bool, AllocError> {
-    let Running {
+    let Node {
         host,
-        ports: _,
-        threads,
+        ports,
+        outlets: _,
         workers,
-        inbox,
     } = node;
-    let ports = join_ports(rt, alloc, threads)?;
     let calls = calls(alloc, ports.as_slice())?;
-    let Some(closed) = close(rt, host, ports, workers) else {
-        return Ok(false);
-    };
-    Ok(are_right(&closed.trace, calls.as_slice()) && is_whole(rt, alloc, &closed, &inbox)?)
-}
-
-/// Broadcasts ten messages through each port, all ports at once.
-fn broadcast_all<R, C>(rt: R, alloc: Global, nodes: &mut [Running<C>]) -> Result<(), HostError>
-where
-    R: Threads + Wait + Copy + Send + Drop + 'static,
-    C: NodeCore<Global> + Drop + Send + 'static,
-{
-    for node in nodes {
-        start_all_broadcasts(rt, alloc, node)?;
+    match host.close(rt, ports, workers) {
+        Ok(closed) => {
+            Ok(are_right(&closed.trace, calls.as_slice()) && is_whole(rt, alloc, &closed, inbox)?)
+        }
+        Err(_) => Ok(false),
     }
-    Ok(())
 }
 
-/// Waits until each node has handed out sixty messages. Returns whether all have.
-fn wait_for_all<R: Wait + Clock, C: NodeCore<Global> + Drop>(rt: &R, nodes: &[Running<C>]) -> bool {
-    nodes
-        .iter()
-        .all(|node| node.inbox.wait_for(rt, 6 * BROADCASTS))
+/// Broadcasts ten messages through each port, all ports at once, and waits until each node has handed out sixty.
+/// Returns whether all have.
+fn broadcast_all<C, R>(rt: R, alloc: Global, members: &mut [Member<C>]) -> Result<bool, HostError>
+where
+    C: NodeCore<Global> + Drop + Send + 'static,
+    R: Threads + Wait + Clock + Copy + Send + Drop + 'static,
+{
+    for member in members.iter_mut() {
+        start_all_broadcasts(rt, alloc, member)?;
+    }
+    Ok(
+        members
+            .iter()
+            .all(|member| member.inbox.wait_for(&rt, 6 * BROADCASTS)),
+    )
 }
 
 /// Stops all nodes.
-fn stop_all<R: Wait, C: NodeCore<Global> + Drop>(rt: &R, nodes: &[Running<C>]) {
-    for node in nodes {
-        node.host.stop(rt);
+fn stop_all<C: NodeCore<Global> + Drop, R: Wait>(rt: &R, members: &[Member<C>]) {
+    for member in members {
+        member.node.host.stop(rt);
     }
 }
 
 /// Closes all nodes. Returns whether `closes_whole` holds for each of them.
-fn close_all<R: Threads + Wait, C: NodeCore<Global> + Drop>(
+fn close_all<C: NodeCore<Global> + Drop, R: Threads + Wait>(
     rt: &R,
     alloc: Global,
-    nodes: Vec<Running<C>>,
+    members: Vec<Member<C>>,
 ) -> Result<bool, AllocError> {
-    for node in nodes {
-        if !closes_whole(rt, alloc, node)? {
+    for mut member in members {
+        join_ports(rt, alloc, &mut member)?;
+        let Member {
+            node,
+            threads: _,
+            inbox,
+        } = member;
+        if !closes_whole(rt, alloc, node, &inbox)? {
             return Ok(false);
         }
     }
     Ok(true)
 }
 
-/// Whether three running nodes broadcast and hand out all messages, and all close whole.
-fn are_whole<R, C>(rt: R, alloc: Global, mut nodes: Vec<Running<C>>) -> Result<bool, HostError>
+/// Whether three nodes broadcast and hand out all messages, and all close whole.
+fn are_whole<C, R>(rt: R, alloc: Global) -> Result<bool, HostError>
 where
-    R: Threads + Wait + Clock + Copy + Send + Drop + 'static,
-    C: NodeCore<Global> + Drop + Send + 'static,
+    C: TestedCore<Global> + Drop + Send + 'static,
+    R: Threads + Wait + Clock + Abort + Copy + Send + Drop + 'static,
 {
-    broadcast_all(rt, alloc, nodes.as_mut_slice())?;
-    let is_handed_out = wait_for_all(&rt, nodes.as_slice());
-    stop_all(&rt, nodes.as_slice());
-    Ok(close_all(&rt, alloc, nodes)? && is_handed_out)
+    let mut members: Vec<Member<C>> = start_three(rt, alloc)?;
+    link_all(rt, alloc, members.as_mut_slice())?;
+    let are_handed_out = broadcast_all(rt, alloc, members.as_mut_slice())?;
+    stop_all(&rt, members.as_slice());
+    Ok(close_all(&rt, alloc, members)? && are_handed_out)
 }
 
 /// Three nodes broadcast twenty messages each, through two ports at once. Each delivers all sixty, hands them out in
 /// the order of its trace, and closes.
 #[test]
 fn three_hosts(rt: HostRuntime) -> Result<(), Fail> {
-    let nodes = run_three(rt, rt.alloc())?;
-    assert!(rt; are_whole(rt, rt.alloc(), nodes)?);
+    assert!(rt; are_whole::<PlumCore, _>(rt, rt.alloc())?);
     Ok(())
 }

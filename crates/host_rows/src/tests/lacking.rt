@@ -1,9 +1,10 @@
 //! Workers for which memory runs out.
-use crate::tests::dice::waits_for_end;
-use crate::tests::ends::{broadcast_by_each, close};
-use crate::tests::node::{Started, keep, start_with_one};
+use crate::tests::ends::broadcast_by_each;
+use crate::tests::node::{Node, TestedCore, close, keep, start};
+use crate::tests::readers::wait_for_ends;
 use links::{LinkEnd, TapeWriter};
-use node_threads::{Dialler, Host, HostError, NodeCore, OpenGate, Outlet, Worker, write_link};
+use node_core::PlumCore;
+use node_threads::{Dialler, HostError, NodeCore, OpenGate, write_link};
 use std::alloc::Global;
 use std::process::Abort;
 use std::sync::Wait;
@@ -25,62 +26,56 @@ impl Dialler for NoConnection {
     }
 }
 
-/// Starts writers for these outlets, whose connections can't be made for this reason.
-fn write_all<R, C>(
-    rt: R,
-    alloc: Global,
-    host: &Host<C>,
-    outlets: Vec<Outlet>,
-    why: LinkEnd,
-) -> Result<Vec<Worker>, HostError>
+/// Starts a writer of a node's link whose connection can't be made for this reason.
+fn start_writer<C, R>(rt: R, node: &mut Node<C>, why: LinkEnd) -> Result<(), HostError>
 where
-    R: Threads + Wait + Copy + Send + Drop + 'static,
     C: NodeCore<Global> + Drop + Send + 'static,
+    R: Threads + Wait + Copy + Send + Drop + 'static,
 {
-    let mut workers = Vec::new(alloc);
-    for outlet in outlets {
-        let writer = write_link(rt, host, OpenGate, 0, outlet, NoConnection { why })?;
-        keep(&mut workers, writer)?;
+    if let Some(outlet) = node.outlets.pop() {
+        let writer = write_link(rt, &node.host, OpenGate, 0, outlet, NoConnection { why })?;
+        keep(&mut node.workers, writer)?;
     }
-    Ok(workers)
+    Ok(())
 }
 
-/// Lets a node broadcast over links whose connections can't be made for this reason, and closes it. Returns whether it
-/// reports that a worker ran out of memory, or `None` if something is wrong.
-fn tells<R, C>(
+/// Lets a node broadcast over a link whose connection can't be made for this reason, and closes it once its writer has
+/// ended. Returns whether the node reports that a worker ran out of memory from then on, if that is `wanted`, and never
+/// otherwise. Replaces the text with what it leaves.
+fn tells<C, R>(
     rt: R,
     alloc: Global,
-    node: Started<C>,
+    text: &mut String,
     why: LinkEnd,
-) -> Result<Option<bool>, HostError>
+    wanted: bool,
+) -> Result<bool, HostError>
 where
-    R: Threads + Wait + Clock + Copy + Send + Drop + 'static,
-    C: NodeCore<Global> + Drop + Send + 'static,
+    C: TestedCore<Global> + Drop + Send + 'static,
+    R: Threads + Wait + Clock + Abort + Copy + Send + Drop + 'static,
 {
-    let Started {
-        host,
-        mut ports,
-        outlets,
-    } = node;
-    broadcast_by_each(&rt, alloc, ports.as_mut_slice())?;
-    let is_early = host.lacks_memory();
-    let workers = write_all(rt, alloc, &host, outlets, why)?;
-    host.stop(&rt);
-    let have_ended = workers.iter().all(|writer| waits_for_end(&rt, writer));
-    let is_told = host.lacks_memory();
-    let closed = close(&rt, host, ports, workers);
-    Ok((have_ended && !is_early && closed.is_some()).then_some(is_told))
+    let mut node: Node<C> = start(&rt, alloc, "a", "p", 1)?;
+    broadcast_by_each(&rt, alloc, node.ports.as_mut_slice())?;
+    let is_early = node.host.lacks_memory();
+    start_writer(rt, &mut node, why)?;
+    node.host.stop(&rt);
+    let has_ended = wait_for_ends(&rt, node.workers.as_slice());
+    let is_told = node.host.lacks_memory();
+    close(&rt, text, node)?;
+    Ok(has_ended && !is_early && is_told == wanted)
 }
 
 /// A host reports a writer that can't have a connection because memory ran out, and does not report one that can't have
-/// it for another reason.
+/// it for another reason. Either way it closes.
 #[test]
 fn lack_of_memory_is_told(rt: HostRuntime) -> Result<(), Fail> {
-    let alloc = rt.alloc();
+    let mut text = String::new(rt.alloc());
     let fault = LinkEnd::WriteFault { bytes: 0 };
     for (why, wanted) in [(LinkEnd::OutOfMemory, true), (fault, false)] {
-        let node = start_with_one(&rt, alloc, "a", "p", 1)?;
-        assert!(rt; tells(rt, alloc, node, why)? == Some(wanted));
+        let is_so = tells::<PlumCore, _>(rt, rt.alloc(), &mut text, why, wanted)?;
+        assert!(rt;
+            is_so && text.starts_with("a/1 among p | broadcast hello"),
+            "{text}"
+        );
     }
     Ok(())
 }

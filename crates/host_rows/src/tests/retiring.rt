@@ -1,18 +1,20 @@
 //! Writers that end before their node does.
-use crate::tests::dice::waits_for_end;
-use crate::tests::ends::{broadcast_by_each, close};
-use crate::tests::node::{Started, keep, start_with_one};
+use crate::tests::ends::broadcast_by_each;
+use crate::tests::node::{Node, TestedCore, close, keep, start};
+use crate::tests::readers::wait_for_ends;
 use links::{LinkEnd, TapeWriter};
-use node_names::NodeName;
-use node_threads::{
-    Closed, Dialler, Host, HostError, NodeCore, OpenGate, Outlet, Port, Worker, write_link,
-};
-use std::alloc::Global;
+use node_core::PlumCore;
+use node_threads::{Dialler, HostError, NodeCore, OpenGate, Outlet, write_link};
+use std::alloc::{AllocError, Global};
 use std::process::Abort;
 use std::sync::Wait;
 use std::test::Fail;
 use std::thread::Threads;
 use std::time::Clock;
+
+/// What a node leaves that broadcast twice, if both frames came out of its link.
+const LEFT: &str =
+    "a/1 among p | broadcast hello; a/1 delivers a/1/1 hello; to p a/1#1 GOSSIP a/1/1 0 hello | broadcast hello; a/1 delivers a/1/2 hello; to p a/1#2 GOSSIP a/1/2 0 hello | handed out 0; 2 to p from 0";
 
 /// Makes connections that take everything.
 #[derive(Drop)]
@@ -28,98 +30,68 @@ impl Dialler for Tapes {
     }
 }
 
-/// Broadcasts once, lets a writer write an outlet, retires the writer, and waits until it has ended. Returns its
-/// worker.
-fn write_once<R, C>(
+/// Broadcasts once, lets a writer write an outlet, retires the writer, and takes the outlet back once it has ended.
+fn write_once<C, R>(
     rt: R,
     alloc: Global,
-    host: &Host<C>,
-    ports: &mut [Port<C>],
+    node: &mut Node<C>,
     outlet: Outlet,
-) -> Result<Vec<Worker>, HostError>
+) -> Result<(), HostError>
 where
-    R: Threads + Wait + Clock + Copy + Send + Drop + 'static,
     C: NodeCore<Global> + Drop + Send + 'static,
+    R: Threads + Wait + Clock + Copy + Send + Drop + 'static,
 {
     let peer = outlet.peer();
-    let writer = write_link(rt, host, OpenGate, 0, outlet, Tapes { alloc })?;
-    broadcast_by_each(&rt, alloc, ports)?;
-    host.retire(&rt, &peer);
-    let _ = waits_for_end(&rt, &writer);
-    let mut workers = Vec::new(alloc);
-    keep(&mut workers, writer)?;
-    Ok(workers)
+    let writer = write_link(rt, &node.host, OpenGate, 0, outlet, Tapes { alloc })?;
+    keep(&mut node.workers, writer)?;
+    broadcast_by_each(&rt, alloc, node.ports.as_mut_slice())?;
+    node.host.retire(&rt, &peer);
+    let _ = wait_for_ends(&rt, node.workers.as_slice());
+    node.host
+        .join_ended(&rt, &mut node.workers, &mut node.outlets)
 }
 
-/// Writes outlets one after another, twice in all. Returns the outlets.
-fn write_twice<R, C>(
-    rt: R,
-    alloc: Global,
-    host: &mut Host<C>,
-    ports: &mut [Port<C>],
-    mut outlets: Vec<Outlet>,
-) -> Result<Vec<Outlet>, HostError>
+/// Writes a node's outlet twice.
+fn write_twice<C, R>(rt: R, alloc: Global, node: &mut Node<C>) -> Result<(), HostError>
 where
-    R: Threads + Wait + Clock + Copy + Send + Drop + 'static,
     C: NodeCore<Global> + Drop + Send + 'static,
+    R: Threads + Wait + Clock + Copy + Send + Drop + 'static,
 {
     for _ in 0..2 {
-        let Some(outlet) = outlets.pop() else {
-            return Ok(outlets);
-        };
-        let mut workers = write_once(rt, alloc, host, ports, outlet)?;
-        host.join_ended(&rt, &mut workers, &mut outlets)?;
+        if let Some(outlet) = node.outlets.pop() {
+            write_once(rt, alloc, node, outlet)?;
+        }
     }
-    Ok(outlets)
+    Ok(())
 }
 
-/// Makes the workers that bring these outlets to the close.
-fn rest_all<C: NodeCore<Global> + Drop>(
-    alloc: Global,
-    host: &Host<C>,
-    outlets: Vec<Outlet>,
-) -> Result<Vec<Worker>, HostError> {
-    let mut workers = Vec::new(alloc);
-    for outlet in outlets {
-        keep(&mut workers, host.rest(outlet))?;
-    }
-    Ok(workers)
-}
-
-/// Whether the only link of a node gave two frames to this peer.
-fn gave_two(closed: &Closed, peer: &NodeName) -> bool {
-    match closed.links.as_slice() {
-        [link] => link.peer == *peer && link.taken == 2,
-        _ => false,
+/// Brings a node's outlet to the close.
+fn rest<C: NodeCore<Global> + Drop>(node: &mut Node<C>) -> Result<(), AllocError> {
+    match node.outlets.pop() {
+        Some(outlet) => keep(&mut node.workers, node.host.rest(outlet)),
+        None => Ok(()),
     }
 }
 
-/// Retires a node's writer twice, and closes the node. Returns whether the close reports what its outlet gave.
-fn retires<R, C>(rt: R, alloc: Global, node: Started<C>) -> Result<bool, HostError>
+/// Retires a node's writer twice, and closes the node. Replaces the text with what the node leaves.
+fn retire<C, R>(rt: R, alloc: Global, text: &mut String) -> Result<(), HostError>
 where
-    R: Threads + Wait + Clock + Copy + Send + Drop + 'static,
-    C: NodeCore<Global> + Drop + Send + 'static,
+    C: TestedCore<Global> + Drop + Send + 'static,
+    R: Threads + Wait + Clock + Abort + Copy + Send + Drop + 'static,
 {
-    let Started {
-        mut host,
-        mut ports,
-        outlets,
-    } = node;
-    let Some(peer) = outlets.first().map(|outlet| outlet.peer()) else {
-        return Ok(false);
-    };
-    let outlets = write_twice(rt, alloc, &mut host, ports.as_mut_slice(), outlets)?;
-    let workers = rest_all(alloc, &host, outlets)?;
-    let closed = close(&rt, host, ports, workers);
-    Ok(closed.is_some_and(|closed| gave_two(&closed, &peer)))
+    let mut node: Node<C> = start(&rt, alloc, "a", "p", 1)?;
+    write_twice(rt, alloc, &mut node)?;
+    rest(&mut node)?;
+    close(&rt, text, node)?;
+    Ok(())
 }
 
 /// A node broadcasts, and its writer retires once the frame is written; then the same happens again with a new writer
 /// for the same outlet. The close is given the outlet without a thread, and reports both frames.
 #[test]
 fn a_writer_retires(rt: HostRuntime) -> Result<(), Fail> {
-    let alloc = rt.alloc();
-    let node = start_with_one(&rt, alloc, "a", "p", 1)?;
-    assert!(rt; retires(rt, alloc, node)?);
+    let mut text = String::new(rt.alloc());
+    retire::<PlumCore, _>(rt, rt.alloc(), &mut text)?;
+    assert!(rt; text.as_str() == LEFT, "{text}");
     Ok(())
 }

@@ -24,10 +24,15 @@ impl Tally {
         )?)
     }
 
-    /// Waits until at least `steps` steps have been reported. Returns whether they have.
-    pub(crate) fn wait_for<R: Clock>(&self, rt: &R, steps: u64) -> bool {
+    /// Returns how many steps have been reported.
+    pub(crate) fn steps(&self) -> u64 {
+        self.steps.load(Ordering::SeqCst)
+    }
+
+    /// Waits until a step has been reported. Returns whether one has.
+    pub(crate) fn wait_for_one<R: Clock>(&self, rt: &R) -> bool {
         for _ in 0..LOOKS {
-            if self.steps.load(Ordering::SeqCst) >= steps {
+            if self.steps() > 0 {
                 return true;
             }
             thread::sleep(rt, Duration::from_millis(5));
@@ -39,7 +44,16 @@ impl Tally {
 /// A gate that lets everyone pass, and counts the steps that are reported to it.
 #[derive(Drop)]
 pub(crate) struct Counting {
-    pub(crate) tally: Arc<Tally, Global>,
+    tally: Arc<Tally, Global>,
+}
+
+impl Counting {
+    /// Makes a gate that counts with this tally.
+    pub(crate) fn new(tally: &Arc<Tally, Global>) -> Result<Counting, AllocError> {
+        Ok(Counting {
+            tally: Arc::try_clone(tally)?,
+        })
+    }
 }
 
 impl Gate for Counting {

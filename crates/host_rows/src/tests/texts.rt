@@ -1,19 +1,31 @@
-//! What a node leaves, as text.
+//! What a node leaves, as text. Dice are compared with those that a reader draws.
 use bytes::Bytes;
 use frames::Frame;
 use node_names::{Dice, NodeName, Origin};
 use node_threads::{CloseError, Closed, LinkReport, NodeCore};
+use rand_core::SeedableRng;
+use rand_pcg::Lcg128Xsl64;
 use std::alloc::{AllocError, Allocator};
 use std::fmt::Write;
 use test_support::{push_frame, push_letters};
 use world::{Delivery, Out, Step, Stimulus, StimulusOf, Trace};
 
-/// Appends `by dice` if dice are not all zeros.
-fn push_dice(text: &mut String, dice: &Dice) -> Result<(), AllocError> {
-    if *dice != Dice::ZEROS {
-        write!(text, " by dice")?;
+/// The seed of the generator of a reader's dice.
+pub(crate) const SEED: u64 = 7;
+
+/// Appends nothing if dice are all zeros, `by dice` if they are the generator's next, and `by other dice` otherwise.
+fn push_dice(
+    text: &mut String,
+    dice: &Dice,
+    generator: &mut Lcg128Xsl64,
+) -> Result<(), AllocError> {
+    if *dice == Dice::ZEROS {
+        Ok(())
+    } else if *dice == Dice::draw(generator) {
+        write!(text, " by dice")
+    } else {
+        write!(text, " by other dice")
     }
-    Ok(())
 }
 
 /// Appends a broadcast.
@@ -28,27 +40,36 @@ fn push_arrival<A: Allocator>(
     sender: &Origin,
     frame: &Frame<A>,
     dice: &Dice,
+    generator: &mut Lcg128Xsl64,
 ) -> Result<(), AllocError> {
     write!(text, "from {sender} ")?;
     push_frame(text, frame)?;
-    push_dice(text, dice)
+    push_dice(text, dice, generator)
 }
 
 /// Appends the failure of a link.
-fn push_down(text: &mut String, peer: &NodeName, dice: &Dice) -> Result<(), AllocError> {
+fn push_down(
+    text: &mut String,
+    peer: &NodeName,
+    dice: &Dice,
+    generator: &mut Lcg128Xsl64,
+) -> Result<(), AllocError> {
     write!(text, "down {peer}")?;
-    push_dice(text, dice)
+    push_dice(text, dice, generator)
 }
 
 /// Appends what made a node step.
 fn push_stimulus<A: Allocator>(
     text: &mut String,
     stimulus: &Stimulus<Frame<A>, A>,
+    generator: &mut Lcg128Xsl64,
 ) -> Result<(), AllocError> {
     match stimulus {
         StimulusOf::Broadcast(payload) => push_broadcast(text, payload),
-        StimulusOf::Arrive { sender, note, dice } => push_arrival(text, sender, note, dice),
-        StimulusOf::Down { peer, dice } => push_down(text, peer, dice),
+        StimulusOf::Arrive { sender, note, dice } => {
+            push_arrival(text, sender, note, dice, generator)
+        }
+        StimulusOf::Down { peer, dice } => push_down(text, peer, dice, generator),
         _ => write!(text, "other"),
     }
 }
@@ -92,9 +113,13 @@ fn push_out<A: Allocator>(text: &mut String, out: &Out<Frame<A>, A>) -> Result<(
 }
 
 /// Appends a step.
-fn push_step<A: Allocator>(text: &mut String, step: &Step<Frame<A>, A>) -> Result<(), AllocError> {
+fn push_step<A: Allocator>(
+    text: &mut String,
+    step: &Step<Frame<A>, A>,
+    generator: &mut Lcg128Xsl64,
+) -> Result<(), AllocError> {
     write!(text, " | ")?;
-    push_stimulus(text, &step.stimulus)?;
+    push_stimulus(text, &step.stimulus, generator)?;
     push_out(text, &step.out)
 }
 
@@ -114,14 +139,15 @@ fn push_opening<A: Allocator>(
 }
 
 /// Appends a trace.
-pub(crate) fn push_trace<A: Allocator>(
+fn push_trace<A: Allocator>(
     text: &mut String,
     trace: &Trace<Frame<A>, A>,
 ) -> Result<(), AllocError> {
+    let mut generator = Lcg128Xsl64::seed_from_u64(SEED);
     push_opening(text, trace)?;
     for place in 0..trace.len() {
         if let Some(step) = trace.step(place) {
-            push_step(text, step)?;
+            push_step(text, step, &mut generator)?;
         }
     }
     Ok(())
@@ -140,10 +166,7 @@ fn push_links(text: &mut String, links: &[LinkReport]) -> Result<(), AllocError>
 }
 
 /// Appends what a node left.
-pub(crate) fn push_closed<A: Allocator>(
-    text: &mut String,
-    closed: &Closed<A>,
-) -> Result<(), AllocError> {
+fn push_closed<A: Allocator>(text: &mut String, closed: &Closed<A>) -> Result<(), AllocError> {
     push_trace(text, &closed.trace)?;
     write!(text, " | handed out {}", closed.handed_out)?;
     push_links(text, closed.links.as_slice())

@@ -3,26 +3,26 @@ ghost use Rattle.std.specs.Prelude.{◌≡◌, None, IsTrue, OnOk, OnErr, false}
 ghost use Rattle.std.specs.Io.{WritesAtMost};
 ghost use Rattle.links.specs.Counting.{has_risen, moves_none};
 
-use crate::tests::ends::{broadcast_by_each, close, host_of};
-use crate::tests::node::{LOOKS, Started, keep, start_with_two};
-use frames::{Frame, encode};
+use crate::tests::ends::broadcast_by_each;
+use crate::tests::node::{LOOKS, Node, TestedCore, close, keep, start};
 use links::{LinkEnd, MeteredWrite};
-use node_names::NodeName;
-use node_threads::{
-    CloseError, Closed, Dialler, Host, HostError, NodeCore, OpenGate, Outlet, Port, Worker,
-    write_link,
-};
-use std::alloc::{AllocError, Global};
+use node_core::PlumCore;
+use node_threads::{CloseError, Dialler, HostError, NodeCore, OpenGate, Outlet, write_link};
+use std::alloc::Global;
 use std::io::{ErrorKind, Write};
+use std::process::Abort;
 use std::sync::{Arc, Mutex, Wait};
 use std::test::Fail;
 use std::thread::Threads;
 use std::time::{Clock, Duration};
-use std::{io, thread};
-use world::Trace;
+use std::{io, mem, thread};
 
 /// How often a writer checks whether the others have begun.
 const WRITER_LOOKS: u32 = 1_000;
+
+/// What a node leaves that broadcast three times, if all frames came out of its two links.
+const THREE_BROADCASTS: &str =
+    "a/1 among p q | broadcast hello; a/1 delivers a/1/1 hello; to p a/1#1 GOSSIP a/1/1 0 hello; to q a/1#2 GOSSIP a/1/1 0 hello | broadcast hello; a/1 delivers a/1/2 hello; to p a/1#3 GOSSIP a/1/2 0 hello; to q a/1#4 GOSSIP a/1/2 0 hello | broadcast hello; a/1 delivers a/1/3 hello; to p a/1#5 GOSSIP a/1/3 0 hello; to q a/1#6 GOSSIP a/1/3 0 hello | handed out 0; 3 to p from 0; 3 to q from 0";
 
 /// How many writes have begun, how many are done, and how many bytes those had.
 #[derive(Drop)]
@@ -161,240 +161,145 @@ impl<R: Wait + Clock + Copy + Drop + Send> Dialler for MeetingDialler<R> {
     }
 }
 
-/// Starts a writer for an outlet. Its writes return once `count` writes have begun.
-fn start_writer<R, C>(
+/// Starts writers of these outlets for a node. Their writes return once all have begun.
+fn start_writers<C, R>(
     rt: R,
-    host: &Host<C>,
-    meeting: &Arc<Meeting, Global>,
-    count: usize,
-    outlet: Outlet,
-) -> Result<Worker, HostError>
-where
-    R: Threads + Wait + Clock + Copy + Send + Drop + 'static,
-    C: NodeCore<Global> + Drop + Send + 'static,
-{
-    let dialler = MeetingDialler {
-        rt,
-        meeting: Arc::try_clone(meeting)?,
-        count,
-    };
-    write_link(rt, host, OpenGate, 0, outlet, dialler)
-}
-
-/// Starts a writer for each outlet. Their writes return once all have begun.
-fn start_writers<R, C>(
-    rt: R,
-    alloc: Global,
-    host: &Host<C>,
-    meeting: &Arc<Meeting, Global>,
+    node: &mut Node<C>,
     outlets: Vec<Outlet>,
-) -> Result<Vec<Worker>, HostError>
+    meeting: &Arc<Meeting, Global>,
+) -> Result<(), HostError>
 where
-    R: Threads + Wait + Clock + Copy + Send + Drop + 'static,
     C: NodeCore<Global> + Drop + Send + 'static,
+    R: Threads + Wait + Clock + Copy + Send + Drop + 'static,
 {
     let count = outlets.len();
-    let mut workers = Vec::with_capacity(alloc, count)?;
     for outlet in outlets {
-        keep(
-            &mut workers,
-            start_writer(rt, host, meeting, count, outlet)?,
-        )?;
+        let dialler = MeetingDialler {
+            rt,
+            meeting: Arc::try_clone(meeting)?,
+            count,
+        };
+        let writer = write_link(rt, &node.host, OpenGate, 0, outlet, dialler)?;
+        keep(&mut node.workers, writer)?;
     }
-    Ok(workers)
+    Ok(())
 }
 
-/// A host and its ports.
-#[derive(Drop)]
-struct Workless<C: NodeCore<Global> + Drop> {
-    host: Host<C>,
-    ports: Vec<Port<C>>,
-}
-
-/// Closes a node without its workers. Returns the host and ports if the close finds some workers missing.
-fn close_without_workers<R: Threads + Wait, C: NodeCore<Global> + Drop>(
+/// Closes a node without its workers. Returns the node, still with its workers, if the close finds them missing.
+fn close_without_workers<C: NodeCore<Global> + Drop, R: Threads + Wait>(
     rt: &R,
     alloc: Global,
-    node: Workless<C>,
-) -> Option<Workless<C>> {
-    let Workless { host, ports } = node;
+    node: Node<C>,
+) -> Option<Node<C>> {
+    let Node {
+        host,
+        ports,
+        outlets,
+        workers,
+    } = node;
     match host.close(rt, ports, Vec::new(alloc)) {
-        Err(
-            CloseError::PortMissing {
-                host,
-                ports,
-                workers: _workers,
-            },
-        ) => Some(Workless { host, ports }),
+        Err(CloseError::PortMissing { host, ports, .. }) => Some(Node {
+            host,
+            ports,
+            outlets,
+            workers,
+        }),
         _other => None,
     }
 }
 
-/// Closes a node without its workers, and then with them. Returns what it leaves, if the first close finds some workers
-/// missing and the second one succeeds.
-fn close_twice<R: Threads + Wait, C: NodeCore<Global> + Drop>(
-    rt: &R,
-    alloc: Global,
-    node: Workless<C>,
-    workers: Vec<Worker>,
-) -> Option<Closed> {
-    let Workless { host, ports } = close_without_workers(rt, alloc, node)?;
-    close(rt, host, ports, workers)
-}
-
-/// Returns how many bytes these frames have.
-fn spelled(alloc: Global, sends: &[(NodeName, Frame)]) -> Result<usize, AllocError> {
-    let mut bytes = 0usize;
-    for (_, frame) in sends {
-        bytes = bytes.saturating_add(encode(alloc, frame)?.len());
-    }
-    Ok(bytes)
-}
-
-/// Returns how many bytes the frames have that a node sent.
-fn sent(alloc: Global, trace: &Trace<Frame>) -> Result<usize, AllocError> {
-    let mut bytes = 0usize;
-    for place in 0..trace.len() {
-        if let Some(step) = trace.step(place) {
-            bytes = bytes.saturating_add(spelled(alloc, step.out.sends.as_slice())?);
-        }
-    }
-    Ok(bytes)
-}
-
-/// Whether a node made three steps, and three frames came out of each of its two links.
-fn is_right(closed: &Closed) -> bool {
-    closed.trace.len() == 3
-        && closed.links.len() == 2
-        && closed
-            .links
-            .iter()
-            .all(|link| link.opened == 0 && link.taken == 3)
-}
-
-/// Closes a node twice. Returns whether what it leaves is right, and everything that it sent was written.
-fn closes_right<R: Threads + Wait, C: NodeCore<Global> + Drop>(
-    rt: &R,
-    alloc: Global,
-    node: Workless<C>,
-    workers: Vec<Worker>,
-    meeting: &Meeting,
-) -> Result<bool, AllocError> {
-    match close_twice(rt, alloc, node, workers) {
-        Some(closed) => {
-            Ok(is_right(&closed) && meeting.bytes(rt) == sent(alloc, &closed.trace)?)
-        }
-        None => Ok(false),
-    }
-}
-
-/// Whether two links of a node are written at the same time.
-fn writes_at_once<R, C>(
+/// Writes two links of a node at the same time, and broadcasts twice more. Returns whether the first writes were done.
+fn write_both<C, R>(
     rt: R,
     alloc: Global,
-    node: Started<C>,
+    node: &mut Node<C>,
     meeting: &Arc<Meeting, Global>,
 ) -> Result<bool, HostError>
 where
-    R: Threads + Wait + Clock + Copy + Send + Drop + 'static,
     C: NodeCore<Global> + Drop + Send + 'static,
+    R: Threads + Wait + Clock + Copy + Send + Drop + 'static,
 {
-    let Started {
-        host,
-        ports,
-        outlets,
-    } = node;
-    let mut node = Workless { host, ports };
-    let workers = start_writers(rt, alloc, &node.host, meeting, outlets)?;
+    let outlets = mem::replace(&mut node.outlets, Vec::new(alloc));
+    start_writers(rt, node, outlets, meeting)?;
     broadcast_by_each(&rt, alloc, node.ports.as_mut_slice())?;
     let is_written = meeting.wait_for(&rt, 2);
     broadcast_by_each(&rt, alloc, node.ports.as_mut_slice())?;
     broadcast_by_each(&rt, alloc, node.ports.as_mut_slice())?;
-    Ok(closes_right(&rt, alloc, node, workers, meeting)? && is_written)
+    Ok(is_written)
 }
 
-/// Two links are written at the same time. Closing the node without its writers finds them missing. With them, the node
-/// made three steps, three frames came out of each link, and all bytes of these frames were written.
-#[test]
-fn writers_at_once(rt: HostRuntime) -> Result<(), Fail> {
-    let alloc = rt.alloc();
-    let meeting = Arc::new(alloc, Meeting::new())?;
-    let node = start_with_two(&rt, alloc, "a", ["p", "q"], 1)?;
-    assert!(rt; writes_at_once(rt, alloc, node, &meeting)?);
-    Ok(())
-}
-
-/// The ports and the first outlet of a node.
-#[derive(Drop)]
-struct Lent<C: NodeCore<Global> + Drop> {
-    ports: Vec<Port<C>>,
-    outlets: Vec<Outlet>,
-}
-
-/// Returns the ports of a node, and the first of its outlets.
-fn lent_of<C: NodeCore<Global> + Drop>(node: Started<C>) -> Lent<C> {
-    let Started {
-        host: _,
-        ports,
-        mut outlets,
-    } = node;
-    outlets.truncate(1);
-    Lent { ports, outlets }
-}
-
-/// Whether what came out of a link to `p` is not what was sent.
-fn is_torn<C: NodeCore<Global> + Drop>(answer: &Result<Closed, CloseError<C>>) -> bool {
-    match answer {
-        Err(CloseError::Torn { peer, .. }) => peer.as_bytes() == b"p".as_slice(),
-        _ => false,
-    }
-}
-
-/// Writes the outlet of another node with a worker of this one, and stops this one. Returns the worker, or `None` if it
-/// did not write.
-fn write_of_another<R, C>(
+/// Writes two links of a node at the same time, and closes it without its writers and then with them. Returns whether
+/// the links were written, and the first close finds the writers missing. Replaces the text with the answer to the
+/// second one.
+fn write_at_once<C, R>(
     rt: R,
     alloc: Global,
-    host: &Host<C>,
-    other: Lent<C>,
-    meeting: &Arc<Meeting, Global>,
-) -> Result<Option<Vec<Worker>>, HostError>
-where
-    R: Threads + Wait + Clock + Copy + Send + Drop + 'static,
-    C: NodeCore<Global> + Drop + Send + 'static,
-{
-    let Lent { mut ports, outlets } = other;
-    let workers = start_writers(rt, alloc, host, meeting, outlets)?;
-    broadcast_by_each(&rt, alloc, ports.as_mut_slice())?;
-    host.stop(&rt);
-    Ok(meeting.wait_for(&rt, 1).then_some(workers))
-}
-
-/// Whether a node finds that what came out of another node's outlet is not what it sent.
-fn finds_torn<R, C>(
-    rt: R,
-    alloc: Global,
-    host: Host<C>,
-    other: Lent<C>,
+    text: &mut String,
     meeting: &Arc<Meeting, Global>,
 ) -> Result<bool, HostError>
 where
-    R: Threads + Wait + Clock + Copy + Send + Drop + 'static,
-    C: NodeCore<Global> + Drop + Send + 'static,
+    C: TestedCore<Global> + Drop + Send + 'static,
+    R: Threads + Wait + Clock + Abort + Copy + Send + Drop + 'static,
 {
-    match write_of_another(rt, alloc, &host, other, meeting)? {
-        Some(workers) => Ok(is_torn(&host.close(&rt, Vec::new(alloc), workers))),
+    let mut node: Node<C> = start(&rt, alloc, "a", "p q", 1)?;
+    let is_written = write_both(rt, alloc, &mut node, meeting)?;
+    match close_without_workers(&rt, alloc, node) {
+        Some(node) => {
+            close(&rt, text, node)?;
+            Ok(is_written)
+        }
         None => Ok(false),
     }
+}
+
+/// Two links are written at the same time. Closing the node without its writers finds them missing. With them, the node
+/// made three steps, three frames came out of each link, and all bytes of these frames, 55 each, were written.
+#[test]
+fn writers_at_once(rt: HostRuntime) -> Result<(), Fail> {
+    let mut text = String::new(rt.alloc());
+    let meeting = Arc::new(rt.alloc(), Meeting::new())?;
+    let is_right = write_at_once::<PlumCore, _>(rt, rt.alloc(), &mut text, &meeting)?;
+    let are_whole = meeting.bytes(&rt) == 6 * 55;
+    assert!(rt;
+        is_right && are_whole && text.as_str() == THREE_BROADCASTS,
+        "{text}"
+    );
+    Ok(())
+}
+
+/// Writes an outlet of a node by a worker of another one. Returns whether it was written. Replaces the text with the
+/// answer to the close of the worker's node.
+fn write_of_another<C, R>(
+    rt: R,
+    alloc: Global,
+    text: &mut String,
+    meeting: &Arc<Meeting, Global>,
+) -> Result<bool, HostError>
+where
+    C: TestedCore<Global> + Drop + Send + 'static,
+    R: Threads + Wait + Clock + Abort + Copy + Send + Drop + 'static,
+{
+    let mut node: Node<C> = start(&rt, alloc, "a", "p q", 0)?;
+    let mut other: Node<C> = start(&rt, alloc, "b", "p q", 1)?;
+    let mut outlets = mem::replace(&mut other.outlets, Vec::new(alloc));
+    outlets.truncate(1);
+    start_writers(rt, &mut node, outlets, meeting)?;
+    broadcast_by_each(&rt, alloc, other.ports.as_mut_slice())?;
+    node.host.stop(&rt);
+    let is_written = meeting.wait_for(&rt, 1);
+    close(&rt, text, node)?;
+    Ok(is_written)
 }
 
 /// A node whose writer was handed the outlet of another node finds that what came out of it is not what it sent.
 #[test]
 fn outlet_of_another_node(rt: HostRuntime) -> Result<(), Fail> {
-    let alloc = rt.alloc();
-    let meeting = Arc::new(alloc, Meeting::new())?;
-    let host = host_of(start_with_two(&rt, alloc, "a", ["p", "q"], 0)?);
-    let other = lent_of(start_with_two(&rt, alloc, "b", ["p", "q"], 1)?);
-    assert!(rt; finds_torn(rt, alloc, host, other, &meeting)?);
+    let mut text = String::new(rt.alloc());
+    let meeting = Arc::new(rt.alloc(), Meeting::new())?;
+    let is_written = write_of_another::<PlumCore, _>(rt, rt.alloc(), &mut text, &meeting)?;
+    assert!(rt;
+        is_written && text.as_str() == "torn to p: a/1 among p q",
+        "{text}"
+    );
     Ok(())
 }
