@@ -4,17 +4,25 @@
 #![tactic(auto)]
 
 mod broadcasts;
+mod clock;
 mod groups;
 mod merges;
+mod names;
+mod plumtree;
+mod ring;
 mod running_node;
+mod simulated;
 mod steps;
 mod streams;
 mod words;
 
+use crate::broadcasts::{hops, settling};
 use crate::groups::Group;
+use crate::plumtree::Measured;
 use crate::words::{number, size, small};
 use anyhow::Result;
 use loopback::Machine;
+use node_core::PlumCore;
 use std::alloc::Global;
 use std::env;
 use std::io::Print;
@@ -36,40 +44,39 @@ fn group(words: &[String]) -> Result<Group> {
 }
 
 /// Prints the result of each benchmark with a small input.
-fn tell<R: Print + Machine>(rt: R, alloc: Global) -> Result<()> {
-    broadcasts::tell(&rt, alloc)?;
+fn tell<R: Print + Machine, C: Measured>(rt: R, alloc: Global) -> Result<()> {
+    broadcasts::tell::<R, C>(&rt, alloc)?;
     streams::run_all(&rt, alloc, None)?;
-    merges::tell(&rt, alloc)?;
-    running_node::tell(rt, alloc)?;
-    steps::tell(&rt, alloc)?;
+    merges::tell::<R, C>(&rt, alloc)?;
+    running_node::tell::<R, C>(rt, alloc)?;
+    steps::tell::<R, C>(&rt, alloc)?;
     groups::tell(rt, alloc)
 }
 
 /// Measures the benchmark of this name, with the numbers that follow.
-fn measure<R>(rt: R, alloc: Global, what: &str, words: &[String]) -> Result<()>
+fn measure<R, C>(rt: R, alloc: Global, what: &str, words: &[String]) -> Result<()>
 where
     R: AllocGlobal + Print + Files + Machine,
+    C: Measured,
 {
     match what {
-        "broadcasts" => broadcasts::measure(&rt, alloc, size(words, 2, 500)?),
-        "hops" => broadcasts::measure_hops(&rt, alloc, small(words, 2, 0)?),
-        "settle" => broadcasts::measure_settling(&rt, alloc, size(words, 2, 10_000)?),
+        "broadcasts" => broadcasts::measure::<R, C>(&rt, alloc, size(words, 2, 500)?),
+        "hops" => hops::measure::<R, C>(&rt, alloc, small(words, 2, 0)?),
+        "settle" => settling::measure::<R, C>(&rt, alloc, size(words, 2, 10_000)?),
         "frames" => streams::run_all(&rt, alloc, Some(number(words, 2, 32)?)),
-        "merge" => merges::measure(&rt, alloc, words),
-        "node" => running_node::measure(
-            rt,
-            alloc,
-            number(words, 2, 100_000)?,
-            number(words, 3, 0)?,
-        ),
+        "merge" => merges::measure::<R, C>(&rt, alloc, words),
+        "node" => {
+            let count = number(words, 2, 100_000)?;
+            running_node::measure::<R, C>(rt, alloc, count, number(words, 3, 0)?)
+        }
         "groups" => groups::measure(rt, alloc, &group(words)?),
-        part => steps::measure(&rt, alloc, part, number(words, 2, 100_000)?),
+        part => steps::measure::<R, C>(&rt, alloc, part, number(words, 2, 100_000)?),
     }
 }
 
 /// Does what the arguments say. It names the parts of a `Machine`, since the prover does not cover a call that passes
 /// the host's runtime as a `Machine`.
-fn obey<R>(rt: R, alloc: Global, words: &[String]) -> Result<()>
+fn obey<R, C>(rt: R, alloc: Global, words: &[String]) -> Result<()>
 where
     R: AllocGlobal
         + Print
@@ -82,15 +89,16 @@ where
         + Send
         + Drop
         + 'static,
+    C: Measured,
 {
     match words.get(1) {
-        Some(what) => measure(rt, alloc, what.as_str(), words),
-        None => tell(rt, alloc),
+        Some(what) => measure::<R, C>(rt, alloc, what.as_str(), words),
+        None => tell::<R, C>(rt, alloc),
     }
 }
 
 fn main(rt: HostRuntime) -> Result<()> {
     let alloc = rt.alloc();
     let words: Vec<String> = env::args(&rt)?.collect(alloc)?;
-    obey(rt, alloc, words.as_slice())
+    obey::<HostRuntime, PlumCore>(rt, alloc, words.as_slice())
 }

@@ -1,20 +1,21 @@
 //! Merges of the traces of a group of Plumtree nodes: how many events the merge of a small group has, and how long a
 //! merge takes for a given number of nodes, of steps of each, and of packets in flight meanwhile, and for packets that
 //! arrive oldest first, newest first or at random.
-mod overlay;
 mod plan;
 mod play;
 
+use crate::clock::micros_since;
 use crate::merges::plan::{Place, Plan};
 use crate::merges::play::played;
+use crate::names::origin_of;
+use crate::plumtree::Measured;
 use anyhow::Result;
 use frames::Frame;
-use node_core::PlumCore;
-use node_names::{Incarnation, Limits, Origin};
+use node_names::Limits;
 use std::alloc::Global;
 use std::io::Print;
 use std::time::{Clock, Instant};
-use trace_merge::{merge, project};
+use trace_merge::merge;
 use world::{Trace, World};
 
 /// The plan of what is merged when nothing is measured.
@@ -25,28 +26,27 @@ const SMALL: Plan = Plan {
     waiting: 0,
 };
 
-/// Appends the trace of each node of a group.
-fn push_traces(
+/// Appends the trace of the node at this place of a group.
+fn push_trace<C: Measured>(
     alloc: Global,
-    group: &World<PlumCore>,
-    nodes: usize,
+    group: &World<C>,
+    place: usize,
     traces: &mut Vec<Trace<Frame>>,
 ) -> Result<()> {
-    for place in 0..nodes {
-        let origin = Origin {
-            name: overlay::name_of(place)?,
-            incarnation: Incarnation(1),
-        };
-        traces.push(project(alloc, group, origin)?)?;
-    }
+    traces.push(C::trace(alloc, group, origin_of(place)?)?)?;
     Ok(())
 }
 
-/// The traces of a group that is played according to the plan.
-fn traces_of(alloc: Global, plan: &Plan) -> Result<Vec<Trace<Frame>>> {
-    let group = played(alloc, plan)?;
+/// The traces of a group.
+fn traces_of<C: Measured>(
+    alloc: Global,
+    group: &World<C>,
+    nodes: usize,
+) -> Result<Vec<Trace<Frame>>> {
     let mut traces = Vec::new(alloc);
-    push_traces(alloc, &group, plan.nodes, &mut traces)?;
+    for place in 0..nodes {
+        push_trace(alloc, group, place, &mut traces)?;
+    }
     Ok(traces)
 }
 
@@ -61,8 +61,7 @@ fn count_steps(traces: &[Trace<Frame>]) -> usize {
 
 /// How many events the merge of traces has.
 fn count_events(alloc: Global, traces: &[Trace<Frame>]) -> Result<usize> {
-    let events = merge(alloc, Limits::STANDARD, traces)?;
-    Ok(events.len())
+    Ok(merge(alloc, Limits::STANDARD, traces)?.len())
 }
 
 /// Prints how many events the merge of these traces has.
@@ -75,13 +74,14 @@ fn tell_of(rt: &impl Print, alloc: Global, traces: &[Trace<Frame>]) -> Result<()
     Ok(())
 }
 
-/// Prints how long the merge of these traces takes.
-fn measure_of<R: Print + Clock>(rt: &R, alloc: Global, traces: &[Trace<Frame>]) -> Result<()> {
-    let count = traces.len();
-    let steps = count_steps(traces);
-    let start = Instant::now(rt)?;
-    let events = count_events(alloc, traces)?;
-    let micros = u64::try_from(start.elapsed(rt)?.as_micros()).unwrap_or(u64::MAX);
+/// Prints how long the merge of `count` traces took.
+fn tell_time(
+    rt: &impl Print,
+    count: usize,
+    steps: usize,
+    events: usize,
+    micros: u64,
+) -> Result<()> {
     let millis = micros / 1_000;
     let nanos = micros.saturating_mul(1_000) / (steps as u64).max(1);
     println!(rt; "traces      steps     events         ms   ns / step")?;
@@ -89,13 +89,33 @@ fn measure_of<R: Print + Clock>(rt: &R, alloc: Global, traces: &[Trace<Frame>]) 
     Ok(())
 }
 
+/// Prints how long the merge of these traces takes.
+fn measure_of<R: Print + Clock>(rt: &R, alloc: Global, traces: &[Trace<Frame>]) -> Result<()> {
+    let steps = count_steps(traces);
+    let start = Instant::now(rt)?;
+    let events = count_events(alloc, traces)?;
+    let micros = micros_since(rt, start)?;
+    tell_time(rt, traces.len(), steps, events, micros)
+}
+
+/// The traces of a group that is played according to the plan.
+fn played_traces<C: Measured>(alloc: Global, plan: &Plan) -> Result<Vec<Trace<Frame>>> {
+    let group = played::<C>(alloc, plan)?;
+    traces_of(alloc, &group, plan.nodes)
+}
+
 /// Prints how many events the merge of a small group's traces has.
-pub(crate) fn tell(rt: &impl Print, alloc: Global) -> Result<()> {
-    tell_of(rt, alloc, traces_of(alloc, &SMALL)?.as_slice())
+pub(crate) fn tell<R: Print, C: Measured>(rt: &R, alloc: Global) -> Result<()> {
+    let traces = played_traces::<C>(alloc, &SMALL)?;
+    tell_of(rt, alloc, traces.as_slice())
 }
 
 /// Prints how long the merge of a group's traces takes. The arguments give the plan.
-pub(crate) fn measure<R: Print + Clock>(rt: &R, alloc: Global, words: &[String]) -> Result<()> {
-    let plan = Plan::parse(words)?;
-    measure_of(rt, alloc, traces_of(alloc, &plan)?.as_slice())
+pub(crate) fn measure<R: Print + Clock, C: Measured>(
+    rt: &R,
+    alloc: Global,
+    words: &[String],
+) -> Result<()> {
+    let traces = played_traces::<C>(alloc, &Plan::parse(words)?)?;
+    measure_of(rt, alloc, traces.as_slice())
 }

@@ -3,7 +3,10 @@ mod draining;
 mod messages;
 mod running;
 mod tally;
+mod writing;
 
+use crate::clock::in_a_second;
+use crate::plumtree::Measured;
 use crate::running_node::messages::Sent;
 use crate::running_node::running::run;
 use anyhow::Result;
@@ -30,28 +33,29 @@ fn tell_sent(rt: &impl Print, sent: &Sent) -> Result<()> {
 
 /// Prints how long that took.
 fn tell_time(rt: &impl Print, sent: &Sent, held: u64) -> Result<()> {
-    let micros = sent.micros.max(1);
-    let taken = sent.frames_in.saturating_mul(1_000_000) / micros;
-    let written = sent.frames_out.saturating_mul(1_000_000) / micros;
+    let taken = in_a_second(sent.frames_in, sent.micros);
+    let written = in_a_second(sent.frames_out, sent.micros);
     println!(rt; "{held} messages held: {taken} frames in and {written} out in a second")?;
     Ok(())
 }
 
 /// Prints how many frames go in and out.
-pub(crate) fn tell<R>(rt: R, alloc: Global) -> Result<()>
+pub(crate) fn tell<R, C>(rt: R, alloc: Global) -> Result<()>
 where
     R: Print + Clock + Threads + Wait + Copy + Send + Drop + 'static,
+    C: Measured,
 {
-    let sent = run(rt, alloc, TOLD, 0)?;
+    let sent = run::<R, C>(rt, alloc, TOLD, 0)?;
     tell_sent(&rt, &sent)
 }
 
 /// Prints how long it takes until `count` messages are passed on, while `held` others are held.
-pub(crate) fn measure<R>(rt: R, alloc: Global, count: u64, held: u64) -> Result<()>
+pub(crate) fn measure<R, C>(rt: R, alloc: Global, count: u64, held: u64) -> Result<()>
 where
     R: Print + Clock + Threads + Wait + Copy + Send + Drop + 'static,
+    C: Measured,
 {
-    let sent = run(rt, alloc, count, held)?;
+    let sent = run::<R, C>(rt, alloc, count, held)?;
     tell_sent(&rt, &sent)?;
     tell_time(&rt, &sent, held)
 }

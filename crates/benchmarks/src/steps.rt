@@ -5,6 +5,7 @@ mod known;
 mod messages;
 mod sealing;
 
+use crate::plumtree::Measured;
 use crate::steps::cell_steps::step_cell;
 use crate::steps::core_steps::{see_all, step_core};
 use crate::steps::known::know_all;
@@ -19,7 +20,7 @@ use std::time::Clock;
 const TOLD: u64 = 6_400;
 
 /// How many links a wide cell has besides those to its four peers.
-const IDLE: u64 = 60;
+const IDLE: usize = 60;
 
 /// How many payloads a core holds if it does not hold all.
 const KEPT: u32 = 1_000;
@@ -36,7 +37,7 @@ fn tell_taken(rt: &impl Print, what: &str, taken: Taken, is_timed: bool) -> Resu
 }
 
 /// Does what the word says with `count` messages.
-fn step<R: Print + Clock>(
+fn step<R: Print + Clock, C: Measured>(
     rt: &R,
     alloc: Global,
     word: &str,
@@ -44,15 +45,15 @@ fn step<R: Print + Clock>(
     is_timed: bool,
 ) -> Result<()> {
     let taken = match word {
-        "core" => step_core(rt, alloc, count)?,
-        "cell" => step_cell(rt, alloc, count, 0)?,
-        "wide" => step_cell(rt, alloc, count, IDLE)?,
+        "core" => step_core::<R, C>(rt, alloc, count)?,
+        "cell" => step_cell::<R, C>(rt, alloc, count, 0)?,
+        "wide" => step_cell::<R, C>(rt, alloc, count, IDLE)?,
         "ids" => know_all(rt, alloc, count, 0)?,
         "gaps" => know_all(rt, alloc, count, 100)?,
-        "seen" => see_all(rt, alloc, count, 0)?,
-        "kept" => see_all(rt, alloc, count, KEPT)?,
-        "seal" => seal(rt, alloc, count, false)?,
-        "copy" => seal(rt, alloc, count, true)?,
+        "seen" => see_all::<R, C>(rt, alloc, count, 0)?,
+        "kept" => see_all::<R, C>(rt, alloc, count, KEPT)?,
+        "seal" => seal::<R, C>(rt, alloc, count, false)?,
+        "copy" => seal::<R, C>(rt, alloc, count, true)?,
         _ => bail!(
             "broadcasts, hops, settle, frames, merge, node, groups, core, cell, wide, ids, gaps, seen, kept, seal or copy"
         ),
@@ -61,21 +62,21 @@ fn step<R: Print + Clock>(
 }
 
 /// Prints the result of a few messages, for each part.
-pub(crate) fn tell<R: Print + Clock>(rt: &R, alloc: Global) -> Result<()> {
+pub(crate) fn tell<R: Print + Clock, C: Measured>(rt: &R, alloc: Global) -> Result<()> {
     for word in [
         "core", "cell", "wide", "ids", "gaps", "seen", "kept", "seal", "copy",
     ] {
-        step(rt, alloc, word, TOLD, false)?;
+        step::<R, C>(rt, alloc, word, TOLD, false)?;
     }
     Ok(())
 }
 
 /// Prints how long the part that the word names takes with `count` messages.
-pub(crate) fn measure<R: Print + Clock>(
+pub(crate) fn measure<R: Print + Clock, C: Measured>(
     rt: &R,
     alloc: Global,
     word: &str,
     count: u64,
 ) -> Result<()> {
-    step(rt, alloc, word, count, true)
+    step::<R, C>(rt, alloc, word, count, true)
 }

@@ -3,6 +3,7 @@
 mod stream;
 mod through;
 
+use crate::clock::{in_a_second, micros_since};
 use crate::streams::stream::{Stream, long, mixed, short};
 use crate::streams::through::{Through, cut, write};
 use anyhow::Result;
@@ -37,11 +38,6 @@ fn print(rt: &impl Print, stream: &Stream, work: Work, bytes: u64, frames: u64) 
     Ok(())
 }
 
-/// The rate per second of `count` in `micros` microseconds.
-fn in_a_second(count: u64, micros: u64) -> u64 {
-    count.saturating_mul(1_000_000) / micros.max(1)
-}
-
 /// Does the work once, or for `mib` MiB, and prints a line.
 fn run<R: Print + Clock>(
     rt: &R,
@@ -53,7 +49,7 @@ fn run<R: Print + Clock>(
     let enough = mib.unwrap_or(0).saturating_mul(1_048_576);
     let start = Instant::now(rt)?;
     let Through { bytes, frames } = work_on(alloc, stream, work, enough)?;
-    let micros = u64::try_from(start.elapsed(rt)?.as_micros()).unwrap_or(u64::MAX);
+    let micros = micros_since(rt, start)?;
     if mib.is_none() {
         print(rt, stream, work, bytes, frames)
     } else {

@@ -1,12 +1,13 @@
 //! How far messages go, and how many packets they take, when nodes swap branches for shorter ones.
-use crate::broadcasts::overlay::{NODES, name_of, started};
+use crate::broadcasts::{NODES, group_of};
+use crate::names::{LENGTH, name_of, payload};
+use crate::simulated::{arrive, play, say};
 use anyhow::Result;
 use bytes::Bytes;
-use node_core::PlumCore;
-use node_names::{Dice, Limits};
+use node_names::Limits;
 use std::alloc::Global;
 use std::io::Print;
-use world::{EventOf, World, WorldError};
+use world::{Core, EventOf, World, WorldError};
 
 /// More units of time than a broadcast takes.
 const MANY: usize = 1_000;
@@ -24,35 +25,41 @@ struct Taken {
     packets: usize,
 }
 
+impl Taken {
+    const NOTHING: Taken = Taken {
+        links: 0,
+        longest: 0,
+        packets: 0,
+    };
+
+    /// Adds a broadcast whose longest path has so many links.
+    fn add(&mut self, links: usize) {
+        self.links = self.links.saturating_add(links);
+        self.longest = self.longest.max(links);
+    }
+}
+
 /// Lets all packets arrive that are in flight, the oldest first. Returns how many messages are delivered.
-fn arrive_all(group: &mut World<PlumCore>) -> Result<usize, WorldError> {
+fn arrive_all<C: Core<Global>>(group: &mut World<C>) -> Result<usize, WorldError> {
     let mut delivered = 0usize;
     for _ in 0..group.flight().len() {
-        let given = group.apply(EventOf::Arrive {
-            place: 0,
-            dice: Dice::default(),
-        })?;
-        delivered = delivered.saturating_add(given.len());
+        delivered = delivered.saturating_add(arrive(group, 0)?);
     }
     Ok(delivered)
 }
 
 /// Has all nodes send their queued announcements.
-fn flush_all(group: &mut World<PlumCore>) -> Result<()> {
+fn flush_all<C: Core<Global>>(group: &mut World<C>) -> Result<()> {
     for place in 0..NODES {
         let name = name_of(place)?;
-        group.apply(EventOf::Flush { name })?;
+        play(group, EventOf::Flush { name })?;
     }
     Ok(())
 }
 
-/// Broadcasts at the node at this place. Each packet takes a unit of time, and each node sends its queued announcements
-/// once a unit. Returns the number of units after which the last node has the message.
-fn broadcast(group: &mut World<PlumCore>, place: usize, payload: &Bytes) -> Result<usize> {
-    group.apply(EventOf::Broadcast {
-        name: name_of(place)?,
-        payload: payload.clone()?,
-    })?;
+/// Lets units of time pass until nothing is in flight. In each, all packets arrive that are in flight, and each node
+/// sends its queued announcements. Returns the number of units after which the last node has the message.
+fn pass_all<C: Core<Global>>(group: &mut World<C>) -> Result<usize> {
     let mut last = 0;
     for unit in 1..MANY {
         flush_all(group)?;
@@ -66,27 +73,28 @@ fn broadcast(group: &mut World<PlumCore>, place: usize, payload: &Bytes) -> Resu
     Ok(last)
 }
 
+/// Broadcasts at the node at this place. Returns the number of units of time after which the last node has the message.
+fn broadcast<C: Core<Global>>(
+    group: &mut World<C>,
+    place: usize,
+    payload: &Bytes,
+) -> Result<usize> {
+    say(group, place % NODES, payload)?;
+    pass_all(group)
+}
+
 /// Makes broadcasts, each `step` places further than the one before.
-fn broadcast_all(
-    group: &mut World<PlumCore>,
+fn broadcast_all<C: Core<Global>>(
+    group: &mut World<C>,
     place: usize,
     step: usize,
     payload: &Bytes,
 ) -> Result<Taken> {
     let sent = group.sent().len();
-    let mut taken = Taken {
-        links: 0,
-        longest: 0,
-        packets: 0,
-    };
+    let mut taken = Taken::NOTHING;
     for number in 0..BROADCASTS {
-        let links = broadcast(
-            group,
-            number.saturating_mul(step).saturating_add(place),
-            payload,
-        )?;
-        taken.links = taken.links.saturating_add(links);
-        taken.longest = taken.longest.max(links);
+        let at = number.saturating_mul(step).saturating_add(place);
+        taken.add(broadcast(group, at, payload)?);
     }
     taken.packets = group.sent().len().saturating_sub(sent);
     Ok(taken)
@@ -105,17 +113,25 @@ fn tell(rt: &impl Print, senders: &str, taken: &Taken) -> Result<()> {
     Ok(())
 }
 
-/// Has a node make the tree, then another make broadcasts, and then all nodes in turn, with this threshold.
-pub(crate) fn measure(
-    rt: &impl Print,
-    alloc: Global,
+/// Has a node make the tree, then another make broadcasts, and then all nodes in turn.
+fn measure_in<R: Print, C: Core<Global>>(
+    rt: &R,
+    group: &mut World<C>,
     payload: &Bytes,
+) -> Result<()> {
+    broadcast(group, 0, payload)?;
+    let first = broadcast_all(group, 4, 0, payload)?;
+    tell(rt, "one sender", &first)?;
+    let all = broadcast_all(group, 0, 1, payload)?;
+    tell(rt, "each in turn", &all)
+}
+
+/// Measures broadcasts in a group with this threshold.
+pub(crate) fn measure<R: Print, C: Core<Global>>(
+    rt: &R,
+    alloc: Global,
     threshold: u32,
 ) -> Result<()> {
-    let mut group = started(alloc, Limits::STANDARD.tuned(threshold))?;
-    broadcast(&mut group, 0, payload)?;
-    let first = broadcast_all(&mut group, 4, 0, payload)?;
-    tell(rt, "one sender", &first)?;
-    let all = broadcast_all(&mut group, 0, 1, payload)?;
-    tell(rt, "each in turn", &all)
+    let mut group = group_of::<C>(alloc, Limits::STANDARD.tuned(threshold))?;
+    measure_in(rt, &mut group, &payload(alloc, LENGTH)?)
 }

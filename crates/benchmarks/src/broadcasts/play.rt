@@ -1,63 +1,54 @@
 //! Broadcasts, each until none of its packets is in flight.
-use crate::broadcasts::overlay::name_of;
+use crate::broadcasts::NODES;
+use crate::simulated::{arrive, play, say};
 use anyhow::Result;
 use bytes::Bytes;
-use node_core::PlumCore;
-use node_names::Dice;
-use world::{EventOf, World, WorldError};
+use std::alloc::Global;
+use world::{Core, EventOf, World, WorldError};
 
 /// More packets than a broadcast leaves in flight.
 const MANY: usize = 10_000;
 
 /// Lets the oldest packet arrive until none is in flight.
-fn arrive_all(group: &mut World<PlumCore>) -> Result<(), WorldError> {
+fn arrive_all<C: Core<Global>>(group: &mut World<C>) -> Result<(), WorldError> {
     for _ in 0..MANY {
         if group.flight().is_empty() {
             break;
         }
-        group.apply(EventOf::Arrive {
-            place: 0,
-            dice: Dice::default(),
-        })?;
+        arrive(group, 0)?;
     }
     Ok(())
 }
 
 /// Broadcasts a message at the node at this place, and returns how many packets that took.
-pub(crate) fn broadcast(
-    group: &mut World<PlumCore>,
+pub(crate) fn broadcast<C: Core<Global>>(
+    group: &mut World<C>,
     place: usize,
     payload: &Bytes,
 ) -> Result<usize> {
     let sent = group.sent().len();
-    group.apply(EventOf::Broadcast {
-        name: name_of(place)?,
-        payload: payload.clone()?,
-    })?;
+    say(group, place % NODES, payload)?;
     arrive_all(group)?;
     Ok(group.sent().len().saturating_sub(sent))
 }
 
 /// Loses the oldest packet until none is in flight.
-fn lose_all(group: &mut World<PlumCore>) -> Result<(), WorldError> {
+fn lose_all<C: Core<Global>>(group: &mut World<C>) -> Result<(), WorldError> {
     for _ in 0..MANY {
         if group.flight().is_empty() {
             break;
         }
-        group.apply(EventOf::Lose { place: 0 })?;
+        play(group, EventOf::Lose { place: 0 })?;
     }
     Ok(())
 }
 
 /// Broadcasts a message at the node at this place, and loses its packets, so that only announcements tell of it.
-pub(crate) fn broadcast_lost(
-    group: &mut World<PlumCore>,
+pub(crate) fn broadcast_lost<C: Core<Global>>(
+    group: &mut World<C>,
     place: usize,
     payload: &Bytes,
 ) -> Result<()> {
-    group.apply(EventOf::Broadcast {
-        name: name_of(place)?,
-        payload: payload.clone()?,
-    })?;
+    say(group, place % NODES, payload)?;
     Ok(lose_all(group)?)
 }

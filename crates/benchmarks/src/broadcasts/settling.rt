@@ -1,10 +1,11 @@
 //! How fast a group is brought to rest, compared with only letting packets arrive.
-use crate::broadcasts::overlay::started;
+use crate::broadcasts::group_of;
 use crate::broadcasts::play::{broadcast, broadcast_lost};
+use crate::clock::micros_since;
+use crate::names::{LENGTH, payload};
+use crate::plumtree::Measured;
 use anyhow::Result;
-use at_rest::settle;
 use bytes::Bytes;
-use node_core::PlumCore;
 use node_names::Limits;
 use std::alloc::Global;
 use std::io::Print;
@@ -18,7 +19,7 @@ const MANY: usize = 100_000;
 const LOST: usize = 50;
 
 /// How many announcements a node has queued.
-fn queued_at(node: &NodeState<PlumCore>) -> usize {
+fn queued_at<C: Core<Global>>(node: &NodeState<C>) -> usize {
     match &node.core {
         Some(core) => core.queued().len(),
         None => 0,
@@ -26,7 +27,7 @@ fn queued_at(node: &NodeState<PlumCore>) -> usize {
 }
 
 /// How many announcements all nodes have queued.
-fn queued(group: &World<PlumCore>) -> usize {
+fn queued<C: Core<Global>>(group: &World<C>) -> usize {
     let mut count = 0usize;
     for node in group.nodes() {
         count = count.saturating_add(queued_at(node));
@@ -35,7 +36,7 @@ fn queued(group: &World<PlumCore>) -> usize {
 }
 
 /// Broadcasts until `count` announcements are queued. All packets of a broadcast arrive before the next one.
-fn fill(group: &mut World<PlumCore>, payload: &Bytes, count: usize) -> Result<()> {
+fn fill<C: Core<Global>>(group: &mut World<C>, payload: &Bytes, count: usize) -> Result<()> {
     for place in 0..MANY {
         if queued(group) >= count {
             break;
@@ -45,42 +46,44 @@ fn fill(group: &mut World<PlumCore>, payload: &Bytes, count: usize) -> Result<()
     Ok(())
 }
 
-/// Prints how many events were played since the log had this length, and how long that took.
-fn tell<R: Print + Clock>(
-    rt: &R,
-    what: &str,
-    group: &World<PlumCore>,
-    before: usize,
-    start: Instant,
-) -> Result<()> {
-    let millis = u64::try_from(start.elapsed(rt)?.as_millis()).unwrap_or(u64::MAX);
-    let events = group.log().len().saturating_sub(before) as u64;
-    let speed = events.saturating_mul(1_000) / millis.max(1);
+/// Prints how many events were played, and how long that took.
+fn tell(rt: &impl Print, what: &str, events: usize, micros: u64) -> Result<()> {
+    let millis = micros / 1_000;
+    let speed = (events as u64).saturating_mul(1_000) / millis.max(1);
     println!(rt; "{what}: {events} events in {millis} ms, {speed} a second")?;
     Ok(())
 }
 
-/// Queues `count` announcements and brings the group to rest.
-fn measure_group<R: Print + Clock>(
+/// Queues `count` announcements, and prints how long that takes.
+fn measure_filling<R: Print + Clock, C: Core<Global>>(
     rt: &R,
-    alloc: Global,
-    group: &mut World<PlumCore>,
+    group: &mut World<C>,
     payload: &Bytes,
     count: usize,
 ) -> Result<()> {
     let start = Instant::now(rt)?;
     let before = group.log().len();
     fill(group, payload, count)?;
+    let micros = micros_since(rt, start)?;
     println!(rt; "{} announcements are queued", queued(group))?;
-    tell(rt, "broadcasts and arrivals", group, before, start)?;
+    let events = group.log().len().saturating_sub(before);
+    tell(rt, "broadcasts and arrivals", events, micros)
+}
+
+/// Brings the group to rest, and prints how long that takes.
+fn measure_rest<R: Print + Clock, C: Measured>(
+    rt: &R,
+    alloc: Global,
+    what: &str,
+    group: &mut World<C>,
+) -> Result<()> {
     let start = Instant::now(rt)?;
-    let before = group.log().len();
-    settle(alloc, group)?;
-    tell(rt, "settling", group, before, start)
+    let events = C::settle(alloc, group)?;
+    tell(rt, what, events as usize, micros_since(rt, start)?)
 }
 
 /// Returns how many timers fired since the log had length `before`.
-fn fired(group: &World<PlumCore>, before: usize) -> usize {
+fn fired<C: Core<Global>>(group: &World<C>, before: usize) -> usize {
     let mut count = 0usize;
     for entry in group.log().iter().skip(before) {
         if let EventOf::Fire { .. } = &entry.event {
@@ -91,37 +94,38 @@ fn fired(group: &World<PlumCore>, before: usize) -> usize {
 }
 
 /// Loses broadcasts on their way.
-fn lose(group: &mut World<PlumCore>, payload: &Bytes) -> Result<()> {
+fn lose<C: Core<Global>>(group: &mut World<C>, payload: &Bytes) -> Result<()> {
     for place in 0..LOST {
         broadcast_lost(group, place, payload)?;
     }
     Ok(())
 }
 
-/// Loses broadcasts on their way, and brings the group to rest: nodes ask for what was announced to them.
-fn measure_requests<R: Print + Clock>(
+/// Measures both kinds of settling: with announcements that are queued, and with broadcasts that were lost on their
+/// way, where nodes ask for what was announced to them.
+fn measure_in<R: Print + Clock, C: Measured>(
     rt: &R,
     alloc: Global,
-    group: &mut World<PlumCore>,
+    group: &mut World<C>,
     payload: &Bytes,
+    count: usize,
 ) -> Result<()> {
+    measure_filling(rt, group, payload, count)?;
+    measure_rest(rt, alloc, "settling", group)?;
     lose(group, payload)?;
-    let start = Instant::now(rt)?;
     let before = group.log().len();
-    settle(alloc, group)?;
-    tell(rt, "settling with requests", group, before, start)?;
+    measure_rest(rt, alloc, "settling with requests", group)?;
     println!(rt; "{} timers fired", fired(group, before))?;
     Ok(())
 }
 
 /// Measures both kinds of settling in a fresh group.
-pub(crate) fn measure<R: Print + Clock>(
+pub(crate) fn measure<R: Print + Clock, C: Measured>(
     rt: &R,
     alloc: Global,
-    payload: &Bytes,
     count: usize,
 ) -> Result<()> {
-    let mut group = started(alloc, Limits::STANDARD)?;
-    measure_group(rt, alloc, &mut group, payload, count)?;
-    measure_requests(rt, alloc, &mut group, payload)
+    let payload = payload(alloc, LENGTH)?;
+    let mut group = group_of::<C>(alloc, Limits::STANDARD)?;
+    measure_in(rt, alloc, &mut group, &payload, count)
 }

@@ -1,15 +1,14 @@
 //! The frames that a node's peers send.
+use crate::names::origin_named;
+use crate::plumtree::ME;
 use anyhow::Result;
 use bytes::Bytes;
 use frames::{Body, Frame, encode};
-use node_names::{Incarnation, MsgId, NodeName, Origin};
+use node_names::{MsgId, Origin};
 use std::alloc::{AllocError, Global};
 
 /// The names of the node's peers.
 pub(crate) const PEERS: [&str; 4] = ["p", "q", "r", "s"];
-
-/// The bytes of each message.
-const LENGTH: usize = 100;
 
 /// How many frames went in and out, and how long that took.
 #[derive(Clone, Copy)]
@@ -19,38 +18,35 @@ pub(crate) struct Sent {
     pub(crate) micros: u64,
 }
 
-/// The first incarnation of the node of this name.
-pub(crate) fn first_run(name: &str) -> Result<Origin> {
-    Ok(Origin {
-        name: NodeName::parse(name.as_bytes())?,
-        incarnation: Incarnation(1),
-    })
-}
-
-/// The payload of every broadcast.
-pub(crate) fn payload(alloc: Global) -> Result<Bytes, AllocError> {
-    Ok(Bytes::from_vec(vec![in alloc; b'x'; LENGTH]?)?)
-}
-
 /// The first frame of a peer: it asks to be taken into the active view.
 pub(crate) fn request(peer: Origin) -> Result<Frame> {
     Ok(Frame::new(peer, 1, Body::Neighbor { high: true })?)
 }
 
-/// The message of this number as its origin sends it, or as another node passes it on in a frame of its own.
-pub(crate) fn message(sender: Origin, origin: Origin, seq: u64, payload: &Bytes) -> Result<Frame> {
-    let id = MsgId { origin, seq };
-    let payload = payload.clone()?;
-    let number = seq.saturating_add(1);
+/// The message of this number as its origin sends it.
+pub(crate) fn message(origin: Origin, seq: u64, payload: &Bytes) -> Result<Frame> {
     let body = Body::Gossip {
-        id,
+        id: MsgId { origin, seq },
         round: 0,
-        payload,
+        payload: payload.clone()?,
     };
-    Ok(Frame::new(sender, number, body)?)
+    Ok(Frame::new(origin, seq.saturating_add(1), body)?)
 }
 
 /// How many bytes a frame takes.
-pub(crate) fn size(alloc: Global, frame: &Frame) -> Result<u64, AllocError> {
+fn size(alloc: Global, frame: &Frame) -> Result<u64, AllocError> {
     Ok(encode(alloc, frame)?.len() as u64)
+}
+
+/// How many bytes the node writes once it has taken the requests, broadcast `held` messages and passed on `passed`
+/// others.
+pub(crate) fn bytes_out(alloc: Global, payload: &Bytes, held: u64, passed: u64) -> Result<u64> {
+    let me = origin_named(ME)?;
+    let reply = Frame::new(me, 1, Body::NeighborReply { accepted: true })?;
+    let replies = size(alloc, &reply)?.saturating_mul(4);
+    let gossip = size(alloc, &message(me, 1, payload)?)?;
+    let gossips = held
+        .saturating_mul(4)
+        .saturating_add(passed.saturating_mul(3));
+    Ok(replies.saturating_add(gossip.saturating_mul(gossips)))
 }

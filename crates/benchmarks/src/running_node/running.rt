@@ -1,93 +1,113 @@
 //! A running node, with four links each way.
+use crate::clock::micros_since;
+use crate::names::{LENGTH, origin_named, payload};
+use crate::plumtree::{Measured, Started};
 use crate::running_node::draining::{Counting, drain};
-use crate::running_node::messages::{PEERS, Sent, first_run, message, payload, request, size};
+use crate::running_node::messages::{PEERS, Sent, bytes_out};
 use crate::running_node::tally::Tally;
+use crate::running_node::writing::{requests, streams};
 use anyhow::{Result, bail};
 use bytes::Bytes;
-use frames::{Body, Frame, encode};
 use memory_links::{PipeDialler, PipeReader, PipeWriter, new_pipe};
-use node_core::PlumCore;
-use node_names::{Limits, NodeName, Origin};
-use node_threads::{Host, OpenGate, Outlet, Port, Worker, hand_out, read_link, write_link};
+use node_names::NodeName;
+use node_threads::{
+    Host, NodeCore, OpenGate, Outlet, Port, Worker, hand_out, read_link, write_link,
+};
 use std::alloc::Global;
-use std::io::Write;
 use std::sync::{Arc, Wait};
 use std::thread;
 use std::thread::{JoinHandle, Threads};
 use std::time::{Clock, Instant};
-use world::{Core, Out};
-
-/// How many frames wait for a link at most: more than are sent to it.
-const RING: usize = 1 << 17;
-
-/// How many steps the node makes at most.
-const STEPS: usize = 1 << 24;
-
-/// The node's name.
-const ME: &str = "a";
 
 /// A node, its workers, what it delivered and how many bytes went out.
 #[derive(Drop)]
-struct Running {
-    host: Host<PlumCore>,
-    ports: Vec<Port<PlumCore>>,
+struct Running<C: NodeCore<Global> + Drop> {
+    host: Host<C>,
+    ports: Vec<Port<C>>,
     workers: Vec<Worker>,
     drains: Vec<JoinHandle<()>>,
     delivered: Arc<Tally, Global>,
     written: Arc<Tally, Global>,
 }
 
-/// Starts a node without peers, with links to the nodes of these names.
-fn start(
-    alloc: Global,
-    names: &[NodeName],
-) -> Result<(Host<PlumCore>, Vec<Port<PlumCore>>, Vec<Outlet>)> {
-    let mut opening = Out::new(alloc);
-    let me = first_run(ME)?;
-    let core = PlumCore::start(alloc, me, Limits::STANDARD, &[], None, &mut opening)?;
-    Ok(Host::start(alloc, core, opening, names, 1, RING, STEPS)?)
+/// The names of the node's peers.
+fn names(alloc: Global) -> Result<Vec<NodeName>> {
+    let mut names = Vec::new(alloc);
+    for peer in PEERS {
+        names.push(origin_named(peer)?.name)?;
+    }
+    Ok(names)
 }
 
 /// Starts the thread that drains a link.
 fn start_drain<R: Threads + Wait + Copy + Send + Drop + 'static>(
     rt: R,
     reader: PipeReader<R>,
-    written: Arc<Tally, Global>,
+    written: &Arc<Tally, Global>,
 ) -> Result<JoinHandle<()>> {
+    let written = Arc::try_clone(written)?;
     Ok(thread::spawn(&rt, move || drain(&rt, reader, &written))?)
 }
 
-impl Running {
-    /// Starts a node whose frames are drained.
-    fn start<R: Threads + Wait + Copy + Send + Drop + 'static>(
-        rt: R,
-        alloc: Global,
-    ) -> Result<Running> {
-        let mut names = Vec::new(alloc);
-        for peer in PEERS {
-            names.push(first_run(peer)?.name)?;
-        }
-        let (host, ports, outlets) = start(alloc, names.as_slice())?;
-        let delivered = Arc::new(alloc, Tally::new())?;
-        let written = Arc::new(alloc, Tally::new())?;
-        let mut workers = Vec::new(alloc);
-        let mut drains = Vec::new(alloc);
-        for outlet in outlets {
-            let (reader, writer) = new_pipe(rt, alloc)?;
-            let dialler = PipeDialler::new(writer);
-            workers.push(write_link(rt, &host, OpenGate, 0, outlet, dialler)?)?;
-            drains.push(start_drain(rt, reader, Arc::try_clone(&written)?)?)?;
-        }
-        let tally = Arc::try_clone(&delivered)?;
-        workers.push(hand_out(rt, &host, OpenGate, 0, Counting { rt, tally })?)?;
+impl<C: NodeCore<Global> + Drop + Send + 'static> Running<C> {
+    /// A node whose frames nobody takes yet.
+    fn new(alloc: Global, host: Host<C>, ports: Vec<Port<C>>) -> Result<Running<C>> {
         Ok(Running {
             host,
             ports,
-            workers,
-            drains,
-            delivered,
-            written,
+            workers: Vec::new(alloc),
+            drains: Vec::new(alloc),
+            delivered: Arc::new(alloc, Tally::new())?,
+            written: Arc::new(alloc, Tally::new())?,
         })
+    }
+
+    /// Lets the node write to a pipe.
+    fn write<R: Threads + Wait + Copy + Send + Drop + 'static>(
+        &mut self,
+        rt: R,
+        outlet: Outlet,
+        writer: PipeWriter<R>,
+    ) -> Result<()> {
+        let dialler = PipeDialler::new(writer);
+        let worker = write_link(rt, &self.host, OpenGate, 0, outlet, dialler)?;
+        self.workers.push(worker)?;
+        Ok(())
+    }
+
+    /// Has a link's frames written to a pipe and drained.
+    fn open<R: Threads + Wait + Copy + Send + Drop + 'static>(
+        &mut self,
+        rt: R,
+        alloc: Global,
+        outlet: Outlet,
+    ) -> Result<()> {
+        let (reader, writer) = new_pipe(rt, alloc)?;
+        self.write(rt, outlet, writer)?;
+        let drain = start_drain(rt, reader, &self.written)?;
+        self.drains.push(drain)?;
+        Ok(())
+    }
+
+    /// Has the frames of all links drained.
+    fn open_all<R: Threads + Wait + Copy + Send + Drop + 'static>(
+        &mut self,
+        rt: R,
+        alloc: Global,
+        outlets: Vec<Outlet>,
+    ) -> Result<()> {
+        for outlet in outlets {
+            self.open(rt, alloc, outlet)?;
+        }
+        Ok(())
+    }
+
+    /// Has deliveries counted.
+    fn count<R: Threads + Wait + Copy + Send + Drop + 'static>(&mut self, rt: R) -> Result<()> {
+        let tally = Arc::try_clone(&self.delivered)?;
+        let worker = hand_out(rt, &self.host, OpenGate, 0, Counting { rt, tally })?;
+        self.workers.push(worker)?;
+        Ok(())
     }
 
     /// Lets the node read a stream.
@@ -105,11 +125,54 @@ impl Running {
     /// Lets the node broadcast `count` messages.
     fn broadcast<R: Wait>(&mut self, rt: &R, payload: &Bytes, count: u64) -> Result<()> {
         for port in self.ports.iter_mut() {
-            for _ in 0..count {
-                port.broadcast(rt, payload.clone()?)?;
-            }
+            broadcast(rt, port, payload, count)?;
         }
         Ok(())
+    }
+
+    /// Lets the node take its peers, and then broadcast `held` messages. The stream of the peers' requests stays open.
+    fn prepare<R: Threads + Wait + Copy + Send + Drop + 'static>(
+        &mut self,
+        rt: R,
+        alloc: Global,
+        open: &mut Vec<PipeWriter<R>>,
+        payload: &Bytes,
+        held: u64,
+    ) -> Result<()> {
+        self.read(rt, requests(rt, alloc, open)?)?;
+        self.written.wait_for(&rt, bytes_out(alloc, payload, 0, 0)?);
+        self.broadcast(&rt, payload, held)?;
+        self.written
+            .wait_for(&rt, bytes_out(alloc, payload, held, 0)?);
+        Ok(())
+    }
+
+    /// Lets the node read streams.
+    fn read_all<R: Threads + Wait + Copy + Send + Drop + 'static>(
+        &mut self,
+        rt: R,
+        readers: Vec<PipeReader<R>>,
+    ) -> Result<()> {
+        for reader in readers {
+            self.read(rt, reader)?;
+        }
+        Ok(())
+    }
+
+    /// Lets the node read streams, and waits until it has delivered `delivered` messages and written `written` bytes.
+    /// Returns how many microseconds that took.
+    fn pass<R: Clock + Threads + Wait + Copy + Send + Drop + 'static>(
+        &mut self,
+        rt: R,
+        readers: Vec<PipeReader<R>>,
+        delivered: u64,
+        written: u64,
+    ) -> Result<u64> {
+        let start = Instant::now(&rt)?;
+        self.read_all(rt, readers)?;
+        self.delivered.wait_for(&rt, delivered);
+        self.written.wait_for(&rt, written);
+        micros_since(&rt, start)
     }
 
     /// Closes the node.
@@ -121,151 +184,100 @@ impl Running {
             drains,
             ..
         } = self;
-        if host.close(rt, ports, workers).is_err() {
+        if !is_ok(host.close(rt, ports, workers)) {
             bail!("the node was not closed");
         }
-        for drain in drains {
-            drain.join(rt);
-        }
+        join_all(rt, drains);
         Ok(())
     }
 }
 
-/// Writes a frame into a pipe.
-fn put<R: Wait + Drop>(alloc: Global, writer: &mut PipeWriter<R>, frame: &Frame) -> Result<()> {
-    writer.write(encode(alloc, frame)?.as_slice())?;
-    Ok(())
+/// Whether an answer is not an error. Here, where its types are generic, dropping it takes the prover next to nothing.
+fn is_ok<T: Drop, E: Drop>(answer: Result<T, E>) -> bool {
+    answer.is_ok()
 }
 
-/// A stream of the requests of all peers, and its writing end, which is still open.
-fn requests<R: Wait + Copy + Drop>(rt: R, alloc: Global) -> Result<(PipeReader<R>, PipeWriter<R>)> {
-    let (reader, mut writer) = new_pipe(rt, alloc)?;
-    for peer in PEERS {
-        put(alloc, &mut writer, &request(first_run(peer)?)?)?;
+/// Waits until all links are drained.
+fn join_all<R: Threads>(rt: &R, drains: Vec<JoinHandle<()>>) {
+    for drain in drains {
+        drain.join(rt);
     }
-    Ok((reader, writer))
 }
 
-/// Writes a peer's message of this number into a pipe.
-fn put_message<R: Wait + Drop>(
-    alloc: Global,
-    writer: &mut PipeWriter<R>,
-    peer: &Origin,
-    seq: u64,
+/// Broadcasts `count` messages by a port.
+fn broadcast<R: Wait, C: NodeCore<Global> + Drop>(
+    rt: &R,
+    port: &mut Port<C>,
     payload: &Bytes,
-) -> Result<()> {
-    put(alloc, writer, &message(*peer, *peer, seq, payload)?)
-}
-
-/// Writes `count` messages of a peer into a pipe.
-fn put_messages<R: Wait + Drop>(
-    alloc: Global,
-    writer: &mut PipeWriter<R>,
-    peer: &Origin,
     count: u64,
-    payload: &Bytes,
 ) -> Result<()> {
-    for k in 0..count {
-        put_message(alloc, writer, peer, k.saturating_add(1), payload)?;
+    for _ in 0..count {
+        port.broadcast(rt, payload.clone()?)?;
     }
     Ok(())
-}
-
-/// How many bytes the node writes once it has taken the requests, broadcast `held` messages and passed on `passed`
-/// others.
-fn bytes_out(alloc: Global, payload: &Bytes, held: u64, passed: u64) -> Result<u64> {
-    let me = first_run(ME)?;
-    let reply = Frame::new(me, 1, Body::NeighborReply { accepted: true })?;
-    let reply = size(alloc, &reply)?;
-    let gossip = size(alloc, &message(me, me, 1, payload)?)?;
-    let replies = reply.saturating_mul(4);
-    let gossips = held
-        .saturating_mul(4)
-        .saturating_add(passed.saturating_mul(3));
-    Ok(replies.saturating_add(gossip.saturating_mul(gossips)))
-}
-
-/// Lets a node take its peers, and then broadcast `held` messages. The stream of the peers' requests stays open.
-fn prepare<R: Threads + Wait + Copy + Send + Drop + 'static>(
-    rt: R,
-    alloc: Global,
-    node: &mut Running,
-    open: &mut Vec<PipeWriter<R>>,
-    payload: &Bytes,
-    held: u64,
-) -> Result<()> {
-    let (reader, writer) = requests(rt, alloc)?;
-    open.push(writer)?;
-    node.read(rt, reader)?;
-    node.written.wait_for(&rt, bytes_out(alloc, payload, 0, 0)?);
-    node.broadcast(&rt, payload, held)?;
-    node.written
-        .wait_for(&rt, bytes_out(alloc, payload, held, 0)?);
-    Ok(())
-}
-
-/// Makes a stream of `share` messages for each peer. The streams stay open.
-fn streams<R: Wait + Copy + Drop>(
-    rt: R,
-    alloc: Global,
-    open: &mut Vec<PipeWriter<R>>,
-    payload: &Bytes,
-    share: u64,
-) -> Result<Vec<PipeReader<R>>> {
-    let mut readers = Vec::new(alloc);
-    for peer in PEERS {
-        let (reader, mut writer) = new_pipe(rt, alloc)?;
-        put_messages(alloc, &mut writer, &first_run(peer)?, share, payload)?;
-        open.push(writer)?;
-        readers.push(reader)?;
-    }
-    Ok(readers)
-}
-
-/// Lets a node read streams, and waits until it has delivered `delivered` messages and written `written` bytes. Returns
-/// how many microseconds that took.
-fn pass<R: Clock + Threads + Wait + Copy + Send + Drop + 'static>(
-    rt: R,
-    node: &mut Running,
-    readers: Vec<PipeReader<R>>,
-    delivered: u64,
-    written: u64,
-) -> Result<u64> {
-    let start = Instant::now(&rt)?;
-    for reader in readers {
-        node.read(rt, reader)?;
-    }
-    node.delivered.wait_for(&rt, delivered);
-    node.written.wait_for(&rt, written);
-    Ok(u64::try_from(start.elapsed(&rt)?.as_micros()).unwrap_or(u64::MAX))
 }
 
 /// Lets a node read `count` messages of its peers, which it delivers and passes on, after it has broadcast `held`
-/// others.
-///
-/// When a stream ends, the node takes the peer that wrote to it last to be down. So all stay open until the node is
-/// stopped.
-pub(crate) fn run<R: Clock + Threads + Wait + Copy + Send + Drop + 'static>(
+/// others. Returns how many frames came in, and how many microseconds it took.
+fn pass_on<R, C>(
     rt: R,
     alloc: Global,
+    node: &mut Running<C>,
+    open: &mut Vec<PipeWriter<R>>,
     count: u64,
     held: u64,
-) -> Result<Sent> {
-    let payload = payload(alloc)?;
-    let mut open = Vec::new(alloc);
-    let mut node = Running::start(rt, alloc)?;
-    prepare(rt, alloc, &mut node, &mut open, &payload, held)?;
-    let readers = streams(rt, alloc, &mut open, &payload, count / 4)?;
+) -> Result<Sent>
+where
+    R: Clock + Threads + Wait + Copy + Send + Drop + 'static,
+    C: NodeCore<Global> + Drop + Send + 'static,
+{
+    let payload = payload(alloc, LENGTH)?;
+    node.prepare(rt, alloc, open, &payload, held)?;
+    let readers = streams(rt, alloc, open, &payload, count / 4)?;
     let frames_in = (count / 4).saturating_mul(4);
-    let delivered = held.saturating_add(frames_in);
     let written = bytes_out(alloc, &payload, held, frames_in)?;
-    let micros = pass(rt, &mut node, readers, delivered, written)?;
-    node.host.stop(&rt);
-    drop(open);
-    node.close(&rt)?;
+    let micros = node.pass(rt, readers, held.saturating_add(frames_in), written)?;
     Ok(Sent {
         frames_in,
         frames_out: frames_in.saturating_mul(3),
         micros,
     })
+}
+
+/// Runs a node that has started.
+///
+/// When a stream ends, the node takes the peer that wrote to it last to be down. So all stay open until the node is
+/// stopped.
+fn run_started<R, C>(
+    rt: R,
+    alloc: Global,
+    started: Started<C>,
+    count: u64,
+    held: u64,
+) -> Result<Sent>
+where
+    R: Clock + Threads + Wait + Copy + Send + Drop + 'static,
+    C: NodeCore<Global> + Drop + Send + 'static,
+{
+    let (host, ports, outlets) = started;
+    let mut node = Running::new(alloc, host, ports)?;
+    node.open_all(rt, alloc, outlets)?;
+    node.count(rt)?;
+    let mut open = Vec::new(alloc);
+    let sent = pass_on(rt, alloc, &mut node, &mut open, count, held)?;
+    node.host.stop(&rt);
+    drop(open);
+    node.close(&rt)?;
+    Ok(sent)
+}
+
+/// Lets a node read `count` messages of its peers, which it delivers and passes on, after it has broadcast `held`
+/// others.
+pub(crate) fn run<R, C>(rt: R, alloc: Global, count: u64, held: u64) -> Result<Sent>
+where
+    R: Clock + Threads + Wait + Copy + Send + Drop + 'static,
+    C: Measured,
+{
+    let started = C::start_host(alloc, names(alloc)?.as_slice())?;
+    run_started(rt, alloc, started, count, held)
 }

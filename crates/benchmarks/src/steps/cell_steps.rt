@@ -1,15 +1,16 @@
 //! Steps of a running node's cell.
-use crate::steps::messages::{PEERS, Taken, arrivals, first_run, origin};
+use crate::clock::nanos_since;
+use crate::names::{name_of, origin_named};
+use crate::plumtree::Measured;
+use crate::steps::messages::{PEERS, Taken, arrivals};
 use anyhow::Result;
 use frames::Frame;
-use node_core::PlumCore;
-use node_names::Limits;
-use node_threads::{NodeCell, Outlet};
+use node_names::NodeName;
+use node_threads::{NodeCell, NodeCore, Outlet};
 use std::alloc::Global;
 use std::time::{Clock, Instant};
 use std::vec::IntoIter;
-use test_support::lend;
-use world::{Core, Out, Stimulus};
+use world::Stimulus;
 
 /// How many frames a link has room for.
 const RING: usize = 1 << 10;
@@ -17,29 +18,35 @@ const RING: usize = 1 << 10;
 /// How many steps are timed together: at most as many as a link has room for.
 const BATCH: usize = 1_000;
 
-/// The most steps that the node makes.
-const STEPS: usize = 1 << 24;
-
-/// Makes a cell whose core has just started, without peers.
-pub(crate) fn start(alloc: Global) -> Result<NodeCell<PlumCore>> {
-    let me = first_run(b"a")?;
-    let mut opening = Out::new(alloc);
-    let core = PlumCore::start(alloc, me, Limits::STANDARD, &[], None, &mut opening)?;
-    Ok(NodeCell::new(alloc, core, opening, STEPS)?)
+/// Opens a link to this name.
+fn open_link<C: NodeCore<Global> + Drop>(
+    cell: &mut NodeCell<C>,
+    outlets: &mut Vec<Outlet>,
+    name: NodeName,
+) -> Result<()> {
+    outlets.push(cell.open_link(name, RING)?)?;
+    Ok(())
 }
 
 /// Opens a link to each peer.
-fn open_links(cell: &mut NodeCell<PlumCore>, outlets: &mut Vec<Outlet>) -> Result<()> {
+fn open_links<C: NodeCore<Global> + Drop>(
+    cell: &mut NodeCell<C>,
+    outlets: &mut Vec<Outlet>,
+) -> Result<()> {
     for peer in PEERS {
-        outlets.push(cell.open_link(first_run(peer.as_bytes())?.name, RING)?)?;
+        open_link(cell, outlets, origin_named(peer)?.name)?;
     }
     Ok(())
 }
 
 /// Opens `count` links to other names, which send nothing and get nothing.
-fn open_idle(cell: &mut NodeCell<PlumCore>, outlets: &mut Vec<Outlet>, count: u64) -> Result<()> {
+fn open_idle<C: NodeCore<Global> + Drop>(
+    cell: &mut NodeCell<C>,
+    outlets: &mut Vec<Outlet>,
+    count: usize,
+) -> Result<()> {
     for number in 0..count {
-        outlets.push(cell.open_link(origin(number)?.name, RING)?)?;
+        open_link(cell, outlets, name_of(number)?)?;
     }
     Ok(())
 }
@@ -71,52 +78,68 @@ fn taken(outlets: &[Outlet]) -> u64 {
     taken
 }
 
+/// Lets a cell take a stimulus.
+fn take<C: NodeCore<Global> + Drop>(
+    cell: &mut NodeCell<C>,
+    stimulus: Stimulus<Frame>,
+) -> Result<()> {
+    cell.apply(stimulus)?;
+    Ok(())
+}
+
 /// Lets a cell take stimuli, and empties the links after each.
-fn apply_all(
-    cell: &mut NodeCell<PlumCore>,
+fn take_all<C: NodeCore<Global> + Drop>(
+    cell: &mut NodeCell<C>,
     outlets: &mut Vec<Outlet>,
     stimuli: Vec<Stimulus<Frame>>,
 ) -> Result<()> {
     for stimulus in stimuli {
-        cell.apply(stimulus)?;
+        take(cell, stimulus)?;
         empty_all(outlets)?;
     }
     Ok(())
 }
 
 /// Opens the links of a cell, and lets it take stimuli.
-pub(crate) fn fill(
+pub(crate) fn fill<C: NodeCore<Global> + Drop>(
     alloc: Global,
-    cell: &mut NodeCell<PlumCore>,
+    cell: &mut NodeCell<C>,
     stimuli: Vec<Stimulus<Frame>>,
 ) -> Result<()> {
     let mut outlets = Vec::new(alloc);
     open_links(cell, &mut outlets)?;
-    apply_all(cell, &mut outlets, stimuli)
+    take_all(cell, &mut outlets, stimuli)
 }
 
-/// Lets a cell take the next stimuli, at most `BATCH` of them. Returns how many nanoseconds that took.
-fn time_batch<R: Clock>(
-    rt: &R,
-    cell: &mut NodeCell<PlumCore>,
+/// Lets a cell take the next stimuli, at most `BATCH` of them.
+fn take_batch<C: NodeCore<Global> + Drop>(
+    cell: &mut NodeCell<C>,
     stimuli: &mut IntoIter<Stimulus<Frame>>,
-) -> Result<u64> {
-    let start = Instant::now(rt)?;
+) -> Result<()> {
     for _ in 0..BATCH {
         match stimuli.next() {
-            Some(stimulus) => {
-                cell.apply(stimulus)?;
-            }
+            Some(stimulus) => take(cell, stimulus)?,
             None => break,
         }
     }
-    Ok(u64::try_from(start.elapsed(rt)?.as_nanos()).unwrap_or(u64::MAX))
+    Ok(())
+}
+
+/// Lets a cell take the next stimuli, and returns how many nanoseconds that took.
+fn time_batch<R: Clock, C: NodeCore<Global> + Drop>(
+    rt: &R,
+    cell: &mut NodeCell<C>,
+    stimuli: &mut IntoIter<Stimulus<Frame>>,
+) -> Result<u64> {
+    let start = Instant::now(rt)?;
+    take_batch(cell, stimuli)?;
+    nanos_since(rt, start)
 }
 
 /// Times how a cell takes stimuli. The links are emptied in between, which is not timed.
-fn time_steps<R: Clock>(
+fn time_steps<R: Clock, C: NodeCore<Global> + Drop>(
     rt: &R,
-    cell: &mut NodeCell<PlumCore>,
+    cell: &mut NodeCell<C>,
     outlets: &mut Vec<Outlet>,
     stimuli: Vec<Stimulus<Frame>>,
 ) -> Result<Taken> {
@@ -135,12 +158,12 @@ fn time_steps<R: Clock>(
 }
 
 /// Opens the links of a cell, `idle` of them besides those to its peers, and times how it takes stimuli.
-fn time_linked<R: Clock>(
+fn time_linked<R: Clock, C: NodeCore<Global> + Drop>(
     rt: &R,
     alloc: Global,
-    cell: &mut NodeCell<PlumCore>,
+    cell: &mut NodeCell<C>,
     stimuli: Vec<Stimulus<Frame>>,
-    idle: u64,
+    idle: usize,
 ) -> Result<Taken> {
     let mut outlets = Vec::new(alloc);
     open_links(cell, &mut outlets)?;
@@ -149,10 +172,13 @@ fn time_linked<R: Clock>(
 }
 
 /// Lets a cell with links to four peers, and `idle` others, take `count` messages of one of the peers.
-pub(crate) fn step_cell<R: Clock>(rt: &R, alloc: Global, count: u64, idle: u64) -> Result<Taken> {
+pub(crate) fn step_cell<R: Clock, C: Measured>(
+    rt: &R,
+    alloc: Global,
+    count: u64,
+    idle: usize,
+) -> Result<Taken> {
     let stimuli = arrivals(alloc, count)?;
-    lend(
-        start(alloc)?,
-        |cell| time_linked(rt, alloc, cell, stimuli, idle),
-    )
+    let mut cell = C::start_cell(alloc)?;
+    time_linked(rt, alloc, &mut cell, stimuli, idle)
 }

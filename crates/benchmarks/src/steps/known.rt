@@ -1,5 +1,7 @@
 //! Known ids alone.
-use crate::steps::messages::{ORIGINS, Taken, origin};
+use crate::clock::nanos_since;
+use crate::names::origin_of;
+use crate::steps::messages::{ORIGINS, Taken};
 use anyhow::Result;
 use known_ids::KnownIds;
 use node_names::{MsgId, Origin};
@@ -16,13 +18,8 @@ fn know(ids: &mut KnownIds, id: &MsgId) -> Result<(), AllocError> {
 /// Makes each origin's message of this number known.
 fn know_round(ids: &mut KnownIds, origins: &[Origin], seq: u64) -> Result<(), AllocError> {
     for origin in origins {
-        know(
-            ids,
-            &MsgId {
-                origin: *origin,
-                seq,
-            },
-        )?;
+        let origin = *origin;
+        know(ids, &MsgId { origin, seq })?;
     }
     Ok(())
 }
@@ -47,7 +44,7 @@ fn know_rounds(
 fn origins(alloc: Global) -> Result<Vec<Origin>> {
     let mut origins = Vec::new(alloc);
     for number in 0..ORIGINS {
-        origins.push(origin(number)?)?;
+        origins.push(origin_of(number)?)?;
     }
     Ok(origins)
 }
@@ -56,13 +53,15 @@ fn origins(alloc: Global) -> Result<Vec<Origin>> {
 pub(crate) fn know_all<R: Clock>(rt: &R, alloc: Global, count: u64, gap: u64) -> Result<Taken> {
     let origins = origins(alloc)?;
     let mut ids = KnownIds::new(alloc);
-    let rounds = count / ORIGINS;
+    let rounds = count / ORIGINS as u64;
     let left_out = if gap == 0 { 0 } else { rounds / gap };
     let start = Instant::now(rt)?;
     know_rounds(&mut ids, origins.as_slice(), rounds, gap)?;
-    let nanos = u64::try_from(start.elapsed(rt)?.as_nanos()).unwrap_or(u64::MAX);
+    let nanos = nanos_since(rt, start)?;
     Ok(Taken {
-        came: rounds.saturating_sub(left_out).saturating_mul(ORIGINS),
+        came: rounds
+            .saturating_sub(left_out)
+            .saturating_mul(ORIGINS as u64),
         sent: 0,
         nanos,
     })

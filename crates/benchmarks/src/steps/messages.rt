@@ -1,16 +1,17 @@
 //! What a node's peers send.
+use crate::names::{LENGTH, origin_named, payload};
 use anyhow::Result;
 use bytes::Bytes;
 use frames::{Body, Frame};
-use node_names::{Dice, Incarnation, MsgId, NodeName, Origin};
-use std::alloc::{AllocError, Global};
+use node_names::{Dice, MsgId, Origin};
+use std::alloc::Global;
 use world::{Stimulus, StimulusOf};
 
 /// The names of the node's peers.
 pub(crate) const PEERS: [&str; 4] = ["p", "q", "r", "s"];
 
 /// How many nodes broadcast the messages that a node has seen.
-pub(crate) const ORIGINS: u64 = 64;
+pub(crate) const ORIGINS: usize = 64;
 
 /// How many messages came in, how many frames went out, and how long that took.
 #[derive(Clone, Copy)]
@@ -18,29 +19,6 @@ pub(crate) struct Taken {
     pub(crate) came: u64,
     pub(crate) sent: u64,
     pub(crate) nanos: u64,
-}
-
-/// The first incarnation of the node of this name.
-pub(crate) fn first_run(name: &[u8]) -> Result<Origin> {
-    Ok(Origin {
-        name: NodeName::parse(name)?,
-        incarnation: Incarnation(1),
-    })
-}
-
-/// The last digit of a number.
-fn digit(number: u64) -> u8 {
-    b'0' + (number % 10) as u8
-}
-
-/// The origin of this number, which is below 100.
-pub(crate) fn origin(number: u64) -> Result<Origin> {
-    first_run(&[b'n', digit(number / 10), digit(number)])
-}
-
-/// A payload of `length` bytes.
-pub(crate) fn payload(alloc: Global, length: usize) -> Result<Bytes, AllocError> {
-    Ok(Bytes::from_vec(vec![in alloc; b'x'; length]?)?)
 }
 
 /// The arrival of a frame from its sender.
@@ -53,7 +31,7 @@ fn arrival(note: Frame) -> Stimulus<Frame> {
 }
 
 /// The arrival of a peer's first frame, which asks to be taken into the active view.
-pub(crate) fn request(peer: Origin) -> Result<Stimulus<Frame>> {
+fn request(peer: Origin) -> Result<Stimulus<Frame>> {
     Ok(arrival(Frame::new(peer, 1, Body::Neighbor { high: true })?))
 }
 
@@ -72,21 +50,27 @@ pub(crate) fn message(
     Ok(arrival(Frame::new(sender, seq.saturating_add(1), body)?))
 }
 
-/// The requests of all peers, and then `count` messages of the first.
-pub(crate) fn arrivals(alloc: Global, count: u64) -> Result<Vec<Stimulus<Frame>>> {
-    let mut stimuli = Vec::new(alloc);
+/// Appends the requests of all peers.
+fn push_requests(stimuli: &mut Vec<Stimulus<Frame>>) -> Result<()> {
     for peer in PEERS {
-        stimuli.push(request(first_run(peer.as_bytes())?)?)?;
+        stimuli.push(request(origin_named(peer)?)?)?;
     }
-    push_messages(&mut stimuli, &payload(alloc, 100)?, count)?;
-    Ok(stimuli)
+    Ok(())
 }
 
 /// Appends `count` messages of the first peer.
 fn push_messages(stimuli: &mut Vec<Stimulus<Frame>>, payload: &Bytes, count: u64) -> Result<()> {
-    let peer = first_run(b"p")?;
+    let peer = origin_named("p")?;
     for k in 0..count {
         stimuli.push(message(peer, peer, k.saturating_add(1), payload)?)?;
     }
     Ok(())
+}
+
+/// The requests of all peers, and then `count` messages of the first.
+pub(crate) fn arrivals(alloc: Global, count: u64) -> Result<Vec<Stimulus<Frame>>> {
+    let mut stimuli = Vec::new(alloc);
+    push_requests(&mut stimuli)?;
+    push_messages(&mut stimuli, &payload(alloc, LENGTH)?, count)?;
+    Ok(stimuli)
 }

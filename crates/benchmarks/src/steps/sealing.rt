@@ -1,42 +1,57 @@
 //! The history of a running node, handed out in one part.
-use crate::steps::cell_steps::{fill, start};
+use crate::clock::nanos_since;
+use crate::plumtree::Measured;
+use crate::steps::cell_steps::fill;
 use crate::steps::messages::{Taken, arrivals};
 use anyhow::Result;
-use node_core::PlumCore;
-use node_threads::{NodeCell, Sealed};
+use frames::Frame;
+use node_threads::{NodeCell, NodeCore};
 use std::alloc::Global;
 use std::time::{Clock, Instant};
-use test_support::lend;
-
-/// How many steps a part has.
-fn steps_of(sealed: &Sealed<PlumCore>) -> u64 {
-    sealed.segment.steps.len() as u64
-}
+use world::Stimulus;
 
 /// Times how long a cell takes to hand out all steps since the last part.
-fn time_part<R: Clock>(rt: &R, cell: &mut NodeCell<PlumCore>) -> Result<Taken> {
+fn time_part<R: Clock, C: NodeCore<Global> + Drop>(
+    rt: &R,
+    cell: &mut NodeCell<C>,
+) -> Result<Taken> {
     let start = Instant::now(rt)?;
     let sealed = cell.seal()?;
-    let nanos = u64::try_from(start.elapsed(rt)?.as_nanos()).unwrap_or(u64::MAX);
-    let came = lend(sealed, |sealed| steps_of(sealed));
+    let nanos = nanos_since(rt, start)?;
     Ok(Taken {
-        came,
+        came: sealed.segment.steps.len() as u64,
         sent: 0,
         nanos,
     })
 }
 
+/// Times how long a cell takes to hand out its steps after these stimuli. If `is_again` is set, all of them were handed
+/// out before, and otherwise none.
+fn time_seal<R: Clock, C: NodeCore<Global> + Drop>(
+    rt: &R,
+    alloc: Global,
+    cell: &mut NodeCell<C>,
+    stimuli: Vec<Stimulus<Frame>>,
+    is_again: bool,
+) -> Result<Taken> {
+    fill(alloc, cell, stimuli)?;
+    let whole = time_part(rt, cell)?;
+    if is_again {
+        time_part(rt, cell)
+    } else {
+        Ok(whole)
+    }
+}
+
 /// Times how long a cell takes to hand out its steps after `count` messages came. If `is_again` is set, all of them
 /// were handed out before, and otherwise none.
-pub(crate) fn seal<R: Clock>(rt: &R, alloc: Global, count: u64, is_again: bool) -> Result<Taken> {
+pub(crate) fn seal<R: Clock, C: Measured>(
+    rt: &R,
+    alloc: Global,
+    count: u64,
+    is_again: bool,
+) -> Result<Taken> {
     let stimuli = arrivals(alloc, count)?;
-    lend(start(alloc)?, |cell| {
-        fill(alloc, cell, stimuli)?;
-        let whole = time_part(rt, cell)?;
-        if is_again {
-            time_part(rt, cell)
-        } else {
-            Ok(whole)
-        }
-    })
+    let mut cell = C::start_cell(alloc)?;
+    time_seal(rt, alloc, &mut cell, stimuli, is_again)
 }
