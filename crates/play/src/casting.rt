@@ -28,6 +28,76 @@ fn play(
     Player::new(heap, alloc, layer).play(text, out)
 }
 
+/// Plays a case of names, views or a membership. Returns whether `layer` is one of these.
+fn play_membership(
+    heap: &RefusingAllocator,
+    alloc: Global,
+    layer: &str,
+    text: &str,
+    out: &mut String,
+) -> Result<bool, AllocError> {
+    match layer {
+        "membership" => play(heap, alloc, MembershipLayer::new(heap, alloc), text, out)?,
+        "names" => play(heap, alloc, NameLayer::new(heap, alloc), text, out)?,
+        "views" => play(heap, alloc, ViewsLayer::new(heap), text, out)?,
+        _ => return Ok(false),
+    }
+    Ok(true)
+}
+
+/// Plays a case of gossip or a part of it. Returns whether `layer` is one of these.
+fn play_gossip(
+    heap: &RefusingAllocator,
+    alloc: Global,
+    layer: &str,
+    text: &str,
+    out: &mut String,
+) -> Result<bool, AllocError> {
+    match layer {
+        "gossip" => play(heap, alloc, GossipLayer::new(heap, alloc), text, out)?,
+        "known" => play(heap, alloc, KnownLayer::new(heap, alloc), text, out)?,
+        "missing" => play(heap, alloc, MissingLayer::new(heap), text, out)?,
+        "peers" => play(heap, alloc, PeersLayer::new(heap), text, out)?,
+        _ => return Ok(false),
+    }
+    Ok(true)
+}
+
+/// Plays a case of frames, streams or the refusing allocator. Returns whether `layer` is one of these.
+fn play_streams(
+    heap: &RefusingAllocator,
+    alloc: Global,
+    layer: &str,
+    text: &str,
+    out: &mut String,
+) -> Result<bool, AllocError> {
+    match layer {
+        "allocator" => play(heap, alloc, AllocatorLayer::new(alloc), text, out)?,
+        "frames" => play(heap, alloc, FrameLayer::new(heap, alloc), text, out)?,
+        "streams" => play(heap, alloc, StreamLayer::new(heap, alloc), text, out)?,
+        _ => return Ok(false),
+    }
+    Ok(true)
+}
+
+/// Plays a case of groups, cells or merged traces. Returns whether `layer` is one of these.
+fn play_groups(
+    heap: &RefusingAllocator,
+    alloc: Global,
+    layer: &str,
+    text: &str,
+    out: &mut String,
+) -> Result<bool, AllocError> {
+    match layer {
+        "cell" => play(heap, alloc, CellLayer::new(heap), text, out)?,
+        "merge" => play(heap, alloc, MergeLayer::new(heap, alloc), text, out)?,
+        "plum" => play(heap, alloc, PlumLayer::new(heap, alloc), text, out)?,
+        "world" => play(heap, alloc, FloodLayer::new(heap, alloc), text, out)?,
+        _ => return Ok(false),
+    }
+    Ok(true)
+}
+
 /// Plays a case, and appends it with what its commands give.
 pub(crate) fn play_all(
     heap: &RefusingAllocator,
@@ -36,21 +106,13 @@ pub(crate) fn play_all(
     out: &mut String,
 ) -> Result<(), AllocError> {
     let text = text.strip_suffix('\n').unwrap_or(text);
-    match layer_of(text) {
-        Some("allocator") => play(heap, alloc, AllocatorLayer::new(alloc), text, out),
-        Some("cell") => play(heap, alloc, CellLayer::new(heap), text, out),
-        Some("frames") => play(heap, alloc, FrameLayer::new(heap, alloc), text, out),
-        Some("gossip") => play(heap, alloc, GossipLayer::new(heap, alloc), text, out),
-        Some("known") => play(heap, alloc, KnownLayer::new(heap, alloc), text, out),
-        Some("membership") => play(heap, alloc, MembershipLayer::new(heap, alloc), text, out),
-        Some("merge") => play(heap, alloc, MergeLayer::new(heap, alloc), text, out),
-        Some("missing") => play(heap, alloc, MissingLayer::new(heap), text, out),
-        Some("names") => play(heap, alloc, NameLayer::new(heap, alloc), text, out),
-        Some("peers") => play(heap, alloc, PeersLayer::new(heap), text, out),
-        Some("plum") => play(heap, alloc, PlumLayer::new(heap, alloc), text, out),
-        Some("streams") => play(heap, alloc, StreamLayer::new(heap, alloc), text, out),
-        Some("views") => play(heap, alloc, ViewsLayer::new(heap), text, out),
-        Some("world") => play(heap, alloc, FloodLayer::new(heap, alloc), text, out),
-        _ => out.push_str("no such layer\n"),
+    let layer = layer_of(text).unwrap_or("");
+    let is_played = play_membership(heap, alloc, layer, text, out)?
+        || play_gossip(heap, alloc, layer, text, out)?
+        || play_streams(heap, alloc, layer, text, out)?
+        || play_groups(heap, alloc, layer, text, out)?;
+    if is_played {
+        return Ok(());
     }
+    out.push_str("no such layer\n")
 }

@@ -3,7 +3,7 @@ use crate::texts::{push_applied, push_cell, push_frame, push_link};
 use frames::Frame;
 use node_core::PlumCore;
 use node_names::{Limits, NodeName, Origin};
-use node_threads::{Applied, HostError, NodeCell, Outlet};
+use node_threads::{Applied, HostError, NodeCell, Outlet, Sealed};
 use play_script::frame_words::stimulus;
 use play_script::layer::{Layer, Outcome, Turn};
 use play_script::lists::{push_payload, yes_or_no};
@@ -152,6 +152,35 @@ fn report<A: Allocator + Copy>(
     }
 }
 
+/// Says what a sealed segment has.
+fn push_sealed<A: Allocator + Copy>(
+    said: &mut String,
+    sealed: &Sealed<PlumCore<A>, A>,
+) -> Result<(), AllocError> {
+    let (first, count) = (sealed.segment.first, sealed.segment.steps.len());
+    let held = sealed.state.held().len();
+    writeln!(
+        said,
+        "{count} steps from step {first} on, {held} messages held then"
+    )
+}
+
+/// Says what a call gave, by `tell`, and drops it. Returns why the call was refused, if it was.
+fn say_given<T: Drop, E, F: FnOnce(&T) -> Result<(), AllocError>>(
+    answer: Result<T, E>,
+    tell: F,
+) -> Result<Option<E>, AllocError>
+    requires { F.IsAlwaysCallable tell }
+{
+    match answer {
+        Ok(given) => {
+            tell(&given)?;
+            Ok(None)
+        }
+        Err(error) => Ok(Some(error)),
+    }
+}
+
 /// Hands out the steps since the last call, and says which they are and how many messages the core holds then.
 fn seal<A: Allocator + Copy>(
     cell: &mut Cell<A>,
@@ -161,18 +190,15 @@ fn seal<A: Allocator + Copy>(
     turn.begin();
     let answer = cell.seal();
     turn.end();
-    match answer {
-        Ok(sealed) => {
-            let (first, count) = (sealed.segment.first, sealed.segment.steps.len());
-            let held = sealed.state.held().len();
-            writeln!(
-                said,
-                "{count} steps from step {first} on, {held} messages held then"
-            )?;
-            Ok(Outcome::Done)
-        }
-        Err(error) => refused(error, said),
+    match say_given(answer, |sealed| push_sealed(said, sealed))? {
+        None => Ok(Outcome::Done),
+        Some(error) => refused(error, said),
     }
+}
+
+/// Puts a value into a place, and drops what was there.
+fn put_into<T: Drop>(place: &mut T, value: T) {
+    *place = value;
 }
 
 /// Hands out the deliveries, and says them.
@@ -335,7 +361,7 @@ impl<A: Allocator + Copy> Layer for CellLayer<A> {
     }
 
     fn clear(&mut self) {
-        self.cell = None;
+        put_into(&mut self.cell, None);
         self.outlets.clear();
     }
 
