@@ -1,4 +1,5 @@
-"""Proves and builds the program of this checkout, as out/plumtree. tools/program calls it.
+"""Proves and builds the program of this checkout, as out/plumtree, and the library for other languages. tools/program calls it, and
+./release.
 
 What it stands on is proved side by side, and kept by `rt`. Then the program is made of that. Standard error shows how far it is.
 """
@@ -16,13 +17,15 @@ sys.path.insert(0, os.path.dirname(os.path.dirname(os.path.realpath(__file__))))
 from tools import proofs
 from tools.crates import TOP, lanes, own, with_all_below
 from tools.plan import plan
+from tools.toolchain import Toolchain
 
 PROGRAM = "plumtree"
+LIBRARY = "plumtree_c"
 OUT = f"{TOP}/out"
 
 
 def sources():
-    """Returns the sum over what the program is made of, as a line."""
+    """Returns the sum over what the program and the library are made of, as a line."""
     return subprocess.run([f"{TOP}/tools/sources"], stdout=subprocess.PIPE, text=True, check=True).stdout
 
 
@@ -67,10 +70,10 @@ def prove(crates, room):
         sys.exit("plumtree: so the program was not built")
 
 
-def make(crates, room):
-    """Makes the program of what was proved, in a repository of its crates alone, and returns its path."""
+def proved_again(crates, room):
+    """Makes a repository of these crates alone, and has the toolchain's gate pass over it, which finds what was proved."""
     with open(f"{TOP}/crates.txt", encoding="utf-8") as lines:
-        listed = [it for it in lines if it.partition(":")[0].strip() in crates]
+        listed = [it for it in lines if (it.partition(":")[0].split() or [""])[0] in crates]
     os.makedirs(f"{room}/.git")
     for name in crates:
         shutil.copytree(f"{TOP}/crates/{name}", f"{room}/crates/{name}", ignore=shutil.ignore_patterns("out"))
@@ -79,8 +82,34 @@ def make(crates, room):
         it.writelines(listed)
     ran = subprocess.run(["rt", "ci"], cwd=room, stdin=subprocess.DEVNULL, stdout=subprocess.PIPE, stderr=subprocess.STDOUT, text=True, errors="replace")
     if ran.returncode:
-        sys.exit(f"{ran.stdout}plumtree: so the program was not built")
+        sys.exit(f"{ran.stdout}plumtree: so nothing was built")
+
+
+def make(crates, room):
+    """Makes the program of what was proved, and returns its path."""
+    proved_again(crates, room)
     return f"{room}/crates/{PROGRAM}/out/{PROGRAM}"
+
+
+def archive_in(top):
+    """Proves and makes the static library in a repository over which the toolchain's gate has passed, and returns its path."""
+    toolchain, where, archive = Toolchain(), f"{top}/crates/{LIBRARY}", f"out/lib{LIBRARY}.a"
+    words = [*toolchain.words(LIBRARY, "build", top), "--toolchain", f"{toolchain.kit}/toolchain", "-o", archive]
+    os.makedirs(f"{where}/out", exist_ok=True)
+    ran = subprocess.run(words, cwd=where, stdin=subprocess.DEVNULL, stdout=subprocess.PIPE, stderr=subprocess.STDOUT, text=True, errors="replace")
+    if ran.returncode:
+        sys.exit(f"{ran.stdout}plumtree: so the library was not built")
+    return f"{where}/{archive}"
+
+
+def build_library(to):
+    """Proves and builds the static library, and copies it to this path."""
+    crates = with_all_below(own(), [LIBRARY])
+    with tempfile.TemporaryDirectory(prefix="plumtree-") as room:
+        os.makedirs(f"{room}/logs")
+        prove(crates, f"{room}/logs")
+        proved_again(crates, f"{room}/repository")
+        shutil.copy(archive_in(f"{room}/repository"), to)
 
 
 def build():

@@ -5,15 +5,22 @@ import re
 TOP = os.path.dirname(os.path.dirname(os.path.realpath(__file__)))
 
 
+def listed():
+    """Returns the lines of crates.txt: the words before the colon, a crate's name and `staticlib` if that is what is made of it, and
+    those behind it."""
+    with open(f"{TOP}/crates.txt", encoding="utf-8") as lines:
+        parts = [line.partition("#")[0].partition(":") for line in lines]
+    return [(before.split(), behind.split()) for before, colon, behind in parts if colon]
+
+
 def libraries():
     """Returns the crates, in the order of crates.txt, each with the libraries that it stands on itself, the toolchain's too."""
-    found = {}
-    with open(f"{TOP}/crates.txt", encoding="utf-8") as lines:
-        for line in lines:
-            name, colon, below = line.partition("#")[0].partition(":")
-            if colon:
-                found[name.strip()] = below.split()
-    return found
+    return {name: below for (name, *_), below in listed()}
+
+
+def static_libraries():
+    """Returns the crates of which a static library is made."""
+    return {name for (name, *kind), _ in listed() if kind == ["staticlib"]}
 
 
 def own():

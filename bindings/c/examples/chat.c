@@ -1,0 +1,291 @@
+/* A node over TCP: lines of standard input are broadcast, and messages of the group are printed.
+ *
+ * usage: chat NAME PORT [--join NAME] [PEER=PORT]..
+ *
+ *   chat a 7201 b=7202 &        a node that b may join
+ *   chat b 7202 --join a a=7201
+ *
+ * Every name that the node may have to call stands on the command line with its port on this machine. A connection
+ * carries frames from the one who called to the other, and nothing else. One thread, one poll. */
+#define _DEFAULT_SOURCE
+#include "plumtree.h"
+
+#include <arpa/inet.h>
+#include <errno.h>
+#include <fcntl.h>
+#include <poll.h>
+#include <stdio.h>
+#include <stdlib.h>
+#include <string.h>
+#include <sys/socket.h>
+#include <time.h>
+#include <unistd.h>
+
+enum { PEERS = 64, CALLERS = 64, TICK = 100 /* milliseconds */, OUT_MAX = 1 << 20 /* bytes */ };
+
+/* Another node: its port, and the connection to it, with what waits to be written there. */
+typedef struct peer {
+    const char *name;
+    uint16_t port;
+    int socket;
+    uint8_t *out;
+    size_t length;
+} peer;
+
+/* A connection that someone made to this node, with what came in and is no whole frame yet. */
+typedef struct caller {
+    int socket;
+    size_t length;
+    uint8_t in[PLUMTREE_FRAME_MAX];
+} caller;
+
+static plumtree_node node;
+static peer peers[PEERS];
+static size_t peer_count;
+static caller callers[CALLERS];
+
+static void stop(const char *what, int32_t answer)
+{
+    char words[128];
+    size_t length = 0;
+    plumtree_words(answer, (uint8_t *)words, sizeof words - 1, &length);
+    words[length < sizeof words ? length : 0] = 0;
+    fprintf(stderr, "chat: %s: %s\n", what, words);
+    exit(1);
+}
+
+/* Ends the program unless the call was done, or there was nothing to do. */
+static int32_t checked(const char *what, int32_t answer)
+{
+    if (answer < 0)
+        stop(what, answer);
+    return answer;
+}
+
+static void roll(uint64_t dice[PLUMTREE_DICE])
+{
+    for (int i = 0; i < PLUMTREE_DICE; i++)
+        dice[i] = (uint64_t)random() << 33 ^ (uint64_t)random() << 11 ^ (uint64_t)random();
+}
+
+static peer *peer_of(const char *name)
+{
+    for (size_t i = 0; i < peer_count; i++)
+        if (strcmp(peers[i].name, name) == 0)
+            return &peers[i];
+    return NULL;
+}
+
+static struct sockaddr_in place(uint16_t port)
+{
+    struct sockaddr_in at = {.sin_family = AF_INET, .sin_port = htons(port)};
+    at.sin_addr.s_addr = htonl(INADDR_LOOPBACK);
+    return at;
+}
+
+static int call(const peer *it)
+{
+    struct sockaddr_in at = place(it->port);
+    int made = socket(AF_INET, SOCK_STREAM, 0);
+    if (made < 0)
+        return -1;
+    fcntl(made, F_SETFL, O_NONBLOCK);
+    if (connect(made, (struct sockaddr *)&at, sizeof at) == 0 || errno == EINPROGRESS)
+        return made;
+    close(made);
+    return -1;
+}
+
+/* Drops the connection to a peer with what waits for it, and tells the node. */
+static void hang_up(peer *it)
+{
+    uint64_t dice[PLUMTREE_DICE];
+    if (it->socket >= 0)
+        close(it->socket);
+    it->socket = -1;
+    it->length = 0;
+    roll(dice);
+    checked("link_down", plumtree_link_down(&node, (const uint8_t *)it->name, strlen(it->name), dice));
+}
+
+static void write_to(peer *it)
+{
+    ssize_t done = send(it->socket, it->out, it->length, MSG_NOSIGNAL);
+    if (done < 0 && errno != EAGAIN && errno != EINPROGRESS && errno != EINTR) {
+        hang_up(it);
+    } else if (done > 0) {
+        it->length -= (size_t)done;
+        memmove(it->out, it->out + done, it->length);
+    }
+}
+
+/* Puts a frame behind what waits for its receiver. */
+static void queue(const char *name, const uint8_t *frame, size_t length)
+{
+    uint64_t dice[PLUMTREE_DICE];
+    peer *it = peer_of(name);
+    if (it == NULL) {
+        roll(dice);
+        checked("link_down", plumtree_link_down(&node, (const uint8_t *)name, strlen(name), dice));
+        return;
+    }
+    if (it->socket < 0)
+        it->socket = call(it);
+    if (it->socket < 0 || it->length + length > OUT_MAX) {
+        hang_up(it);
+        return;
+    }
+    memcpy(it->out + it->length, frame, length);
+    it->length += length;
+}
+
+/* Prints what was delivered, and queues what is to be sent, until the node has nothing left. */
+static void give_out(void)
+{
+    static uint8_t room[PLUMTREE_FRAME_MAX];
+    plumtree_name to;
+    plumtree_id id;
+    size_t length;
+    while (checked("next_delivery", plumtree_next_delivery(&node, &id, room, sizeof room, &length)) == PLUMTREE_DONE) {
+        printf("%s: %.*s\n", id.name.text, (int)length, (const char *)room);
+        fflush(stdout);
+    }
+    while (checked("next_send", plumtree_next_send(&node, &to, room, sizeof room, &length)) == PLUMTREE_DONE)
+        queue(to.text, room, length);
+}
+
+static void drop(caller *it)
+{
+    close(it->socket);
+    it->socket = -1;
+}
+
+/* Reads what a connection brings, and hands the node each whole frame. */
+static void read_from(caller *it)
+{
+    uint64_t dice[PLUMTREE_DICE];
+    ssize_t count = read(it->socket, it->in + it->length, sizeof it->in - it->length);
+    size_t taken;
+    int32_t answer;
+    if (count <= 0) {
+        if (count == 0 || errno != EINTR)
+            drop(it);
+        return;
+    }
+    it->length += (size_t)count;
+    do {
+        roll(dice);
+        answer = plumtree_receive(&node, it->in, it->length, dice, &taken);
+        it->length -= taken;
+        memmove(it->in, it->in + taken, it->length);
+    } while (answer == PLUMTREE_DONE);
+    if (answer <= PLUMTREE_FRAME_TOO_LONG)
+        drop(it);
+    else
+        checked("receive", answer);
+}
+
+static void accept_one(int listener)
+{
+    int made = accept(listener, NULL, NULL);
+    for (size_t i = 0; made >= 0 && i < CALLERS; i++)
+        if (callers[i].socket < 0) {
+            callers[i] = (caller){.socket = made};
+            return;
+        }
+    if (made >= 0)
+        close(made);
+}
+
+/* Broadcasts a line of standard input. Returns whether there may be another. */
+static int read_line(void)
+{
+    char line[1024];
+    uint64_t number;
+    ssize_t count = read(STDIN_FILENO, line, sizeof line);
+    if (count > 0)
+        checked("broadcast", plumtree_broadcast(&node, (uint8_t *)line, (size_t)count - (line[count - 1] == '\n'), &number));
+    return count > 0;
+}
+
+static int listen_at(uint16_t port)
+{
+    struct sockaddr_in at = place(port);
+    int on = 1, made = socket(AF_INET, SOCK_STREAM, 0);
+    setsockopt(made, SOL_SOCKET, SO_REUSEADDR, &on, sizeof on);
+    if (made < 0 || bind(made, (struct sockaddr *)&at, sizeof at) < 0 || listen(made, CALLERS) < 0) {
+        perror("chat: listen");
+        exit(1);
+    }
+    return made;
+}
+
+static void start(int count, char **words)
+{
+    plumtree_limits limits;
+    const char *contact = "";
+    for (int i = 3; i < count; i++) {
+        char *equals = strchr(words[i], '=');
+        if (strcmp(words[i], "--join") == 0 && i + 1 < count) {
+            contact = words[++i];
+        } else if (equals != NULL && peer_count < PEERS) {
+            *equals = 0;
+            peers[peer_count++] = (peer){words[i], (uint16_t)atoi(equals + 1), -1, malloc(OUT_MAX), 0};
+        }
+    }
+    plumtree_limits_default(&limits);
+    checked("start", plumtree_start(&node, (const uint8_t *)words[1], strlen(words[1]), (uint64_t)time(NULL), &limits,
+                                    NULL, 0, (const uint8_t *)contact, strlen(contact)));
+}
+
+/* Waits for what happens next, at most until the next tick. */
+static void turn(int listener, int *is_open)
+{
+    struct pollfd all[2 + PEERS + CALLERS] = {{listener, POLLIN, 0}, {*is_open ? STDIN_FILENO : -1, POLLIN, 0}};
+    for (size_t i = 0; i < PEERS; i++)
+        all[2 + i] = (struct pollfd){i < peer_count && peers[i].length > 0 ? peers[i].socket : -1, POLLOUT, 0};
+    for (size_t i = 0; i < CALLERS; i++)
+        all[2 + PEERS + i] = (struct pollfd){callers[i].socket, POLLIN, 0};
+    if (poll(all, sizeof all / sizeof *all, TICK) < 0)
+        return;
+    if (all[0].revents)
+        accept_one(listener);
+    if (all[1].revents)
+        *is_open = read_line();
+    for (size_t i = 0; i < peer_count; i++)
+        if (all[2 + i].revents)
+            write_to(&peers[i]);
+    for (size_t i = 0; i < CALLERS; i++)
+        if (all[2 + PEERS + i].revents)
+            read_from(&callers[i]);
+}
+
+static uint64_t milliseconds(void)
+{
+    struct timespec now;
+    clock_gettime(CLOCK_MONOTONIC, &now);
+    return (uint64_t)now.tv_sec * 1000 + (uint64_t)now.tv_nsec / 1000000;
+}
+
+int main(int count, char **words)
+{
+    int is_open = 1, listener;
+    uint64_t dice[PLUMTREE_DICE], next = 0;
+    if (count < 3) {
+        fprintf(stderr, "usage: chat NAME PORT [--join NAME] [PEER=PORT]..\n");
+        return 2;
+    }
+    srandom((unsigned)time(NULL) ^ (unsigned)getpid());
+    for (size_t i = 0; i < CALLERS; i++)
+        callers[i].socket = -1;
+    start(count, words);
+    for (listener = listen_at((uint16_t)atoi(words[2]));;) {
+        give_out();
+        turn(listener, &is_open);
+        if (milliseconds() >= next) {
+            roll(dice);
+            checked("tick", plumtree_tick(&node, dice));
+            next = milliseconds() + TICK;
+        }
+    }
+}

@@ -1,0 +1,42 @@
+"""Plumtree broadcast over HyParView membership, as a state machine: what connections bring goes in, and what is to be sent
+and what is delivered comes out. The library that does the work is proved; this module calls it.
+
+    >>> from plumtree import Config, Deliver, Node, Send
+    >>> a = Node(Config("a", peers=["b"]))
+    >>> b = Node(Config("b", peers=["a"]))
+    >>> a.broadcast(b"hello")
+    1
+    >>> for output in a:
+    ...     if isinstance(output, Send):
+    ...         b.receive(output.frame) == len(output.frame)
+    True
+    >>> [(str(output.id), output.payload) for output in b if isinstance(output, Deliver)]
+    [('a/1/1', b'hello')]
+"""
+from ._node import (
+    FRAME_MAX,
+    PAYLOAD_MAX,
+    Config,
+    Counts,
+    Deliver,
+    Limits,
+    MsgId,
+    Node,
+    PlumtreeError,
+    Send,
+    random_dice,
+)
+
+__all__ = [
+    "FRAME_MAX",
+    "PAYLOAD_MAX",
+    "Config",
+    "Counts",
+    "Deliver",
+    "Limits",
+    "MsgId",
+    "Node",
+    "PlumtreeError",
+    "Send",
+    "random_dice",
+]

@@ -1,0 +1,4 @@
+pub mod Lasts
+pub mod Names
+pub mod Runs
+pub mod Values

@@ -1,0 +1,5 @@
+pub mod Answers
+pub mod Owned
+pub mod Plain
+pub mod Slots
+pub mod State

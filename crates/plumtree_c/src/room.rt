@@ -1,0 +1,63 @@
+//! Rooms of the caller for bytes and names, and lists whose first items are taken.
+ghost use Rattle.std.specs.Prelude.{◌≡◌, ◌+◌, ◌≤◌, MatchBool, drop, length, map, take};
+ghost use Rattle.plumtree_c.specs.Plain.{name_of};
+
+use crate::plain::Name;
+use node_names::{Listed, NodeName};
+use peer_sets::{Member, PeerKind};
+use std::mem;
+
+/// Puts the bytes at the front of the room, or answers `false` if they are too many.
+pub(crate) fn put(room: &mut [u8], bytes: &[u8]) -> bool
+    ensures bytes { MatchBool result (take (length bytes.now) room.new ≡ bytes.now) (room.new ≡ room.old) }
+    ensures length { length room.new ≡ length room.old }
+{
+    if room.len() < bytes.len() {
+        return false;
+    }
+    room[..bytes.len()].copy_from_slice(bytes);
+    true
+}
+
+/// Puts as many of the names at the front of the room as it has places for.
+pub(crate) fn put_names(room: &mut [Name], names: &[NodeName])
+    ensures length { length room.new ≡ length room.old }
+    ensures names { length names.now ≤ length room.old → map name_of (take (length names.now) room.new) ≡ names.now }
+{
+    let places = room.len().min(names.len());
+    for i in 0..places {
+        room[i] = Name::of(&names[i]);
+    }
+}
+
+/// Drops the first `given` items, those that were taken, unless they are fewer than the others. Returns how many of
+/// them are still there.
+pub(crate) fn forget<T: Drop>(items: &mut Listed<T>, given: usize) -> usize
+    requires { given ≤ length items.old }
+    ensures left { drop result items.new ≡ drop given items.old }
+    ensures few { result + result ≤ length items.new }
+{
+    if given < items.len() - given {
+        return given;
+    }
+    let alloc = *items.allocator();
+    let mut rest = mem::replace(items, Listed::new(alloc)).into_vec();
+    rest.drain(..given);
+    *items = Listed::from_vec(rest);
+    0
+}
+
+/// Puts the names of as many members of this kind at the front of the room as it has places for. Returns the number of
+/// all of them.
+pub(crate) fn put_members(room: &mut [Name], members: &[Member], kind: PeerKind) -> usize {
+    let mut found: usize = 0;
+    for (name, its) in members {
+        if *its == kind {
+            if let Some(place) = room.get_mut(found) {
+                *place = Name::of(name);
+            }
+            found = found.wrapping_add(1);
+        }
+    }
+    found
+}
