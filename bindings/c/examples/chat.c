@@ -5,6 +5,7 @@
  *   chat a 7201 b=7202 &        a node that b may join
  *   chat b 7202 --join a a=7201
  *
+ * The node that is joined runs already: a node whose first call comes to nothing stays alone.
  * Every name that the node may have to call stands on the command line with its port on this machine. A connection
  * carries frames from the one who called to the other, and nothing else. One thread, one poll. */
 #define _DEFAULT_SOURCE
