@@ -48,18 +48,9 @@ class Queue:
         return sorted((it for it in waiting if self.crates[it] <= self.passed), key=lambda it: -self.chains[it])
 
     def begin(self):
-        """Returns the crates to begin now, each with whether it may take more than one processor.
-
-        Processors that share a proof read the libraries each for itself, so they do only where one would be idle, and, of more than
-        two, for the crate that all others wait for.
-        """
-        ready, found = self.ready(), []
-        at_once = len(ready) + len(self.running)
-        for name in ready[: max(0, self.most - len(self.running))]:
-            others = [it for it in (*ready, *self.running) if it != name]
-            is_first = self.most > 2 and all(self.chains[name] > self.chains[it] for it in others)
-            found.append((name, is_first or at_once < self.most))
-        self.running |= {name for name, _ in found}
+        """Returns the crates to begin now."""
+        found = self.ready()[: max(0, self.most - len(self.running))]
+        self.running |= {*found}
         return found
 
     def end(self, name, is_passed):
@@ -72,13 +63,14 @@ class Queue:
 
 
 class Proof:
-    """A run of `rt ci` for one crate, which finds what it stands on kept."""
+    """A run of `rt ci` for one crate on one processor, which finds what it stands on kept. Processors that share a proof read the
+    libraries each for itself, which costs up to half as much again."""
 
-    def __init__(self, name, room, has_more):
+    def __init__(self, name, room):
         self.name, self.log, self.began = name, f"{room}/{name}", time.monotonic()
         # (`rt` takes no crates' names where CI is set, since only a run over all is the gate)
         environment = {key: text for key, text in os.environ.items() if key != "CI"}
-        environment |= {} if has_more else {"RT_JOBS": "1"}
+        environment["RT_JOBS"] = "1"
         with open(self.log, "w", encoding="utf-8") as log:
             self.process = subprocess.Popen(["rt", "ci", name], cwd=TOP, env=environment, stdin=subprocess.DEVNULL, stdout=log, stderr=log)
         self.seconds, self.took = 0.0, 0.0
@@ -125,7 +117,7 @@ def told(proof):
 def keeps(name, room):
     """Returns whether `rt` keeps what passes, by two runs of a crate that stands on none. One that does not pass ends the script."""
     for _ in range(2):
-        proof = Proof(name, room, True)
+        proof = Proof(name, room)
         while not proof.has_ended():
             time.sleep(0.2)
         if proof.was_kept():
@@ -152,8 +144,8 @@ def prove(crates, room, most, teller):
     queue, running, seconds, failed = Queue(crates, most), {}, 0.0, None
     try:
         while running or not (queue.is_done() or failed):
-            for name, has_more in [] if failed else queue.begin():
-                running[name] = Proof(name, room, has_more)
+            for name in [] if failed else queue.begin():
+                running[name] = Proof(name, room)
             teller.watch(queue.passed, [*running.values()])
             time.sleep(0.5)
             for proof in [it for it in running.values() if it.has_ended()]:
