@@ -1,0 +1,9 @@
+pub mod Drafting
+pub mod Ends
+pub mod Filling
+pub mod Fronts
+pub mod GoingDown
+pub mod Sending
+pub mod Stepping
+pub mod Taking
+pub mod Weaving

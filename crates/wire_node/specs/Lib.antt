@@ -1,0 +1,5 @@
+pub mod Acting
+pub mod Node
+pub mod Receiving
+pub mod Waiting
+pub mod Weave

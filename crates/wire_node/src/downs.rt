@@ -1,0 +1,95 @@
+//! Names that are down: the core is told, and what waited for them is dropped.
+ghost use Rattle.std.specs.Prelude.{◌≡◌, ◌≤◌, ◌∷◌, ◌++◌, [], All, IsNone, OnErr, OnOk, filter, length, not};
+ghost use Rattle.node_names.specs.Same.{same_name};
+ghost use Rattle.wire_node.specs.Acting.{AreSettled, GoesDown, without};
+ghost use Rattle.wire_node.specs.Node.{Relieves};
+
+use crate::entry::Entry;
+use crate::step::make_step;
+use node_core::PlumCore;
+use node_names::{Dice, Listed, NodeName};
+use std::alloc::Allocator;
+use world::{CoreError, Delivery, StimulusOf};
+
+/// Drops what waits for the name.
+fn forget<A: Allocator + Copy>(entries: &mut Vec<Entry<A>, A>, name: &NodeName)
+    ensures { entries.new.items ≡ without name.now entries.old.items }
+{
+    entries.retain(
+        |entry: &Entry<A>| -> bool
+            ensures { result ≡ not (same_name name.entry.now entry.now.name) }
+        { *name != entry.name() },
+    );
+}
+
+/// Tells the core that the name is down, drops what waits for it, and notes it in `lost`. If the step is refused,
+/// nothing changes.
+pub(crate) fn take_down<A: Allocator + Copy>(
+    core: &mut PlumCore<A>,
+    entries: &mut Vec<Entry<A>, A>,
+    pending: &mut Listed<Delivery<A>, A>,
+    lost: &mut Listed<NodeName, A>,
+    name: NodeName,
+    dice: &Dice,
+) -> Result<(), CoreError>
+    requires { AreSettled entries.old.items }
+    ensures down { OnOk result (GoesDown (record { core = core.old; waiting = entries.old.items; pending = pending.old }) name dice.now (record { core = core.new; waiting = entries.new.items; pending = pending.new })) }
+    ensures noted { OnOk result (lost.new ≡ lost.old ++ name ∷ []) }
+    ensures settled { AreSettled entries.new.items }
+    ensures err { OnErr result ((core.new ≡ core.old) × (entries.new.items ≡ entries.old.items) × (pending.new ≡ pending.old) × (lost.new ≡ lost.old)) }
+{
+    let noted = lost.len();
+    lost.push(name)?;
+    let told = make_step(
+        core,
+        entries,
+        pending,
+        &StimulusOf::Down {
+            peer: name,
+            dice: *dice,
+        },
+    );
+    if let Err(error) = told {
+        lost.truncate(noted);
+        return Err(error);
+    }
+    forget(entries, &name);
+    Ok(())
+}
+
+/// The first name for whom more than `limit` bytes wait.
+fn overfull<A: Allocator + Copy>(entries: &[Entry<A>], limit: usize) -> Option<NodeName>
+    ensures none { IsNone result → All (λ waiting. length waiting.settled ≤ limit) entries.now }
+{
+    for entry in entries {
+        if entry.len() > limit {
+            return Some(entry.name());
+        }
+    }
+    None
+}
+
+/// Takes the names down for whom more than `limit` bytes wait, until there are none or a step is refused.
+#[tactic(auto, using(crate::proofs::GoingDown::relieves_none))]
+pub(crate) fn relieve<A: Allocator + Copy>(
+    core: &mut PlumCore<A>,
+    entries: &mut Vec<Entry<A>, A>,
+    pending: &mut Listed<Delivery<A>, A>,
+    lost: &mut Listed<NodeName, A>,
+    limit: usize,
+    dice: &Dice,
+)
+    requires { AreSettled entries.old.items }
+    ensures relieved { Relieves (record { core = core.old; waiting = entries.old.items; pending = pending.old }) lost.old dice.now (record { core = core.new; waiting = entries.new.items; pending = pending.new }) lost.new }
+    ensures settled { AreSettled entries.new.items }
+{
+    for _ in 0..entries.len() {
+        let Some(name) = overfull(entries, limit) else {
+            return;
+        };
+        match take_down(core, entries, pending, lost, name, dice) {
+            Ok(()) => {}
+            Err(_) => return,
+        }
+    }
+}

@@ -1,0 +1,51 @@
+//! The start of a node: its core, and what its first frames have wait.
+ghost use Rattle.std.specs.Prelude.{◌≡◌, [], List, IfOk, IsTrue};
+ghost use Rattle.node_names.specs.NodeName.{Name};
+ghost use Rattle.frames.specs.Frame.{Frame as Sent};
+ghost use Rattle.world.specs.Peers.{are_peers};
+ghost use Rattle.node_core.specs.Steps.{PlumStarts};
+ghost use Rattle.wire_node.specs.Acting.{AreSettled};
+ghost use Rattle.wire_node.specs.Waiting.{mail_for, settled_for};
+
+use crate::drafts::{draft_all, settle_all};
+use crate::entry::Entry;
+use crate::error::WireError;
+use crate::limits::WireLimits;
+use frames::Frame;
+use node_core::PlumCore;
+use node_names::{NodeName, Origin};
+use std::alloc::{AllocError, Allocator};
+use world::{Core, Out};
+
+/// Starts the core. What it sends is put into `out`, which is empty.
+pub(crate) fn start_core<A: Allocator + Copy>(
+    alloc: A,
+    me: Origin,
+    limits: &WireLimits,
+    peers: &[NodeName],
+    contact: Option<NodeName>,
+    out: &mut Out<Frame<A>, A>,
+) -> Result<PlumCore<A>, WireError>
+    requires peers { IsTrue (are_peers limits.now.core me.name peers.now contact) }
+    requires empty { out.old.sends ≡ [] }
+    ensures { IfOk result (λ core. PlumStarts me limits.now.core peers.now contact out.new.sends core) }
+{
+    match PlumCore::start(alloc, me, limits.core, peers, contact, out) {
+        Ok(core) => Ok(core),
+        Err(error) => Err(WireError::of_core(error)),
+    }
+}
+
+/// What waits if these frames are the first.
+pub(crate) fn first_entries<A: Allocator + Copy>(
+    alloc: A,
+    sends: &[(NodeName, Frame<A>)],
+) -> Result<Vec<Entry<A>, A>, AllocError>
+    ensures waits { IfOk result (λ entries. (name : Name) → settled_for entries.items name ≡ mail_for sends.now name) }
+    ensures settled { IfOk result (λ entries. AreSettled entries.items) }
+{
+    let mut entries = Vec::new(alloc);
+    draft_all(&mut entries, sends)?;
+    settle_all(&mut entries);
+    Ok(entries)
+}

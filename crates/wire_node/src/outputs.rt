@@ -1,0 +1,86 @@
+//! What a node of bytes has for its driver: bytes by the name that they go to, deliveries, and names that are down.
+ghost use Rattle.std.specs.Prelude.{◌≡◌, ◌<◌, ◌++◌, ℕ, List, [], drop, length, if◌then◌else◌};
+ghost use Rattle.bytes.specs.Unread.{concat_slices};
+ghost use Rattle.node_names.specs.NodeName.{Name};
+ghost use Rattle.node_names.specs.Same.{same_name};
+ghost use Rattle.wire_node.specs.Acting.{AreSettled};
+ghost use Rattle.wire_node.specs.Waiting.{settled_for};
+
+use crate::drafts::place_of;
+use crate::entry::Entry;
+use crate::node::WireNode;
+use node_names::{Listed, NodeName};
+use std::alloc::{AllocError, Allocator};
+use std::mem;
+use world::{Core, Delivery};
+
+/// Takes the first `count` of the bytes that wait for the name: they went out. Where fewer wait, takes all. Returns
+/// whether any are left.
+fn take_front<A: Allocator + Copy>(
+    entries: &mut Vec<Entry<A>, A>,
+    name: &NodeName,
+    count: usize,
+) -> bool
+    requires { AreSettled entries.old.items }
+    ensures settled { AreSettled entries.new.items }
+    ensures gone { (other : Name) → settled_for entries.new.items other ≡ (if same_name other name.now then drop count (settled_for entries.old.items other) else settled_for entries.old.items other) }
+{
+    let Some(place) = place_of(entries, name) else {
+        return false;
+    };
+    let taken = count.min(entries[place].len());
+    entries[place].advance(taken);
+    entries[place].len() > 0
+}
+
+impl<A: Allocator + Copy> WireNode<A> {
+    /// The names for whom bytes wait.
+    pub fn receivers(&self) -> Result<Vec<NodeName, A>, AllocError> {
+        let mut names = Vec::new(self.alloc());
+        for entry in self.entries.as_slice() {
+            if entry.len() > 0 {
+                names.push(entry.name())?;
+            }
+        }
+        Ok(names)
+    }
+
+    /// The first of the bytes that wait for the name, in up to four slices. Where any wait, the first two slices are
+    /// not both empty. What of them went out is told by `transmitted`.
+    pub fn transmit(&self, name: &NodeName) -> [&[u8]; 4]
+        ensures front { (rest : List ℕ) × (concat_slices result ++ rest ≡ settled_for self.now.machine.waiting name.now) }
+        ensures some { 0 < length (settled_for self.now.machine.waiting name.now) → 0 < length (concat_slices result) }
+    {
+        match place_of(&self.entries, name) {
+            Some(place) => self.entries[place].slices(),
+            None => [&[], &[], &[], &[]],
+        }
+    }
+
+    /// Takes the first `count` of the bytes that wait for the name: they went out. Where fewer wait, takes all.
+    pub fn transmitted(&mut self, name: &NodeName, count: usize)
+        ensures rest { self.new ≡ record self.old { machine = record self.old.machine { waiting = self.new.machine.waiting } } }
+        ensures gone { (other : Name) → settled_for self.new.machine.waiting other ≡ (if same_name other name.now then drop count (settled_for self.old.machine.waiting other) else settled_for self.old.machine.waiting other) }
+    {
+        take_front(&mut self.entries, name, count);
+    }
+
+    /// Returns the deliveries that were not taken yet, in order. This call takes them.
+    pub fn take_deliveries(&mut self) -> Vec<Delivery<A>, A>
+        ensures given { result.items ≡ self.old.machine.pending }
+        ensures rest { self.new ≡ record self.old { machine = record self.old.machine { pending = [] } } }
+    {
+        let alloc = self.alloc();
+        mem::replace(&mut self.pending, Listed::new(alloc)).into_vec()
+    }
+
+    /// Returns the names for whom bytes were dropped since the last call, in order: what leads to them is to be closed
+    /// before anything more is sent there.
+    pub fn take_lost(&mut self) -> Vec<NodeName, A>
+        ensures given { result.items ≡ self.old.lost }
+        ensures rest { self.new ≡ record self.old { lost = [] } }
+    {
+        let alloc = self.alloc();
+        mem::replace(&mut self.lost, Listed::new(alloc)).into_vec()
+    }
+}

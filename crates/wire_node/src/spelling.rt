@@ -1,0 +1,21 @@
+//! Frames as bytes that wait to go out.
+ghost use Rattle.std.specs.Prelude.{◌≡◌, ◌++◌, length, take, OnOk, OnErr};
+ghost use Rattle.wire_node.specs.Waiting.{spelling};
+
+use crate::outgoing::Outgoing;
+use frames::{Frame, encode};
+use std::alloc::{AllocError, Allocator};
+
+/// Appends the bytes of the frame. If memory runs out, a part of them may have been appended.
+#[tactic(auto, unfolding(crate::specs::Waiting::spelling))]
+pub(crate) fn spell<A: Allocator + Copy>(
+    alloc: A,
+    frame: &Frame<A>,
+    out: &mut Outgoing<A>,
+) -> Result<(), AllocError>
+    ensures ok { OnOk result (out.new ≡ out.old ++ spelling frame.now) }
+    ensures err { OnErr result (take (length out.old) out.new ≡ out.old) }
+{
+    let bytes = encode(alloc, frame)?;
+    out.push_copy(bytes.as_slice())
+}

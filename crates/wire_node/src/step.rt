@@ -1,0 +1,70 @@
+//! A step of the core, whose frames wait afterwards: all of it, or nothing.
+ghost use Rattle.std.specs.Prelude.{◌≡◌, ◌++◌, OnOk, OnErr, IsErrOf};
+ghost use Rattle.world.specs.IdentityLaw.{IsTooLong};
+ghost use Rattle.node_core.specs.Steps.{PlumIsSpent};
+ghost use Rattle.wire_node.specs.Acting.{Acts, AreSettled};
+ghost use Rattle.wire_node.specs.Waiting.{KeepsSettled, all_drafted};
+
+use crate::drafts::{draft_all, settle_all, undraft_all};
+use crate::entry::Entry;
+use frames::Frame;
+use node_core::PlumCore;
+use node_names::Listed;
+use std::alloc::{AllocError, Allocator};
+use world::{Core, CoreError, Delivery, Out, Prepared, Stimulus};
+
+/// Drafts the frames of a step, and appends its deliveries: all of this, or nothing if an allocation is refused.
+#[tactic(auto, using(crate::proofs::Drafting::keeps_same, crate::proofs::Drafting::undrafted_back))]
+fn draft_out<A: Allocator + Copy>(
+    entries: &mut Vec<Entry<A>, A>,
+    pending: &mut Listed<Delivery<A>, A>,
+    out: Out<Frame<A>, A>,
+) -> Result<(), AllocError>
+    requires { AreSettled entries.old.items }
+    ensures drafted { OnOk result (entries.new.items ≡ all_drafted entries.old.items out.sends) }
+    ensures delivered { OnOk result (pending.new ≡ pending.old ++ out.deliveries) }
+    ensures kept { KeepsSettled entries.old.items entries.new.items }
+    ensures err { OnErr result ((entries.new.items ≡ entries.old.items) × (pending.new ≡ pending.old)) }
+{
+    let len = entries.len();
+    let Out { sends, deliveries } = out;
+    if draft_all(entries, sends.as_slice()).is_err() {
+        undraft_all(entries, len);
+        return Err(AllocError);
+    }
+    if pending.append(deliveries.into_vec()).is_err() {
+        undraft_all(entries, len);
+        return Err(AllocError);
+    }
+    Ok(())
+}
+
+/// Makes a step. If it is refused, nothing changes: `advance`, which cannot be taken back, is the last call that can be
+/// refused.
+pub(crate) fn make_step<A: Allocator + Copy>(
+    core: &mut PlumCore<A>,
+    entries: &mut Vec<Entry<A>, A>,
+    pending: &mut Listed<Delivery<A>, A>,
+    stimulus: &Stimulus<Frame<A>, A>,
+) -> Result<(), CoreError>
+    requires { AreSettled entries.old.items }
+    ensures acts { OnOk result (Acts (record { core = core.old; waiting = entries.old.items; pending = pending.old }) stimulus.now (record { core = core.new; waiting = entries.new.items; pending = pending.new })) }
+    ensures settled { AreSettled entries.new.items }
+    ensures err { OnErr result ((core.new ≡ core.old) × (entries.new.items ≡ entries.old.items) × (pending.new ≡ pending.old)) }
+    ensures too_long { IsErrOf result CoreError.PayloadTooLong → IsTooLong stimulus.now }
+    ensures spent { IsErrOf result CoreError.SeqSpent → PlumIsSpent core.old stimulus.now }
+{
+    let lent = stimulus.as_ref();
+    let mut out = Out::new(*entries.allocator());
+    let Prepared { turn, .. } = core.prepare(&lent, &mut out)?;
+    let len = entries.len();
+    let given = pending.len();
+    draft_out(entries, pending, out)?;
+    if core.advance(&lent, turn).is_err() {
+        undraft_all(entries, len);
+        pending.truncate(given);
+        return Err(CoreError::OutOfMemory);
+    }
+    settle_all(entries);
+    Ok(())
+}
