@@ -1,7 +1,7 @@
 -- What waits for a name, and what goes out of it.
-use Rattle.std.specs.Prelude.{◌≡◌, ◌<◌, ◌+◌, ◌-◌, ℕ, Bool, true, false, List, [], ◌∷◌, ◌++◌, All, drop, get_or, length, map, refl, if◌then◌else◌}
+use Rattle.std.specs.Prelude.{◌≡◌, ◌<◌, ◌+◌, ◌-◌, ℕ, Bool, true, false, List, [], ◌∷◌, ◌++◌, All, drop, get_or, length, map, min, refl, if◌then◌else◌}
 use Rattle.std.proofs.Common.{◌∙◌, ap, arith, set, subst, sym, zero, suc}
-use Rattle.std.proofs.lemmas.List.{drop_all}
+use Rattle.std.proofs.lemmas.List.{drop_all, drop_min}
 use Rattle.std.proofs.lemmas.List.Elements.{All-head, All-tail}
 use Rattle.node_names.specs.NodeName.{Name}
 use Rattle.node_names.specs.Same.{same_name, same_name-Decides}
@@ -12,6 +12,9 @@ use Rattle.wire_node.proofs.Drafting.{IsOther, made, other_name}
 -- with so many bytes less
 abbrev pub with_less : ℕ → Waiting → Waiting
 with_less n w = made w.name (drop n w.settled) w.drafted
+
+pub less_settled : (n : ℕ) (w : Waiting) → undrafted w ≡ w → undrafted (with_less n w) ≡ with_less n w
+less_settled n w rest = ap (with_less n) rest
 
 -- what waits for a name that has an entry
 pub waits_at : (ws : List Waiting) (name : Name) (i : ℕ) (d : Waiting) → i < length ws → same_name name (get_or ws i d).name ≡ true → ((k : ℕ) → k < i → same_name name (get_or ws k d).name ≡ false)
@@ -75,3 +78,8 @@ gone_none ws name n other all = go (same_name other name) refl
         let none : settled_for ws other ≡ [] = ap (settled_for ws) ((same_name-Decides other name).0 e) ∙ waits_none ws name all in
         none ∙ sym (drop_all n [] (omega arith)) ∙ ap (drop n) (sym none)
     go false e = refl
+
+-- the entry, with what went out gone
+pub less_of : (count : ℕ) (now e new : Waiting) (taken : ℕ) → now ≡ e → taken ≡ min count (length e.settled) → new ≡ made now.name (drop taken now.settled) now.drafted → new ≡ with_less count e
+less_of count now e new taken is few made_so =
+    made_so ∙ ap (with_less taken) is ∙ ap (λ (s : List ℕ). made e.name s e.drafted) (ap (λ (t : ℕ). drop t e.settled) few ∙ drop_min count e.settled)

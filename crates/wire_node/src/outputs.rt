@@ -14,23 +14,33 @@ use std::alloc::{AllocError, Allocator};
 use std::mem;
 use world::{Core, Delivery};
 
-/// Takes the first `count` of the bytes that wait for the name: they went out. Where fewer wait, takes all. Returns
-/// whether any are left.
+/// The first of the bytes that wait for the name, in up to four slices.
+fn front_of<'a, A: Allocator + Copy>(entries: &'a [Entry<A>], name: &NodeName) -> [&'a [u8]; 4]
+    requires { AreSettled entries.now }
+    ensures front { (rest : List ℕ) × (concat_slices result ++ rest ≡ settled_for entries.now name.now) }
+    ensures some { 0 < length (settled_for entries.now name.now) → 0 < length (concat_slices result) }
+{
+    match place_of(entries, name) {
+        Some(place) => entries[place].slices(),
+        None => [&[], &[], &[], &[]],
+    }
+}
+
+/// Takes the first `count` of the bytes that wait for the name: they went out. Where fewer wait, takes all.
 fn take_front<A: Allocator + Copy>(
     entries: &mut Vec<Entry<A>, A>,
     name: &NodeName,
     count: usize,
-) -> bool
+)
     requires { AreSettled entries.old.items }
     ensures settled { AreSettled entries.new.items }
     ensures gone { (other : Name) → settled_for entries.new.items other ≡ (if same_name other name.now then drop count (settled_for entries.old.items other) else settled_for entries.old.items other) }
 {
     let Some(place) = place_of(entries, name) else {
-        return false;
+        return;
     };
     let taken = count.min(entries[place].len());
     entries[place].advance(taken);
-    entries[place].len() > 0
 }
 
 impl<A: Allocator + Copy> WireNode<A> {
@@ -51,10 +61,7 @@ impl<A: Allocator + Copy> WireNode<A> {
         ensures front { (rest : List ℕ) × (concat_slices result ++ rest ≡ settled_for self.now.machine.waiting name.now) }
         ensures some { 0 < length (settled_for self.now.machine.waiting name.now) → 0 < length (concat_slices result) }
     {
-        match place_of(&self.entries, name) {
-            Some(place) => self.entries[place].slices(),
-            None => [&[], &[], &[], &[]],
-        }
+        front_of(&self.entries, name)
     }
 
     /// Takes the first `count` of the bytes that wait for the name: they went out. Where fewer wait, takes all.
