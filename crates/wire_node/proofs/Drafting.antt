@@ -65,10 +65,12 @@ draft_drafted (w ∷ ws) name bytes n = go (same_name name w.name) refl (draft_d
     own : (b : Bool) → (if b then w.drafted ++ bytes else drafted_for ws n) ≡ (if b then w.drafted else drafted_for ws n) ++ (if b then bytes else [])
     own true = refl
     own false = sym (append-nil (drafted_for ws n))
+
     apart : (b : Bool) → same_name n w.name ≡ b → same_name name w.name ≡ false → drafted_for (drafted ws name bytes) n ≡ drafted_for ws n ++ (if same_name n name then bytes else [])
         → (if b then w.drafted else drafted_for (drafted ws name bytes) n) ≡ (if b then w.drafted else drafted_for ws n) ++ (if same_name n name then bytes else [])
     apart true e f more = sym (ap (λ (t : Bool). w.drafted ++ (if t then bytes else [])) (other_name name w.name n f e) ∙ append-nil w.drafted)
     apart false e f more = more
+
     go : (b : Bool) → same_name name w.name ≡ b → drafted_for (drafted ws name bytes) n ≡ drafted_for ws n ++ (if same_name n name then bytes else [])
         → drafted_for (if b then with_draft w bytes ∷ ws else w ∷ drafted ws name bytes) n ≡ drafted_for (w ∷ ws) n ++ (if same_name n name then bytes else [])
     go true e more =

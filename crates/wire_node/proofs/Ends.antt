@@ -82,8 +82,8 @@ inset_cut text insets rest new before last last' tail len cut at w none e part h
     let long : length last' ≡ length last - cut = omega (arith, ap length (back_of last last' cut l), length-append last' back, size) in
     let place : before_last rest + before ≡ length text = omega (arith, w.within, none, ap before_last e, before_more rest before last) in
     let whole : woven text insets ≡ woven text new ++ back =
-        ap (woven text) e ∙ woven_last text rest before last place ∙ ap (λ t. woven text rest ++ t) (back_of last last' cut l)
-        ∙ sym (append_assoc (woven text rest) last' back) ∙ ap (λ t. t ++ back) (sym (ap (woven text) n ∙ woven_last text rest before last' place)) in (
+    ap (woven text) e ∙ woven_last text rest before last place ∙ ap (λ t. woven text rest ++ t) (back_of last last' cut l)
+    ∙ sym (append_assoc (woven text rest) last' back) ∙ ap (λ t. t ++ back) (sym (ap (woven text) n ∙ woven_last text rest before last' place)) in (
       record {
         within = omega (arith, place, none, ap before_last n, before_more rest before last');
         some = All-same IsSome new (rest ++ (before, last') ∷ []) n (All-push IsSome rest (before, last') (All-pop IsSome insets rest (Some (before, last)) e w.some).0 (omega (arith, long, part)));
@@ -130,7 +130,7 @@ pub text_before_goes : (text new : List ℕ) (insets rest left : List Inset) (be
 text_before_goes text new insets rest left before first tail len n w e few d l =
     let within : before ≤ length text = omega (arith, w.within, ap before_last e) in
     let same : woven new left ≡ drop n (woven text insets) =
-        ap (λ t. woven t left) d ∙ ap (woven (drop n text)) l ∙ woven_text_goes text n before first rest few within ∙ ap (λ i. drop n (woven text i)) (sym e) in
+    ap (λ t. woven t left) d ∙ ap (woven (drop n text)) l ∙ woven_text_goes text n before first rest few within ∙ ap (λ i. drop n (woven text i)) (sym e) in
     let all : All IsSome ((before, first) ∷ rest) = All-same IsSome ((before, first) ∷ rest) insets (sym e) w.some in (
       record {
         within = omega (arith, w.within, ap before_last e, ap before_last l, ap length d, length-drop n text, few);
@@ -148,7 +148,7 @@ inset_goes text insets rest left before first first' tail len n w e zero few d l
     let at : insets ≡ (0, first) ∷ rest = e ∙ ap (λ b. (b, first) ∷ rest) zero in
     let there : left ≡ (0, drop n first) ∷ rest = l ∙ ap (λ f. (0, f) ∷ rest) d in
     let same : woven text left ≡ drop n (woven text insets) =
-        ap (woven text) there ∙ woven_inset_goes text n first rest (omega (arith, few)) ∙ ap (λ i. drop n (woven text i)) (sym at) in
+    ap (woven text) there ∙ woven_inset_goes text n first rest (omega (arith, few)) ∙ ap (λ i. drop n (woven text i)) (sym at) in
     let all : All IsSome ((0, first) ∷ rest) = All-same IsSome ((0, first) ∷ rest) insets (sym at) w.some in
     let some : 0 < length (drop n first) = omega (arith, length-drop n first, few) in (
       record {

@@ -97,7 +97,7 @@ none_at P o is h = subst (λ p. IfNone p P) is h
 pub completed : (f : Frame) (left bytes whole now : List ℕ) (count len : ℕ) → whole ≡ left ++ take count bytes → IsSpelling f (take len whole) → now ≡ drop len whole → Cuts f (left ++ bytes) (now ++ drop count bytes)
 completed f left bytes whole now count len e s n =
     let parts : whole ++ drop count bytes ≡ left ++ bytes =
-        ap (λ (t : List ℕ). t ++ drop count bytes) e ∙ append_assoc left (take count bytes) (drop count bytes) ∙ ap (λ (t : List ℕ). left ++ t) (take-append-drop count bytes) in
+    ap (λ (t : List ℕ). t ++ drop count bytes) e ∙ append_assoc left (take count bytes) (drop count bytes) ∙ ap (λ (t : List ℕ). left ++ t) (take-append-drop count bytes) in
     subst (λ (t : List ℕ). Cuts f t (now ++ drop count bytes)) parts
     (subst (λ (t : List ℕ). Cuts f (whole ++ drop count bytes) (t ++ drop count bytes)) (sym n) (cuts_before f whole (drop count bytes) len s))
 
@@ -126,5 +126,5 @@ module _ (mid new : Machine) (p q : Option Name) (dice : Dice) (left now bytes r
       → Takes mid p (left ++ drop at bytes) dice new q (now ++ drop (length bytes) bytes)
   from_none_kept count last none its kept t =
       let all : now ++ drop (length bytes) bytes ≡ left ++ drop (at + count) bytes =
-          ap (λ (b : List ℕ). now ++ b) (drop_all (length bytes) bytes (omega arith)) ∙ append-nil now ∙ kept ∙ ap (λ (b : List ℕ). left ++ b) its in
+      ap (λ (b : List ℕ). now ++ b) (drop_all (length bytes) bytes (omega arith)) ∙ append-nil now ∙ kept ∙ ap (λ (b : List ℕ). left ++ b) its in
       subst (λ (b : List ℕ). Takes mid p (left ++ drop at bytes) dice new q b) (sym all) (from_none count none t)

@@ -1,5 +1,5 @@
 -- A node of bytes, and what its calls do to it.
-use Rattle.std.specs.Prelude.{◌≡◌, ◌++◌, ℕ, List, [], ◌∷◌, Option, Some, slice_get, slice_set}
+use Rattle.std.specs.Prelude.{◌≡◌, ◌++◌, ℕ, List, [], ◌∷◌, Option, Some, length, slice_get, slice_set}
 use Rattle.node_names.specs.NodeName.{Name}
 use Rattle.node_names.specs.Limits.{Limits}
 use Rattle.node_names.specs.declared.dice.Dice.{Dice}
@@ -8,7 +8,7 @@ use Rattle.world.specs.Stimulus.{Stimulus}
 use Rattle.frames.specs.Frame.{Frame}
 use Rattle.node_core.specs.Steps.{PlumStarts}
 use Rattle.wire_node.specs.Acting.{Acts, GoDown, GoesDown, Machine, TickSteps}
-use Rattle.wire_node.specs.Receiving.{Connection, Receives}
+use Rattle.wire_node.specs.Receiving.{Connection, IsPartial, Receives}
 use Rattle.wire_node.specs.Waiting.{mail_for, settled_for}
 
 -- The core with what waits and what it delivered; the connections; the names for whom bytes were dropped since that was
@@ -57,16 +57,17 @@ pub record Ticks (old : NodeState) (dice : Dice) (new : NodeState) : Type 0 wher
   pub relieves : Relieves ticked old.lost dice new.machine new.lost
   pub connections : new.connections ≡ old.connections
 
--- The connection of this number took bytes: its whole frames were taken, and the rest is kept. So many of the bytes were
--- taken or kept.
-pub record Hears (old : NodeState) (number : ℕ) (bytes : List ℕ) (dice : Dice) (count : ℕ) (new : NodeState) : Type 0 where
+-- The bytes came over the connection of this number: the whole frames were taken, and what is no whole frame yet is
+-- kept.
+pub record Hears (old : NodeState) (number : ℕ) (bytes : List ℕ) (dice : Dice) (new : NodeState) : Type 0 where
   pub place : ℕ
   pub link : Connection
   pub link' : Connection
   pub heard : Machine
   pub at : slice_get old.connections place ≡ Some link
   pub its_number : link.number ≡ number
-  pub receives : Receives old.machine link bytes dice count heard link'
+  pub receives : Receives old.machine link bytes dice (length bytes) heard link'
+  pub partial : IsPartial link'.left
   pub connections : new.connections ≡ slice_set old.connections place link'
   pub relieves : Relieves heard old.lost dice new.machine new.lost
   pub ticks : new.ticks ≡ old.ticks

@@ -112,7 +112,7 @@ impl<A: Allocator + Copy> WireNode<A> {
         ensures ok { OnOk result (GoesAway self.old name dice.now self.new) }
         ensures err { OnErr result (self.new ≡ self.old) }
     {
-        match take_down(
+        if let Err(error) = take_down(
             &mut self.core,
             &mut self.entries,
             &mut self.pending,
@@ -120,9 +120,9 @@ impl<A: Allocator + Copy> WireNode<A> {
             name,
             dice,
         ) {
-            Ok(()) => Ok(()),
-            Err(error) => Err(WireError::of_core(error)),
+            return Err(WireError::of_core(error));
         }
+        Ok(())
     }
 
     /// Makes a tick: flushes, lets each timer fire that is armed, and at every tenth tick since the start shuffles; then

@@ -82,28 +82,25 @@ fn frame_len(front: &[u8]) -> usize {
 }
 
 /// Appends the first of the bytes, until there are `len` or no more. Returns how many.
-fn fill<A: Allocator>(
-    left: &mut Vec<u8, A>,
-    len: usize,
-    bytes: &[u8],
-) -> Result<usize, AllocError>
+fn fill<A: Allocator>(left: &mut Vec<u8, A>, len: usize, bytes: &[u8]) -> Result<usize, AllocError>
     ensures within { IfOk result (λ count. count ≤ length bytes.now) }
     ensures ok { IfOk result (λ count. left.new.items ≡ left.old.items ++ take count bytes.now) }
     ensures some { IfOk result (λ count. length left.old.items < len → 0 < length bytes.now → 0 < count) }
     ensures err { OnErr result (left.new.items ≡ left.old.items) }
 {
     let lacking = len.saturating_sub(left.len());
-    let count = if lacking < bytes.len() { lacking } else { bytes.len() };
+    let count = if lacking < bytes.len() {
+        lacking
+    } else {
+        bytes.len()
+    };
     left.extend_from_slice(&bytes[..count])?;
     Ok(count)
 }
 
 /// Appends the first of the bytes: as many as the frame lacks that was cut, and one at least where there is one.
 /// Returns how many.
-pub(crate) fn top_up<A: Allocator>(
-    left: &mut Vec<u8, A>,
-    bytes: &[u8],
-) -> Result<usize, AllocError>
+pub(crate) fn top_up<A: Allocator>(left: &mut Vec<u8, A>, bytes: &[u8]) -> Result<usize, AllocError>
     ensures within { IfOk result (λ count. count ≤ length bytes.now) }
     ensures ok { IfOk result (λ count. left.new.items ≡ left.old.items ++ take count bytes.now) }
     ensures some { IfOk result (λ count. 0 < length bytes.now → 0 < count) }

@@ -1,16 +1,19 @@
 //! The connections of a node of bytes.
-ghost use Rattle.std.specs.Prelude.{◌≡◌, ◌∷◌, ◌++◌, [], None, length, IfOk, OnErr, OnOk};
+ghost use Rattle.std.specs.Prelude.{◌≡◌, ◌∷◌, ◌++◌, [], None, length, nat_eq, position, IfOk, OnErr, OnOk};
+ghost use Rattle.wire_node.specs.Acting.{AreSettled};
 ghost use Rattle.wire_node.specs.Node.{Hears};
+ghost use Rattle.wire_node.specs.Receiving.{IsPartial, Receives};
 
 use crate::connection::Connection;
-use crate::downs::{relieve, take_down};
+use crate::downs::relieve;
+use crate::entry::Entry;
 use crate::error::WireError;
 use crate::node::WireNode;
 use crate::receiving::receive_on;
-use node_names::{Dice, NodeName};
+use node_core::PlumCore;
+use node_names::{Dice, Listed, NodeName};
 use std::alloc::Allocator;
-use std::mem;
-use world::Core;
+use world::{Core, Delivery};
 
 /// A connection of a node. No other connection of the node ever has the same number.
 #[derive(Clone, Copy, Debug, PartialEq, Eq)]
@@ -26,10 +29,35 @@ pub struct ReceiveError {
 }
 
 /// The place of the connection.
-fn place_of<A: Allocator>(connections: &[Connection<A>], id: ConnectionId) -> Option<usize> {
-    connections
-        .iter()
-        .position(|link| link.number() == id.0)
+fn place_of<A: Allocator>(connections: &[Connection<A>], id: ConnectionId) -> Option<usize>
+    ensures { result ≡ position (λ link. nat_eq link.number id.0) connections.now }
+{
+    connections.iter().position(|link| link.number() == id.0)
+}
+
+/// Takes bytes that came over the connection. Returns how many of them were taken or kept, and why not all.
+fn receive_at<A: Allocator + Copy>(
+    core: &mut PlumCore<A>,
+    entries: &mut Vec<Entry<A>, A>,
+    pending: &mut Listed<Delivery<A>, A>,
+    link: &mut Connection<A>,
+    bytes: &[u8],
+    dice: &Dice,
+) -> (usize, Result<(), WireError>)
+    requires { AreSettled entries.old.items }
+    ensures receives { Receives (record { core = core.old; waiting = entries.old.items; pending = pending.old }) link.old bytes.now dice.now result.0 (record { core = core.new; waiting = entries.new.items; pending = pending.new }) link.new }
+    ensures partial { OnOk result.1 ((result.0 ≡ length bytes.now) × IsPartial link.new.left) }
+    ensures settled { AreSettled entries.new.items }
+{
+    receive_on(
+        core,
+        entries,
+        pending,
+        &mut link.left,
+        &mut link.peer,
+        bytes,
+        dice,
+    )
 }
 
 impl<A: Allocator + Copy> WireNode<A> {
@@ -60,7 +88,7 @@ impl<A: Allocator + Copy> WireNode<A> {
         bytes: &[u8],
         dice: &Dice,
     ) -> Result<(), ReceiveError>
-        ensures ok { OnOk result (Hears self.old id.0 bytes.now dice.now (length bytes.now) self.new) }
+        ensures ok { OnOk result (Hears self.old id.0 bytes.now dice.now self.new) }
     {
         let Some(place) = place_of(&self.connections, id) else {
             return Err(ReceiveError {
@@ -68,18 +96,14 @@ impl<A: Allocator + Copy> WireNode<A> {
                 error: WireError::NoConnection,
             });
         };
-        let alloc = self.alloc();
-        let mut link = mem::replace(&mut self.connections[place], Connection::new(alloc, 0));
-        let (taken, ended) = receive_on(
+        let (taken, ended) = receive_at(
             &mut self.core,
             &mut self.entries,
             &mut self.pending,
-            &mut link.left,
-            &mut link.peer,
+            &mut self.connections[place],
             bytes,
             dice,
         );
-        self.connections[place] = link;
         relieve(
             &mut self.core,
             &mut self.entries,
@@ -88,10 +112,10 @@ impl<A: Allocator + Copy> WireNode<A> {
             self.limit,
             dice,
         );
-        match ended {
-            Ok(()) => Ok(()),
-            Err(error) => Err(ReceiveError { taken, error }),
+        if let Err(error) = ended {
+            return Err(ReceiveError { taken, error });
         }
+        Ok(())
     }
 
     /// Whether the name is one that may go down: the core keeps a link to it, or bytes wait for it.
@@ -121,7 +145,8 @@ impl<A: Allocator + Copy> WireNode<A> {
                 self.unreachable(peer, dice)?;
             }
         }
-        self.connections.swap_remove(place);
+        let number = id.0;
+        self.connections.retain(|link| link.number() != number);
         Ok(())
     }
 }

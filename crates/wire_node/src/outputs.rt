@@ -15,10 +15,13 @@ use std::mem;
 use world::{Core, Delivery};
 
 /// The first of the bytes that wait for the name, in up to four slices.
-fn front_of<'a, A: Allocator + Copy>(entries: &'a [Entry<A>], name: &NodeName) -> [&'a [u8]; 4]
-    requires { AreSettled entries.now }
-    ensures front { (rest : List ℕ) × (concat_slices result ++ rest ≡ settled_for entries.now name.now) }
-    ensures some { 0 < length (settled_for entries.now name.now) → 0 < length (concat_slices result) }
+fn front_of<'a, A: Allocator + Copy>(
+    entries: &'a Vec<Entry<A>, A>,
+    name: &NodeName,
+) -> [&'a [u8]; 4]
+    requires { AreSettled entries.now.items }
+    ensures front { (rest : List ℕ) × (concat_slices result ++ rest ≡ settled_for entries.now.items name.now) }
+    ensures some { 0 < length (settled_for entries.now.items name.now) → 0 < length (concat_slices result) }
 {
     match place_of(entries, name) {
         Some(place) => entries[place].slices(),
@@ -27,11 +30,7 @@ fn front_of<'a, A: Allocator + Copy>(entries: &'a [Entry<A>], name: &NodeName) -
 }
 
 /// Takes the first `count` of the bytes that wait for the name: they went out. Where fewer wait, takes all.
-fn take_front<A: Allocator + Copy>(
-    entries: &mut Vec<Entry<A>, A>,
-    name: &NodeName,
-    count: usize,
-)
+fn take_front<A: Allocator + Copy>(entries: &mut Vec<Entry<A>, A>, name: &NodeName, count: usize)
     requires { AreSettled entries.old.items }
     ensures settled { AreSettled entries.new.items }
     ensures gone { (other : Name) → settled_for entries.new.items other ≡ (if same_name other name.now then drop count (settled_for entries.old.items other) else settled_for entries.old.items other) }

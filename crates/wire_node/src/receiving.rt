@@ -101,7 +101,11 @@ fn complete<A: Allocator + Copy>(
     let (frame, whole) = match decode(*entries.allocator(), left.as_slice()) {
         Ok(decoded) => decoded,
         Err(FrameFault::Short) => {
-            return Ok(if count < bytes.len() { Some(count) } else { None });
+            return Ok(if count < bytes.len() {
+                Some(count)
+            } else {
+                None
+            });
         }
         Err(fault) => {
             left.truncate(len);

@@ -9,8 +9,8 @@ invariant-loop-core g l =
     (l.at ≤ length l.bytes)
     × AreSettled l.entries.items
     × Takes
-        (record { core = l.fn.core; waiting = l.fn.entries.items; pending = l.fn.pending }) l.fn.peer (l.fn.left.items ++ l.bytes) l.dice
-        (record { core = l.core; waiting = l.entries.items; pending = l.pending }) l.peer (l.left.items ++ drop l.at l.bytes)
+    (record { core = l.fn.core; waiting = l.fn.entries.items; pending = l.fn.pending }) l.fn.peer (l.fn.left.items ++ l.bytes) l.dice
+    (record { core = l.core; waiting = l.entries.items; pending = l.pending }) l.peer (l.left.items ++ drop l.at l.bytes)
 
 abbrev pub decreases-loop-core : goal.decreases-loop-core
 decreases-loop-core g l = (length l.bytes - l.at) + (length l.bytes - l.at) + length l.left.items

@@ -9,8 +9,8 @@ invariant-loop-frame g l =
     (l.at ≤ length l.bytes)
     × AreSettled l.entries.items
     × Takes
-        (record { core = l.fn.core; waiting = l.fn.entries.items; pending = l.fn.pending }) l.fn.peer l.bytes l.dice
-        (record { core = l.core; waiting = l.entries.items; pending = l.pending }) l.peer (drop l.at l.bytes)
+    (record { core = l.fn.core; waiting = l.fn.entries.items; pending = l.fn.pending }) l.fn.peer l.bytes l.dice
+    (record { core = l.core; waiting = l.entries.items; pending = l.pending }) l.peer (drop l.at l.bytes)
 
 abbrev pub decreases-loop-frame : goal.decreases-loop-frame
 decreases-loop-frame g l = length l.bytes - l.at
