@@ -28,17 +28,20 @@ returns g c =
     let old = machine c.self.inside.core c.self.inside.entries.items c.self.inside.pending in
     let after : NodeState = record { machine = machine c.relieve.new.core c.relieve.new.entries.items c.relieve.new.pending; connections = set links place link'; lost = c.relieve.new.lost; ticks = c.self.inside.ticks } in
     let all = IfOk-at_ok (λ _. (c.receive_at-taken.result.0 ≡ length c.args.bytes.now) × IsPartial link'.left) c.in_default-ended.is c.receive_at-taken.ensures.partial in
-    subst (λ (n : NodeState). Hears n c.args.id.0 c.args.bytes.now c.args.dice.now after) c.self.view_is
-    (record {
-      place = place;
-      link = link;
-      link' = link';
-      heard = heard;
-      at = slice_get-get_or links place link found.0 ∙ ap Some (sym c.index_mut.ensures.value);
-      its_number = eqb-true link.number c.args.id.0 (ap (λ (l : Connection). nat_eq l.number c.args.id.0) c.index_mut.ensures.value ∙ found.1);
-      receives = subst (λ n. Receives old link c.args.bytes.now c.args.dice.now n heard link') all.0 c.receive_at-taken.ensures.receives;
-      partial = all.1;
-      connections = refl;
-      relieves = c.relieve.ensures.relieved;
-      ticks = refl;
-    })
+    record {
+      ok =
+          subst (λ (n : NodeState). Hears n c.args.id.0 c.args.bytes.now c.args.dice.now after) c.self.view_is
+          (record {
+            place = place;
+            link = link;
+            link' = link';
+            heard = heard;
+            at = slice_get-get_or links place link found.0 ∙ ap Some (sym c.index_mut.ensures.value);
+            its_number = eqb-true link.number c.args.id.0 (ap (λ (l : Connection). nat_eq l.number c.args.id.0) c.index_mut.ensures.value ∙ found.1);
+            receives = subst (λ n. Receives old link c.args.bytes.now c.args.dice.now n heard link') all.0 c.receive_at-taken.ensures.receives;
+            partial = all.1;
+            connections = refl;
+            relieves = c.relieve.ensures.relieved;
+            ticks = refl;
+          });
+    }
