@@ -1,6 +1,6 @@
 -- Drafts, and what waits once they are settled.
 use Rattle.std.specs.Prelude.{◌≡◌, ◌<◌, ◌≤◌, ◌+◌, ◌-◌, ℕ, Bool, true, false, List, [], ◌∷◌, ◌++◌, All, drop, get_or, length, map, take, refl, if◌then◌else◌}
-use Rattle.std.proofs.Common.{◌∙◌, ap, arith, append_assoc, length-append, set, subst, sym, zero, suc}
+use Rattle.std.proofs.Common.{◌∙◌, ap, arith, append_assoc, set, sym, zero, suc}
 use Rattle.std.proofs.lemmas.List.{append-nil, drop-drop, drop-take, drop_all, drop_more, get_or_at, length-map, length-take, length-take-le, map-append, set_at, take-map, take-take, take_all, take_more}
 use Rattle.std.proofs.lemmas.List.Elements.{All-head, All-tail}
 use Rattle.node_names.specs.NodeName.{Name}

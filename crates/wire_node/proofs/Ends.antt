@@ -1,11 +1,11 @@
 -- What is put to the ends of a woven text, and what goes from them.
-use Rattle.std.proofs.Common.{◌≡◌, ◌<◌, ◌≤◌, ◌+◌, ◌-◌, ℕ, List, [], ◌∷◌, ◌++◌, length, take, drop, refl, ap, sym, subst, ◌∙◌, append_assoc, arith}
+use Rattle.std.proofs.Common.{◌≡◌, ◌<◌, ◌≤◌, ◌+◌, ◌-◌, ℕ, List, [], ◌∷◌, ◌++◌, length, take, drop, ap, sym, subst, ◌∙◌, append_assoc, arith}
 use Rattle.std.specs.Prelude.{All, Some, min}
 use Rattle.std.proofs.Math.Nat.{min-le_left, min-le_right}
-use Rattle.std.proofs.lemmas.List.{length-append, length-drop, length-take, take-append-drop, take_at}
+use Rattle.std.proofs.lemmas.List.{length-append, length-drop, take-append-drop, take_at}
 use Rattle.std.proofs.lemmas.List.Elements.{All-cons, All-head, All-nil, All-pop, All-push, All-same, All-tail}
 use Rattle.wire_node.specs.Weave.{Inset, IsWoven, before_last, woven}
-use Rattle.wire_node.proofs.Weaving.{before_more, longer, woven_inset_goes, woven_inset_gone, woven_last, woven_more, woven_text_goes}
+use Rattle.wire_node.proofs.Weaving.{before_more, woven_inset_goes, woven_inset_gone, woven_last, woven_more, woven_text_goes}
 
 abbrev pub IsSome : Inset → Type 0
 IsSome inset = 0 < length inset.1

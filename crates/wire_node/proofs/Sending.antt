@@ -1,6 +1,6 @@
 -- What waits for a name, and what goes out of it.
-use Rattle.std.specs.Prelude.{◌≡◌, ◌<◌, ◌+◌, ◌-◌, ℕ, Bool, true, false, List, [], ◌∷◌, ◌++◌, All, drop, get_or, length, map, min, refl, if◌then◌else◌}
-use Rattle.std.proofs.Common.{◌∙◌, ap, arith, set, subst, sym, zero, suc}
+use Rattle.std.specs.Prelude.{◌≡◌, ◌<◌, ℕ, Bool, true, false, List, [], ◌∷◌, All, drop, get_or, length, map, min, refl, if◌then◌else◌}
+use Rattle.std.proofs.Common.{◌∙◌, ap, arith, set, sym, zero, suc}
 use Rattle.std.proofs.lemmas.List.{drop_all, drop_min}
 use Rattle.std.proofs.lemmas.List.Elements.{All-head, All-tail}
 use Rattle.node_names.specs.NodeName.{Name}

@@ -1,5 +1,5 @@
 -- A step, put together.
-use Rattle.std.specs.Prelude.{◌≡◌, ℕ, Bool, true, false, List, [], ◌∷◌, ◌++◌, Result, Ok, Err, OnOk, filter, get_or, is_err, map, not, drop, refl, if◌then◌else◌}
+use Rattle.std.specs.Prelude.{◌≡◌, Bool, true, false, List, [], ◌∷◌, ◌++◌, Result, Ok, Err, OnOk, get_or, is_err, map, not, drop, refl, if◌then◌else◌}
 use Rattle.std.proofs.Common.{◌∙◌, ap, subst, sym}
 use Rattle.node_names.specs.NodeName.{Name}
 use Rattle.node_names.specs.Same.{same_name}

@@ -1,8 +1,7 @@
 -- What becomes of a woven text at its two ends.
-use Rattle.std.proofs.Common.{◌≡◌, ◌<◌, ◌≤◌, ◌+◌, ◌-◌, ℕ, List, [], ◌∷◌, ◌++◌, length, take, drop, refl, ap, sym, subst, ◌∙◌, append_assoc, arith}
-use Rattle.std.specs.Prelude.{min}
-use Rattle.std.proofs.lemmas.List.{append-nil, drop-append-le, drop-drop, drop-take, length-append, length-drop, length-take, take-append-drop, take-append-le, take_all, take_at, drop_at, drop_all}
-use Rattle.wire_node.specs.Weave.{Inset, IsWoven, before_last, woven}
+use Rattle.std.proofs.Common.{◌≡◌, ◌≤◌, ◌+◌, ◌-◌, ℕ, List, [], ◌∷◌, ◌++◌, length, take, drop, refl, ap, sym, ◌∙◌, append_assoc, arith}
+use Rattle.std.proofs.lemmas.List.{append-nil, drop-append-le, drop-drop, drop-take, length-append, length-drop, length-take, take-append-le, take_all, drop_at, drop_all}
+use Rattle.wire_node.specs.Weave.{Inset, before_last, woven}
 
 -- the text is part of it
 pub longer : (text : List ℕ) (insets : List Inset) → length text ≤ length (woven text insets)

@@ -1,4 +1,4 @@
-use Rattle.std.proofs.Common.{◌≡◌, ◌<◌, ◌∙◌, [], All, IsNone, Some, ap, arith, length, position, rules, set, subst, sym}
+use Rattle.std.proofs.Common.{◌∙◌, [], All, IsNone, ap, arith, position, rules, set, subst, sym}
 use Rattle.std.proofs.lemmas.List.Quantifiers.{position-Some}
 use Rattle.std.proofs.lemmas.Result.{on_err_weaker, on_ok_weaker}
 use Rattle.node_names.specs.Same.{same_name}

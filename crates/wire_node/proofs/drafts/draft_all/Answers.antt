@@ -1,4 +1,4 @@
-use Rattle.std.proofs.Common.{◌≡◌, ◌<◌, ◌+◌, ◌++◌, ◌∷◌, ◌∙◌, [], List, ap, arith, length, subst, sym, take}
+use Rattle.std.proofs.Common.{◌≡◌, ◌+◌, ◌++◌, ◌∷◌, ◌∙◌, [], List, ap, arith, subst, sym, take}
 use Rattle.std.proofs.lemmas.List.{take_more}
 use Rattle.node_names.specs.NodeName.{Name}
 use Rattle.frames.specs.Frame.{Frame}

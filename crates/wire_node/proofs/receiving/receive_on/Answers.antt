@@ -1,4 +1,4 @@
-use Rattle.std.proofs.Common.{◌≡◌, ◌+◌, ◌++◌, Bool, ℕ, List, [], true, ap, drop, length, subst, sym}
+use Rattle.std.proofs.Common.{◌≡◌, ◌+◌, ◌++◌, Bool, ℕ, List, [], true, drop, length, subst, sym}
 use Rattle.std.proofs.lemmas.Result.{IfOk-at_ok}
 use Rattle.wire_node.specs.Receiving.{Takes}
 use Rattle.wire_node.proofs.Stepping.{machine}

@@ -1,4 +1,4 @@
-use Rattle.std.proofs.Common.{◌≤◌, ◌+◌, ap, arith, drop, length, subst, take}
+use Rattle.std.proofs.Common.{◌+◌, ap, arith, drop, length, subst, take}
 use Rattle.std.proofs.lemmas.List.{length-drop}
 use Rattle.frames.specs.Grammar.{IsSpelling}
 use Rattle.wire_node.proofs.Stepping.{machine}

@@ -1,4 +1,4 @@
-use Rattle.std.proofs.Common.{◌≡◌, ◌<◌, ◌≤◌, ◌-◌, ◌∙◌, ap, arith, length, take, sym}
+use Rattle.std.proofs.Common.{◌≡◌, ◌<◌, ◌≤◌, ◌-◌, ◌∙◌, ap, arith, length, take}
 use Rattle.wire_node.proofs.Ends.{inset_cut, inset_gone, least, text_cut}
 use Rattle.wire_node.proofs.outgoing.Outgoing.cut_last.Goals as goal
 

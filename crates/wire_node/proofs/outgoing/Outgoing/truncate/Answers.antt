@@ -1,4 +1,4 @@
-use Rattle.std.proofs.Common.{◌≡◌, ◌≤◌, ◌-◌, ◌∙◌, ap, arith, length, sym, take}
+use Rattle.std.proofs.Common.{◌≤◌, ◌-◌, ◌∙◌, ap, arith, length, sym, take}
 use Rattle.std.proofs.lemmas.List.{take-take, take_all}
 use Rattle.wire_node.proofs.outgoing.Outgoing.truncate.Goals as goal
 
