@@ -6,6 +6,9 @@ use crate::outgoing::Outgoing;
 use frames::{Frame, encode};
 use std::alloc::{AllocError, Allocator};
 
+/// A frame of so many bytes or more waits as it was encoded, and is not copied to the others.
+const SHARED_FROM: usize = 4_096;
+
 /// Appends the bytes of the frame. If memory runs out, a part of them may have been appended.
 #[tactic(auto, unfolding(crate::specs::Waiting::spelling))]
 pub(crate) fn spell<A: Allocator + Copy>(
@@ -17,5 +20,8 @@ pub(crate) fn spell<A: Allocator + Copy>(
     ensures err { OnErr result (take (length out.old) out.new ≡ out.old) }
 {
     let bytes = encode(alloc, frame)?;
+    if bytes.len() >= SHARED_FROM {
+        return out.push_shared(bytes);
+    }
     out.push_copy(bytes.as_slice())
 }
