@@ -4,13 +4,12 @@ ghost use Rattle.node_threads.specs.History.{IsHistory};
 
 use crate::error::RunError;
 use crate::inbox::Inbox;
-use crate::list::keep;
 use crate::node::Node;
-use crate::shortage::Shortage;
 use crate::speech::{Speech, Stamp};
 use crate::stopping::stop_all;
 use frames::Frame;
 use node_threads::NodeCore;
+use plumtree_node::{Shortage, keep};
 use std::alloc::{AllocError, Global};
 use std::net::{Net, TcpListener, TcpStream};
 use std::sync::Wait;
@@ -74,20 +73,17 @@ fn close_node<R: Threads + Wait, C: NodeCore<Global> + Drop>(
 {
     let Node {
         name,
-        mut running,
-        links,
+        engine,
+        ports,
         inbox,
         mut speech,
-        ..
     } = node;
-    let rested = running.rest(links.into_unwritten());
-    let trace = running.close(rt, name)?;
-    match (rested, ran.add(rt, trace, &mut speech, &inbox)) {
-        (Ok(()), Ok(())) => Ok(()),
-        _ => Err(RunError::Short {
-            node: name,
-            of: Shortage::Memory,
-        }),
+    match engine.close(rt, ports) {
+        Ok(trace) => match ran.add(rt, trace, &mut speech, &inbox) {
+            Ok(()) => Ok(()),
+            Err(_) => Err(RunError::short(name, Shortage::Memory)),
+        },
+        Err(error) => Err(RunError::closing(name, error)),
     }
 }
 

@@ -1,7 +1,7 @@
 //! Why a group did not run to its end.
-use crate::shortage::Shortage;
 use node_names::NodeName;
 use node_threads::HostError;
+use plumtree_node::{Shortage, StopError};
 use std::alloc::{AllocError, AllocFailed};
 use thiserror::Error;
 
@@ -35,6 +35,23 @@ pub enum RunError {
     /// An allocation is refused that belongs to no single node.
     #[error("out of memory")]
     OutOfMemory,
+}
+
+impl RunError {
+    /// The error of a node that had a shortage.
+    pub(crate) fn short(node: NodeName, of: Shortage) -> RunError {
+        RunError::Short { node, of }
+    }
+
+    /// The error of a node that was closed.
+    pub(crate) fn closing(node: NodeName, error: StopError) -> RunError {
+        match error {
+            StopError::Short(of) => RunError::Short { node, of },
+            StopError::Unlike => RunError::Unlike { node },
+            StopError::Torn { .. } => RunError::Torn { node },
+            StopError::WorkerMissing => RunError::WorkerMissing { node },
+        }
+    }
 }
 
 impl From<AllocError> for RunError {

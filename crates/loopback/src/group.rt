@@ -4,38 +4,24 @@ ghost use Rattle.node_core.specs.Steps.{PlumStarts, PlumSteps};
 ghost use Rattle.node_threads.specs.History.{IsHistory};
 
 use crate::closing::{RunReport, close_all};
-use crate::common::Common;
 use crate::error::RunError;
-use crate::machine::Machine;
 use crate::member::Member;
 use crate::node::Node;
-use crate::starting::{listen_all, listen_spare, start_nodes};
-use crate::ticks::TICK;
+use crate::starting::{addresses, listen_all, listen_spare, start_nodes};
 use crate::watch::Watch;
 use node_names::Limits;
 use node_threads::NodeCore;
+use plumtree_node::{Common, Machine, idle_ticks, pause_after};
 use std::alloc::Global;
 use std::net::TcpListener;
 use std::sync::Wait;
-use std::thread;
 use std::time::{Duration, Instant};
 
-/// How many milliseconds pass between two turns while there is something to do.
-const TURN: u64 = 5;
+/// How many milliseconds a tick takes.
+const TICK: u64 = 20;
 
 /// The maximum number of ticks that pass before the nodes begin to broadcast.
 const MAX_QUIET_TICKS: u32 = 10;
-
-/// How many links may have a writer before unused links lose theirs sooner: each takes two of the 1,024 descriptors
-/// that a process usually has, and the 64 nodes of a large group may each open one more in a turn.
-const MANY_LINKS: usize = 330;
-
-/// For how many ticks an unused link that goes to no neighbour keeps its writer: a node that asked to become a
-/// neighbour may be waiting for the answer, and the end of the connection would withdraw its request.
-const LONG_IDLE: u64 = 25;
-
-/// The same if more than `MANY_LINKS` links have a writer.
-const SHORT_IDLE: u64 = 5;
 
 /// How a group is to run.
 #[derive(Clone, Copy, Debug)]
@@ -79,20 +65,11 @@ where
     Ok(is_busy)
 }
 
-/// How many milliseconds pass before the next turn: those of a tick if there was nothing to do.
-fn pause_after(is_busy: bool) -> u64 {
-    if is_busy { TURN } else { TICK }
-}
-
 /// Ends the writers of unused links.
 fn retire_idle<R: Wait, C: NodeCore<Global> + Drop>(rt: &R, nodes: &mut [Node<C>], now: u64) {
-    let ticks = if written(nodes) > MANY_LINKS {
-        SHORT_IDLE
-    } else {
-        LONG_IDLE
-    };
+    let ticks = idle_ticks(written(nodes));
     for node in nodes.iter_mut() {
-        node.retire_idle(rt, now, ticks);
+        node.engine.retire_idle(rt, now, ticks);
     }
 }
 
@@ -108,7 +85,7 @@ fn check<C: NodeCore<Global> + Drop>(nodes: &[Node<C>], is_last: bool) -> Result
 fn written<C: NodeCore<Global> + Drop>(nodes: &[Node<C>]) -> usize {
     let mut count: usize = 0;
     for node in nodes {
-        count = count.saturating_add(node.links.written());
+        count = count.saturating_add(node.engine.written());
     }
     count
 }
@@ -161,7 +138,7 @@ where
         if is_over {
             return Ok(());
         }
-        thread::sleep(&rt, Duration::from_millis(pause_after(is_busy)));
+        pause_after(&rt, is_busy);
     }
     unreachable!()
 }
@@ -186,6 +163,7 @@ where
 /// Listens for the members, starts their nodes, and has them run to the end.
 fn run_members<R, V>(
     common: &mut Common<R>,
+    start: Option<Instant>,
     plan: &Plan,
     members: Vec<Member>,
     watch: &mut V,
@@ -200,7 +178,7 @@ where
     let alloc = common.alloc;
     let listeners = listen_all(&rt, alloc, members.as_slice())?;
     let spare = listen_spare(&rt, members.as_slice())?;
-    let mut nodes = start_nodes(alloc, plan.limits, common.addresses(), members)?;
+    let mut nodes = start_nodes(alloc, plan.limits, start, common.addresses(), members)?;
     let ended = work(common, nodes.as_mut_slice(), listeners, plan.ticks, watch);
     close_all(&rt, alloc, nodes, spare, ended.err())
 }
@@ -230,6 +208,8 @@ where
     ensures each { IfOk result (λ ran. length ran.traces.items ≡ length members.items) }
 {
     let start = Instant::now(&rt).ok();
-    let mut common = Common::new(rt, alloc, start, plan.seed, members.as_slice())?;
-    run_members(&mut common, plan, members, watch)
+    let addresses = addresses(alloc, members.as_slice())?;
+    let tick = Duration::from_millis(TICK);
+    let mut common = Common::new(rt, alloc, tick, None, plan.seed, addresses)?;
+    run_members(&mut common, start, plan, members, watch)
 }

@@ -1,5 +1,5 @@
 //! What the nodes of a group handed out.
-use crate::common::since;
+use crate::since::since;
 use node_threads::Handed;
 use std::alloc::{AllocError, Global};
 use std::mem;

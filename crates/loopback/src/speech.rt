@@ -1,15 +1,13 @@
 //! What a node is to broadcast, and what it did.
-use crate::common::{Common, since};
 use crate::error::RunError;
-use crate::list::keep;
-use crate::running::Running;
-use crate::shortage::Shortage;
+use crate::since::since;
 use bytes::Bytes;
 use node_names::{MsgId, NodeName};
-use node_threads::{HostError, NodeCore};
+use node_threads::{HostError, NodeCore, Port};
+use plumtree_node::{Shortage, broadcast, keep};
 use std::alloc::{AllocError, Global};
 use std::sync::Wait;
-use std::time::{Clock, Duration};
+use std::time::{Clock, Duration, Instant};
 
 /// The most texts that a node broadcasts in one turn, so that the rings of its links do not overflow.
 const TEXTS: usize = 64;
@@ -26,6 +24,8 @@ pub struct Stamp {
 /// What a node is to broadcast, and what it did.
 #[derive(Drop)]
 pub(crate) struct Speech {
+    /// When the run began, if the clock could be read.
+    pub(crate) start: Option<Instant>,
     /// The texts that are left, the last first.
     left: Vec<Bytes>,
     /// The broadcasts so far, in order.
@@ -46,10 +46,15 @@ fn reverse(texts: &mut Vec<Bytes>, last_first: &mut Vec<Bytes>) -> Result<(), Al
 
 impl Speech {
     /// Makes the speech of a node that is to broadcast these texts, in order.
-    pub(crate) fn new(alloc: Global, mut texts: Vec<Bytes>) -> Result<Speech, AllocError> {
+    pub(crate) fn new(
+        alloc: Global,
+        start: Option<Instant>,
+        mut texts: Vec<Bytes>,
+    ) -> Result<Speech, AllocError> {
         let mut left = Vec::new(alloc);
         reverse(&mut texts, &mut left)?;
         Ok(Speech {
+            start,
             left,
             stamps: Vec::new(alloc),
             refused: None,
@@ -61,16 +66,16 @@ impl Speech {
         self.left.is_empty() || self.refused.is_some()
     }
 
-    /// Broadcasts at most `most` of the next texts from the node, until one is refused.
+    /// Broadcasts at most `most` of the next texts through the first of the node's ports, until one is refused.
     pub(crate) fn broadcast_next<R, C>(
         &mut self,
-        common: &Common<R>,
+        rt: &R,
         node: NodeName,
-        running: &mut Running<C>,
+        ports: &mut [Port<C>],
         most: usize,
     ) -> Result<(), Shortage>
     where
-        R: Wait + Clock + Drop,
+        R: Wait + Clock,
         C: NodeCore<Global> + Drop,
     {
         for _ in 0..TEXTS.min(most) {
@@ -78,7 +83,7 @@ impl Speech {
                 return Ok(());
             }
             match self.left.pop() {
-                Some(text) => self.say(common, node, running, text)?,
+                Some(text) => self.say(rt, node, ports, text)?,
                 None => return Ok(()),
             }
         }
@@ -88,17 +93,17 @@ impl Speech {
     /// Has the node broadcast a text.
     fn say<R, C>(
         &mut self,
-        common: &Common<R>,
+        rt: &R,
         node: NodeName,
-        running: &mut Running<C>,
+        ports: &mut [Port<C>],
         text: Bytes,
     ) -> Result<(), Shortage>
     where
-        R: Wait + Clock + Drop,
+        R: Wait + Clock,
         C: NodeCore<Global> + Drop,
     {
-        let at = since(&common.rt, &common.start);
-        match running.broadcast(&common.rt, text) {
+        let at = since(rt, &self.start);
+        match broadcast(rt, ports, text) {
             Ok(id) => Ok(keep(&mut self.stamps, Stamp { id, at })?),
             Err(HostError::OutOfMemory) => Err(Shortage::Memory),
             Err(why) => {

@@ -1,35 +1,39 @@
 //! The start of a group's nodes.
 ghost use Rattle.std.specs.Prelude.{◌≡◌, IfOk, length};
 
-use crate::acceptor::Acceptor;
-use crate::common::Address;
 use crate::error::RunError;
 use crate::inbox::Inbox;
-use crate::link_table::LinkTable;
-use crate::list::keep;
 use crate::member::{Member, may_start};
 use crate::node::Node;
-use crate::running::Running;
-use crate::shortage::Shortage;
-use crate::shortages::Shortages;
 use crate::speech::Speech;
-use links::listen;
 use node_core::PlumCore;
 use node_names::{Limits, NodeName};
-use node_threads::{Host, Outlet, Port};
+use node_threads::NodeCore;
+use plumtree_node::{
+    Address, Engine, Ground, RING, STEPS, Shortage, StartError, Started, keep, listen_at, others,
+    start_host,
+};
 use std::alloc::{AllocError, Global};
-use std::net::{Net, TcpListener, TcpStream};
+use std::net::{Ipv4Addr, Net, SocketAddr, SocketAddrV4, TcpListener, TcpStream};
 use std::sync::Arc;
-use world::{Core, Out};
+use std::time::Instant;
 
-/// How many frames the ring of a link has room for.
-const RING: usize = 1_024;
+/// A port of 127.0.0.1.
+fn address(port: u16) -> SocketAddr {
+    SocketAddr::V4(SocketAddrV4::new(Ipv4Addr::LOCALHOST, port))
+}
 
-/// How many steps a node may make.
-const STEPS: usize = 1_048_576;
-
-/// A host that has just started, its ports, and its links.
-type Started = (Host<PlumCore>, Vec<Port<PlumCore>>, Vec<Outlet>);
+/// Where the members take connections.
+pub(crate) fn addresses(alloc: Global, members: &[Member]) -> Result<Vec<Address>, AllocError> {
+    let mut addresses = Vec::new(alloc);
+    for member in members {
+        addresses.push(Address {
+            name: member.me.name,
+            at: address(member.port),
+        })?;
+    }
+    Ok(addresses)
+}
 
 /// The name of the first member that has this port.
 fn owner_of(members: &[Member], port: u16) -> Option<NodeName> {
@@ -48,7 +52,7 @@ fn listen_for<R: Net<Listener = TcpListener, Stream = TcpStream>>(
     let node = member.me.name;
     match owner_of(members, member.port) {
         Some(other) if other != node => Err(RunError::SamePort { node, other }),
-        _ => listen_at(rt, member.port, node),
+        _ => listen_on(rt, member.port, node),
     }
 }
 
@@ -66,17 +70,15 @@ pub(crate) fn listen_all<R: Net<Listener = TcpListener, Stream = TcpStream>>(
 }
 
 /// Listens on a port for a node.
-fn listen_at<R: Net<Listener = TcpListener, Stream = TcpStream>>(
+fn listen_on<R: Net<Listener = TcpListener, Stream = TcpStream>>(
     rt: &R,
     port: u16,
     node: NodeName,
 ) -> Result<TcpListener, RunError> {
-    match listen(rt, port) {
+    match listen_at(rt, address(port)) {
         Ok(listener) => Ok(listener),
-        Err(error) => match Shortage::of(&error) {
-            Some(of) => Err(RunError::Short { node, of }),
-            None => Err(RunError::CannotListen { node }),
-        },
+        Err(StartError::Short(of)) => Err(RunError::short(node, of)),
+        Err(_) => Err(RunError::CannotListen { node }),
     }
 }
 
@@ -87,24 +89,14 @@ pub(crate) fn listen_spare<R: Net<Listener = TcpListener, Stream = TcpStream>>(
     members: &[Member],
 ) -> Result<Option<TcpListener>, RunError> {
     match members.last() {
-        Some(member) => Ok(Some(listen_at(rt, 0, member.me.name)?)),
+        Some(member) => Ok(Some(listen_on(rt, 0, member.me.name)?)),
         None => Ok(None),
     }
 }
 
-/// The names of a group except for one, in order.
-fn others(
-    alloc: Global,
-    addresses: &[Address],
-    me: &NodeName,
-) -> Result<Vec<NodeName>, AllocError> {
-    let mut names = Vec::new(alloc);
-    for address in addresses {
-        if address.name != *me {
-            keep(&mut names, address.name)?;
-        }
-    }
-    Ok(names)
+/// The error of a node that was refused an allocation.
+fn no_memory(node: NodeName) -> RunError {
+    RunError::short(node, Shortage::Memory)
 }
 
 /// The names that the node of this name has links to.
@@ -120,32 +112,21 @@ fn names_for(
 }
 
 /// Starts a member's core and its host, with a link to each of the names.
-fn start_host(
+fn start_member(
     alloc: Global,
     limits: Limits,
     member: &Member,
     names: &[NodeName],
-) -> Result<Started, RunError> {
+) -> Result<Started<PlumCore>, RunError> {
     let me = member.me;
-    if !may_start(&limits, &me.name, member.peers.as_slice(), &member.contact) {
+    let peers = member.peers.as_slice();
+    let contact = member.contact;
+    if !may_start(&limits, &me.name, peers, &contact) {
         return Err(RunError::BadPeers { node: me.name });
     }
-    let mut opening = Out::new(alloc);
-    let peers = member.peers.as_slice();
-    match PlumCore::start(alloc, me, limits, peers, member.contact, &mut opening) {
-        Ok(core) => match Host::start(alloc, core, opening, names, 1, RING, STEPS) {
-            Ok(started) => Ok(started),
-            Err(_) => Err(no_memory(me.name)),
-        },
+    match start_host(alloc, me, limits, peers, contact, names, RING, STEPS) {
+        Ok(started) => Ok(started),
         Err(_) => Err(no_memory(me.name)),
-    }
-}
-
-/// The error of a node that was refused an allocation.
-fn no_memory(node: NodeName) -> RunError {
-    RunError::Short {
-        node,
-        of: Shortage::Memory,
     }
 }
 
@@ -153,47 +134,44 @@ fn no_memory(node: NodeName) -> RunError {
 #[derive(Drop)]
 struct Surroundings {
     name: NodeName,
-    acceptor: Acceptor,
+    ground: Ground,
     speech: Speech,
     inbox: Arc<Inbox, Global>,
-    shortages: Arc<Shortages, Global>,
 }
 
 /// What the node of a member has besides its host and links.
-fn surround(alloc: Global, member: Member) -> Result<Surroundings, AllocError> {
-    let shortages = Arc::new(alloc, Shortages::new())?;
+fn surround(
+    alloc: Global,
+    start: Option<Instant>,
+    member: Member,
+) -> Result<Surroundings, AllocError> {
     Ok(Surroundings {
         name: member.me.name,
-        acceptor: Acceptor::new(alloc, member.port, Arc::try_clone(&shortages)?)?,
+        ground: Ground::new(alloc, address(member.port))?,
         inbox: Arc::new(alloc, Inbox::new(alloc))?,
-        speech: Speech::new(alloc, member.texts)?,
-        shortages,
+        speech: Speech::new(alloc, start, member.texts)?,
     })
 }
 
 /// Makes a node of these parts.
-fn assemble(alloc: Global, started: Started, around: Surroundings) -> Node<PlumCore> {
+fn assemble<C: NodeCore<Global> + Drop>(
+    alloc: Global,
+    started: Started<C>,
+    around: Surroundings,
+) -> Node<C> {
     let (host, ports, outlets) = started;
     let Surroundings {
         name,
-        acceptor,
+        ground,
         speech,
         inbox,
-        shortages,
     } = around;
     Node {
         name,
-        running: Running {
-            host,
-            ports,
-            workers: Vec::new(alloc),
-            closers: Vec::new(alloc),
-        },
-        links: LinkTable::new(alloc, outlets),
-        acceptor,
+        engine: Engine::new(alloc, ground, host, outlets),
+        ports,
         speech,
         inbox,
-        shortages,
     }
 }
 
@@ -206,13 +184,14 @@ fn name_of(member: &Member) -> NodeName {
 fn start_node(
     alloc: Global,
     limits: Limits,
+    start: Option<Instant>,
     addresses: &[Address],
     member: Member,
 ) -> Result<Node<PlumCore>, RunError> {
     let me = name_of(&member);
     let names = names_for(alloc, addresses, &me)?;
-    let started = start_host(alloc, limits, &member, names.as_slice())?;
-    match surround(alloc, member) {
+    let started = start_member(alloc, limits, &member, names.as_slice())?;
+    match surround(alloc, start, member) {
         Ok(around) => Ok(assemble(alloc, started, around)),
         Err(_) => Err(no_memory(me)),
     }
@@ -222,6 +201,7 @@ fn start_node(
 pub(crate) fn start_nodes(
     alloc: Global,
     limits: Limits,
+    start: Option<Instant>,
     addresses: &[Address],
     members: Vec<Member>,
 ) -> Result<Vec<Node<PlumCore>>, RunError>
@@ -229,7 +209,7 @@ pub(crate) fn start_nodes(
 {
     let mut nodes = Vec::new(alloc);
     for member in members {
-        let node = start_node(alloc, limits, addresses, member)?;
+        let node = start_node(alloc, limits, start, addresses, member)?;
         keep(&mut nodes, node)?;
     }
     Ok(nodes)

@@ -1,27 +1,24 @@
 //! How the nodes of a group are stopped.
 use crate::node::Node;
 use node_threads::NodeCore;
+use plumtree_node::pause;
 use std::alloc::Global;
 use std::net::{Net, TcpListener, TcpStream};
 use std::sync::Wait;
-use std::thread;
 use std::thread::Threads;
-use std::time::{Clock, Duration};
-
-/// How many milliseconds pass before ports that could not be dialled are dialled again.
-const PAUSE: u64 = 5;
+use std::time::Clock;
 
 /// Stops the hosts of all nodes: they make no more steps.
 fn stop_hosts<R: Wait, C: NodeCore<Global> + Drop>(rt: &R, nodes: &[Node<C>]) {
     for node in nodes {
-        node.running.host.stop(rt);
+        node.engine.stop(rt);
     }
 }
 
 /// Ends the connections of all nodes.
 fn close_connections<R: Wait, C: NodeCore<Global> + Drop>(rt: &R, nodes: &mut [Node<C>]) {
     for node in nodes.iter_mut() {
-        node.close_connections(rt);
+        node.engine.close_connections(rt);
     }
 }
 
@@ -33,7 +30,7 @@ where
 {
     let mut are_ending = true;
     for node in nodes.iter_mut() {
-        are_ending &= node.acceptor.knock(rt);
+        are_ending &= node.engine.knock(rt);
     }
     are_ending
 }
@@ -48,14 +45,14 @@ where
         if knock(rt, nodes) {
             return;
         }
-        thread::sleep(rt, Duration::from_millis(PAUSE));
+        pause(rt);
     }
 }
 
 /// Waits for the threads that take connections.
 fn join_acceptors<R: Threads, C: NodeCore<Global> + Drop>(rt: &R, nodes: &mut [Node<C>]) {
     for node in nodes.iter_mut() {
-        node.acceptor.join(rt);
+        node.engine.join_acceptor(rt);
     }
 }
 

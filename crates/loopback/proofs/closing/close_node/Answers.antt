@@ -1,6 +1,3 @@
 use Rattle.node_threads.specs.History.{IsHistory}
 use Rattle.loopback.proofs.Histories.{one_more}
 use Rattle.loopback.proofs.closing.close_node.Goals as goal
-
-pub returns-in-Ok-Ok-clause-histories : goal.returns-in-Ok-Ok-clause-histories
-returns-in-Ok-Ok-clause-histories g c all = one_more (IsHistory g.C.NodeCore.starts g.C.NodeCore.steps) c.args.ran.now.traces.items c.add.new.self.traces.items c.in_ok-trace.trace c.in-Ok-Ok.ensures c.in_ok-trace.ensures all

@@ -2,35 +2,31 @@
 ghost use Rattle.std.specs.Prelude.{IfOk};
 ghost use Rattle.node_threads.specs.History.{IsHistory};
 
-use crate::error::RunError;
-use crate::inbox::ToInbox;
+use crate::error::StopError;
 use crate::link_writer::LinkDialler;
 use crate::list::keep;
 use crate::shortage::Shortage;
 use crate::ticks::Ticks;
-use bytes::Bytes;
 use frames::Frame;
 use links::{TcpCloser, TcpReader};
-use node_names::{MsgId, NodeName};
 use node_threads::{
-    CloseError, Closed, Host, HostError, NodeCore, OpenGate, Outlet, Port, Worker, hand_out,
-    read_link, tick, write_link,
+    CloseError, Closed, Handed, Host, HostError, NodeCore, OpenGate, Outlet, Port, Worker,
+    hand_out, read_link, tick, write_link,
 };
 use std::alloc::{AllocError, Global};
 use std::net::{Net, TcpListener, TcpStream};
 use std::sync::Wait;
 use std::thread::Threads;
 use std::time::Clock;
-use world::Trace;
+use world::{Delivery, Trace};
 
-/// A node's host, its port, and the workers that it employs.
+/// A node's host, and the workers that it employs.
 #[derive(Drop)]
 pub(crate) struct Running<C: NodeCore<Global> + Drop> {
     pub(crate) host: Host<C>,
-    pub(crate) ports: Vec<Port<C>>,
-    pub(crate) workers: Vec<Worker>,
+    workers: Vec<Worker>,
     /// What ends the connections that are read.
-    pub(crate) closers: Vec<TcpCloser>,
+    closers: Vec<TcpCloser>,
 }
 
 /// Appends a worker that was started. A host that was stopped needs none.
@@ -44,14 +40,15 @@ fn employ(workers: &mut Vec<Worker>, started: Result<Worker, HostError>) -> Resu
 
 impl<C: NodeCore<Global> + Drop + Send + 'static> Running<C> {
     /// Starts the worker that hands deliveries out.
-    pub(crate) fn start_handing<R>(&mut self, to: ToInbox<R>) -> Result<(), Shortage>
+    pub(crate) fn start_handing<R, S>(&mut self, rt: R, sink: S) -> Result<(), Shortage>
     where
-        R: Threads + Wait + Clock + Copy + Send + Drop + 'static,
+        R: Threads + Wait + Copy + Send + Drop + 'static,
+        S: Handed<Vec<Delivery>> + Drop + Send + 'static,
     {
         self.workers.reserve(1)?;
         employ(
             &mut self.workers,
-            hand_out(to.rt, &self.host, OpenGate, 0, to),
+            hand_out(rt, &self.host, OpenGate, 0, sink),
         )
     }
 
@@ -111,12 +108,28 @@ impl<C: NodeCore<Global> + Drop + Send + 'static> Running<C> {
 }
 
 impl<C: NodeCore<Global> + Drop> Running<C> {
-    /// Broadcasts a text, and returns the id of its message.
-    pub(crate) fn broadcast<R: Wait>(&mut self, rt: &R, text: Bytes) -> Result<MsgId, HostError> {
-        match self.ports.first_mut() {
-            Some(port) => port.broadcast(rt, text).map(|receipt| receipt.id),
-            None => Err(HostError::Closed),
+    /// A host that employs no workers yet.
+    pub(crate) fn new(alloc: Global, host: Host<C>) -> Running<C> {
+        Running {
+            host,
+            workers: Vec::new(alloc),
+            closers: Vec::new(alloc),
         }
+    }
+
+    /// Whether all its workers were joined.
+    pub(crate) fn is_idle(&self) -> bool {
+        self.workers.is_empty()
+    }
+
+    /// The host, once all its workers were joined.
+    pub(crate) fn into_host(self) -> Host<C> {
+        let Running {
+            host,
+            workers: _,
+            closers: _,
+        } = self;
+        host
     }
 
     /// Joins the workers that have ended, closes the connections that are no longer read, and appends the outlets of
@@ -134,7 +147,7 @@ impl<C: NodeCore<Global> + Drop> Running<C> {
     }
 
     /// Counts outlets of links that are not written among the workers, so that the close checks what came out of them.
-    pub(crate) fn rest(&mut self, outlets: Vec<Outlet>) -> Result<(), AllocError> {
+    fn rest(&mut self, outlets: Vec<Outlet>) -> Result<(), AllocError> {
         self.workers.reserve(outlets.len())?;
         for outlet in outlets {
             keep(&mut self.workers, self.host.rest(outlet))?;
@@ -150,40 +163,40 @@ impl<C: NodeCore<Global> + Drop> Running<C> {
         self.closers.clear();
     }
 
-    /// Closes the node, which is stopped, and returns its history.
+    /// Closes the node, which is stopped, with its ports and the outlets of links that are not written. Returns its
+    /// history.
     pub(crate) fn close<R: Threads + Wait>(
-        self,
+        mut self,
         rt: &R,
-        node: NodeName,
-    ) -> Result<Trace<Frame>, RunError>
+        ports: Vec<Port<C>>,
+        outlets: Vec<Outlet>,
+    ) -> Result<Trace<Frame>, StopError>
         ensures { IfOk result (IsHistory C.starts C.steps) }
     {
+        let rested = self.rest(outlets);
         let Running {
             host,
-            ports,
             workers,
             closers: _,
         } = self;
-        trace_of(node, host.close(rt, ports, workers))
+        let trace = trace_of(host.close(rt, ports, workers))?;
+        rested?;
+        Ok(trace)
     }
 }
 
 /// The history of a node that was closed, or why it is not as it should be.
 fn trace_of<C: NodeCore<Global> + Drop>(
-    node: NodeName,
     closed: Result<Closed, CloseError<C>>,
-) -> Result<Trace<Frame>, RunError>
+) -> Result<Trace<Frame>, StopError>
     requires { IfOk closed (λ closed. IsHistory C.starts C.steps closed.trace) }
     ensures { IfOk result (IsHistory C.starts C.steps) }
 {
     match closed {
         Ok(Closed { trace, .. }) => Ok(trace),
-        Err(CloseError::PortMissing { .. }) => Err(RunError::WorkerMissing { node }),
-        Err(CloseError::Unlike { .. }) => Err(RunError::Unlike { node }),
-        Err(CloseError::Torn { .. }) => Err(RunError::Torn { node }),
-        Err(CloseError::OutOfMemory { .. }) => Err(RunError::Short {
-            node,
-            of: Shortage::Memory,
-        }),
+        Err(CloseError::PortMissing { .. }) => Err(StopError::WorkerMissing),
+        Err(CloseError::Unlike { .. }) => Err(StopError::Unlike),
+        Err(CloseError::Torn { peer, .. }) => Err(StopError::Torn { peer }),
+        Err(CloseError::OutOfMemory { .. }) => Err(StopError::Short(Shortage::Memory)),
     }
 }

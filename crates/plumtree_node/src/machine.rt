@@ -1,4 +1,4 @@
-//! What a running group needs of its machine.
+//! What a running node needs of its machine.
 use std::net::{Net, TcpListener, TcpStream};
 use std::sync::Wait;
 use std::thread::Threads;

@@ -1,17 +1,13 @@
 //! The shortages of a node's threads.
 use crate::shortage::Shortage;
+use std::io;
 use std::sync::atomic::{AtomicBool, AtomicUsize, Ordering};
-use std::time::{Clock, Duration};
-use std::{io, thread};
 
 /// How many times in a row a call may have too few descriptors before this is noted: unused connections may be closed
 /// until then.
 pub(crate) const MAX_FAILURES: u32 = 100;
 
-/// How many milliseconds pass before a failed call is made again.
-const PAUSE: u64 = 5;
-
-/// The shortages of a node's threads, which the threads share with the one that runs the group.
+/// The shortages of a node's threads, which the threads share with the one that runs the node.
 #[derive(Drop)]
 pub(crate) struct Shortages {
     /// How many threads wait for descriptors.
@@ -30,7 +26,7 @@ impl Shortages {
         }
     }
 
-    /// Notes a shortage. One of threads is not noted: only the thread that runs the group makes threads.
+    /// Notes a shortage. One of threads is not noted: only the thread that runs the node makes threads.
     pub(crate) fn note(&self, shortage: Shortage) {
         match shortage {
             Shortage::Threads => {}
@@ -58,11 +54,6 @@ impl Shortages {
         }
         Ok(())
     }
-}
-
-/// Waits a little before a failed call is made again.
-pub(crate) fn pause<R: Clock>(rt: &R) {
-    thread::sleep(rt, Duration::from_millis(PAUSE));
 }
 
 /// The failures of one call that is repeated.

@@ -4,7 +4,7 @@ use std::alloc::Global;
 use std::sync::Arc;
 use std::sync::atomic::{AtomicU64, Ordering};
 
-/// When a link was last written to, which the thread that writes it shares with the one that runs the group.
+/// When a link was last written to, which the thread that writes it shares with the one that runs the node.
 #[derive(Drop)]
 pub(crate) struct LastUse {
     tick: AtomicU64,

@@ -15,7 +15,7 @@ pub enum Shortage {
     /// A thread can't be made.
     #[error("no thread can be made")]
     Threads,
-    /// A connection can't be taken or made, or a port can't be listened on, since that takes a descriptor.
+    /// A connection can't be taken or made, or an address can't be listened at, since that takes a descriptor.
     #[error("too few descriptors")]
     Descriptors,
     /// An allocation is refused.

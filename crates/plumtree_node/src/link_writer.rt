@@ -4,16 +4,17 @@ ghost use Rattle.std.specs.Io.{WritesAtMost};
 ghost use Rattle.links.specs.Counting.{has_risen, moves_none};
 
 use crate::last_use::LastUse;
+use crate::pace::pause;
 use crate::shortage::Shortage;
-use crate::shortages::{Failures, MAX_FAILURES, Shortages, pause};
-use links::{LinkEnd, MeteredWrite, TcpWriter, dial};
+use crate::shortages::{Failures, MAX_FAILURES, Shortages};
+use links::{LinkEnd, MeteredWrite};
 use node_threads::Dialler;
 use std::alloc::Global;
 use std::io;
 use std::io::{BufWriter, Write};
-use std::net::{Net, TcpListener, TcpStream};
+use std::net::{Net, SocketAddr, TcpListener, TcpStream};
 use std::sync::Arc;
-use std::time::Clock;
+use std::time::{Clock, Duration};
 
 /// How many bytes are buffered before they are sent: a link often has several frames at once, and a system call costs
 /// as much for one of them as for all.
@@ -22,7 +23,7 @@ const GATHERED: usize = 16 * 1_024;
 /// Writes to a link's connection, and notes when. Bytes are sent at a flush, or when the buffer is full.
 #[derive(Drop)]
 pub(crate) struct LinkWriter {
-    connection: BufWriter<TcpWriter>,
+    connection: BufWriter<TcpStream>,
     used: Arc<LastUse, Global>,
     failures: u64,
     took_none: bool,
@@ -70,15 +71,41 @@ impl MeteredWrite for LinkWriter {
     }
 }
 
-/// Connects to a port. If there are too few descriptors, it tries again for a while, and then notes the shortage.
+/// Connects to an address, but waits no longer than `patience`, and has no write wait longer either.
+fn dial_within<R: Net<Listener = TcpListener, Stream = TcpStream>>(
+    rt: &R,
+    at: SocketAddr,
+    patience: Duration,
+) -> io::Result<TcpStream> {
+    let connection = rt.connect_timeout(at, patience)?;
+    connection.set_write_timeout(Some(patience))?;
+    Ok(connection)
+}
+
+/// Connects to an address, for a writer that gathers bytes itself, so that each write is sent at once.
+fn dial<R: Net<Listener = TcpListener, Stream = TcpStream>>(
+    rt: &R,
+    at: SocketAddr,
+    patience: Option<Duration>,
+) -> io::Result<TcpStream> {
+    let connection = match patience {
+        Some(patience) => dial_within(rt, at, patience)?,
+        None => rt.connect(at)?,
+    };
+    connection.set_nodelay(true)?;
+    Ok(connection)
+}
+
+/// Connects to an address. If there are too few descriptors, it tries again for a while, and then notes the shortage.
 fn dial_on<R: Clock + Net<Listener = TcpListener, Stream = TcpStream>>(
     rt: &R,
-    port: u16,
+    at: SocketAddr,
+    patience: Option<Duration>,
     shortages: &Shortages,
-) -> Option<TcpWriter> {
+) -> Option<TcpStream> {
     let mut failures = Failures::new(shortages);
     for _ in 0..MAX_FAILURES {
-        match dial(rt, port) {
+        match dial(rt, at, patience) {
             Ok(connection) => {
                 failures.end();
                 return Some(connection);
@@ -98,7 +125,7 @@ fn dial_on<R: Clock + Net<Listener = TcpListener, Stream = TcpStream>>(
 /// Makes the buffered writer of a connection. Its only error is `OutOfMemory`.
 fn gather(
     alloc: Global,
-    connection: TcpWriter,
+    connection: TcpStream,
     used: &Arc<LastUse, Global>,
 ) -> io::Result<LinkWriter> {
     Ok(LinkWriter {
@@ -114,7 +141,8 @@ fn gather(
 pub(crate) struct LinkDialler<R: Clock + Net<Listener = TcpListener, Stream = TcpStream> + Drop> {
     pub(crate) rt: R,
     pub(crate) alloc: Global,
-    pub(crate) port: u16,
+    pub(crate) at: SocketAddr,
+    pub(crate) patience: Option<Duration>,
     pub(crate) used: Arc<LastUse, Global>,
     pub(crate) shortages: Arc<Shortages, Global>,
 }
@@ -124,7 +152,7 @@ impl<R: Clock + Net<Listener = TcpListener, Stream = TcpStream> + Send + Drop> D
     type Writer = LinkWriter;
 
     fn dial(&mut self) -> Result<LinkWriter, LinkEnd> {
-        let Some(connection) = dial_on(&self.rt, self.port, &self.shortages) else {
+        let Some(connection) = dial_on(&self.rt, self.at, self.patience, &self.shortages) else {
             return Err(LinkEnd::WriteFault { bytes: 0 });
         };
         match gather(self.alloc, connection, &self.used) {

@@ -1,10 +1,8 @@
 //! The thread of a node that takes connections.
 use crate::arrivals::{Arrivals, accept_all};
 use crate::shortage::Shortage;
-use crate::shortages::Shortages;
-use links::dial;
-use std::alloc::{AllocError, Global};
-use std::net::{Net, TcpListener, TcpStream};
+use std::alloc::Global;
+use std::net::{Net, SocketAddr, TcpListener, TcpStream};
 use std::sync::{Arc, Wait};
 use std::thread;
 use std::thread::{JoinHandle, Threads};
@@ -13,26 +11,22 @@ use std::time::Clock;
 /// The thread of a node that takes connections, and the connections that it took.
 #[derive(Drop)]
 pub(crate) struct Acceptor {
-    port: u16,
+    at: SocketAddr,
     pub(crate) arrivals: Arc<Arrivals, Global>,
     thread: Option<JoinHandle<()>>,
-    /// Whether the port was dialled since the arrivals were closed.
+    /// Whether the address was dialled since the arrivals were closed.
     is_dialled: bool,
 }
 
 impl Acceptor {
-    /// Makes the acceptor of this port, without a thread yet.
-    pub(crate) fn new(
-        alloc: Global,
-        port: u16,
-        shortages: Arc<Shortages, Global>,
-    ) -> Result<Acceptor, AllocError> {
-        Ok(Acceptor {
-            port,
-            arrivals: Arc::new(alloc, Arrivals::new(alloc, shortages))?,
+    /// Makes the acceptor of this address, without a thread yet.
+    pub(crate) fn new(at: SocketAddr, arrivals: Arc<Arrivals, Global>) -> Acceptor {
+        Acceptor {
+            at,
+            arrivals,
             thread: None,
             is_dialled: false,
-        })
+        }
     }
 
     /// Starts the thread.
@@ -50,8 +44,8 @@ impl Acceptor {
         }
     }
 
-    /// Dials the port once the arrivals are closed, unless this was done already, so that the thread, which waits there
-    /// for a connection, wakes up. Returns whether the thread will end.
+    /// Dials the address once the arrivals are closed, unless this was done already, so that the thread, which waits
+    /// there for a connection, wakes up. Returns whether the thread will end.
     pub(crate) fn knock<R>(&mut self, rt: &R) -> bool
     where
         R: Net<Listener = TcpListener, Stream = TcpStream>,
@@ -59,7 +53,7 @@ impl Acceptor {
         if self.thread.is_none() || self.is_dialled || self.arrivals.is_over() {
             return true;
         }
-        self.is_dialled = dial(rt, self.port).is_ok();
+        self.is_dialled = rt.connect(self.at).is_ok();
         self.is_dialled
     }
 

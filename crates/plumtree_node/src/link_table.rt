@@ -11,6 +11,7 @@ use node_names::NodeName;
 use node_threads::{Host, NodeCore, Outlet};
 use std::alloc::{AllocError, Global};
 use std::mem;
+use std::net::SocketAddr;
 use std::sync::{Arc, Wait};
 
 /// A link that has a writer.
@@ -100,9 +101,9 @@ impl LinkTable {
             return Ok(keep(&mut self.unwritten, outlet)?);
         }
         let peer = outlet.peer();
-        match common.port_of(&peer) {
-            Some(port) => {
-                let dialler = self.connect(common, shortages, peer, port)?;
+        match common.address_of(&peer) {
+            Some(at) => {
+                let dialler = self.connect(common, shortages, peer, at)?;
                 running.write(common.rt, outlet, dialler)
             }
             None => Ok(()),
@@ -115,7 +116,7 @@ impl LinkTable {
         common: &Common<R>,
         shortages: &Arc<Shortages, Global>,
         peer: NodeName,
-        port: u16,
+        at: SocketAddr,
     ) -> Result<LinkDialler<R>, AllocError> {
         let ticking = Arc::try_clone(&common.ticking)?;
         let looked_at = ticking.now();
@@ -123,7 +124,8 @@ impl LinkTable {
         let dialler = LinkDialler {
             rt: common.rt,
             alloc: common.alloc,
-            port,
+            at,
+            patience: common.patience,
             used: Arc::try_clone(&used)?,
             shortages: Arc::try_clone(shortages)?,
         };

@@ -1,4 +1,4 @@
-//! The ticks of a run.
+//! The ticks of nodes.
 use node_threads::Ticker;
 use std::alloc::Global;
 use std::sync::Arc;
@@ -6,12 +6,9 @@ use std::sync::atomic::{AtomicU64, AtomicUsize, Ordering};
 use std::thread;
 use std::time::{Clock, Duration};
 
-/// How long a tick takes, in milliseconds.
-pub(crate) const TICK: u64 = 20;
-
 /// How many ticks have passed, and how many nodes have ticks left.
 #[derive(Drop)]
-pub(crate) struct Ticking {
+pub struct Ticking {
     nodes: AtomicUsize,
     ticks: AtomicU64,
 }
@@ -26,12 +23,12 @@ impl Ticking {
     }
 
     /// Whether no node has ticks left.
-    pub(crate) fn is_over(&self) -> bool {
+    pub fn is_over(&self) -> bool {
         self.nodes.load(Ordering::SeqCst) == 0
     }
 
     /// How many ticks have passed at about the furthest node.
-    pub(crate) fn now(&self) -> u64 {
+    pub fn now(&self) -> u64 {
         self.ticks.load(Ordering::SeqCst)
     }
 
@@ -46,8 +43,9 @@ impl Ticking {
 /// The ticks of one node. The node counts among those that have ticks left until this is dropped.
 pub(crate) struct Ticks<R: Clock + Drop> {
     rt: R,
+    tick: Duration,
     made: u64,
-    left: u32,
+    left: u64,
     ticking: Arc<Ticking, Global>,
 }
 
@@ -55,6 +53,7 @@ impl<R: Clock + Drop> Drop for Ticks<R> {
     fn drop(self) {
         let Ticks {
             rt: _,
+            tick: _,
             made: _,
             left: _,
             ticking,
@@ -64,11 +63,12 @@ impl<R: Clock + Drop> Drop for Ticks<R> {
 }
 
 impl<R: Clock + Drop> Ticks<R> {
-    /// Makes the ticks of a node that has `left` ticks left.
-    pub(crate) fn new(rt: R, left: u32, ticking: Arc<Ticking, Global>) -> Ticks<R> {
+    /// Makes the ticks of a node that has `left` ticks left, each of which takes this time.
+    pub(crate) fn new(rt: R, tick: Duration, left: u64, ticking: Arc<Ticking, Global>) -> Ticks<R> {
         ticking.nodes.fetch_add(1, Ordering::SeqCst);
         Ticks {
             rt,
+            tick,
             made: 0,
             left,
             ticking,
@@ -82,7 +82,7 @@ impl<R: Clock + Drop> Ticker for Ticks<R> {
             return false;
         }
         self.left -= 1;
-        thread::sleep(&self.rt, Duration::from_millis(TICK));
+        thread::sleep(&self.rt, self.tick);
         self.made = self.made.saturating_add(1);
         self.ticking.advance(self.made);
         true

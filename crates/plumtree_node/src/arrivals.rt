@@ -1,7 +1,8 @@
 //! Connections that other nodes made to a node and that it does not read yet.
 use crate::list::keep;
+use crate::pace::pause;
 use crate::shortage::Shortage;
-use crate::shortages::{Failures, Shortages, pause};
+use crate::shortages::{Failures, Shortages};
 use links::{TcpReader, accept};
 use std::alloc::Global;
 use std::mem;
@@ -17,7 +18,7 @@ struct Waiting {
     readers: Vec<TcpReader>,
 }
 
-/// What the thread that takes connections shares with the one that runs the group.
+/// What the thread that takes connections shares with the one that runs the node.
 #[derive(Drop)]
 pub(crate) struct Arrivals {
     waiting: Mutex<Waiting>,

@@ -1,0 +1,230 @@
+//! What a node is started with.
+ghost use Rattle.std.specs.Prelude.{IsTrue, OnOk};
+ghost use Rattle.world.specs.Peers.{are_peers};
+
+use crate::address::{Address, address_of};
+use crate::common::Common;
+use crate::error::StartError;
+use crate::list::keep;
+use crate::starting::{RING, STEPS};
+use node_names::{Incarnation, Limits, NodeName, Origin, has_name};
+use std::alloc::{AllocError, Global};
+use std::net::SocketAddr;
+use std::time::Duration;
+use world::are_peers;
+
+/// How long a tick takes, in milliseconds: ten ticks a second cost next to nothing, and a lost message is missed for no
+/// longer than a user would notice.
+const TICK: u64 = 100;
+
+/// How many seconds a peer may let a node wait, to take a connection or bytes: longer than a network stumbles, and
+/// short enough to wait for it when the node is stopped.
+const PATIENCE: u64 = 5;
+
+/// The first value of the seed, and the factor for each byte (FNV-1a).
+const SEED: u64 = 0xcbf2_9ce4_8422_2325;
+
+const SEED_FACTOR: u64 = 0x0000_0100_0000_01b3;
+
+/// What a node is started with: who it is, where it listens, whom it knows, and what it may take.
+#[derive(Drop)]
+pub struct Config {
+    pub(crate) me: Origin,
+    pub(crate) listen: SocketAddr,
+    pub(crate) peers: Vec<NodeName>,
+    pub(crate) contact: Option<NodeName>,
+    pub(crate) addresses: Vec<Address>,
+    /// The first name that was given two addresses.
+    twice: Option<NodeName>,
+    pub(crate) limits: Limits,
+    pub(crate) tick: Duration,
+    pub(crate) patience: Duration,
+    pub(crate) ring: usize,
+    pub(crate) steps: usize,
+    pub(crate) seed: u64,
+}
+
+/// A seed that differs from node to node, and from run to run of a node.
+fn seed_of(me: &Origin) -> u64 {
+    let mut seed = SEED ^ me.incarnation.0;
+    for byte in me.name.as_bytes() {
+        seed = (seed ^ u64::from(*byte)).wrapping_mul(SEED_FACTOR);
+    }
+    seed
+}
+
+/// The first name that stands in the list twice.
+fn repeated(names: &[NodeName]) -> Option<NodeName> {
+    match names {
+        [] => None,
+        [name, others @ ..] => {
+            if has_name(others, name) {
+                Some(*name)
+            } else {
+                repeated(others)
+            }
+        }
+    }
+}
+
+impl Config {
+    /// A node that has this name, and listens at this address. The incarnation must be greater than that of any earlier
+    /// run of this name: the others would take its messages for old ones. At port 0 the system chooses a free port, and
+    /// `Node::address` tells it.
+    ///
+    /// The node knows nobody, and is alone until another joins it by a `contact`.
+    pub fn new(
+        alloc: Global,
+        name: NodeName,
+        incarnation: Incarnation,
+        listen: SocketAddr,
+    ) -> Config {
+        let me = Origin { name, incarnation };
+        Config {
+            me,
+            listen,
+            peers: Vec::new(alloc),
+            contact: None,
+            addresses: Vec::new(alloc),
+            twice: None,
+            limits: Limits::STANDARD,
+            tick: Duration::from_millis(TICK),
+            patience: Duration::from_secs(PATIENCE),
+            ring: RING,
+            steps: STEPS,
+            seed: seed_of(&me),
+        }
+    }
+
+    /// Has the node begin with this peer, which must have this node as a peer too. It must listen before this node
+    /// broadcasts: a peer that can't be reached is dropped.
+    pub fn peer(mut self, name: NodeName, at: SocketAddr) -> Result<Config, AllocError> {
+        self.note(name, at)?;
+        keep(&mut self.peers, name)?;
+        Ok(self)
+    }
+
+    /// Has the node join a group by this member of it, which must be running. Only the last call counts.
+    pub fn contact(mut self, name: NodeName, at: SocketAddr) -> Result<Config, AllocError> {
+        self.note(name, at)?;
+        self.contact = Some(name);
+        Ok(self)
+    }
+
+    /// Tells the node where another takes connections. It can have links to these names alone: frames carry names and
+    /// no addresses, so a node that hears of a name without an address drops it.
+    pub fn knows(mut self, name: NodeName, at: SocketAddr) -> Result<Config, AllocError> {
+        self.note(name, at)?;
+        Ok(self)
+    }
+
+    /// The sizes of the node's views, and what it keeps. Without this call they are `Limits::STANDARD`, which the
+    /// authors of HyParView measured with groups of 10,000 nodes, and with which a node keeps every payload.
+    pub fn limits(mut self, limits: Limits) -> Config {
+        self.limits = limits;
+        self
+    }
+
+    /// How long a tick takes: at each the node sends the announcements that it has gathered, and asks for messages that
+    /// it misses; at every tenth it exchanges names. Without this call it is a tenth of a second, which costs next to
+    /// nothing, and in which a message that was lost is noticed before a user does. `Node::stop` waits for a tick.
+    pub fn tick(mut self, tick: Duration) -> Config {
+        self.tick = tick;
+        self
+    }
+
+    /// How long a peer may let the node wait, to take a connection or bytes, before it counts as down. Without this
+    /// call it is five seconds: longer than a network stumbles, and short enough for `Node::stop`, which may wait for
+    /// it.
+    pub fn patience(mut self, patience: Duration) -> Config {
+        self.patience = patience;
+        self
+    }
+
+    /// How many frames wait for a link at most: one that is full is given up, and its peer counts as down. Without this
+    /// call they are 1,024, so that a program can broadcast some hundred messages at once, and none of them is copied.
+    pub fn ring(mut self, ring: usize) -> Config {
+        self.ring = ring;
+        self
+    }
+
+    /// How many steps the node may make. It keeps all of them, since its history is compared and handed out at the end,
+    /// and ends when they are made. Without this call they are 1,048,576, which take up to a gigabyte.
+    pub fn steps(mut self, steps: usize) -> Config {
+        self.steps = steps;
+        self
+    }
+
+    /// The seed of the dice, by which the node chooses among names. Without this call it is made of the name and the
+    /// incarnation, so that it differs from node to node, and a run can be repeated with the same dice.
+    pub fn seed(mut self, seed: u64) -> Config {
+        self.seed = seed;
+        self
+    }
+
+    /// What the node's engine works with.
+    pub(crate) fn into_common<R: Drop>(
+        self,
+        rt: R,
+        alloc: Global,
+    ) -> Result<Common<R>, AllocError> {
+        let Config {
+            addresses,
+            tick,
+            patience,
+            seed,
+            ..
+        } = self;
+        Common::new(rt, alloc, tick, Some(patience), seed, addresses)
+    }
+
+    /// Notes the address of a name, or that the name has another one already.
+    fn note(&mut self, name: NodeName, at: SocketAddr) -> Result<(), AllocError> {
+        match address_of(self.addresses.as_slice(), &name) {
+            None => keep(&mut self.addresses, Address { name, at }),
+            Some(earlier) => {
+                if earlier != at {
+                    self.twice = self.twice.or(Some(name));
+                }
+                Ok(())
+            }
+        }
+    }
+
+    /// Why the node can't start with its peers and its contact.
+    fn peers_error(&self) -> StartError {
+        let most = self.limits.active();
+        if has_name(self.peers.as_slice(), &self.me.name) || self.contact == Some(self.me.name) {
+            return StartError::OwnName;
+        }
+        match repeated(self.peers.as_slice()) {
+            Some(name) => StartError::RepeatedPeer { name },
+            None => StartError::TooManyPeers { most },
+        }
+    }
+
+    /// Returns an error unless a node can be started so.
+    pub(crate) fn check(&self) -> Result<(), StartError>
+        ensures { OnOk result (IsTrue (
+            are_peers self.now.limits self.now.me.name self.now.peers.items self.now.contact)) }
+    {
+        if let Some(name) = self.twice {
+            return Err(StartError::TwoAddresses { name });
+        }
+        if !are_peers(
+            &self.limits,
+            &self.me.name,
+            self.peers.as_slice(),
+            &self.contact,
+        ) {
+            return Err(self.peers_error());
+        }
+        if self.tick.is_zero() {
+            return Err(StartError::ZeroTick);
+        }
+        if self.ring == 0 {
+            return Err(StartError::ZeroRing);
+        }
+        Ok(())
+    }
+}

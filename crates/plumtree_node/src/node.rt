@@ -1,0 +1,188 @@
+//! A node that runs by itself.
+ghost use Rattle.std.specs.Prelude.{IfOk};
+ghost use Rattle.node_core.specs.Steps.{PlumStarts, PlumSteps};
+ghost use Rattle.node_threads.specs.History.{IsHistory};
+
+use crate::address::others;
+use crate::common::Common;
+use crate::config::Config;
+use crate::driver::{Driver, Left};
+use crate::engine::Ground;
+use crate::error::{BroadcastError, StartError, StopError};
+use crate::inbox::{Inbox, ToInbox};
+use crate::listening::{listen_at, listen_spare};
+use crate::machine::Machine;
+use crate::orders::{StopAtDrop, give_orders};
+use crate::ports::broadcast;
+use crate::slot::Slot;
+use crate::starting::{Started, start_host};
+use bytes::Bytes;
+use frames::Frame;
+use node_core::PlumCore;
+use node_names::MsgId;
+use node_threads::{NodeCore, Port};
+use std::alloc::Global;
+use std::net::{SocketAddr, TcpListener};
+use std::sync::Arc;
+use world::{Delivery, Trace};
+
+/// A node that runs by itself: it listens at its address, has links to the nodes whose addresses it was given, and
+/// collects what it delivers.
+///
+/// It may be moved to another thread. Dropping it stops it too, without waiting, and its history is lost.
+#[derive(Drop)]
+pub struct Node<R: Machine, C: NodeCore<Global> + Drop = PlumCore> {
+    rt: R,
+    alloc: Global,
+    address: SocketAddr,
+    ports: Vec<Port<C>>,
+    inbox: Arc<Inbox, Global>,
+    left: Arc<Slot<Left<C>>, Global>,
+    stop_at_drop: StopAtDrop,
+}
+
+/// Where a node listens, and a listener that keeps a descriptor for its end.
+#[derive(Drop)]
+struct Doors {
+    address: SocketAddr,
+    listener: TcpListener,
+    spare: TcpListener,
+}
+
+impl Doors {
+    /// Listens at an address.
+    fn open<R: Machine>(rt: &R, at: SocketAddr) -> Result<Doors, StartError> {
+        let listener = listen_at(rt, at)?;
+        let spare = listen_spare(rt)?;
+        Ok(Doors {
+            address: listener.local_addr().unwrap_or(at),
+            listener,
+            spare,
+        })
+    }
+}
+
+/// Has a thread run a node whose host was started.
+fn run<R, C>(
+    rt: R,
+    alloc: Global,
+    config: Config,
+    doors: Doors,
+    started: Started<C>,
+) -> Result<Node<R, C>, StartError>
+where
+    R: Machine,
+    C: NodeCore<Global> + Drop + Send + 'static,
+{
+    let (host, ports, outlets) = started;
+    let Doors {
+        address,
+        listener,
+        spare,
+    } = doors;
+    let inbox = Arc::new(alloc, Inbox::new(alloc))?;
+    let left = Arc::new(alloc, Slot::new())?;
+    let ground = Ground::new(alloc, address)?;
+    let (stop_at_drop, orders) = give_orders(alloc)?;
+    let sink = ToInbox {
+        rt,
+        inbox: Arc::try_clone(&inbox)?,
+        shortages: Arc::try_clone(&ground.shortages)?,
+    };
+    let driver = Driver {
+        common: config.into_common(rt, alloc)?,
+        ground,
+        host,
+        outlets,
+        listener,
+        spare,
+        sink,
+        orders,
+    };
+    driver.start(Arc::try_clone(&inbox)?, Arc::try_clone(&left)?)?;
+    Ok(Node {
+        rt,
+        alloc,
+        address,
+        ports,
+        inbox,
+        left,
+        stop_at_drop,
+    })
+}
+
+impl<R: Machine> Node<R> {
+    /// Starts a node. When this returns it listens, and it joins its contact, if it has one. `StartError` says why it
+    /// was not started.
+    pub fn start(rt: R, alloc: Global, config: Config) -> Result<Node<R>, StartError> {
+        config.check()?;
+        let names = others(alloc, config.addresses.as_slice(), &config.me.name)?;
+        let doors = Doors::open(&rt, config.listen)?;
+        let started = start_host(
+            alloc,
+            config.me,
+            config.limits,
+            config.peers.as_slice(),
+            config.contact,
+            names.as_slice(),
+            config.ring,
+            config.steps,
+        )?;
+        run(rt, alloc, config, doors, started)
+    }
+
+    /// Stops the node, waits for its threads, and returns its history, in which deliveries that were not taken stand
+    /// too. This takes a tick, and as long as a peer that takes nothing is waited for (`Config::patience`).
+    ///
+    /// `Short` is the shortage that ended the node before; `Unlike` and `Torn` say that its history is not what the
+    /// program and its links saw of it.
+    pub fn stop(self) -> Result<Trace<Frame>, StopError>
+        ensures { IfOk result (IsHistory PlumStarts PlumSteps) }
+    {
+        self.close()
+    }
+}
+
+impl<R: Machine, C: NodeCore<Global> + Drop> Node<R, C> {
+    /// Where it listens.
+    pub fn address(&self) -> SocketAddr {
+        self.address
+    }
+
+    /// Broadcasts a payload of at most 32,768 bytes, and returns the id of its message. The node delivers it itself,
+    /// too.
+    pub fn broadcast(&mut self, payload: Bytes) -> Result<MsgId, BroadcastError> {
+        match broadcast(&self.rt, self.ports.as_mut_slice(), payload) {
+            Ok(id) => Ok(id),
+            Err(error) => Err(BroadcastError::of(error)),
+        }
+    }
+
+    /// Takes the oldest message that the node delivered. If none is there, waits for the next one. `None`: the node has
+    /// ended, and all that it delivered was taken.
+    pub fn next(&self) -> Option<Delivery> {
+        self.inbox.next(&self.rt)
+    }
+
+    /// Takes all messages that the node delivered, the oldest first, without waiting.
+    pub fn deliveries(&self) -> Vec<Delivery> {
+        self.inbox.take(&self.rt)
+    }
+
+    /// Stops the node, waits for its threads, and returns its history.
+    fn close(self) -> Result<Trace<Frame>, StopError>
+        ensures { IfOk result (IsHistory C.starts C.steps) }
+    {
+        let Node {
+            rt,
+            alloc,
+            ports,
+            left,
+            stop_at_drop,
+            ..
+        } = self;
+        drop(stop_at_drop);
+        let rested = left.take(&rt)?;
+        rested.close(&rt, alloc, ports)
+    }
+}
