@@ -4,11 +4,12 @@
 use anyhow::Result;
 use bytes::Bytes;
 use node_names::{Incarnation, NodeName};
-use plumtree_node::{Config, Machine, Node};
+use plumtree_node::{Config, Node};
 use std::io::Print;
+use std::sync::Wait;
 
 /// Prints the next message that a node delivers, and who broadcast it.
-fn print_next<R: Machine + Print>(rt: &R, node: &Node<R>) -> Result<()> {
+fn print_next<R: Wait + Print + Drop>(rt: &R, node: &Node<R>) -> Result<()> {
     if let Some(message) = node.next() {
         let (me, of) = (message.node.name, message.id.origin.name);
         let text = str::from_utf8(message.payload.as_slice())?;
@@ -19,8 +20,8 @@ fn print_next<R: Machine + Print>(rt: &R, node: &Node<R>) -> Result<()> {
 
 fn main(rt: HostRuntime) -> Result<()> {
     let alloc = rt.alloc();
-    let (a, at_a) = (NodeName::parse(b"a")?, "127.0.0.1:47101".parse()?);
-    let (b, at_b) = (NodeName::parse(b"b")?, "127.0.0.1:47102".parse()?);
+    let (a, at_a) = (NodeName::parse(b"a")?, "127.0.0.1:7191".parse()?);
+    let (b, at_b) = (NodeName::parse(b"b")?, "127.0.0.1:7192".parse()?);
     let config = Config::new(alloc, a, Incarnation(1), at_a).peer(b, at_b)?;
     let mut one = Node::start(rt, alloc, config)?;
     let config = Config::new(alloc, b, Incarnation(1), at_b).peer(a, at_a)?;

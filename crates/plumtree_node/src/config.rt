@@ -1,6 +1,7 @@
 //! What a node is started with.
-ghost use Rattle.std.specs.Prelude.{IsTrue, OnOk};
-ghost use Rattle.world.specs.Peers.{are_peers};
+ghost use Rattle.std.specs.Prelude.{◌≡◌, false, true, IfErr, IsNone, IsSome, IsTrue, OnOk};
+ghost use Rattle.world.specs.Peers.{are_distinct, are_peers};
+ghost use Rattle.plumtree_node.specs.Refusal.{RefusesPeers};
 
 use crate::address::{Address, address_of};
 use crate::common::Common;
@@ -13,12 +14,10 @@ use std::net::SocketAddr;
 use std::time::Duration;
 use world::are_peers;
 
-/// How long a tick takes, in milliseconds: ten ticks a second cost next to nothing, and a lost message is missed for no
-/// longer than a user would notice.
+/// How long a tick takes, in milliseconds, if nothing else is said.
 const TICK: u64 = 100;
 
-/// How many seconds a peer may let a node wait, to take a connection or bytes: longer than a network stumbles, and
-/// short enough to wait for it when the node is stopped.
+/// How many seconds a peer may let a node wait, if nothing else is said.
 const PATIENCE: u64 = 5;
 
 /// The first value of the seed, and the factor for each byte (FNV-1a).
@@ -53,8 +52,11 @@ fn seed_of(me: &Origin) -> u64 {
     seed
 }
 
-/// The first name that stands in the list twice.
-fn repeated(names: &[NodeName]) -> Option<NodeName> {
+/// The first name that stands in the list twice, if one does.
+fn repeated(names: &[NodeName]) -> Option<NodeName>
+    ensures some { IsSome result → are_distinct names.now ≡ false }
+    ensures none { IsNone result → are_distinct names.now ≡ true }
+{
     match names {
         [] => None,
         [name, others @ ..] => {
@@ -126,8 +128,9 @@ impl Config {
     }
 
     /// How long a tick takes: at each the node sends the announcements that it has gathered, and asks for messages that
-    /// it misses; at every tenth it exchanges names. Without this call it is a tenth of a second, which costs next to
-    /// nothing, and in which a message that was lost is noticed before a user does. `Node::stop` waits for a tick.
+    /// it misses; at every tenth it exchanges names. Without this call it is a tenth of a second: shorter ticks use the
+    /// steps up sooner, and after longer ones a user notices a message that was lost on its way. `Node::stop` waits for
+    /// a tick.
     pub fn tick(mut self, tick: Duration) -> Config {
         self.tick = tick;
         self
@@ -142,14 +145,15 @@ impl Config {
     }
 
     /// How many frames wait for a link at most: one that is full is given up, and its peer counts as down. Without this
-    /// call they are 1,024, so that a program can broadcast some hundred messages at once, and none of them is copied.
+    /// call they are 1,024, so that a program can broadcast some hundred messages at once. They share their payloads.
     pub fn ring(mut self, ring: usize) -> Config {
         self.ring = ring;
         self
     }
 
-    /// How many steps the node may make. It keeps all of them, since its history is compared and handed out at the end,
-    /// and ends when they are made. Without this call they are 1,048,576, which take up to a gigabyte.
+    /// How many steps the node may make: it takes a message, or a tick's turn. It keeps all of them, since its history
+    /// is compared and handed out at the end, and ends when they are made. Without this call they are 1,048,576, which
+    /// take three gigabytes where each is a message that goes on over four links, and much less where most are ticks.
     pub fn steps(mut self, steps: usize) -> Config {
         self.steps = steps;
         self
@@ -191,15 +195,26 @@ impl Config {
         }
     }
 
-    /// Why the node can't start with its peers and its contact.
-    fn peers_error(&self) -> StartError {
-        let most = self.limits.active();
-        if has_name(self.peers.as_slice(), &self.me.name) || self.contact == Some(self.me.name) {
-            return StartError::OwnName;
+    /// Returns an error unless the node may start with its peers and its contact.
+    fn check_peers(&self) -> Result<(), StartError>
+        ensures ok { OnOk result (IsTrue (
+            are_peers self.now.limits self.now.me.name self.now.peers.items self.now.contact)) }
+        ensures err { IfErr result (
+            RefusesPeers self.now.limits self.now.me.name self.now.peers.items self.now.contact) }
+    {
+        let me = &self.me.name;
+        let peers = self.peers.as_slice();
+        if are_peers(&self.limits, me, peers, &self.contact) {
+            return Ok(());
         }
-        match repeated(self.peers.as_slice()) {
-            Some(name) => StartError::RepeatedPeer { name },
-            None => StartError::TooManyPeers { most },
+        if has_name(peers, me) || !are_peers(&self.limits, me, &[], &self.contact) {
+            return Err(StartError::OwnName);
+        }
+        match repeated(peers) {
+            Some(name) => Err(StartError::RepeatedPeer { name }),
+            None => Err(StartError::TooManyPeers {
+                most: self.limits.active(),
+            }),
         }
     }
 
@@ -211,16 +226,12 @@ impl Config {
         if let Some(name) = self.twice {
             return Err(StartError::TwoAddresses { name });
         }
-        if !are_peers(
-            &self.limits,
-            &self.me.name,
-            self.peers.as_slice(),
-            &self.contact,
-        ) {
-            return Err(self.peers_error());
-        }
+        self.check_peers()?;
         if self.tick.is_zero() {
             return Err(StartError::ZeroTick);
+        }
+        if self.patience.is_zero() {
+            return Err(StartError::ZeroPatience);
         }
         if self.ring == 0 {
             return Err(StartError::ZeroRing);

@@ -25,6 +25,9 @@ pub enum StartError {
     /// The tick takes no time, so that the clock would run without a pause.
     #[error("the tick takes no time")]
     ZeroTick,
+    /// The patience with a peer is no time, so that each would count as down.
+    #[error("the patience with a peer is no time")]
+    ZeroPatience,
     /// The ring of a link has room for no frame, so that none would ever go out.
     #[error("the ring has room for no frame")]
     ZeroRing,

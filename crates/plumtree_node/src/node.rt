@@ -22,8 +22,10 @@ use node_core::PlumCore;
 use node_names::MsgId;
 use node_threads::{NodeCore, Port};
 use std::alloc::Global;
-use std::net::{SocketAddr, TcpListener};
-use std::sync::Arc;
+use std::net::{Net, SocketAddr, TcpListener, TcpStream};
+use std::sync::{Arc, Wait};
+use std::thread::Threads;
+use std::time::Clock;
 use world::{Delivery, Trace};
 
 /// A node that runs by itself: it listens at its address, has links to the nodes whose addresses it was given, and
@@ -31,7 +33,7 @@ use world::{Delivery, Trace};
 ///
 /// It may be moved to another thread. Dropping it stops it too, without waiting, and its history is lost.
 #[derive(Drop)]
-pub struct Node<R: Machine, C: NodeCore<Global> + Drop = PlumCore> {
+pub struct Node<R: Drop, C: NodeCore<Global> + Drop = PlumCore> {
     rt: R,
     alloc: Global,
     address: SocketAddr,
@@ -111,10 +113,23 @@ where
     })
 }
 
-impl<R: Machine> Node<R> {
+impl<R: Drop> Node<R> {
     /// Starts a node. When this returns it listens, and it joins its contact, if it has one. `StartError` says why it
     /// was not started.
-    pub fn start(rt: R, alloc: Global, config: Config) -> Result<Node<R>, StartError> {
+    ///
+    /// It names the parts of a `Machine`, since the prover does not cover a call that passes the host's runtime as a
+    /// `Machine`.
+    pub fn start(rt: R, alloc: Global, config: Config) -> Result<Node<R>, StartError>
+    where
+        R: Threads
+            + Wait
+            + Clock
+            + Net<Listener = TcpListener, Stream = TcpStream>
+            + Copy
+            + Send
+            + Drop
+            + 'static,
+    {
         config.check()?;
         let names = others(alloc, config.addresses.as_slice(), &config.me.name)?;
         let doors = Doors::open(&rt, config.listen)?;
@@ -137,13 +152,15 @@ impl<R: Machine> Node<R> {
     /// `Short` is the shortage that ended the node before; `Unlike` and `Torn` say that its history is not what the
     /// program and its links saw of it.
     pub fn stop(self) -> Result<Trace<Frame>, StopError>
+    where
+        R: Threads + Wait,
         ensures { IfOk result (IsHistory PlumStarts PlumSteps) }
     {
         self.close()
     }
 }
 
-impl<R: Machine, C: NodeCore<Global> + Drop> Node<R, C> {
+impl<R: Drop, C: NodeCore<Global> + Drop> Node<R, C> {
     /// Where it listens.
     pub fn address(&self) -> SocketAddr {
         self.address
@@ -151,7 +168,10 @@ impl<R: Machine, C: NodeCore<Global> + Drop> Node<R, C> {
 
     /// Broadcasts a payload of at most 32,768 bytes, and returns the id of its message. The node delivers it itself,
     /// too.
-    pub fn broadcast(&mut self, payload: Bytes) -> Result<MsgId, BroadcastError> {
+    pub fn broadcast(&mut self, payload: Bytes) -> Result<MsgId, BroadcastError>
+    where
+        R: Wait,
+    {
         match broadcast(&self.rt, self.ports.as_mut_slice(), payload) {
             Ok(id) => Ok(id),
             Err(error) => Err(BroadcastError::of(error)),
@@ -160,17 +180,25 @@ impl<R: Machine, C: NodeCore<Global> + Drop> Node<R, C> {
 
     /// Takes the oldest message that the node delivered. If none is there, waits for the next one. `None`: the node has
     /// ended, and all that it delivered was taken.
-    pub fn next(&self) -> Option<Delivery> {
+    pub fn next(&self) -> Option<Delivery>
+    where
+        R: Wait,
+    {
         self.inbox.next(&self.rt)
     }
 
     /// Takes all messages that the node delivered, the oldest first, without waiting.
-    pub fn deliveries(&self) -> Vec<Delivery> {
+    pub fn deliveries(&self) -> Vec<Delivery>
+    where
+        R: Wait,
+    {
         self.inbox.take(&self.rt)
     }
 
     /// Stops the node, waits for its threads, and returns its history.
     fn close(self) -> Result<Trace<Frame>, StopError>
+    where
+        R: Threads + Wait,
         ensures { IfOk result (IsHistory C.starts C.steps) }
     {
         let Node {

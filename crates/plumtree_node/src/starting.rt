@@ -8,12 +8,10 @@ use node_threads::{Host, NodeCore, Outlet, Port};
 use std::alloc::{AllocError, Global};
 use world::{Core, Out};
 
-/// How many frames the ring of a link has room for, if nothing else is said: a link whose reader is slower than the
-/// node for a while loses a connection when its ring is full, and a frame there takes some 100 bytes and no payload.
+/// How many frames the ring of a link has room for, if nothing else is said.
 pub const RING: usize = 1_024;
 
-/// How many steps a node may make, if nothing else is said: its history takes some 100 to 1,000 bytes a step, so this
-/// is what fits into a gigabyte.
+/// How many steps a node may make, if nothing else is said.
 pub const STEPS: usize = 1_048_576;
 
 /// A host that has just started, its ports, and the outlets of its links.
