@@ -98,8 +98,8 @@ impl Config {
         }
     }
 
-    /// Has the node begin with this peer, which must have this node as a peer too. It must listen before this node
-    /// broadcasts: a peer that can't be reached is dropped.
+    /// Has the node begin with this peer, which must have this node as a peer too, and must listen before the node's
+    /// first broadcast and its tenth tick: a peer that can't be reached is dropped.
     pub fn peer(mut self, name: NodeName, at: SocketAddr) -> Result<Config, AllocError> {
         self.note(name, at)?;
         keep(&mut self.peers, name)?;
@@ -151,9 +151,10 @@ impl Config {
         self
     }
 
-    /// How many steps the node may make: it takes a message, or a tick's turn. It keeps all of them, since its history
-    /// is compared and handed out at the end, and ends when they are made. Without this call they are 1,048,576, which
-    /// take three gigabytes where each is a message that goes on over four links, and much less where most are ticks.
+    /// How many steps the node may make: a step is a broadcast, a frame that came, or a part of a tick. It keeps all of
+    /// them, since its history is compared and handed out at the end, and ends when they are made. Without this call
+    /// they are 1,048,576, which take three gigabytes where each is a message that goes on over four links, and much
+    /// less where most are ticks.
     pub fn steps(mut self, steps: usize) -> Config {
         self.steps = steps;
         self
