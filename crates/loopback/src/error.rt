@@ -48,7 +48,7 @@ impl RunError {
         match error {
             StopError::Short(of) => RunError::Short { node, of },
             StopError::Unlike => RunError::Unlike { node },
-            StopError::Torn { .. } => RunError::Torn { node },
+            StopError::Torn => RunError::Torn { node },
             StopError::WorkerMissing => RunError::WorkerMissing { node },
         }
     }

@@ -152,10 +152,10 @@ impl<R: Machine, C: NodeCore<Global> + Drop + Send + 'static> Driver<R, C> {
     /// Starts the thread. At its end it closes the inbox, and leaves the host in the slot.
     pub(crate) fn start(
         self,
+        rt: R,
         inbox: Arc<Inbox, Global>,
         slot: Arc<Slot<Left<C>>, Global>,
     ) -> Result<(), Shortage> {
-        let rt = self.common.rt;
         let started = thread::spawn(&rt, move || {
             let left = self.run();
             inbox.close(&rt);

@@ -101,9 +101,9 @@ pub enum StopError {
     /// The messages that the program broadcast are not those of the node's history.
     #[error("the broadcasts are not as in the history")]
     Unlike,
-    /// What came out of the link to this name is not what the node sent.
-    #[error("what came out of the link to {peer} is not what was sent")]
-    Torn { peer: NodeName },
+    /// What came out of a link is not what the node sent.
+    #[error("what came out of a link is not what was sent")]
+    Torn,
     /// A thread of the node did not come back.
     #[error("a worker is missing")]
     WorkerMissing,

@@ -101,7 +101,7 @@ where
         sink,
         orders,
     };
-    driver.start(Arc::try_clone(&inbox)?, Arc::try_clone(&left)?)?;
+    driver.start(rt, Arc::try_clone(&inbox)?, Arc::try_clone(&left)?)?;
     Ok(Node {
         rt,
         alloc,

@@ -196,7 +196,7 @@ fn trace_of<C: NodeCore<Global> + Drop>(
         Ok(Closed { trace, .. }) => Ok(trace),
         Err(CloseError::PortMissing { .. }) => Err(StopError::WorkerMissing),
         Err(CloseError::Unlike { .. }) => Err(StopError::Unlike),
-        Err(CloseError::Torn { peer, .. }) => Err(StopError::Torn { peer }),
+        Err(CloseError::Torn { .. }) => Err(StopError::Torn),
         Err(CloseError::OutOfMemory { .. }) => Err(StopError::Short(Shortage::Memory)),
     }
 }
