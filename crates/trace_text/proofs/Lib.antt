@@ -1,3 +1,4 @@
+pub mod Countings
 pub mod Dashes
 pub mod Spreads
 pub mod Texts

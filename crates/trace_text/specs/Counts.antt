@@ -1,6 +1,7 @@
 -- How the packets of a run are counted.
-use Rattle.std.specs.Prelude.{◌≡◌, ◌/◌, ◌%◌, ℕ, zero, suc, Bool, List, [], ◌∷◌, ◌++◌, codes, count_by, nat_eq, sum_by}
+use Rattle.std.specs.Prelude.{◌≡◌, ◌/◌, ◌%◌, ℕ, zero, suc, Bool, List, [], ◌∷◌, ◌++◌, codes, count_by, nat_eq, sum_by, unwrap_or}
 use Rattle.std.specs.Fmt.{decimal}
+use Rattle.std.specs.Map.{lookup}
 use Rattle.node_names.specs.Ids.{msg_id_text}
 use Rattle.node_names.specs.Same.{same_id}
 use Rattle.node_names.specs.declared.ids.MsgId.{MsgId}
@@ -60,6 +61,10 @@ announcements_in id entries = count_by (λ entry. same_id id entry.0) entries
 -- how many announcements of the message the packets have
 abbrev pub announcements_of : MsgId → List (Packet Frame) → ℕ
 announcements_of id sent = sum_by (λ p. announcements_in id (frame_content p.note).announced) sent
+
+-- the count that is listed for the message, or 0 if it has none
+abbrev pub count_at : MsgId → List (MsgId × ℕ) → ℕ
+count_at id counts = unwrap_or (lookup (same_id id) counts) 0
 
 -- how often a message was carried and announced
 abbrev pub spread_line : MsgId → ℕ → ℕ → List ℕ

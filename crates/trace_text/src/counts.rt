@@ -1,12 +1,20 @@
 //! Counts packets.
-ghost use Rattle.std.specs.Prelude.{◌≡◌, ◌≤◌, length, sum_by};
-ghost use Rattle.trace_text.specs.Counts.{announcements_in, announcements_of, copies_of, is_kind, kind_count};
+ghost use Rattle.std.specs.Prelude.{◌≡◌, ◌+◌, ◌^◌, ◌<◌, cond, length, IfOk, OnOk};
+ghost use Rattle.node_names.specs.Same.{same_id};
+ghost use Rattle.node_names.specs.declared.ids.MsgId.{MsgId};
+ghost use Rattle.world.specs.SpreadLaw.{is_carried};
+ghost use Rattle.frames.specs.Content.{frame_content};
+ghost use Rattle.trace_text.specs.Counts.{announcements_in, announcements_of, copies_of, count_at, is_kind, kind_count};
 
-use at_rest::is_carried;
 use frames::{Frame, kind_number};
+use indexmap::IndexMap;
 use node_names::MsgId;
-use std::alloc::Allocator;
+use std::alloc::{AllocError, Allocator};
+use std::hash::{BuildHasherDefault, FoldHasher};
 use world::{Packet, Wire};
+
+/// A count for each message. A message that is not in it has the count 0.
+pub type Counts<A> = IndexMap<MsgId, u128, BuildHasherDefault<FoldHasher>, A>;
 
 /// Whether the kind of a frame has this number.
 #[tactic(auto, unfolding(crate::specs::Counts::is_kind))]
@@ -29,40 +37,75 @@ pub fn count_kind<A: Allocator>(sent: &[Packet<Frame<A>>], kind: u8) -> usize
     count
 }
 
-/// How many packets carry the message.
-pub fn count_copies<A: Allocator + Copy>(sent: &[Packet<Frame<A>>], id: &MsgId) -> usize
-    ensures { result ≡ copies_of id.now sent.now }
+/// Counts the packets that carry each message, in one pass over the packets.
+pub fn copies<A: Allocator + Copy>(
+    alloc: A,
+    sent: &[Packet<Frame<A>>],
+) -> Result<Counts<A>, AllocError>
+    ensures { IfOk result (λ counts. (id : MsgId) → count_at id counts.entries ≡ copies_of id sent.now) }
 {
-    let mut count = 0;
+    let mut counts = IndexMap::new(alloc);
     for packet in sent {
-        if is_carried(&packet.note, id) {
-            count += 1;
-        }
+        count_copy(&mut counts, packet)?;
     }
-    count
+    Ok(counts)
 }
 
-/// How many announcements of the message the packets have.
-pub fn count_announcements<A: Allocator + Copy>(sent: &[Packet<Frame<A>>], id: &MsgId) -> u128
-    ensures { result ≡ announcements_of id.now sent.now }
+/// Counts the announcements of each message that the packets have, in one pass over the packets.
+pub fn announcements<A: Allocator + Copy>(
+    alloc: A,
+    sent: &[Packet<Frame<A>>],
+) -> Result<Counts<A>, AllocError>
+    ensures { IfOk result (λ counts. (id : MsgId) → count_at id counts.entries ≡ announcements_of id sent.now) }
 {
-    let mut count = 0;
+    let mut counts = IndexMap::new(alloc);
     for packet in sent {
-        count += count_in(packet.note.announced(), id) as u128;
+        count_entries(&mut counts, packet.note.announced())?;
     }
-    count
+    Ok(counts)
 }
 
-/// How many of these announcements are of the message.
-fn count_in(entries: &[(MsgId, u32)], id: &MsgId) -> usize
-    ensures value { result ≡ announcements_in id.now entries.now }
-    ensures bound { result ≤ length entries.now }
+/// The count of a message.
+pub fn count_of<A: Allocator + Copy>(counts: &Counts<A>, id: &MsgId) -> u128
+    ensures { result ≡ count_at id.now counts.now.entries }
 {
-    let mut count = 0;
+    counts.get(id).copied().unwrap_or(0)
+}
+
+/// Counts the message that a packet carries, if it carries one.
+fn count_copy<A: Allocator + Copy>(
+    counts: &mut Counts<A>,
+    packet: &Packet<Frame<A>>,
+) -> Result<(), AllocError>
+    requires { (id : MsgId) → count_at id counts.old.entries + 1 < 2 ^ 128 }
+    ensures { OnOk result ((id : MsgId) → count_at id counts.new.entries ≡ count_at id counts.old.entries + cond (is_carried id (frame_content packet.now.note).carried) 1 0) }
+{
+    match packet.note.carried() {
+        Some((id, _)) => count(counts, &id),
+        None => Ok(()),
+    }
+}
+
+/// Counts the messages of these announcements.
+fn count_entries<A: Allocator + Copy>(
+    counts: &mut Counts<A>,
+    entries: &[(MsgId, u32)],
+) -> Result<(), AllocError>
+    requires { (id : MsgId) → count_at id counts.old.entries + length entries.now < 2 ^ 128 }
+    ensures { OnOk result ((id : MsgId) → count_at id counts.new.entries ≡ count_at id counts.old.entries + announcements_in id entries.now) }
+{
     for entry in entries {
-        if *id == entry.0 {
-            count += 1;
-        }
+        count(counts, &entry.0)?;
     }
-    count
+    Ok(())
+}
+
+/// Counts a message once more.
+fn count<A: Allocator + Copy>(counts: &mut Counts<A>, id: &MsgId) -> Result<(), AllocError>
+    requires { count_at id.now counts.old.entries + 1 < 2 ^ 128 }
+    ensures { OnOk result ((q : MsgId) → count_at q counts.new.entries ≡ count_at q counts.old.entries + cond (same_id q id.now) 1 0) }
+{
+    let count = count_of(counts, id) + 1;
+    counts.insert(*id, count)?;
+    Ok(())
 }

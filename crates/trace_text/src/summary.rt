@@ -1,8 +1,8 @@
 //! Prints what a run cost: how many packets of each kind were sent, and how each message spread.
 ghost use Rattle.std.specs.Prelude.{◌≡◌, ◌++◌, ℕ, List, OnOk, string_bytes};
-ghost use Rattle.trace_text.specs.Counts.{count_item, depth_text, gossip_items, kind_count, kinds_line, membership_items, spread_line, spread_text, TellsSpread, TellsSpreads, TellsSummary};
+ghost use Rattle.trace_text.specs.Counts.{count_item, depth_text, gossip_items, kind_count, kinds_line, membership_items, spread_line, TellsSpreads, TellsSummary};
 
-use crate::counts::{count_announcements, count_copies, count_kind};
+use crate::counts::{announcements, copies, count_kind, count_of};
 use crate::depths::depth_of;
 use crate::names::{push_end, push_id};
 use at_rest::{Branch, Forest};
@@ -36,22 +36,28 @@ fn push_spreads<A: Allocator + Copy>(
 ) -> Result<(), AllocError>
     ensures { OnOk result ((told : List ℕ) × TellsSpreads sent.now ids.now told × (string_bytes text.new ≡ string_bytes text.old ++ told)) }
 {
+    let alloc = *text.allocator();
+    let copies = copies(alloc, sent)?;
+    let announcements = announcements(alloc, sent)?;
     for id in ids {
-        push_message(text, sent, id, forest.tree(id))?;
+        let copied = count_of(&copies, id);
+        let announced = count_of(&announcements, id);
+        push_message(text, id, copied, announced, forest.tree(id))?;
     }
     Ok(())
 }
 
-/// Appends the line of a message with this tree.
+/// Appends the line of a message that was so often carried and announced, and has this tree.
 fn push_message<A: Allocator + Copy>(
     text: &mut String<A>,
-    sent: &[Packet<Frame<A>>],
     id: &MsgId,
+    copies: u128,
+    announcements: u128,
     branches: &[Branch],
 ) -> Result<(), AllocError>
-    ensures { OnOk result ((line : List ℕ) × TellsSpread sent.now id.now line × (string_bytes text.new ≡ string_bytes text.old ++ line)) }
+    ensures { OnOk result ((greatest : ℕ) × (mean : ℕ) × (string_bytes text.new ≡ string_bytes text.old ++ (spread_line id.now copies announcements ++ depth_text greatest mean))) }
 {
-    push_spread(text, id, sent)?;
+    push_spread(text, id, copies, announcements)?;
     push_depth(text, branches)
 }
 
@@ -115,23 +121,10 @@ fn push_kind<A: Allocator>(
 }
 
 /// Appends how often a message was carried and announced.
-fn push_spread<A: Allocator + Copy>(
+fn push_spread<A: Allocator>(
     text: &mut String<A>,
     id: &MsgId,
-    sent: &[Packet<Frame<A>>],
-) -> Result<(), AllocError>
-    ensures { OnOk result (string_bytes text.new ≡ string_bytes text.old ++ spread_text id.now sent.now) }
-{
-    let copies = count_copies(sent, id);
-    let announcements = count_announcements(sent, id);
-    push_spread_line(text, id, copies, announcements)
-}
-
-/// Appends how often a message was carried and announced, given these counts.
-fn push_spread_line<A: Allocator>(
-    text: &mut String<A>,
-    id: &MsgId,
-    copies: usize,
+    copies: u128,
     announcements: u128,
 ) -> Result<(), AllocError>
     ensures { OnOk result (string_bytes text.new ≡ string_bytes text.old ++ spread_line id.now copies announcements) }
