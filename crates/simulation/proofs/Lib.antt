@@ -1,5 +1,6 @@
 pub mod Borrowed
 pub mod Digits
+pub mod Ending
 pub mod Finding
 pub mod Idling
 pub mod Inputs

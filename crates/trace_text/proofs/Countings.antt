@@ -22,7 +22,7 @@ one_at_most true = omega arith
 one_at_most false = omega arith
 
 -- a test that cannot hold fails
-fails : (b : Bool) → (b ≡ true → ⊥) → b ≡ false
+pub fails : (b : Bool) → (b ≡ true → ⊥) → b ≡ false
 fails true never = absurd (never refl)
 fails false never = refl
 

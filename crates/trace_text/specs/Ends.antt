@@ -1,10 +1,10 @@
 -- How the end of a run is printed: the nodes, and what became of each message.
-use Rattle.std.specs.Prelude.{ℕ, Bool, true, false, List, [], ◌∷◌, ◌++◌, Option, Some, None, codes, slice_get, if◌then◌else◌}
+use Rattle.std.specs.Prelude.{ℕ, Bool, true, false, List, [], ◌∷◌, ◌++◌, Option, Some, None, codes, not, slice_get, if◌then◌else◌}
 use Rattle.std.specs.List.{list_any}
 use Rattle.std.specs.Option.{option_map_or}
 use Rattle.node_names.specs.Ids.{origin_text, msg_id_text}
 use Rattle.node_names.specs.NodeName.{Name}
-use Rattle.node_names.specs.Same.{same_id, same_origin}
+use Rattle.node_names.specs.Same.{has_id, same_id, same_origin}
 use Rattle.node_names.specs.declared.ids.MsgId.{MsgId}
 use Rattle.node_names.specs.declared.ids.Origin.{Origin}
 use Rattle.world.specs.Group.{Logged, origin_of}
@@ -13,6 +13,7 @@ use Rattle.world.specs.declared.packet.Packet.{Packet}
 use Rattle.frames.specs.Content.{frame_content}
 use Rattle.frames.specs.Frame.{Frame}
 use Rattle.node_core.specs.Plum.{Plum, plum_state}
+use Rattle.at_rest.specs.Forest.{branches_at}
 use Rattle.at_rest.specs.Silence.{is_silent}
 use Rattle.at_rest.specs.declared.branch.Branch.{Branch}
 use Rattle.trace_text.specs.Packets.{packet_text}
@@ -57,6 +58,11 @@ lacks_line node = codes "  lacks " ++ (origin_text node ++ codes "\n")
 abbrev pub lacking_line : List Branch → Origin → Option Plum → List ℕ
 lacking_line branches node None = []
 lacking_line branches node (Some core) = if list_any (λ b. same_origin b.node node) branches then [] else lacks_line node
+
+-- the line of a running node, unless it has delivered the message
+abbrev pub lacking_unless : Bool → Origin → Option Plum → List ℕ
+lacking_unless delivered node None = []
+lacking_unless delivered node (Some core) = if delivered then [] else lacks_line node
 
 -- the lines of the running nodes that have not delivered the message, in their order
 abbrev pub lacking_lines : List Branch → List (NodeState Plum) → List ℕ
@@ -118,6 +124,10 @@ abbrev pub timer_lines : MsgId → List (NodeState Plum) → List ℕ
 timer_lines id [] = []
 timer_lines id (node ∷ nodes) = timers_at id (origin_of node) node.core ++ timer_lines id nodes
 
+-- what is under way about a message in a group: packets in flight, queued announcements and timers
+abbrev pub under_way_lines : Logged Plum Frame → MsgId → List ℕ
+under_way_lines group id = flying_lines id group.group.sent group.group.flight ++ (queued_lines id group.group.nodes ++ timer_lines id group.group.nodes)
+
 -- what became of a message in a group: whether the group is at rest for it, which running nodes have not delivered it,
 -- and which packets in flight, queued announcements and timers are about it
 abbrev pub message_text : Logged Plum Frame → MsgId → Bool → List Branch → List ℕ
@@ -127,3 +137,9 @@ message_text group id rest branches =
     ++ (flying_lines id group.group.sent group.group.flight
     ++ (queued_lines id group.group.nodes
     ++ timer_lines id group.group.nodes)))
+
+-- what became of messages in a group, one after the other; `unrest` are those for which it is not at rest, and `trees`
+-- are the branches of each
+abbrev pub messages_text : Logged Plum Frame → List MsgId → List (MsgId × List Branch) → List MsgId → List ℕ
+messages_text group unrest trees [] = []
+messages_text group unrest trees (id ∷ ids) = message_text group id (not (has_id unrest id)) (branches_at id trees) ++ messages_text group unrest trees ids

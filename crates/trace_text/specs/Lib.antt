@@ -1,3 +1,4 @@
+pub mod Collected
 pub mod Counts
 pub mod Events
 pub mod Ends

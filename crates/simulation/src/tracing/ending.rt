@@ -16,7 +16,7 @@ use node_core::PlumCore;
 use node_names::MsgId;
 use std::alloc::{AllocError, Allocator};
 use std::io::Write;
-use trace_text::{push_message, push_nodes, push_summary};
+use trace_text::{push_nodes, push_summary};
 use world::World;
 
 /// Writes why the run ended early, if it did, then each node, then for each message that was broadcast which nodes lack
@@ -65,8 +65,5 @@ fn push_messages<A: Allocator + Copy>(
     ensures { OnOk result ((told : List ℕ) × InTurn (TellsMessage run.now) messages.now told × (string_bytes text.new ≡ string_bytes text.old ++ told)) }
 {
     let unrest = Unrest::new(alloc, run)?;
-    for id in messages {
-        push_message(text, run, id, unrest.is_at_rest(id), forest.tree(id))?;
-    }
-    Ok(())
+    trace_text::push_messages(text, run, messages, &unrest, forest)
 }

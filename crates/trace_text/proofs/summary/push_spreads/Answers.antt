@@ -1,6 +1,6 @@
 -- A step appends the line of one message, with the counts of the packets.
 use Rattle.std.proofs.Common.{◌∙◌, ◌++◌, ℕ, List, ap, refl}
-use Rattle.trace_text.specs.Counts.{announcements_of, copies_of, depth_text, spread_line, TellsSpread}
+use Rattle.trace_text.specs.Counts.{copies_of, depth_text, spread_line, TellsSpread}
 use Rattle.trace_text.proofs.Spreads.{TellsSpreads-more}
 use Rattle.trace_text.proofs.Texts.{joined}
 use Rattle.trace_text.proofs.summary.push_spreads.Goals as goal

@@ -1,9 +1,0 @@
--- A step appends one timer.
-use Rattle.std.proofs.Common.{refl}
-use Rattle.trace_text.specs.Ends.{timer_line, timers_by}
-use Rattle.trace_text.proofs.Texts.{joined, lines-more}
-use Rattle.trace_text.proofs.messages.push_timers_by.Goals as goal
-
-pub loop-timed-preserved : goal.loop-timed-preserved
-loop-timed-preserved g c =
-    joined _ _ _ _ _ _ c.in_ok-push_timer_line.ensures c.loop-timed.invariant (lines-more (timer_line c.args.id.now c.args.node.now) (timers_by c.args.id.now c.args.node.now) refl (λ x xs. refl) c.args.timers.now c.loop-timed.timed-index c.timed-item.result c.timed-item.result c.loop-timed-test.true c.timed-item.is)
