@@ -166,12 +166,17 @@ class Node:
 
     def receive(self, data: bytes, dice: Sequence[int] = _ZEROS) -> int:
         """Takes all whole frames at the front of what a connection brought, and returns how many bytes these have. The
-        caller keeps the others, in front of what comes next."""
+        caller keeps the others, in front of what comes next. An error is of the first frame; one of a frame behind it
+        ends the call with what was taken, and the next call raises it."""
         total, taken, words = 0, c_size_t(), Dice(*dice)
         begin = ctypes.cast(data, ctypes.c_void_p).value or 0  # `data` stays alive until the end of this call
-        while _is_done(LIBRARY.plumtree_receive(self._slot, begin + total, len(data) - total, words, byref(taken))):
+        while True:
+            answer = LIBRARY.plumtree_receive(self._slot, begin + total, len(data) - total, words, byref(taken))
+            if total > 0 and answer < 0:
+                return total
+            if not _is_done(answer):
+                return total
             total += taken.value
-        return total
 
     def tick(self, dice: Sequence[int] = _ZEROS) -> None:
         """Makes a tick: sends queued announcements, lets each armed timer fire, and at every tenth tick shuffles."""

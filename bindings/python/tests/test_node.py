@@ -75,6 +75,15 @@ class Errors(unittest.TestCase):
             node.receive(b"\xff" * 64)
         self.assertEqual(node.counts.known, 0)
 
+    def test_a_bad_frame_behind_others_is_said_by_the_next_call(self) -> None:
+        a, b = Node(Config("a", peers=["b"])), Node(Config("b", peers=["a"]))
+        a.broadcast(b"m")
+        (frame,) = [output.frame for output in a if isinstance(output, Send)]
+        self.assertEqual(b.receive(frame + b"\xff" * 64), len(frame))
+        self.assertEqual(b.counts.known, 1)
+        with self.assertRaises(PlumtreeError):
+            b.receive(b"\xff" * 64)
+
     def test_a_frame_is_taken_when_it_is_whole(self) -> None:
         a, b = Node(Config("a", peers=["b"])), Node(Config("b", peers=["a"]))
         a.broadcast(bytes(PAYLOAD_MAX))

@@ -154,14 +154,17 @@ impl Node {
     }
 
     /// Takes all whole frames at the front of the bytes that a connection brought, and returns how many bytes these
-    /// have. The caller keeps the others, in front of what comes next. After [`Error::BadFrame`] the connection is of no
-    /// more use; after another error the frames before it were taken all the same, but how many that were is not said.
+    /// have. The caller keeps the others, in front of what comes next. An error is of the first frame; one of a frame
+    /// behind it ends the call with what was taken, and the next call says it. After [`Error::BadFrame`] the connection
+    /// is of no more use.
     pub fn receive(&mut self, bytes: &[u8], dice: &Dice) -> Result<usize, Error> {
         let mut taken = 0;
         loop {
-            match self.receive_one(bytes.get(taken..).unwrap_or(&[]), dice)? {
-                0 => return Ok(taken),
-                more => taken += more,
+            match self.receive_one(bytes.get(taken..).unwrap_or(&[]), dice) {
+                Ok(0) => return Ok(taken),
+                Ok(more) => taken += more,
+                Err(error) if taken == 0 => return Err(error),
+                Err(_) => return Ok(taken),
             }
         }
     }

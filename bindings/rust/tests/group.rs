@@ -138,6 +138,25 @@ fn a_refused_call_says_why() {
 }
 
 #[test]
+fn a_bad_frame_behind_others_is_said_by_the_next_call() {
+    let mut a = Node::start(&Config::new("a").unwrap().peer("b").unwrap()).unwrap();
+    let mut b = Node::start(&Config::new("b").unwrap().peer("a").unwrap()).unwrap();
+    a.broadcast(b"m").unwrap();
+    let mut bytes = Vec::new();
+    while let Some(output) = a.poll().unwrap() {
+        if let Output::Send { frame, .. } = output {
+            bytes.extend(frame);
+        }
+    }
+    let whole = bytes.len();
+    bytes.extend([255; 64]);
+    assert_eq!(b.receive(&bytes, &Dice::default()), Ok(whole));
+    assert_eq!(b.counts().known, 1);
+    let fault = b.receive(&bytes[whole..], &Dice::default());
+    assert!(matches!(fault, Err(Error::BadFrame(_))), "{fault:?}");
+}
+
+#[test]
 fn a_missing_message_is_asked_for() {
     let mut b = Node::start(&Config::new("b").unwrap().peer("a").unwrap()).unwrap();
     let mut a = Node::start(&Config::new("a").unwrap().peer("b").unwrap()).unwrap();
