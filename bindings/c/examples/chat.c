@@ -5,32 +5,30 @@
  *   chat a 7201 b=7202 &        a node that b may join
  *   chat b 7202 --join a a=7201
  *
- * The node that is joined runs already: a node whose first call comes to nothing stays alone.
- * Every name that the node may have to call stands on the command line with its port on this machine. A connection
- * carries frames from the one who called to the other, and nothing else. One thread, one poll. */
+ * The node that is joined runs already: a node whose first call comes to nothing stays alone. Every name that the node
+ * may have to call stands on the command line with its port on this machine. A connection carries frames from the one
+ * who called to the other, and nothing else. One thread, one poll; a peer that takes nothing for a second is hung up. */
 #define _DEFAULT_SOURCE
 #include "plumtree.h"
 
 #include <arpa/inet.h>
 #include <errno.h>
-#include <fcntl.h>
 #include <poll.h>
 #include <stdio.h>
 #include <stdlib.h>
 #include <string.h>
 #include <sys/socket.h>
+#include <sys/time.h>
 #include <time.h>
 #include <unistd.h>
 
-enum { PEERS = 64, CALLERS = 64, TICK = 100 /* milliseconds */, OUT_MAX = 1 << 20 /* bytes */ };
+enum { PEERS = 64, CALLERS = 64, TICK = 100 /* milliseconds */ };
 
-/* Another node: its port, and the connection to it, with what waits to be written there. */
+/* Another node: its port, and the connection to it, if there is one. */
 typedef struct peer {
     const char *name;
     uint16_t port;
     int socket;
-    uint8_t *out;
-    size_t length;
 } peer;
 
 /* A connection that someone made to this node, with what came in and is no whole frame yet. */
@@ -45,37 +43,28 @@ static peer peers[PEERS];
 static size_t peer_count;
 static caller callers[CALLERS];
 
-static void stop(const char *what, int32_t answer)
-{
-    char words[128];
-    size_t length = 0;
-    plumtree_words(answer, (uint8_t *)words, sizeof words - 1, &length);
-    words[length < sizeof words ? length : 0] = 0;
-    fprintf(stderr, "chat: %s: %s\n", what, words);
-    exit(1);
-}
-
 /* Ends the program unless the call was done, or there was nothing to do. */
 static int32_t checked(const char *what, int32_t answer)
 {
-    if (answer < 0)
-        stop(what, answer);
+    char words[64] = "";
+    size_t length;
+    if (answer < 0) {
+        plumtree_words(answer, (uint8_t *)words, sizeof words, &length);
+        fprintf(stderr, "chat: %s: %s\n", what, words);
+        exit(1);
+    }
     return answer;
 }
 
-static void roll(uint64_t dice[PLUMTREE_DICE])
+static const uint64_t *roll(void)
 {
+    static uint64_t dice[PLUMTREE_DICE];
     for (int i = 0; i < PLUMTREE_DICE; i++)
         dice[i] = (uint64_t)random() << 33 ^ (uint64_t)random() << 11 ^ (uint64_t)random();
+    return dice;
 }
 
-static peer *peer_of(const char *name)
-{
-    for (size_t i = 0; i < peer_count; i++)
-        if (strcmp(peers[i].name, name) == 0)
-            return &peers[i];
-    return NULL;
-}
+/* ---- Connections to others ---- */
 
 static struct sockaddr_in place(uint16_t port)
 {
@@ -87,127 +76,62 @@ static struct sockaddr_in place(uint16_t port)
 static int call(const peer *it)
 {
     struct sockaddr_in at = place(it->port);
+    struct timeval second = {1, 0};
     int made = socket(AF_INET, SOCK_STREAM, 0);
-    if (made < 0)
-        return -1;
-    fcntl(made, F_SETFL, O_NONBLOCK);
-    if (connect(made, (struct sockaddr *)&at, sizeof at) == 0 || errno == EINPROGRESS)
+    setsockopt(made, SOL_SOCKET, SO_SNDTIMEO, &second, sizeof second);
+    if (made >= 0 && connect(made, (struct sockaddr *)&at, sizeof at) == 0)
         return made;
-    close(made);
+    if (made >= 0)
+        close(made);
     return -1;
 }
 
-/* Drops the connection to a peer with what waits for it, and tells the node. */
-static void hang_up(peer *it)
+static int write_all(int socket, const uint8_t *bytes, size_t length)
 {
-    uint64_t dice[PLUMTREE_DICE];
-    if (it->socket >= 0)
-        close(it->socket);
-    it->socket = -1;
-    it->length = 0;
-    roll(dice);
-    checked("link_down", plumtree_link_down(&node, (const uint8_t *)it->name, strlen(it->name), dice));
+    while (length > 0) {
+        ssize_t done = send(socket, bytes, length, MSG_NOSIGNAL);
+        if (done < 0 && errno != EINTR)
+            return 0;
+        bytes += done > 0 ? done : 0;
+        length -= done > 0 ? (size_t)done : 0;
+    }
+    return 1;
 }
 
-static void write_to(peer *it)
+/* Writes a frame to the connection to its receiver, which is made where there is none. */
+static void send_to(const char *name, const uint8_t *frame, size_t length)
 {
-    ssize_t done = send(it->socket, it->out, it->length, MSG_NOSIGNAL);
-    if (done < 0 && errno != EAGAIN && errno != EINPROGRESS && errno != EINTR) {
-        hang_up(it);
-    } else if (done > 0) {
-        it->length -= (size_t)done;
-        memmove(it->out, it->out + done, it->length);
-    }
-}
-
-/* Puts a frame behind what waits for its receiver. */
-static void queue(const char *name, const uint8_t *frame, size_t length)
-{
-    uint64_t dice[PLUMTREE_DICE];
-    peer *it = peer_of(name);
-    if (it == NULL) {
-        roll(dice);
-        checked("link_down", plumtree_link_down(&node, (const uint8_t *)name, strlen(name), dice));
-        return;
-    }
-    if (it->socket < 0)
+    peer *it = NULL;
+    for (size_t i = 0; i < peer_count; i++)
+        if (strcmp(peers[i].name, name) == 0)
+            it = &peers[i];
+    if (it != NULL && it->socket < 0)
         it->socket = call(it);
-    if (it->socket < 0 || it->length + length > OUT_MAX) {
-        hang_up(it);
+    if (it != NULL && it->socket >= 0 && write_all(it->socket, frame, length))
         return;
-    }
-    memcpy(it->out + it->length, frame, length);
-    it->length += length;
+    if (it != NULL && it->socket >= 0)
+        close(it->socket);
+    if (it != NULL)
+        it->socket = -1;
+    checked("link_down", plumtree_link_down(&node, (const uint8_t *)name, strlen(name), roll()));
 }
 
-/* Prints what was delivered, and queues what is to be sent, until the node has nothing left. */
+/* Prints what was delivered, and sends what is to be sent, until the node has nothing left. */
 static void give_out(void)
 {
     static uint8_t room[PLUMTREE_FRAME_MAX];
     plumtree_name to;
     plumtree_id id;
     size_t length;
+    while (checked("next_send", plumtree_next_send(&node, &to, room, sizeof room, &length)) == PLUMTREE_DONE)
+        send_to(to.text, room, length);
     while (checked("next_delivery", plumtree_next_delivery(&node, &id, room, sizeof room, &length)) == PLUMTREE_DONE) {
         printf("%s: %.*s\n", id.name.text, (int)length, (const char *)room);
         fflush(stdout);
     }
-    while (checked("next_send", plumtree_next_send(&node, &to, room, sizeof room, &length)) == PLUMTREE_DONE)
-        queue(to.text, room, length);
 }
 
-static void drop(caller *it)
-{
-    close(it->socket);
-    it->socket = -1;
-}
-
-/* Reads what a connection brings, and hands the node each whole frame. */
-static void read_from(caller *it)
-{
-    uint64_t dice[PLUMTREE_DICE];
-    ssize_t count = read(it->socket, it->in + it->length, sizeof it->in - it->length);
-    size_t taken;
-    int32_t answer;
-    if (count <= 0) {
-        if (count == 0 || errno != EINTR)
-            drop(it);
-        return;
-    }
-    it->length += (size_t)count;
-    do {
-        roll(dice);
-        answer = plumtree_receive(&node, it->in, it->length, dice, &taken);
-        it->length -= taken;
-        memmove(it->in, it->in + taken, it->length);
-    } while (answer == PLUMTREE_DONE);
-    if (answer <= PLUMTREE_FRAME_TOO_LONG)
-        drop(it);
-    else
-        checked("receive", answer);
-}
-
-static void accept_one(int listener)
-{
-    int made = accept(listener, NULL, NULL);
-    for (size_t i = 0; made >= 0 && i < CALLERS; i++)
-        if (callers[i].socket < 0) {
-            callers[i] = (caller){.socket = made};
-            return;
-        }
-    if (made >= 0)
-        close(made);
-}
-
-/* Broadcasts a line of standard input. Returns whether there may be another. */
-static int read_line(void)
-{
-    char line[1024];
-    uint64_t number;
-    ssize_t count = read(STDIN_FILENO, line, sizeof line);
-    if (count > 0)
-        checked("broadcast", plumtree_broadcast(&node, (uint8_t *)line, (size_t)count - (line[count - 1] == '\n'), &number));
-    return count > 0;
-}
+/* ---- Connections of others ---- */
 
 static int listen_at(uint16_t port)
 {
@@ -221,6 +145,52 @@ static int listen_at(uint16_t port)
     return made;
 }
 
+static void accept_one(int listener)
+{
+    int made = accept(listener, NULL, NULL);
+    for (size_t i = 0; made >= 0 && i < CALLERS; i++)
+        if (callers[i].socket < 0) {
+            callers[i].length = 0;
+            callers[i].socket = made;
+            return;
+        }
+    if (made >= 0)
+        close(made);
+}
+
+/* Reads what a connection brings, and hands the node each whole frame. */
+static void read_from(caller *it)
+{
+    ssize_t count = read(it->socket, it->in + it->length, sizeof it->in - it->length);
+    int32_t answer = PLUMTREE_DONE;
+    size_t taken;
+    it->length += count > 0 ? (size_t)count : 0;
+    while (count > 0 && answer == PLUMTREE_DONE) {
+        answer = plumtree_receive(&node, it->in, it->length, roll(), &taken);
+        it->length -= taken;
+        memmove(it->in, it->in + taken, it->length);
+    }
+    if (count <= 0 || answer <= PLUMTREE_FRAME_TOO_LONG) {
+        close(it->socket);
+        it->socket = -1;
+    } else {
+        checked("receive", answer);
+    }
+}
+
+/* ---- The program ---- */
+
+/* Broadcasts a line of standard input. Returns whether there may be another. */
+static int read_line(void)
+{
+    char line[1024];
+    uint64_t number;
+    ssize_t count = read(STDIN_FILENO, line, sizeof line);
+    if (count > 0)
+        checked("broadcast", plumtree_broadcast(&node, (uint8_t *)line, (size_t)count - (line[count - 1] == '\n'), &number));
+    return count > 0;
+}
+
 static void start(int count, char **words)
 {
     plumtree_limits limits;
@@ -231,7 +201,7 @@ static void start(int count, char **words)
             contact = words[++i];
         } else if (equals != NULL && peer_count < PEERS) {
             *equals = 0;
-            peers[peer_count++] = (peer){words[i], (uint16_t)atoi(equals + 1), -1, malloc(OUT_MAX), 0};
+            peers[peer_count++] = (peer){words[i], (uint16_t)atoi(equals + 1), -1};
         }
     }
     plumtree_limits_default(&limits);
@@ -239,39 +209,34 @@ static void start(int count, char **words)
                                     NULL, 0, (const uint8_t *)contact, strlen(contact)));
 }
 
-/* Waits for what happens next, at most until the next tick. */
-static void turn(int listener, int *is_open)
+/* Waits for what comes next, for some milliseconds at most. */
+static void turn(int listener, int *is_open, int most)
 {
-    struct pollfd all[2 + PEERS + CALLERS] = {{listener, POLLIN, 0}, {*is_open ? STDIN_FILENO : -1, POLLIN, 0}};
-    for (size_t i = 0; i < PEERS; i++)
-        all[2 + i] = (struct pollfd){i < peer_count && peers[i].length > 0 ? peers[i].socket : -1, POLLOUT, 0};
+    struct pollfd all[2 + CALLERS] = {{listener, POLLIN, 0}, {*is_open ? STDIN_FILENO : -1, POLLIN, 0}};
     for (size_t i = 0; i < CALLERS; i++)
-        all[2 + PEERS + i] = (struct pollfd){callers[i].socket, POLLIN, 0};
-    if (poll(all, sizeof all / sizeof *all, TICK) < 0)
+        all[2 + i] = (struct pollfd){callers[i].socket, POLLIN, 0};
+    if (poll(all, sizeof all / sizeof *all, most) < 0)
         return;
     if (all[0].revents)
         accept_one(listener);
     if (all[1].revents)
         *is_open = read_line();
-    for (size_t i = 0; i < peer_count; i++)
-        if (all[2 + i].revents)
-            write_to(&peers[i]);
     for (size_t i = 0; i < CALLERS; i++)
-        if (all[2 + PEERS + i].revents)
+        if (all[2 + i].revents)
             read_from(&callers[i]);
 }
 
-static uint64_t milliseconds(void)
+static int64_t milliseconds(void)
 {
     struct timespec now;
     clock_gettime(CLOCK_MONOTONIC, &now);
-    return (uint64_t)now.tv_sec * 1000 + (uint64_t)now.tv_nsec / 1000000;
+    return (int64_t)now.tv_sec * 1000 + now.tv_nsec / 1000000;
 }
 
 int main(int count, char **words)
 {
     int is_open = 1, listener;
-    uint64_t dice[PLUMTREE_DICE], next = 0;
+    int64_t next = milliseconds();
     if (count < 3) {
         fprintf(stderr, "usage: chat NAME PORT [--join NAME] [PEER=PORT]..\n");
         return 2;
@@ -279,14 +244,15 @@ int main(int count, char **words)
     srandom((unsigned)time(NULL) ^ (unsigned)getpid());
     for (size_t i = 0; i < CALLERS; i++)
         callers[i].socket = -1;
+    listener = listen_at((uint16_t)atoi(words[2]));
     start(count, words);
-    for (listener = listen_at((uint16_t)atoi(words[2]));;) {
+    for (;;) {
+        int64_t left = next - milliseconds();
         give_out();
-        turn(listener, &is_open);
-        if (milliseconds() >= next) {
-            roll(dice);
-            checked("tick", plumtree_tick(&node, dice));
-            next = milliseconds() + TICK;
-        }
+        turn(listener, &is_open, left > 0 ? (int)left : 0);
+        if (milliseconds() < next)
+            continue;
+        checked("tick", plumtree_tick(&node, roll()));
+        next = milliseconds() + TICK;
     }
 }
