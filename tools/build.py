@@ -91,25 +91,26 @@ def make(crates, room):
     return f"{room}/crates/{PROGRAM}/out/{PROGRAM}"
 
 
-def archive_in(top):
-    """Proves and makes the static library in a repository over which the toolchain's gate has passed, and returns its path."""
-    toolchain, where, archive = Toolchain(), f"{top}/crates/{LIBRARY}", f"out/lib{LIBRARY}.a"
-    words = [*toolchain.words(LIBRARY, "build", top), "--toolchain", f"{toolchain.kit}/toolchain", "-o", archive]
-    os.makedirs(f"{where}/out", exist_ok=True)
+def archive_in(top, target):
+    """Proves and makes the static library for a target in a repository over which the toolchain's gate has passed, and returns its path."""
+    toolchain, where, archive = Toolchain(), f"{top}/crates/{LIBRARY}", f"out/{target}/lib{LIBRARY}.a"
+    words = [*toolchain.words(LIBRARY, "build", top), "--target", target, "--toolchain", f"{toolchain.kit}/toolchain", "-o", archive]
+    os.makedirs(f"{where}/out/{target}", exist_ok=True)
     ran = subprocess.run(words, cwd=where, stdin=subprocess.DEVNULL, stdout=subprocess.PIPE, stderr=subprocess.STDOUT, text=True, errors="replace")
     if ran.returncode:
         sys.exit(f"{ran.stdout}plumtree: so the library was not built")
     return f"{where}/{archive}"
 
 
-def build_library(to):
-    """Proves and builds the static library, and copies it to this path."""
+def build_libraries(paths):
+    """Proves and builds the static library for each target, and copies it to the target's path."""
     crates = with_all_below(own(), [LIBRARY])
     with tempfile.TemporaryDirectory(prefix="plumtree-") as room:
         os.makedirs(f"{room}/logs")
         prove(crates, f"{room}/logs")
         proved_again(crates, f"{room}/repository")
-        shutil.copy(archive_in(f"{room}/repository"), to)
+        for target, to in paths.items():
+            shutil.copy(archive_in(f"{room}/repository", target), to)
 
 
 def build():

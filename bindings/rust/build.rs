@@ -3,15 +3,20 @@ use std::env;
 use std::path::{Path, PathBuf};
 use std::process::Command;
 
-/// The folder of the archive and its sums: `PLUMTREE_LIB_DIR`, or the one of the repository.
+/// The folder of the archive and its sums: `PLUMTREE_LIB_DIR`, or the one of the repository for the target.
 fn folder() -> PathBuf {
-    match env::var_os("PLUMTREE_LIB_DIR") {
-        Some(folder) => PathBuf::from(folder),
-        None => {
-            Path::new(&env::var("CARGO_MANIFEST_DIR").expect("cargo names the package's folder"))
-                .join("../../dist/x86_64-linux")
-        }
+    if let Some(folder) = env::var_os("PLUMTREE_LIB_DIR") {
+        return PathBuf::from(folder);
     }
+    let target = env::var("TARGET").unwrap_or_default();
+    let shipped = match target.as_str() {
+        "x86_64-unknown-linux-gnu" => "x86_64-linux",
+        "aarch64-unknown-linux-gnu" => "aarch64-linux",
+        _ => panic!("the library is shipped for Linux with glibc on x86-64 and aarch64, and this is {target}"),
+    };
+    Path::new(&env::var("CARGO_MANIFEST_DIR").expect("cargo names the package's folder"))
+        .join("../../dist")
+        .join(shipped)
 }
 
 /// Compares the archive with its line in `SHA256SUMS`.
@@ -39,11 +44,6 @@ fn compare(folder: &Path) {
 }
 
 fn main() {
-    let target = env::var("TARGET").unwrap_or_default();
-    assert!(
-        target == "x86_64-unknown-linux-gnu",
-        "the library is shipped for x86_64-unknown-linux-gnu, and this is {target}"
-    );
     let folder = folder();
     compare(&folder);
     println!("cargo:rustc-link-search=native={}", folder.display());
