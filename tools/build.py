@@ -91,15 +91,26 @@ def make(crates, room):
     return f"{room}/crates/{PROGRAM}/out/{PROGRAM}"
 
 
-def archive_in(top, target):
-    """Proves and makes the static library for a target in a repository over which the toolchain's gate has passed, and returns its path."""
-    toolchain, where, archive = Toolchain(), f"{top}/crates/{LIBRARY}", f"out/{target}/lib{LIBRARY}.a"
-    words = [*toolchain.words(LIBRARY, "build", top), "--target", target, "--toolchain", f"{toolchain.kit}/toolchain", "-o", archive]
-    os.makedirs(f"{where}/out/{target}", exist_ok=True)
+def call(words, where):
+    """Calls the prover in a crate's folder, and ends with what it says if it refuses."""
     ran = subprocess.run(words, cwd=where, stdin=subprocess.DEVNULL, stdout=subprocess.PIPE, stderr=subprocess.STDOUT, text=True, errors="replace")
     if ran.returncode:
         sys.exit(f"{ran.stdout}plumtree: so the library was not built")
-    return f"{where}/{archive}"
+
+
+def archives_in(top, target, backends=("llvm",)):
+    """Proves the static library for a target in a repository over which the toolchain's gate has passed, makes it by each of these
+    compilers of the toolchain, and returns the paths of the archives."""
+    toolchain, where, out = Toolchain(), f"{top}/crates/{LIBRARY}", f"out/{target}"
+    shutil.rmtree(f"{where}/{out}", ignore_errors=True)
+    os.makedirs(f"{where}/{out}")
+    proved = f"{out}/proved"
+    call([*toolchain.words(LIBRARY, "check", top), "--target", target, "-o", proved], where)
+    for backend in backends:
+        os.makedirs(f"{where}/{out}/{backend}")
+        words = [*toolchain.words(LIBRARY, "build", top, proved), "--target", target, "--backend", backend]
+        call([*words, "--toolchain", f"{toolchain.kit}/toolchain", "-o", f"{out}/{backend}/lib{LIBRARY}.a"], where)
+    return [f"{where}/{out}/{backend}/lib{LIBRARY}.a" for backend in backends]
 
 
 def build_libraries(paths):
@@ -110,7 +121,7 @@ def build_libraries(paths):
         prove(crates, f"{room}/logs")
         proved_again(crates, f"{room}/repository")
         for target, to in paths.items():
-            shutil.copy(archive_in(f"{room}/repository", target), to)
+            shutil.copy(archives_in(f"{room}/repository", target)[0], to)
 
 
 def build():
