@@ -5,3 +5,4 @@ pub mod Ids
 pub mod Same
 pub mod Order
 pub mod Limits
+pub mod Slots

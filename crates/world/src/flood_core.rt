@@ -341,11 +341,15 @@ impl<A: Allocator + Copy> Core<A> for FloodCore<A> {
         &[]
     }
 
-    fn wants(&self) -> &[(MsgId, NodeName, u32)] {
+    fn wants(&self) -> &[Option<(MsgId, NodeName, u32)>] {
         &[]
     }
 
-    fn timers(&self) -> &[MsgId] {
+    fn timers(&self) -> &[Option<MsgId>] {
         &[]
+    }
+
+    fn is_armed(&self, _id: &MsgId) -> bool {
+        false
     }
 }

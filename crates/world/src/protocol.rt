@@ -2,6 +2,8 @@
 ghost use Rattle.std.specs.Prelude.{◌≡◌, ◌↔◌, ◌++◌, ℕ, false, List, Option, IsTrue, IfOk, IfErr, OnOk, OnErr, IsErrOf, option_copied};
 ghost use Rattle.node_names.specs.NodeName.{Name};
 ghost use Rattle.node_names.specs.Limits.{Limits};
+ghost use Rattle.node_names.specs.Same.{has_id};
+ghost use Rattle.node_names.specs.Slots.{somes};
 ghost use Rattle.node_names.specs.declared.ids.Origin.{Origin};
 ghost use Rattle.world.specs.CoreState.{CoreState};
 ghost use Rattle.world.specs.Delivery.{Delivery};
@@ -196,13 +198,18 @@ pub trait Core<A: Allocator>: Sized + Drop {
     fn queued(&self) -> &[(NodeName, MsgId, u32)]
         ensures { result.now ≡ (state self.now).queued };
 
-    /// Returns the announcements of messages that it lacks, each as its message id, announcing peer and round.
-    fn wants(&self) -> &[(MsgId, NodeName, u32)]
-        ensures { result.now ≡ (state self.now).wants };
+    /// Returns the announcements of messages that it lacks, oldest first, each as its message id, announcing peer and
+    /// round. `None` stands where one was taken out.
+    fn wants(&self) -> &[Option<(MsgId, NodeName, u32)>]
+        ensures { somes result.now ≡ (state self.now).wants };
 
-    /// Returns the ids whose timers are armed, in order of arming.
-    fn timers(&self) -> &[MsgId]
-        ensures { result.now ≡ (state self.now).timers };
+    /// Returns the ids whose timers are armed, in order of arming. `None` stands where one was taken out.
+    fn timers(&self) -> &[Option<MsgId>]
+        ensures { somes result.now ≡ (state self.now).timers };
+
+    /// Returns whether the timer of the id is armed.
+    fn is_armed(&self, id: &MsgId) -> bool
+        ensures { result ≡ has_id (state self.now).timers id.now };
 
     /// The nine laws: identity, payload, delivery, view, spread, queue, want, ask and hold.
     ghost lawful: { Laws state Self.Note.content is_sound starts steps };
