@@ -34,12 +34,12 @@ places-filter test (entry ∷ wants) = go (test (place_of entry)) (places-filter
 -- ---- entries that are taken out in one pass
 
 -- a filter that drops nothing
-filter-nothing : {X : Type 0} (xs : List X) → filter (λ x. not false) xs ≡ xs
+pub filter-nothing : {X : Type 0} (xs : List X) → filter (λ x. not false) xs ≡ xs
 filter-nothing [] = refl
 filter-nothing (x ∷ xs) = ap (λ others. x ∷ others) (filter-nothing xs)
 
 -- two filters in one
-filter-both : {X : Type 0} (f h : X → Bool) (xs : List X) → filter (λ x. not (f x || h x)) xs ≡ filter (λ x. not (h x)) (filter (λ x. not (f x)) xs)
+pub filter-both : {X : Type 0} (f h : X → Bool) (xs : List X) → filter (λ x. not (f x || h x)) xs ≡ filter (λ x. not (h x)) (filter (λ x. not (f x)) xs)
 filter-both f h [] = refl
 filter-both f h (x ∷ xs) = go (f x) (filter-both f h xs)
   where

@@ -23,7 +23,7 @@ or_true : (b : Bool) → (b || true) ≡ true
 or_true true = refl
 or_true false = refl
 
-same_place-Decides : (a b : MsgId × Name) → Decides (same_place a b) (a ≡ b)
+pub same_place-Decides : (a b : MsgId × Name) → Decides (same_place a b) (a ≡ b)
 same_place-Decides a b =
     Decides-like (same_place a b)
     (λ e i. (e.0 i, e.1 i))
@@ -65,7 +65,7 @@ stays_without id timers other is apart =
 
 -- ---- entries
 
-once-filter : (test : MsgId × Name × ℕ → Bool) (wants : List (MsgId × Name × ℕ)) → IsDistinct same_place (map place_of wants) → IsDistinct same_place (map place_of (filter test wants))
+pub once-filter : (test : MsgId × Name × ℕ → Bool) (wants : List (MsgId × Name × ℕ)) → IsDistinct same_place (map place_of wants) → IsDistinct same_place (map place_of (filter test wants))
 once-filter test [] once = once
 once-filter test (entry ∷ wants) once = go (test entry) (once-filter test wants (IsDistinct-tail same_place (place_of entry) (map place_of wants) once))
   where

@@ -1,3 +1,4 @@
 pub mod Wants
 pub mod Timers
+pub mod Slots
 pub mod Missing

@@ -40,6 +40,15 @@ without_first id (entry ∷ wants) = if same_id id entry.0 then wants else entry
 abbrev pub without_id : MsgId → List (MsgId × Name × ℕ) → List (MsgId × Name × ℕ)
 without_id id wants = filter (λ entry. not (same_id id entry.0)) wants
 
+-- the entries without that of the id by the peer
+abbrev pub without_place : MsgId × Name → List (MsgId × Name × ℕ) → List (MsgId × Name × ℕ)
+without_place place wants = filter (λ entry. not (same_place place (place_of entry))) wants
+
+-- the entries without that of the id by the peer, where there is an id
+abbrev pub without_slot : Option MsgId → Name → List (MsgId × Name × ℕ) → List (MsgId × Name × ℕ)
+without_slot None peer wants = wants
+without_slot (Some id) peer wants = without_place (id, peer) wants
+
 -- the entries without those of the peer
 abbrev pub without_peer : Name → List (MsgId × Name × ℕ) → List (MsgId × Name × ℕ)
 without_peer peer wants = filter (λ entry. not (same_name peer entry.1)) wants

@@ -1,14 +1,16 @@
 //! The messages that were announced to a node and that it lacks.
-ghost use Rattle.std.specs.Prelude.{◌≡◌, ◌+◌, ◌<◌, ◌≤◌, [], not, is_some, length, map, vec_len, vec_capacity, if◌then◌else◌, IfOk, OnOk, OnErr};
-ghost use Rattle.indexmap.specs.IndexSet.{spare};
-ghost use Rattle.node_names.specs.Same.{has_id};
+ghost use Rattle.std.specs.Prelude.{◌≡◌, ◌+◌, ◌<◌, ◌≤◌, [], not, true, is_some, length, map, vec_len, vec_capacity, if◌then◌else◌, IfOk, OnOk, OnErr};
+ghost use Rattle.indexmap.specs.IndexMap.{spare};
+ghost use Rattle.node_names.specs.Same.{has_id, has_name};
+ghost use Rattle.node_names.specs.Slots.{somes};
 ghost use Rattle.missing.specs.Missing.{IsSound, announced, announced_all, taken_first, got, without, without_all};
-ghost use Rattle.missing.specs.Wants.{place_of, with_want, with_wants, first_want, without_first, without_id};
+ghost use Rattle.missing.specs.Slots.{ArePlaced, AreBy, AreTimed, IsKept};
+ghost use Rattle.missing.specs.Wants.{with_want, with_wants, first_want, without_first, without_id};
 ghost use Rattle.missing.specs.Timers.{with_timer, with_timers, without_timer};
 
 use crate::timers::{self, Timers};
 use crate::wants::{self, Want, Wants};
-use indexmap::IndexSet;
+use indexmap::{IndexMap, IndexSet};
 use node_names::{MsgId, NodeName};
 use std::alloc::{AllocError, Allocator, Global};
 use std::marker::Model;
@@ -18,9 +20,9 @@ use std::marker::Model;
 /// Announcements keep the order in which they came, and timers the order in which they were armed. The timer of each
 /// announced id is armed; a timer may outlive the announcements of its id.
 ///
-/// Whether an id is armed, and whether a peer has announced it, is looked up by hash in constant time. Finding the
-/// first announcement of an armed id searches from the oldest one. Both lists can be read as slices and so have no
-/// holes: a call that removes something takes time linear in what is there.
+/// Timers and announcements are looked up by hash. A call about an id looks at one place for each peer that has
+/// announced something, and one about a peer at one for each armed id; no call looks at all announcements. What is
+/// taken out leaves an empty slot behind, and the next announcement drops them where they outnumber what is left.
 #[derive(Drop)]
 pub struct Missing<A: Allocator = Global> {
     wants: Wants<A>,
@@ -28,34 +30,42 @@ pub struct Missing<A: Allocator = Global> {
 }
 
 impl<A: Allocator> Model for Missing<A> {
-    ghost use Rattle.std.specs.Prelude.{◌≡◌, map};
+    ghost use Rattle.std.specs.Prelude.{};
+    ghost use Rattle.node_names.specs.Slots.{somes};
     ghost use Rattle.missing.specs.Missing.{Missing, IsSound};
-    ghost use Rattle.missing.specs.Wants.{place_of};
+    ghost use Rattle.missing.specs.Slots.{ArePlaced, AreBy, AreTimed, IsKept};
 
     ghost Value = { Missing };
 
-    ghost view = { λ m. record { wants = m.wants.list.items; timers = m.timers.keys } };
+    ghost view = { λ m. record { wants = somes m.wants.slots.items; timers = somes m.timers.slots.items } };
 
-    ghost invariant = { λ m. IsSound (record { wants = m.wants.list.items; timers = m.timers.keys }) × (m.wants.places.keys ≡ map place_of m.wants.list.items) };
+    ghost invariant = { λ m. IsSound (record { wants = somes m.wants.slots.items; timers = somes m.timers.slots.items }) × IsKept m.wants.slots.items m.wants.places m.wants.peers.keys × AreTimed m.timers.slots.items m.timers.places };
 }
 
 /// Appends an announcement, unless its peer has announced its id already, and arms the timer of its id. Does not
 /// allocate. Returns whether the timer was newly armed.
 fn put<A: Allocator + Copy>(wants: &mut Wants<A>, timers: &mut Timers<A>, entry: &Want) -> bool
-    requires room { vec_len wants.old.list < vec_capacity wants.old.list }
+    requires room { vec_len wants.old.slots < vec_capacity wants.old.slots }
     requires places { 0 < spare wants.old.places }
-    requires timer { 0 < spare timers.old }
-    requires matched { wants.old.places.keys ≡ map place_of wants.old.list.items }
-    ensures new { result ≡ not (has_id timers.old.keys entry.now.0) }
-    ensures wants { wants.new.list.items ≡ with_want entry.now.0 entry.now.1 entry.now.2 wants.old.list.items }
-    ensures matched { wants.new.places.keys ≡ map place_of wants.new.list.items }
-    ensures timers { timers.new.keys ≡ with_timer entry.now.0 timers.old.keys }
-    ensures len { vec_len wants.new.list ≤ vec_len wants.old.list + 1 }
-    ensures capacity { vec_capacity wants.old.list ≤ vec_capacity wants.new.list }
+    requires timer_room { vec_len timers.old.slots < vec_capacity timers.old.slots }
+    requires timer { 0 < spare timers.old.places }
+    requires known { has_name wants.old.peers.keys entry.now.1 ≡ true }
+    requires kept { IsKept wants.old.slots.items wants.old.places wants.old.peers.keys }
+    requires timed { AreTimed timers.old.slots.items timers.old.places }
+    ensures new { result ≡ not (has_id (somes timers.old.slots.items) entry.now.0) }
+    ensures wants { somes wants.new.slots.items ≡ with_want entry.now.0 entry.now.1 entry.now.2 (somes wants.old.slots.items) }
+    ensures peers { wants.new.peers.keys ≡ wants.old.peers.keys }
+    ensures kept { IsKept wants.new.slots.items wants.new.places wants.new.peers.keys }
+    ensures timers { somes timers.new.slots.items ≡ with_timer entry.now.0 (somes timers.old.slots.items) }
+    ensures timed { AreTimed timers.new.slots.items timers.new.places }
+    ensures len { vec_len wants.new.slots ≤ vec_len wants.old.slots + 1 }
+    ensures capacity { vec_capacity wants.old.slots ≤ vec_capacity wants.new.slots }
     ensures places { spare wants.old.places ≤ spare wants.new.places + 1 }
-    ensures spare { spare timers.old ≤ spare timers.new + 1 }
+    ensures timer_len { vec_len timers.new.slots ≤ vec_len timers.old.slots + 1 }
+    ensures timer_capacity { vec_capacity timers.old.slots ≤ vec_capacity timers.new.slots }
+    ensures spare { spare timers.old.places ≤ spare timers.new.places + 1 }
 {
-    wants::put(wants, entry);
+    wants::put(&mut wants.slots, &mut wants.places, entry);
     timers::arm(timers, &entry.0)
 }
 
@@ -67,13 +77,17 @@ fn put_all<A: Allocator + Copy>(
     peer: &NodeName,
     entries: &[(MsgId, u32)],
 )
-    requires room { vec_len wants.old.list + length entries.now ≤ vec_capacity wants.old.list }
+    requires room { vec_len wants.old.slots + length entries.now ≤ vec_capacity wants.old.slots }
     requires places { length entries.now ≤ spare wants.old.places }
-    requires spare { length entries.now ≤ spare timers.old }
-    requires matched { wants.old.places.keys ≡ map place_of wants.old.list.items }
-    ensures wants { wants.new.list.items ≡ with_wants peer.now entries.now wants.old.list.items }
-    ensures matched { wants.new.places.keys ≡ map place_of wants.new.list.items }
-    ensures timers { timers.new.keys ≡ with_timers entries.now timers.old.keys }
+    requires timer_room { vec_len timers.old.slots + length entries.now ≤ vec_capacity timers.old.slots }
+    requires spare { length entries.now ≤ spare timers.old.places }
+    requires known { has_name wants.old.peers.keys peer.now ≡ true }
+    requires kept { IsKept wants.old.slots.items wants.old.places wants.old.peers.keys }
+    requires timed { AreTimed timers.old.slots.items timers.old.places }
+    ensures wants { somes wants.new.slots.items ≡ with_wants peer.now entries.now (somes wants.old.slots.items) }
+    ensures kept { IsKept wants.new.slots.items wants.new.places wants.new.peers.keys }
+    ensures timers { somes timers.new.slots.items ≡ with_timers entries.now (somes timers.old.slots.items) }
+    ensures timed { AreTimed timers.new.slots.items timers.new.places }
 {
     for entry in entries {
         put(wants, timers, &(entry.0, *peer, entry.1));
@@ -87,46 +101,20 @@ fn take_first<A: Allocator>(
     timers: &mut Timers<A>,
     id: &MsgId,
 ) -> Option<(NodeName, u32)>
-    requires sound { IsSound (record { wants = wants.old.list.items; timers = timers.old.keys }) }
-    requires matched { wants.old.places.keys ≡ map place_of wants.old.list.items }
-    ensures taken { result ≡ first_want id.now wants.old.list.items }
-    ensures wants { wants.new.list.items ≡ without_first id.now wants.old.list.items }
-    ensures matched { wants.new.places.keys ≡ map place_of wants.new.list.items }
-    ensures timers { timers.new.keys ≡ (if is_some (first_want id.now wants.old.list.items) then timers.old.keys else without_timer id.now timers.old.keys) }
+    requires sound { IsSound (record { wants = somes wants.old.slots.items; timers = somes timers.old.slots.items }) }
+    requires kept { IsKept wants.old.slots.items wants.old.places wants.old.peers.keys }
+    requires timed { AreTimed timers.old.slots.items timers.old.places }
+    ensures taken { result ≡ first_want id.now (somes wants.old.slots.items) }
+    ensures wants { somes wants.new.slots.items ≡ without_first id.now (somes wants.old.slots.items) }
+    ensures kept { IsKept wants.new.slots.items wants.new.places wants.new.peers.keys }
+    ensures timers { somes timers.new.slots.items ≡ (if is_some (first_want id.now (somes wants.old.slots.items)) then somes timers.old.slots.items else without_timer id.now (somes timers.old.slots.items)) }
+    ensures timed { AreTimed timers.new.slots.items timers.new.places }
 {
-    if !timers.contains(id) {
-        return None;
-    }
     let first = wants::take_first(wants, id);
     if first.is_none() {
         timers::disarm(timers, id);
     }
     first
-}
-
-/// Removes the announcements and the timer of `id`.
-fn forget<A: Allocator>(wants: &mut Wants<A>, timers: &mut Timers<A>, id: &MsgId)
-    requires sound { IsSound (record { wants = wants.old.list.items; timers = timers.old.keys }) }
-    requires matched { wants.old.places.keys ≡ map place_of wants.old.list.items }
-    ensures wants { wants.new.list.items ≡ without_id id.now wants.old.list.items }
-    ensures matched { wants.new.places.keys ≡ map place_of wants.new.list.items }
-    ensures timers { timers.new.keys ≡ without_timer id.now timers.old.keys }
-{
-    if timers.contains(id) {
-        wants::remove_id(wants, id);
-        timers::disarm(timers, id);
-    }
-}
-
-/// Returns the peer and the round of the first announcement of `id`.
-fn first<A: Allocator>(wants: &[Want], timers: &Timers<A>, id: &MsgId) -> Option<(NodeName, u32)>
-    requires { IsSound (record { wants = wants.now; timers = timers.now.keys }) }
-    ensures { result ≡ first_want id.now wants.now }
-{
-    if !timers.contains(id) {
-        return None;
-    }
-    wants::first(wants, id)
 }
 
 impl<A: Allocator + Copy> Missing<A> {
@@ -137,10 +125,14 @@ impl<A: Allocator + Copy> Missing<A> {
     {
         Missing {
             wants: Wants {
-                list: Vec::new(alloc),
-                places: IndexSet::new(alloc),
+                slots: Vec::new(alloc),
+                places: IndexMap::new(alloc),
+                peers: IndexSet::new(alloc),
             },
-            timers: IndexSet::new(alloc),
+            timers: Timers {
+                slots: Vec::new(alloc),
+                places: IndexMap::new(alloc),
+            },
         }
     }
 
@@ -154,9 +146,11 @@ impl<A: Allocator + Copy> Missing<A> {
         ensures ok { OnOk result (self.new ≡ announced peer.now id.now round self.old) }
         ensures err { OnErr result (self.new ≡ self.old) }
     {
-        self.wants.list.reserve(1)?;
+        self.wants.slots.reserve(1)?;
         self.wants.places.reserve(1)?;
-        self.timers.reserve(1)?;
+        self.timers.slots.reserve(1)?;
+        self.timers.places.reserve(1)?;
+        self.wants.peers.insert(*peer)?;
         let entry = (*id, *peer, round);
         Ok(put(&mut self.wants, &mut self.timers, &entry))
     }
@@ -171,25 +165,13 @@ impl<A: Allocator + Copy> Missing<A> {
         ensures ok { OnOk result (self.new ≡ announced_all peer.now entries.now self.old) }
         ensures err { OnErr result (self.new ≡ self.old) }
     {
-        self.wants.list.reserve(entries.len())?;
+        self.wants.slots.reserve(entries.len())?;
         self.wants.places.reserve(entries.len())?;
-        self.timers.reserve(entries.len())?;
+        self.timers.slots.reserve(entries.len())?;
+        self.timers.places.reserve(entries.len())?;
+        self.wants.peers.insert(*peer)?;
         put_all(&mut self.wants, &mut self.timers, peer, entries);
         Ok(())
-    }
-
-    /// Returns a copy of the announcements and timers.
-    pub fn copy(&self) -> Result<Self, AllocError>
-        ensures { IfOk result (λ copy. copy ≡ self.now) }
-    {
-        let alloc = *self.wants.list.allocator();
-        Ok(Missing {
-            wants: Wants {
-                list: Vec::from_slice(alloc, &self.wants.list)?,
-                places: self.wants.places.clone()?,
-            },
-            timers: self.timers.clone()?,
-        })
     }
 }
 
@@ -207,49 +189,50 @@ impl<A: Allocator> Missing<A> {
     pub fn got(&mut self, id: &MsgId)
         ensures { self.new ≡ got id.now self.old }
     {
-        forget(&mut self.wants, &mut self.timers, id);
+        wants::remove_id(&mut self.wants, id);
+        timers::disarm(&mut self.timers, id);
     }
 
     /// Removes the announcements by `peer`, which went down. The timers stay.
     pub fn down(&mut self, peer: &NodeName)
         ensures { self.new ≡ without peer.now self.old }
     {
-        wants::remove_peer(&mut self.wants, peer);
+        wants::remove_peer(&mut self.wants, &self.timers.slots, peer);
     }
 
-    /// Removes the announcements by all of the `peers`, which went down, in one pass. The timers stay.
+    /// Removes the announcements by all of the `peers`, which went down. The timers stay.
     pub fn down_all(&mut self, peers: &[NodeName])
         ensures { self.new ≡ without_all peers.now self.old }
     {
-        wants::remove_peers(&mut self.wants, peers);
+        wants::remove_peers(&mut self.wants, &self.timers.slots, peers);
     }
 
     /// Returns whether the timer of `id` is armed.
     pub fn armed(&self, id: &MsgId) -> bool
         ensures { result ≡ has_id self.now.timers id.now }
     {
-        self.timers.contains(id)
+        timers::is_armed(&self.timers, id)
     }
 
     /// Returns the peer and the round of the first announcement of `id`.
     pub fn first(&self, id: &MsgId) -> Option<(NodeName, u32)>
         ensures { result ≡ first_want id.now self.now.wants }
     {
-        first(&self.wants.list, &self.timers, id)
+        wants::first(&self.wants, id)
     }
 
-    /// Returns the announcements, oldest first.
-    pub fn wants(&self) -> &[Want]
-        ensures wants { result.now ≡ self.now.wants }
+    /// Returns the announcements, oldest first, and `None` where one was taken out.
+    pub fn wants(&self) -> &[Option<Want>]
+        ensures wants { somes result.now ≡ self.now.wants }
         ensures sound { IsSound self.now }
     {
-        self.wants.list.as_slice()
+        self.wants.slots.as_slice()
     }
 
-    /// Returns the ids whose timers are armed, in order of arming.
-    pub fn timers(&self) -> &[MsgId]
-        ensures { result.now ≡ self.now.timers }
+    /// Returns the ids whose timers are armed, in order of arming, and `None` where one was disarmed.
+    pub fn timers(&self) -> &[Option<MsgId>]
+        ensures { somes result.now ≡ self.now.timers }
     {
-        self.timers.as_slice()
+        self.timers.slots.as_slice()
     }
 }

@@ -1,120 +1,211 @@
-//! The list of announcements of messages that a node lacks.
-ghost use Rattle.std.specs.Prelude.{◌≡◌, ◌+◌, ◌<◌, ◌≤◌, map, position, vec_len, vec_capacity};
-ghost use Rattle.std.specs.List.{list_any};
-ghost use Rattle.indexmap.specs.IndexSet.{spare};
+//! The announcements of messages that a node lacks, in the order in which they came.
+ghost use Rattle.std.specs.Prelude.{◌≡◌, ◌+◌, ◌<◌, ◌≤◌, true, map, vec_len, vec_capacity};
+ghost use Rattle.std.specs.List.{IsDistinct};
+ghost use Rattle.indexmap.specs.IndexMap.{spare};
 ghost use Rattle.node_names.specs.Same.{same_id, same_name};
-ghost use Rattle.missing.specs.Wants.{place_of, with_want, first_want, without_first, without_id, without_peer, without_peers};
+ghost use Rattle.node_names.specs.Slots.{somes};
+ghost use Rattle.missing.specs.Slots.{AreArmed, ArePlaced, AreBy, IsKept, earlier, is_of, place};
+ghost use Rattle.missing.specs.Wants.{place_of, same_place, with_want, first_want, without_first, without_id, without_peer, without_peers, without_place, without_slot};
 
-use indexmap::IndexSet;
-use node_names::{MsgId, NodeName};
+use indexmap::IndexMap;
+use node_names::{MsgId, NameSet, NodeName};
 use std::alloc::Allocator;
 use std::hash::{BuildHasherDefault, FoldHasher};
 
 /// An announcement of a message that the node lacks: the message id, the announcing peer and the round.
 pub type Want = (MsgId, NodeName, u32);
 
-/// The ids that were announced, each with the peer that announced it.
-type Places<A> = IndexSet<(MsgId, NodeName), BuildHasherDefault<FoldHasher>, A>;
+/// Where the announcement of an id by a peer stands.
+pub(crate) type Places<A> = IndexMap<(MsgId, NodeName), usize, BuildHasherDefault<FoldHasher>, A>;
 
 /// Announcements, at most one for each id and peer.
 #[derive(Drop)]
 pub(crate) struct Wants<A: Allocator> {
-    /// The announcements, oldest first.
-    pub(crate) list: Vec<Want, A>,
-    /// The id and the peer of each announcement, in the same order, so that an announcement is looked up by its hash.
+    /// The announcements, oldest first, and `None` where one was taken out.
+    pub(crate) slots: Vec<Option<Want>, A>,
+    /// Where each announcement stands.
     pub(crate) places: Places<A>,
+    /// Those who made them, and maybe others.
+    pub(crate) peers: NameSet<A>,
 }
 
 /// Appends `entry`, without allocating, unless its peer has announced its id already.
-pub(crate) fn put<A: Allocator + Copy>(wants: &mut Wants<A>, entry: &Want)
-    requires room { vec_len wants.old.list < vec_capacity wants.old.list }
-    requires spare { 0 < spare wants.old.places }
-    requires places { wants.old.places.keys ≡ map place_of wants.old.list.items }
-    ensures items { wants.new.list.items ≡ with_want entry.now.0 entry.now.1 entry.now.2 wants.old.list.items }
-    ensures places { wants.new.places.keys ≡ map place_of wants.new.list.items }
-    ensures len { vec_len wants.new.list ≤ vec_len wants.old.list + 1 }
-    ensures capacity { vec_capacity wants.old.list ≤ vec_capacity wants.new.list }
-    ensures left { spare wants.old.places ≤ spare wants.new.places + 1 }
+pub(crate) fn put<A: Allocator + Copy>(
+    slots: &mut Vec<Option<Want>, A>,
+    places: &mut Places<A>,
+    entry: &Want,
+)
+    requires room { vec_len slots.old < vec_capacity slots.old }
+    requires spare { 0 < spare places.old }
+    requires placed { ArePlaced slots.old.items places.old }
+    ensures wants { somes slots.new.items ≡ with_want entry.now.0 entry.now.1 entry.now.2 (somes slots.old.items) }
+    ensures placed { ArePlaced slots.new.items places.new }
+    ensures len { vec_len slots.new ≤ vec_len slots.old + 1 }
+    ensures capacity { vec_capacity slots.old ≤ vec_capacity slots.new }
+    ensures left { spare places.old ≤ spare places.new + 1 }
 {
-    let is_new = wants.places.insert((entry.0, entry.1)).unwrap();
-    if is_new {
-        wants.list.push(*entry).unwrap();
+    let place = (entry.0, entry.1);
+    if places.contains_key(&place) {
+        return;
+    }
+    places.insert(place, slots.len()).unwrap();
+    slots.push(Some(*entry)).unwrap();
+}
+
+/// Returns the lower place.
+fn earlier(a: Option<usize>, b: Option<usize>) -> Option<usize>
+    ensures { result ≡ earlier a b }
+{
+    match (a, b) {
+        (Some(m), Some(n)) => Some(if m < n { m } else { n }),
+        (Some(m), None) => Some(m),
+        (None, b) => b,
     }
 }
 
-/// Returns the index of the first announcement of `id`.
-fn first_index(wants: &[Want], id: &MsgId) -> Option<usize>
-    ensures { result ≡ position (λ entry. same_id id.now entry.0) wants.now }
+/// Returns where the first announcement of `id` stands. Looks at one place for each peer.
+fn first_place<A: Allocator>(wants: &Wants<A>, id: &MsgId) -> Option<usize>
+    requires kept { IsKept wants.now.slots.items wants.now.places wants.now.peers.keys }
+    ensures { result ≡ place (is_of id.now) wants.now.slots.items }
 {
-    wants.iter().position(|entry| *id == entry.0)
+    let mut first = None;
+    for peer in wants.peers.as_slice() {
+        first = earlier(first, wants.places.get(&(*id, *peer)).copied());
+    }
+    first
 }
 
 /// Returns the peer and the round of the first announcement of `id`.
-pub(crate) fn first(wants: &[Want], id: &MsgId) -> Option<(NodeName, u32)>
-    ensures { result ≡ first_want id.now wants.now }
+pub(crate) fn first<A: Allocator>(wants: &Wants<A>, id: &MsgId) -> Option<(NodeName, u32)>
+    requires kept { IsKept wants.now.slots.items wants.now.places wants.now.peers.keys }
+    ensures { result ≡ first_want id.now (somes wants.now.slots.items) }
 {
-    match first_index(wants, id) {
-        Some(index) => {
-            let entry = wants[index];
-            Some((entry.1, entry.2))
-        }
-        None => None,
-    }
+    let entry = wants.slots[first_place(wants, id)?]?;
+    Some((entry.1, entry.2))
 }
 
 /// Removes the first announcement of `id` and returns its peer and round. The order of the others stays.
 pub(crate) fn take_first<A: Allocator>(wants: &mut Wants<A>, id: &MsgId) -> Option<(NodeName, u32)>
-    requires { wants.old.places.keys ≡ map place_of wants.old.list.items }
-    ensures taken { result ≡ first_want id.now wants.old.list.items }
-    ensures left { wants.new.list.items ≡ without_first id.now wants.old.list.items }
-    ensures places { wants.new.places.keys ≡ map place_of wants.new.list.items }
+    requires kept { IsKept wants.old.slots.items wants.old.places wants.old.peers.keys }
+    requires once { IsDistinct same_place (map place_of (somes wants.old.slots.items)) }
+    ensures taken { result ≡ first_want id.now (somes wants.old.slots.items) }
+    ensures left { somes wants.new.slots.items ≡ without_first id.now (somes wants.old.slots.items) }
+    ensures kept { IsKept wants.new.slots.items wants.new.places wants.new.peers.keys }
 {
-    match first_index(&wants.list, id) {
-        Some(index) => {
-            let entry = wants.list.remove(index);
-            wants.places.shift_remove_index(index);
-            Some((entry.1, entry.2))
-        }
-        None => None,
+    let first = first(wants, id)?;
+    remove(&mut wants.slots, &mut wants.places, id, &first.0);
+    Some(first)
+}
+
+/// Removes the announcement of `id` by `peer`, if there is one.
+fn remove<A: Allocator>(
+    slots: &mut Vec<Option<Want>, A>,
+    places: &mut Places<A>,
+    id: &MsgId,
+    peer: &NodeName,
+)
+    requires placed { ArePlaced slots.old.items places.old }
+    requires once { IsDistinct same_place (map place_of (somes slots.old.items)) }
+    ensures left { somes slots.new.items ≡ without_place (id.now, peer.now) (somes slots.old.items) }
+    ensures placed { ArePlaced slots.new.items places.new }
+{
+    if let Some(at) = places.swap_remove(&(*id, *peer)) {
+        slots[at] = None;
     }
 }
 
-/// Removes the announcements of `id`. Passes over the whole list.
+/// Removes the announcements of `id` by these peers.
+fn remove_by<A: Allocator>(
+    slots: &mut Vec<Option<Want>, A>,
+    places: &mut Places<A>,
+    id: &MsgId,
+    peers: &[NodeName],
+)
+    requires placed { ArePlaced slots.old.items places.old }
+    requires once { IsDistinct same_place (map place_of (somes slots.old.items)) }
+    requires by { AreBy peers.now (somes slots.old.items) }
+    ensures left { somes slots.new.items ≡ without_id id.now (somes slots.old.items) }
+    ensures placed { ArePlaced slots.new.items places.new }
+{
+    for peer in peers {
+        remove(slots, places, id, peer);
+    }
+}
+
+/// Removes the announcement of the id in the slot by `peer`, if there is one.
+fn remove_slot<A: Allocator>(
+    slots: &mut Vec<Option<Want>, A>,
+    places: &mut Places<A>,
+    slot: &Option<MsgId>,
+    peer: &NodeName,
+)
+    requires placed { ArePlaced slots.old.items places.old }
+    requires once { IsDistinct same_place (map place_of (somes slots.old.items)) }
+    ensures left { somes slots.new.items ≡ without_slot slot.now peer.now (somes slots.old.items) }
+    ensures placed { ArePlaced slots.new.items places.new }
+{
+    if let Some(id) = slot {
+        remove(slots, places, id, peer);
+    }
+}
+
+/// Removes the announcements by `peer`, which are all of these ids. Looks at one place for each of them.
+fn remove_of<A: Allocator>(
+    slots: &mut Vec<Option<Want>, A>,
+    places: &mut Places<A>,
+    ids: &[Option<MsgId>],
+    peer: &NodeName,
+)
+    requires placed { ArePlaced slots.old.items places.old }
+    requires once { IsDistinct same_place (map place_of (somes slots.old.items)) }
+    requires armed { AreArmed (somes ids.now) (somes slots.old.items) }
+    ensures left { somes slots.new.items ≡ without_peer peer.now (somes slots.old.items) }
+    ensures placed { ArePlaced slots.new.items places.new }
+{
+    for slot in ids {
+        remove_slot(slots, places, slot, peer);
+    }
+}
+
+/// Removes the announcements of `id`.
 pub(crate) fn remove_id<A: Allocator>(wants: &mut Wants<A>, id: &MsgId)
-    requires { wants.old.places.keys ≡ map place_of wants.old.list.items }
-    ensures items { wants.new.list.items ≡ without_id id.now wants.old.list.items }
-    ensures places { wants.new.places.keys ≡ map place_of wants.new.list.items }
+    requires kept { IsKept wants.old.slots.items wants.old.places wants.old.peers.keys }
+    requires once { IsDistinct same_place (map place_of (somes wants.old.slots.items)) }
+    ensures left { somes wants.new.slots.items ≡ without_id id.now (somes wants.old.slots.items) }
+    ensures kept { IsKept wants.new.slots.items wants.new.places wants.new.peers.keys }
 {
-    wants.list.retain(|entry| *id != entry.0);
-    wants.places.retain(|place| *id != place.0);
+    remove_by(&mut wants.slots, &mut wants.places, id, wants.peers.as_slice());
 }
 
-/// Removes the announcements by `peer`. Passes over the whole list.
-pub(crate) fn remove_peer<A: Allocator>(wants: &mut Wants<A>, peer: &NodeName)
-    requires { wants.old.places.keys ≡ map place_of wants.old.list.items }
-    ensures items { wants.new.list.items ≡ without_peer peer.now wants.old.list.items }
-    ensures places { wants.new.places.keys ≡ map place_of wants.new.list.items }
+/// Removes the announcements by `peer`, which are all of these ids.
+pub(crate) fn remove_peer<A: Allocator>(
+    wants: &mut Wants<A>,
+    ids: &[Option<MsgId>],
+    peer: &NodeName,
+)
+    requires kept { IsKept wants.old.slots.items wants.old.places wants.old.peers.keys }
+    requires once { IsDistinct same_place (map place_of (somes wants.old.slots.items)) }
+    requires armed { AreArmed (somes ids.now) (somes wants.old.slots.items) }
+    ensures left { somes wants.new.slots.items ≡ without_peer peer.now (somes wants.old.slots.items) }
+    ensures kept { IsKept wants.new.slots.items wants.new.places wants.new.peers.keys }
 {
-    wants.list.retain(|entry| *peer != entry.1);
-    wants.places.retain(|place| *peer != place.1);
+    remove_of(&mut wants.slots, &mut wants.places, ids, peer);
+    wants.peers.swap_remove(peer);
 }
 
-/// Returns whether `name` is one of the `names`.
-fn is_one_of(names: &[NodeName], name: &NodeName) -> bool
-    ensures { result ≡ list_any (λ other. same_name other name.now) names.now }
+/// Removes the announcements by all of the `peers`, which are all of these ids.
+pub(crate) fn remove_peers<A: Allocator>(
+    wants: &mut Wants<A>,
+    ids: &[Option<MsgId>],
+    peers: &[NodeName],
+)
+    requires kept { IsKept wants.old.slots.items wants.old.places wants.old.peers.keys }
+    requires once { IsDistinct same_place (map place_of (somes wants.old.slots.items)) }
+    requires armed { AreArmed (somes ids.now) (somes wants.old.slots.items) }
+    ensures left { somes wants.new.slots.items ≡ without_peers peers.now (somes wants.old.slots.items) }
+    ensures kept { IsKept wants.new.slots.items wants.new.places wants.new.peers.keys }
 {
-    names.iter().any(|other| *other == *name)
-}
-
-/// Removes the announcements by all of the `peers`, in one pass over the list.
-pub(crate) fn remove_peers<A: Allocator>(wants: &mut Wants<A>, peers: &[NodeName])
-    requires { wants.old.places.keys ≡ map place_of wants.old.list.items }
-    ensures items { wants.new.list.items ≡ without_peers peers.now wants.old.list.items }
-    ensures places { wants.new.places.keys ≡ map place_of wants.new.list.items }
-{
-    if peers.is_empty() {
-        return;
+    for peer in peers {
+        remove_peer(wants, ids, peer);
     }
-    wants.list.retain(|entry| !is_one_of(peers, &entry.1));
-    wants.places.retain(|place| !is_one_of(peers, &place.1));
 }

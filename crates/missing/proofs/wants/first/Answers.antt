@@ -1,13 +1,19 @@
-use Rattle.std.proofs.Common.{ℕ, Some, sym, ap, ◌∙◌}
-use Rattle.node_names.specs.NodeName.{Name}
-use Rattle.node_names.specs.declared.ids.MsgId.{MsgId}
-use Rattle.missing.proofs.WantLemmas.{none_from_position, first_from_position}
+use Rattle.std.proofs.Common.{◌≡◌, ◌∙◌, ◌<◌, length, None, Some, sym, ap, subst}
+use Rattle.std.specs.Prelude.{slice_get}
+use Rattle.std.proofs.lemmas.Option.{slice_get_read}
+use Rattle.missing.specs.Slots.{place, is_of}
+use Rattle.missing.proofs.SlotLemmas.{within-place}
+use Rattle.missing.proofs.SlotWants.{first_want-at, first_want-lacks, want_of}
 use Rattle.missing.proofs.wants.first.Goals as goal
 
-pub returns-in-Some : goal.returns-in-Some
-returns-in-Some c =
-    ap (λ (entry : MsgId × Name × ℕ). Some (entry.1, entry.2)) c.index-wants-index.is
-    ∙ sym (first_from_position c.args.id.now c.args.wants.now c.in-Some.index c.index-wants-index.result (sym c.first_index.ensures ∙ c.in-Some.is)).0
+pub returns-in_err-first_place : goal.returns-in_err-first_place
+returns-in_err-first_place g c = c.from_residual.ensures ∙ sym (first_want-lacks c.args.id.now c.args.wants.now.slots.items (sym c.first_place.ensures ∙ c.in_err-first_place.was))
 
-pub returns-in-None : goal.returns-in-None
-returns-in-None c = sym (none_from_position c.args.id.now c.args.wants.now (sym c.first_index.ensures ∙ c.in-None.is)).0
+pub index-requires : goal.index-requires
+index-requires g c = subst (λ n. c.in_ok-first_place.field-0 < n) (sym c.args.wants.now.slots.ok.0) (within-place (is_of c.args.id.now) c.args.wants.now.slots.items c.in_ok-first_place.field-0 (sym c.first_place.ensures ∙ c.in_ok-first_place.was))
+
+pub returns-in_err-entry : goal.returns-in_err-entry
+returns-in_err-entry g c = c.from_residual-in_err-entry.ensures ∙ sym (first_want-at c.args.id.now c.args.wants.now.slots.items c.in_ok-first_place.field-0 (sym c.first_place.ensures ∙ c.in_ok-first_place.was) ∙ ap want_of (slice_get_read c.args.wants.now.slots.items c.args.wants.now.slots.len c.in_ok-first_place.field-0 c.index.result.now c.args.wants.now.slots.ok.0 (subst (λ n. c.in_ok-first_place.field-0 < n) (sym c.args.wants.now.slots.ok.0) (within-place (is_of c.args.id.now) c.args.wants.now.slots.items c.in_ok-first_place.field-0 (sym c.first_place.ensures ∙ c.in_ok-first_place.was))) c.index.ensures ∙ ap Some c.in_err-entry.was))
+
+pub returns : goal.returns
+returns g c = sym (first_want-at c.args.id.now c.args.wants.now.slots.items c.in_ok-first_place.field-0 (sym c.first_place.ensures ∙ c.in_ok-first_place.was) ∙ ap want_of (slice_get_read c.args.wants.now.slots.items c.args.wants.now.slots.len c.in_ok-first_place.field-0 c.index.result.now c.args.wants.now.slots.ok.0 (subst (λ n. c.in_ok-first_place.field-0 < n) (sym c.args.wants.now.slots.ok.0) (within-place (is_of c.args.id.now) c.args.wants.now.slots.items c.in_ok-first_place.field-0 (sym c.first_place.ensures ∙ c.in_ok-first_place.was))) c.index.ensures ∙ ap Some c.in_ok-entry.was))

@@ -1,32 +1,28 @@
 -- The place is new where the peer has not announced the id.
-use Rattle.std.proofs.Common.{◌≡◌, ◌∙◌, Bool, true, false, not, [], ◌∷◌, ◌++◌, ap, sym, subst, refl}
-use Rattle.std.specs.Prelude.{IfOk, if◌then◌else◌}
+use Rattle.std.proofs.Common.{◌≡◌, ◌∙◌, ◌++◌, ◌∷◌, [], Some, true, false, cond, length, sym, ap, subst, refl}
+use Rattle.std.specs.Prelude.{is_some, OnOk, if◌then◌else◌}
 use Rattle.std.specs.Result.{is_ok}
-use Rattle.std.specs.declared.result.Result.{Result}
-use Rattle.std.specs.declared.result.Result.TheVariants.{Ok}
-use Rattle.missing.specs.Wants.{is_wanted}
-use Rattle.missing.proofs.PlaceLemmas.{is_place-wanted, with_want-new, with_want-old}
+use Rattle.indexmap.specs.IndexMap.{get, Updates}
+use Rattle.node_names.specs.Slots.{somes}
+use Rattle.missing.specs.Slots.{place, has_place}
+use Rattle.missing.specs.Wants.{is_wanted, same_place}
+use Rattle.missing.proofs.SlotLemmas.{lacks}
+use Rattle.missing.proofs.SlotWants.{wanted-place, put-old, put-new, put-placed}
 use Rattle.missing.proofs.wants.put.Goals as goal
 
-not_not : (b : Bool) → not (not b) ≡ b
-not_not true = refl
-not_not false = refl
+pub returns-then-contains_key-clause-wants : goal.returns-then-contains_key-clause-wants
+returns-then-contains_key-clause-wants g c = put-old c.args.slots.now.items c.args.entry.now.0 c.args.entry.now.1 c.args.entry.now.2 (wanted-place c.args.slots.now.items c.args.entry.now.0 c.args.entry.now.1 ∙ sym (ap is_some (c.requires.placed (c.args.entry.now.0, c.args.entry.now.1))) ∙ sym c.contains_key.ensures ∙ c.if-contains_key.true)
 
--- what an insertion answers
-was_there : {E : Type 0} (there b : Bool) (r : Result Bool E) → r ≡ Ok b → IfOk r (λ new. new ≡ not there) → there ≡ not b
-was_there {E} there b r is new = sym (ap not (subst (λ (s : Result Bool E). IfOk s (λ n. n ≡ not there)) is new) ∙ not_not there)
+pushed : (g : _) (c : goal.After-unwrap-2 g) → c.push.new.self.items ≡ c.args.slots.now.items ++ Some c.args.entry.now ∷ []
+pushed g c = c.push.ensures.items ∙ ap (λ r. if is_ok r then c.args.slots.now.items ++ Some c.args.entry.now ∷ [] else c.args.slots.now.items) c.unwrap-2.ensures
 
-pub returns-then-is_new-clause-items : goal.returns-then-is_new-clause-items
-returns-then-is_new-clause-items g c =
-    c.push.ensures.items
-    ∙ ap (λ r. if is_ok r then c.args.wants.now.list.items ++ c.args.entry.now ∷ [] else c.args.wants.now.list.items) c.unwrap.ensures
-    ∙ sym (with_want-new c.args.entry.now.0 c.args.entry.now.1 c.args.entry.now.2 c.args.wants.now.list.items new)
-  where
-    new : is_wanted c.args.entry.now.0 c.args.entry.now.1 c.args.wants.now.list.items ≡ false
-    new = sym (is_place-wanted c.args.entry.now.0 c.args.entry.now.1 c.args.wants.now.list.items c.args.wants.now.places.keys c.requires.places) ∙ was_there _ _ c.insert.result c.unwrap-is_new.ensures c.insert.ensures.added ∙ ap not c.if-is_new.true
+pub returns-clause-wants : goal.returns-clause-wants
+returns-clause-wants g c = ap somes (pushed g c) ∙ put-new c.args.slots.now.items c.args.entry.now.0 c.args.entry.now.1 c.args.entry.now.2 (wanted-place c.args.slots.now.items c.args.entry.now.0 c.args.entry.now.1 ∙ sym (ap is_some (c.requires.placed (c.args.entry.now.0, c.args.entry.now.1))) ∙ sym c.contains_key.ensures ∙ c.if-contains_key.false)
 
-pub returns-else-is_new-clause-items : goal.returns-else-is_new-clause-items
-returns-else-is_new-clause-items g c = sym (with_want-old c.args.entry.now.0 c.args.entry.now.1 c.args.entry.now.2 c.args.wants.now.list.items there)
-  where
-    there : is_wanted c.args.entry.now.0 c.args.entry.now.1 c.args.wants.now.list.items ≡ true
-    there = sym (is_place-wanted c.args.entry.now.0 c.args.entry.now.1 c.args.wants.now.list.items c.args.wants.now.places.keys c.requires.places) ∙ was_there _ _ c.insert.result c.unwrap-is_new.ensures c.insert.ensures.added ∙ ap not c.if-is_new.false
+pub returns-clause-placed : goal.returns-clause-placed
+returns-clause-placed g c at =
+    put-placed c.args.slots.now.items (get same_place c.args.places.now) (get same_place c.insert.new.self) c.requires.placed c.args.entry.now
+      (lacks (get same_place c.args.places.now (c.args.entry.now.0, c.args.entry.now.1)) (sym c.contains_key.ensures ∙ c.if-contains_key.false))
+      (λ k. (subst (λ r. OnOk r (Updates same_place c.args.places.now c.insert.new.self (c.args.entry.now.0, c.args.entry.now.1) (Some c.len.result))) c.unwrap.ensures c.insert.ensures.updates).0 k ∙ ap (λ n. cond (same_place (c.args.entry.now.0, c.args.entry.now.1) k) (Some n) (get same_place c.args.places.now k)) (c.len.ensures ∙ c.args.slots.now.ok.0))
+      at
+    ∙ ap (place (has_place at)) (sym (pushed g c))

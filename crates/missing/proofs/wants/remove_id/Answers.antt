@@ -1,16 +1,9 @@
-use Rattle.std.proofs.Common.{◌∙◌, not, filter, map, ap, sym, rules}
-use Rattle.std.proofs.lemmas.Fn.{filter_same}
+use Rattle.std.proofs.Common.{not, sym, subst}
 use Rattle.node_names.specs.Same.{same_id}
-use Rattle.missing.specs.Wants.{place_of}
-use Rattle.missing.proofs.PlaceLemmas.{places-filter}
+use Rattle.node_names.specs.Slots.{somes}
+use Rattle.missing.specs.Slots.{AreBy}
+use Rattle.missing.proofs.SlotWants.{by-filter}
 use Rattle.missing.proofs.wants.remove_id.Goals as goal
 
-pub returns-clause-items : goal.returns-clause-items
-returns-clause-items g c = filter_same _ _ _ (λ x b f' k. search rules) _ _ c.retain.ensures.filtered
-
-pub returns-clause-places : goal.returns-clause-places
-returns-clause-places g c =
-    filter_same _ _ _ (λ x b f' k. search rules) _ _ c.retain-2.ensures.filtered
-    ∙ ap (filter (λ place. not (same_id c.args.id.now place.0))) c.requires
-    ∙ places-filter (λ place. not (same_id c.args.id.now place.0)) c.args.wants.now.list.items
-    ∙ ap (map place_of) (sym (filter_same _ _ _ (λ x b f' k. search rules) _ _ c.retain.ensures.filtered))
+pub returns-clause-kept : goal.returns-clause-kept
+returns-clause-kept g c = (c.remove_by.ensures.placed, subst (AreBy c.args.wants.now.peers.keys) (sym c.remove_by.ensures.left) (by-filter c.args.wants.now.peers.keys (λ entry. not (same_id c.args.id.now entry.0)) (somes c.args.wants.now.slots.items) c.requires.kept.1))

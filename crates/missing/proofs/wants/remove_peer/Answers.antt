@@ -1,16 +1,8 @@
-use Rattle.std.proofs.Common.{◌∙◌, not, filter, map, ap, sym, rules}
-use Rattle.std.proofs.lemmas.Fn.{filter_same}
-use Rattle.node_names.specs.Same.{same_name}
-use Rattle.missing.specs.Wants.{place_of}
-use Rattle.missing.proofs.PlaceLemmas.{places-filter}
+use Rattle.std.proofs.Common.{sym, subst}
+use Rattle.node_names.specs.Slots.{somes}
+use Rattle.missing.specs.Slots.{AreBy}
+use Rattle.missing.proofs.SlotWants.{by-shrunk}
 use Rattle.missing.proofs.wants.remove_peer.Goals as goal
 
-pub returns-clause-items : goal.returns-clause-items
-returns-clause-items g c = filter_same _ _ _ (λ x b f' k. search rules) _ _ c.retain.ensures.filtered
-
-pub returns-clause-places : goal.returns-clause-places
-returns-clause-places g c =
-    filter_same _ _ _ (λ x b f' k. search rules) _ _ c.retain-2.ensures.filtered
-    ∙ ap (filter (λ place. not (same_name c.args.peer.now place.1))) c.requires
-    ∙ places-filter (λ place. not (same_name c.args.peer.now place.1)) c.args.wants.now.list.items
-    ∙ ap (map place_of) (sym (filter_same _ _ _ (λ x b f' k. search rules) _ _ c.retain.ensures.filtered))
+pub returns-clause-kept : goal.returns-clause-kept
+returns-clause-kept g c = (c.remove_of.ensures.placed, subst (AreBy c.swap_remove.new.self.keys) (sym c.remove_of.ensures.left) (by-shrunk c.args.wants.now.peers.keys c.swap_remove.new.self.keys c.args.peer.now (somes c.args.wants.now.slots.items) c.swap_remove.ensures.updates.0 c.requires.kept.1))

@@ -1,17 +1,22 @@
-use Rattle.std.proofs.Common.{◌∙◌, not, filter, map, ap, sym, rules}
-use Rattle.std.proofs.lemmas.Fn.{filter_same}
-use Rattle.std.specs.List.{list_any}
+use Rattle.std.proofs.Common.{◌∙◌, not, map, take, get_or, sym, ap, subst}
+use Rattle.std.specs.List.{IsDistinct}
 use Rattle.node_names.specs.Same.{same_name}
-use Rattle.missing.specs.Wants.{place_of}
-use Rattle.missing.proofs.PlaceLemmas.{places-filter, without_peers-once}
+use Rattle.node_names.specs.Slots.{somes}
+use Rattle.missing.specs.Slots.{AreArmed}
+use Rattle.missing.specs.Wants.{place_of, same_place, without_peer}
+use Rattle.missing.proofs.SlotWants.{armed-filter, without_peers-take}
+use Rattle.missing.proofs.SoundLemmas.{once-filter}
 use Rattle.missing.proofs.wants.remove_peers.Goals as goal
 
-pub returns-clause-items : goal.returns-clause-items
-returns-clause-items g c = filter_same _ _ _ (λ x b f' k. search rules) _ _ c.retain.ensures.filtered ∙ without_peers-once c.args.peers.now c.args.wants.now.list.items
-
-pub returns-clause-places : goal.returns-clause-places
-returns-clause-places g c =
-    filter_same _ _ _ (λ x b f' k. search rules) _ _ c.retain-2.ensures.filtered
-    ∙ ap (filter (λ place. not (list_any (λ peer. same_name peer place.1) c.args.peers.now))) c.requires
-    ∙ places-filter (λ place. not (list_any (λ peer. same_name peer place.1) c.args.peers.now)) c.args.wants.now.list.items
-    ∙ ap (map place_of) (sym (filter_same _ _ _ (λ x b f' k. search rules) _ _ c.retain.ensures.filtered))
+pub loop-peer-preserved : goal.loop-peer-preserved
+loop-peer-preserved g c =
+    record {
+      left =
+          c.remove_peer.ensures.left
+          ∙ ap (λ peer. without_peer peer (somes c.loop-peer.wants.slots.items)) c.peer-item.is
+          ∙ ap (without_peer (get_or c.args.peers.now c.loop-peer.peer-index c.peer-item.result)) c.loop-peer.invariant.left
+          ∙ sym (without_peers-take c.args.peers.now c.loop-peer.peer-index c.peer-item.result (somes c.args.wants.now.slots.items) c.loop-peer-test.true);
+      kept = c.remove_peer.ensures.kept;
+      once = subst (λ wants. IsDistinct same_place (map place_of wants)) (sym c.remove_peer.ensures.left) (once-filter (λ entry. not (same_name c.peer-item.result entry.1)) (somes c.loop-peer.wants.slots.items) c.loop-peer.invariant.once);
+      armed = subst (AreArmed (somes c.args.ids.now)) (sym c.remove_peer.ensures.left) (armed-filter (somes c.args.ids.now) (λ entry. not (same_name c.peer-item.result entry.1)) (somes c.loop-peer.wants.slots.items) c.loop-peer.invariant.armed);
+    }
