@@ -1,5 +1,5 @@
 -- Slots, and the places of what they hold.
-use Rattle.std.proofs.Common.{◌≡◌, ◌∙◌, ◌||◌, ◌<◌, ℕ, zero, suc, Bool, true, false, not, cond, List, [], ◌∷◌, ◌++◌, Option, None, Some, filter, map, length, sym, ap, subst, refl}
+use Rattle.std.proofs.Common.{◌≡◌, ◌∙◌, ◌||◌, ◌+◌, ◌<◌, ◌≤◌, ℕ, zero, suc, Bool, true, false, not, cond, List, [], ◌∷◌, ◌++◌, Option, None, Some, filter, map, length, take, drop, sym, ap, subst, refl, arith}
 use Rattle.std.specs.Prelude.{set, slice_get, is_some, unwrap_or}
 use Rattle.std.specs.Bool.{Decides}
 use Rattle.std.specs.List.{AllByRecursion as Each, IsDistinct, list_any}
@@ -7,7 +7,7 @@ use Rattle.std.proofs.lemmas.Option.{slice_get_within}
 use Rattle.std.proofs.lemmas.Bool.{false≢true, true≢false}
 use Rattle.std.proofs.lemmas.Map.Keys.{IsDistinct-head, IsDistinct-tail}
 use Rattle.node_names.specs.Slots.{somes}
-use Rattle.missing.specs.Slots.{later, place, holds}
+use Rattle.missing.specs.Slots.{AreGone, later, place, holds}
 
 -- ---- places
 
@@ -15,9 +15,9 @@ pub later-None : (r : Option ℕ) → later r ≡ None → r ≡ None
 later-None None is = refl
 later-None (Some n) is = absurd (true≢false (ap is_some is))
 
-pub lacks : (r : Option ℕ) → is_some r ≡ false → r ≡ None
+pub lacks : {X : Type 0} (r : Option X) → is_some r ≡ false → r ≡ None
 lacks None is = refl
-lacks (Some n) is = absurd (true≢false is)
+lacks (Some x) is = absurd (true≢false is)
 
 is_some-later : (r : Option ℕ) → is_some r ≡ is_some (later r)
 is_some-later None = refl
@@ -97,6 +97,43 @@ module _ {X : Type 0} (t : X → Bool) where
 pub within-place : {X : Type 0} (t : X → Bool) (xs : List X) (n : ℕ) → place t xs ≡ Some n → n < length xs
 within-place t xs n is = slice_get_within xs n (place-passes t xs n is).0 (place-passes t xs n is).1
 
+-- ---- empty slots at the front
+
+pub gone-push : {X : Type 0} (n : ℕ) (slots more : List (Option X)) → AreGone n slots → AreGone n (slots ++ more)
+gone-push zero slots more gone = tt
+gone-push (suc n) [] more gone = absurd gone
+gone-push (suc n) (None ∷ slots) more gone = gone-push n slots more gone
+gone-push (suc n) (Some x ∷ slots) more gone = absurd gone
+
+pub gone-set : {X : Type 0} (n k : ℕ) (slots : List (Option X)) → AreGone n slots → AreGone n (set slots k None)
+gone-set zero k slots gone = tt
+gone-set (suc n) k [] gone = absurd gone
+gone-set (suc n) zero (None ∷ slots) gone = gone
+gone-set (suc n) (suc k) (None ∷ slots) gone = gone-set n k slots gone
+gone-set (suc n) k (Some x ∷ slots) gone = absurd gone
+
+gone-more : {X : Type 0} (n : ℕ) (slots : List (Option X)) → AreGone n slots → slice_get slots n ≡ Some None → AreGone (suc n) slots
+gone-more n [] gone at = absurd (false≢true (ap is_some at))
+gone-more zero (None ∷ slots) gone at = tt
+gone-more zero (Some x ∷ slots) gone at = absurd (true≢false (ap is_some (ap (λ o. unwrap_or o None) at)))
+gone-more (suc n) (None ∷ slots) gone at = gone-more n slots gone at
+gone-more (suc n) (Some x ∷ slots) gone at = absurd gone
+
+pub gone-next : {X : Type 0} (n : ℕ) (slots : List (Option X)) → AreGone n slots → slice_get slots n ≡ Some None → AreGone (n + 1) slots
+gone-next n slots gone at = let next : suc n ≡ n + 1 = omega arith in subst (λ k. AreGone k slots) next (gone-more n slots gone at)
+
+pub gone-within : {X : Type 0} (n : ℕ) (slots : List (Option X)) → AreGone n slots → n ≤ length slots
+gone-within zero slots gone = omega arith
+gone-within (suc n) [] gone = absurd gone
+gone-within (suc n) (None ∷ slots) gone = let h : n ≤ length slots = gone-within n slots gone in omega arith
+gone-within (suc n) (Some x ∷ slots) gone = absurd gone
+
+pub gone-somes : {X : Type 0} (n : ℕ) (slots : List (Option X)) → AreGone n slots → somes (drop n slots) ≡ somes slots
+gone-somes zero slots gone = refl
+gone-somes (suc n) [] gone = absurd gone
+gone-somes (suc n) (None ∷ slots) gone = gone-somes n slots gone
+gone-somes (suc n) (Some x ∷ slots) gone = absurd gone
+
 -- ---- slots whose keys differ
 
 module _ {K X : Type 0} (eq : K → K → Bool) (decides : (a b : K) → Decides (eq a b) (a ≡ b)) (key : X → K) where
@@ -152,6 +189,28 @@ module _ {K X : Type 0} (eq : K → K → Bool) (decides : (a b : K) → Decides
           ∙ sym (filter-others k (somes slots) (subst (λ j. Each (λ other. eq j other ≡ false) (map key (somes slots))) (sym ((decides k (key x)).0 same)) (IsDistinct-head eq (key x) (map key (somes slots)) distinct)))
           ∙ ap (λ b. cond (not b) (x ∷ others) others) (sym same)
       go false fails h rest = by (place (holds eq key k) slots) refl h rest ∙ ap (λ b. cond (not b) (x ∷ others) others) (sym fails)
+
+  -- what holds of each that is left holds of one of them
+  each-at : (P : K → Type 0) (slots : List (Option X)) (n : ℕ) (x : X) → Each P (map key (somes slots)) → slice_get slots n ≡ Some (Some x) → P (key x)
+  each-at P [] n x h at = absurd (false≢true (ap is_some at))
+  each-at P (None ∷ slots) zero x h at = absurd (false≢true (ap is_some (ap (λ o. unwrap_or o None) at)))
+  each-at P (None ∷ slots) (suc n) x h at = each-at P slots n x h at
+  each-at P (Some y ∷ slots) zero x h at = subst (λ z. P (key z)) (ap (λ o. unwrap_or o y) (ap (λ o. unwrap_or o None) at)) h.0
+  each-at P (Some y ∷ slots) (suc n) x h at = each-at P slots n x h.1 at
+
+  -- none before one has its key
+  pub none_before : (slots : List (Option X)) (n : ℕ) (x : X) → IsDistinct eq (map key (somes slots)) → slice_get slots n ≡ Some (Some x) → list_any (λ y. eq (key x) (key y)) (somes (take n slots)) ≡ false
+  none_before [] n x distinct at = absurd (false≢true (ap is_some at))
+  none_before (slot ∷ slots) zero x distinct at = refl
+  none_before (None ∷ slots) (suc n) x distinct at = none_before slots n x distinct at
+  none_before (Some y ∷ slots) (suc n) x distinct at = ap (λ b. b || list_any (λ z. eq (key x) (key z)) (somes (take n slots))) (turned (eq (key x) (key y)) refl) ∙ none_before slots n x (IsDistinct-tail eq (key y) (map key (somes slots)) distinct) at
+    where
+      apart : eq (key y) (key x) ≡ false
+      apart = each-at (λ other. eq (key y) other ≡ false) slots n x (IsDistinct-head eq (key y) (map key (somes slots)) distinct) at
+
+      turned : (b : Bool) → eq (key x) (key y) ≡ b → eq (key x) (key y) ≡ false
+      turned false is = is
+      turned true is = absurd (false≢true (sym apart ∙ ap (eq (key y)) ((decides (key x) (key y)).0 is) ∙ (decides (key y) (key y)).1 refl))
 
   -- whether a key has a place
   pub any-place : (k : K) (slots : List (Option X)) → list_any (λ x. eq k (key x)) (somes slots) ≡ is_some (place (holds eq key k) slots)

@@ -6,15 +6,16 @@ use Rattle.std.proofs.lemmas.Bool.{false≢true, true≢false}
 use Rattle.std.proofs.lemmas.List.{append-nil, take_more}
 use Rattle.std.proofs.lemmas.List.Folds.{list_any-append}
 use Rattle.std.proofs.lemmas.Map.Keys.{IsDistinct-head, IsDistinct-tail}
+use Rattle.std.proofs.lemmas.Option.{slice_get-get_or}
 use Rattle.node_names.specs.NodeName.{Name}
 use Rattle.node_names.specs.Same.{same_name, same_name-Decides, same_id, same_id-Decides, has_id, has_name}
 use Rattle.node_names.specs.Slots.{somes}
 use Rattle.node_names.specs.declared.ids.MsgId.{MsgId}
 use Rattle.node_names.proofs.Distinct.{each-filter, each-weaker}
 use Rattle.missing.specs.Slots.{later, place, earlier, lower, has_place, is_of, is_by, is_any_by, AreArmed, AreBy}
-use Rattle.missing.specs.Wants.{place_of, same_place, is_wanted, with_want, first_want, without_first, without_id, without_peer, without_peers, without_place, without_slot}
+use Rattle.missing.specs.Wants.{place_of, same_place, is_wanted, with_slot, with_want, first_want, without_first, without_id, without_peer, without_peers, without_place, without_slot}
 use Rattle.missing.proofs.PlaceLemmas.{filter-both, filter-nothing, with_want-new, with_want-old}
-use Rattle.missing.proofs.SlotLemmas.{any-place, filter-unplaced, later-None, placed-push, placed-taken_out, some_same, somes-append, somes-taken_out}
+use Rattle.missing.proofs.SlotLemmas.{any-place, filter-unplaced, later-None, none_before, placed-push, placed-taken_out, some_same, somes-append, somes-taken_out}
 use Rattle.missing.proofs.SoundLemmas.{once-filter, same_place-Decides}
 
 -- ---- one announcement
@@ -290,3 +291,11 @@ without_peers-push (first ∷ peers) peer wants = without_peers-push peers peer 
 
 pub without_peers-take : (peers : List Name) (i : ℕ) (d : Name) (wants : List (MsgId × Name × ℕ)) → i < length peers → without_peers (take (i + 1) peers) wants ≡ without_peer (get_or peers i d) (without_peers (take i peers) wants)
 without_peers-take peers i d wants within = ap (λ those. without_peers those wants) (take_more peers i d within) ∙ without_peers-push (take i peers) (get_or peers i d) wants
+
+-- one more of a copy
+pub copy-step : (slots : List (Option (MsgId × Name × ℕ))) (i : ℕ) (d : Option (MsgId × Name × ℕ)) → IsDistinct same_place (map place_of (somes slots)) → i < length slots → with_slot (get_or slots i d) (somes (take i slots)) ≡ somes (take (i + 1) slots)
+copy-step slots i d once within = go (get_or slots i d) refl ∙ ap somes (sym (take_more slots i d within))
+  where
+    go : (slot : Option (MsgId × Name × ℕ)) → get_or slots i d ≡ slot → with_slot slot (somes (take i slots)) ≡ somes (take i slots ++ slot ∷ [])
+    go None is = sym (somes-append (take i slots) (None ∷ []) ∙ append-nil (somes (take i slots)))
+    go (Some entry) is = sym (put-new (take i slots) entry.0 entry.1 entry.2 (none_before same_place same_place-Decides place_of slots i entry once (slice_get-get_or slots i d within ∙ ap Some is)))

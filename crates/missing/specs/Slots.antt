@@ -1,5 +1,5 @@
 -- Lists from which entries are taken out without moving the others, and the places of their entries.
-use Rattle.std.specs.Prelude.{◌≡◌, ◌&&◌, ℕ, zero, suc, Bool, false, List, [], ◌∷◌, Option, None, Some, cond, true}
+use Rattle.std.specs.Prelude.{◌≡◌, ◌&&◌, ℕ, zero, suc, Bool, false, List, [], ◌∷◌, Option, None, Some, cond, true, ⊤}
 use Rattle.std.specs.List.{AllByRecursion as Each}
 use Rattle.indexmap.specs.IndexMap.{IndexMap, get}
 use Rattle.node_names.specs.NodeName.{Name}
@@ -46,9 +46,16 @@ abbrev pub is_any_by : List MsgId → Name → Option (MsgId × Name × ℕ) →
 is_any_by ids peer None = false
 is_any_by ids peer (Some entry) = has_id ids entry.0 && same_name peer entry.1
 
--- the map has the place of each timer, and nothing else
-abbrev pub AreTimed : {S : Type 0} → List (Option MsgId) → IndexMap MsgId ℕ S → Type 0
-AreTimed slots places = (id : MsgId) → get same_id places id ≡ place (has_timer id) slots
+-- so many slots at the front are empty
+abbrev pub AreGone : {X : Type 0} → ℕ → List (Option X) → Type 0
+AreGone zero slots = ⊤
+AreGone (suc n) [] = ⊥
+AreGone (suc n) (None ∷ slots) = AreGone n slots
+AreGone (suc n) (Some x ∷ slots) = ⊥
+
+-- the map has the place of each timer, and nothing else, and so many slots at the front are empty
+abbrev pub AreTimed : {S : Type 0} → List (Option MsgId) → IndexMap MsgId ℕ S → ℕ → Type 0
+AreTimed slots places gone = ((id : MsgId) → get same_id places id ≡ place (has_timer id) slots) × AreGone gone slots
 
 -- the map has the place of each announcement, and nothing else
 abbrev pub ArePlaced : {S : Type 0} → List (Option (MsgId × Name × ℕ)) → IndexMap (MsgId × Name) ℕ S → Type 0

@@ -1,5 +1,5 @@
 -- The ids whose timers are armed.
-use Rattle.std.specs.Prelude.{ℕ, not, List, [], ◌∷◌, ◌++◌, filter, if◌then◌else◌}
+use Rattle.std.specs.Prelude.{ℕ, not, List, [], ◌∷◌, ◌++◌, filter, Option, None, Some, if◌then◌else◌}
 use Rattle.node_names.specs.Same.{same_id, has_id}
 use Rattle.node_names.specs.declared.ids.MsgId.{MsgId}
 
@@ -11,6 +11,11 @@ with_timer id timers = if has_id timers id then timers else timers ++ id ∷ []
 abbrev pub with_timers : List (MsgId × ℕ) → List MsgId → List MsgId
 with_timers [] timers = timers
 with_timers (announced ∷ more) timers = with_timers more (with_timer announced.0 timers)
+
+-- the timers with that of the id added last, where there is an id
+abbrev pub with_slot : Option MsgId → List MsgId → List MsgId
+with_slot None timers = timers
+with_slot (Some id) timers = with_timer id timers
 
 -- the timers without that of the id
 abbrev pub without_timer : MsgId → List MsgId → List MsgId

@@ -26,6 +26,11 @@ abbrev pub with_wants : Name → List (MsgId × ℕ) → List (MsgId × Name × 
 with_wants peer [] wants = wants
 with_wants peer (announced ∷ more) wants = with_wants peer more (with_want announced.0 peer announced.1 wants)
 
+-- the entries with that of the slot added last, where there is one and unless there is one for its id and peer
+abbrev pub with_slot : Option (MsgId × Name × ℕ) → List (MsgId × Name × ℕ) → List (MsgId × Name × ℕ)
+with_slot None wants = wants
+with_slot (Some entry) wants = with_want entry.0 entry.1 entry.2 wants
+
 -- the peer and the round of the first entry of the id
 abbrev pub first_want : MsgId → List (MsgId × Name × ℕ) → Option (Name × ℕ)
 first_want id [] = None

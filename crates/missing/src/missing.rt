@@ -39,7 +39,12 @@ impl<A: Allocator> Model for Missing<A> {
 
     ghost view = { λ m. record { wants = somes m.wants.slots.items; timers = somes m.timers.slots.items } };
 
-    ghost invariant = { λ m. IsSound (record { wants = somes m.wants.slots.items; timers = somes m.timers.slots.items }) × IsKept m.wants.slots.items m.wants.places m.wants.peers.keys × AreTimed m.timers.slots.items m.timers.places };
+    ghost invariant = { λ m. IsSound (record { wants = somes m.wants.slots.items; timers = somes m.timers.slots.items }) × IsKept m.wants.slots.items m.wants.places m.wants.peers.keys × AreTimed m.timers.slots.items m.timers.places m.timers.gone };
+}
+
+/// Whether most slots are empty, and enough of them to be worth a copy.
+fn is_sparse<T>(slots: &[Option<T>], left: usize) -> bool {
+    slots.len() > 64 && slots.len() / 2 > left
 }
 
 /// Appends an announcement, unless its peer has announced its id already, and arms the timer of its id. Does not
@@ -51,13 +56,13 @@ fn put<A: Allocator + Copy>(wants: &mut Wants<A>, timers: &mut Timers<A>, entry:
     requires timer { 0 < spare timers.old.places }
     requires known { has_name wants.old.peers.keys entry.now.1 ≡ true }
     requires kept { IsKept wants.old.slots.items wants.old.places wants.old.peers.keys }
-    requires timed { AreTimed timers.old.slots.items timers.old.places }
+    requires timed { AreTimed timers.old.slots.items timers.old.places timers.old.gone }
     ensures new { result ≡ not (has_id (somes timers.old.slots.items) entry.now.0) }
     ensures wants { somes wants.new.slots.items ≡ with_want entry.now.0 entry.now.1 entry.now.2 (somes wants.old.slots.items) }
     ensures peers { wants.new.peers.keys ≡ wants.old.peers.keys }
     ensures kept { IsKept wants.new.slots.items wants.new.places wants.new.peers.keys }
     ensures timers { somes timers.new.slots.items ≡ with_timer entry.now.0 (somes timers.old.slots.items) }
-    ensures timed { AreTimed timers.new.slots.items timers.new.places }
+    ensures timed { AreTimed timers.new.slots.items timers.new.places timers.new.gone }
     ensures len { vec_len wants.new.slots ≤ vec_len wants.old.slots + 1 }
     ensures capacity { vec_capacity wants.old.slots ≤ vec_capacity wants.new.slots }
     ensures places { spare wants.old.places ≤ spare wants.new.places + 1 }
@@ -83,11 +88,11 @@ fn put_all<A: Allocator + Copy>(
     requires spare { length entries.now ≤ spare timers.old.places }
     requires known { has_name wants.old.peers.keys peer.now ≡ true }
     requires kept { IsKept wants.old.slots.items wants.old.places wants.old.peers.keys }
-    requires timed { AreTimed timers.old.slots.items timers.old.places }
+    requires timed { AreTimed timers.old.slots.items timers.old.places timers.old.gone }
     ensures wants { somes wants.new.slots.items ≡ with_wants peer.now entries.now (somes wants.old.slots.items) }
     ensures kept { IsKept wants.new.slots.items wants.new.places wants.new.peers.keys }
     ensures timers { somes timers.new.slots.items ≡ with_timers entries.now (somes timers.old.slots.items) }
-    ensures timed { AreTimed timers.new.slots.items timers.new.places }
+    ensures timed { AreTimed timers.new.slots.items timers.new.places timers.new.gone }
 {
     for entry in entries {
         put(wants, timers, &(entry.0, *peer, entry.1));
@@ -103,12 +108,12 @@ fn take_first<A: Allocator>(
 ) -> Option<(NodeName, u32)>
     requires sound { IsSound (record { wants = somes wants.old.slots.items; timers = somes timers.old.slots.items }) }
     requires kept { IsKept wants.old.slots.items wants.old.places wants.old.peers.keys }
-    requires timed { AreTimed timers.old.slots.items timers.old.places }
+    requires timed { AreTimed timers.old.slots.items timers.old.places timers.old.gone }
     ensures taken { result ≡ first_want id.now (somes wants.old.slots.items) }
     ensures wants { somes wants.new.slots.items ≡ without_first id.now (somes wants.old.slots.items) }
     ensures kept { IsKept wants.new.slots.items wants.new.places wants.new.peers.keys }
     ensures timers { somes timers.new.slots.items ≡ (if is_some (first_want id.now (somes wants.old.slots.items)) then somes timers.old.slots.items else without_timer id.now (somes timers.old.slots.items)) }
-    ensures timed { AreTimed timers.new.slots.items timers.new.places }
+    ensures timed { AreTimed timers.new.slots.items timers.new.places timers.new.gone }
 {
     let first = wants::take_first(wants, id);
     if first.is_none() {
@@ -129,10 +134,7 @@ impl<A: Allocator + Copy> Missing<A> {
                 places: IndexMap::new(alloc),
                 peers: IndexSet::new(alloc),
             },
-            timers: Timers {
-                slots: Vec::new(alloc),
-                places: IndexMap::new(alloc),
-            },
+            timers: Timers::new(alloc),
         }
     }
 
@@ -146,6 +148,7 @@ impl<A: Allocator + Copy> Missing<A> {
         ensures ok { OnOk result (self.new ≡ announced peer.now id.now round self.old) }
         ensures err { OnErr result (self.new ≡ self.old) }
     {
+        self.tidy()?;
         self.wants.slots.reserve(1)?;
         self.wants.places.reserve(1)?;
         self.timers.slots.reserve(1)?;
@@ -165,12 +168,35 @@ impl<A: Allocator + Copy> Missing<A> {
         ensures ok { OnOk result (self.new ≡ announced_all peer.now entries.now self.old) }
         ensures err { OnErr result (self.new ≡ self.old) }
     {
+        self.tidy()?;
         self.wants.slots.reserve(entries.len())?;
         self.wants.places.reserve(entries.len())?;
         self.timers.slots.reserve(entries.len())?;
         self.timers.places.reserve(entries.len())?;
         self.wants.peers.insert(*peer)?;
         put_all(&mut self.wants, &mut self.timers, peer, entries);
+        Ok(())
+    }
+
+    /// Returns a copy of the announcements and timers, without the empty slots.
+    pub fn copy(&self) -> Result<Self, AllocError>
+        ensures { IfOk result (λ copy. copy ≡ self.now) }
+    {
+        Ok(Missing {
+            wants: wants::copy(&self.wants)?,
+            timers: timers::copy(&self.timers)?,
+        })
+    }
+
+    /// Drops the empty slots, if they are many.
+    fn tidy(&mut self) -> Result<(), AllocError>
+        ensures { self.new ≡ self.old }
+    {
+        if is_sparse(&self.wants.slots, self.wants.places.len())
+            || is_sparse(&self.timers.slots, self.timers.places.len())
+        {
+            *self = self.copy()?;
+        }
         Ok(())
     }
 }
@@ -197,14 +223,14 @@ impl<A: Allocator> Missing<A> {
     pub fn down(&mut self, peer: &NodeName)
         ensures { self.new ≡ without peer.now self.old }
     {
-        wants::remove_peer(&mut self.wants, &self.timers.slots, peer);
+        wants::remove_peer(&mut self.wants, timers::slots(&self.timers), peer);
     }
 
     /// Removes the announcements by all of the `peers`, which went down. The timers stay.
     pub fn down_all(&mut self, peers: &[NodeName])
         ensures { self.new ≡ without_all peers.now self.old }
     {
-        wants::remove_peers(&mut self.wants, &self.timers.slots, peers);
+        wants::remove_peers(&mut self.wants, timers::slots(&self.timers), peers);
     }
 
     /// Returns whether the timer of `id` is armed.
@@ -233,6 +259,6 @@ impl<A: Allocator> Missing<A> {
     pub fn timers(&self) -> &[Option<MsgId>]
         ensures { somes result.now ≡ self.now.timers }
     {
-        self.timers.slots.as_slice()
+        timers::slots(&self.timers)
     }
 }

@@ -1,15 +1,15 @@
 //! The announcements of messages that a node lacks, in the order in which they came.
-ghost use Rattle.std.specs.Prelude.{◌≡◌, ◌+◌, ◌<◌, ◌≤◌, true, map, vec_len, vec_capacity};
+ghost use Rattle.std.specs.Prelude.{◌≡◌, ◌+◌, ◌<◌, ◌≤◌, true, map, vec_len, vec_capacity, IfOk, OnOk};
 ghost use Rattle.std.specs.List.{IsDistinct};
 ghost use Rattle.indexmap.specs.IndexMap.{spare};
 ghost use Rattle.node_names.specs.Same.{same_id, same_name};
 ghost use Rattle.node_names.specs.Slots.{somes};
 ghost use Rattle.missing.specs.Slots.{AreArmed, ArePlaced, AreBy, IsKept, earlier, is_of, place};
-ghost use Rattle.missing.specs.Wants.{place_of, same_place, with_want, first_want, without_first, without_id, without_peer, without_peers, without_place, without_slot};
+ghost use Rattle.missing.specs.Wants.{place_of, same_place, with_slot, with_want, first_want, without_first, without_id, without_peer, without_peers, without_place, without_slot};
 
 use indexmap::IndexMap;
 use node_names::{MsgId, NameSet, NodeName};
-use std::alloc::Allocator;
+use std::alloc::{AllocError, Allocator};
 use std::hash::{BuildHasherDefault, FoldHasher};
 
 /// An announcement of a message that the node lacks: the message id, the announcing peer and the round.
@@ -50,6 +50,45 @@ pub(crate) fn put<A: Allocator + Copy>(
     }
     places.insert(place, slots.len()).unwrap();
     slots.push(Some(*entry)).unwrap();
+}
+
+/// Appends the announcement in the slot, if there is one, unless its peer has announced its id already.
+fn put_slot<A: Allocator + Copy>(
+    slots: &mut Vec<Option<Want>, A>,
+    places: &mut Places<A>,
+    slot: &Option<Want>,
+) -> Result<(), AllocError>
+    requires placed { ArePlaced slots.old.items places.old }
+    ensures wants { OnOk result (somes slots.new.items ≡ with_slot slot.now (somes slots.old.items)) }
+    ensures placed { OnOk result (ArePlaced slots.new.items places.new) }
+{
+    if let Some(entry) = slot {
+        slots.reserve(1)?;
+        places.reserve(1)?;
+        put(slots, places, entry);
+    }
+    Ok(())
+}
+
+/// Returns a copy without the empty slots.
+pub(crate) fn copy<A: Allocator + Copy>(wants: &Wants<A>) -> Result<Wants<A>, AllocError>
+    requires kept { IsKept wants.now.slots.items wants.now.places wants.now.peers.keys }
+    requires once { IsDistinct same_place (map place_of (somes wants.now.slots.items)) }
+    ensures wants { IfOk result (λ copy. somes copy.slots.items ≡ somes wants.now.slots.items) }
+    ensures kept { IfOk result (λ copy. IsKept copy.slots.items copy.places copy.peers.keys) }
+{
+    let alloc = *wants.slots.allocator();
+    let mut slots = Vec::new(alloc);
+    let mut places = IndexMap::new(alloc);
+    for slot in wants.slots.as_slice() {
+        put_slot(&mut slots, &mut places, slot)?;
+    }
+    let peers = wants.peers.clone()?;
+    Ok(Wants {
+        slots,
+        places,
+        peers,
+    })
 }
 
 /// Returns the lower place.

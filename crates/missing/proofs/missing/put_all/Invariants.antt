@@ -14,7 +14,7 @@ invariant-loop-entry g l =
       kept : IsKept l.wants.slots.items l.wants.places l.wants.peers.keys;
       known : has_name l.wants.peers.keys l.peer ≡ true;
       timers : somes l.timers.slots.items ≡ with_timers (take l.entry-index l.entries) (somes l.fn.timers.slots.items);
-      timed : AreTimed l.timers.slots.items l.timers.places;
+      timed : AreTimed l.timers.slots.items l.timers.places l.timers.gone;
       room : vec_len l.wants.slots + length l.entries ≤ vec_capacity l.wants.slots + l.entry-index;
       places : length l.entries ≤ spare l.wants.places + l.entry-index;
       timer_room : vec_len l.timers.slots + length l.entries ≤ vec_capacity l.timers.slots + l.entry-index;

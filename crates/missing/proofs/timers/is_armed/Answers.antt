@@ -4,4 +4,4 @@ use Rattle.missing.proofs.TimerLemmas.{armed-place}
 use Rattle.missing.proofs.timers.is_armed.Goals as goal
 
 pub returns : goal.returns
-returns g c = c.contains_key.ensures ∙ ap is_some (c.requires c.args.id.now) ∙ sym (armed-place c.args.timers.now.slots.items c.args.id.now)
+returns g c = c.contains_key.ensures ∙ ap is_some (c.requires.0 c.args.id.now) ∙ sym (armed-place c.args.timers.now.slots.items c.args.id.now)
