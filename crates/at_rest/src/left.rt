@@ -8,6 +8,7 @@ ghost use Rattle.world.specs.Plan.{names_of};
 ghost use Rattle.at_rest.specs.Left.{AreLeft, is_left, is_left_at};
 ghost use Rattle.at_rest.specs.declared.left.Kind.TheVariants.{Announcements, Timers};
 
+use node_core::armed_at;
 use std::alloc::{AllocError, Allocator};
 use std::collections::BTreeSet;
 use world::{Core, World};
@@ -27,7 +28,7 @@ fn is_left<C: Core<A>, A: Allocator>(kind: Kind, core: &C) -> bool
 {
     match kind {
         Kind::Announcements => 0 < core.queued().len(),
-        Kind::Timers => 0 < core.timers().len(),
+        Kind::Timers => armed_at(core.timers(), 0).is_some(),
     }
 }
 

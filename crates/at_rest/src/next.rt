@@ -9,6 +9,7 @@ ghost use Rattle.at_rest.specs.Settling.{IsFirstWith, IsNext, IsSettled, Nothing
 ghost use Rattle.at_rest.specs.declared.left.Kind.TheVariants.{Announcements, Timers};
 
 use crate::left::Left;
+use node_core::armed_at;
 use node_names::{Dice, NodeName};
 use std::alloc::Allocator;
 use world::{Core, Event, EventOf, World};
@@ -65,7 +66,7 @@ fn next_firing<C: Core<A>, A: Allocator + Copy>(
     ensures none { IfNone result (NothingIsLeft (timers_of C.state) world.now.group.nodes) }
 {
     let name = *world.names().get_index(*left.timers.first()?)?;
-    let id = *world.core(&name)?.timers().first()?;
+    let id = armed_at(world.core(&name)?.timers(), 0)?;
     Some(Next {
         event: EventOf::Fire { name, id },
         name,

@@ -1,6 +1,5 @@
 //! Whether a group is at rest for a message.
 ghost use Rattle.std.specs.Prelude.{◌≡◌, ◌↔◌, ◌&&◌, IsTrue};
-ghost use Rattle.node_names.specs.Same.{has_id};
 ghost use Rattle.world.specs.Rest.{IsAtRest};
 ghost use Rattle.world.specs.SpreadLaw.{is_carried};
 ghost use Rattle.at_rest.specs.Silence.{are_quiet, is_announced, is_asked, is_queued, is_quiet, is_quiet_at, is_silent, is_silent_at, is_silent_flight};
@@ -87,19 +86,12 @@ fn is_queued(queued: &[(NodeName, MsgId, u32)], id: &MsgId) -> bool
     queued.iter().any(|entry| *id == entry.1)
 }
 
-/// Whether a timer is armed for the message.
-fn is_timed(timers: &[MsgId], id: &MsgId) -> bool
-    ensures { result ≡ has_id timers.now id.now }
-{
-    timers.iter().any(|timed| id == timed)
-}
-
 /// Whether a core has no announcement of the message queued and no timer for it.
 #[tactic(auto, unfolding(crate::specs::Silence::is_quiet))]
 fn is_quiet<C: Core<A>, A: Allocator>(core: &C, id: &MsgId) -> bool
     ensures { result ≡ is_quiet id.now (C.state core.now) }
 {
-    !is_queued(core.queued(), id) && !is_timed(core.timers(), id)
+    !is_queued(core.queued(), id) && !core.is_armed(id)
 }
 
 /// Whether the core that runs under the name, if there is one, is quiet.

@@ -2,6 +2,7 @@
 ghost use Rattle.std.specs.Prelude.{◌≡◌, ◌↔◌, [], ◌∷◌, ◌++◌, not, map, false, slice_get, IfOk, OnOk, option_map};
 ghost use Rattle.std.specs.Option.{option_map_or};
 ghost use Rattle.node_names.specs.Same.{has_id};
+ghost use Rattle.node_names.specs.Slots.{somes};
 ghost use Rattle.node_names.specs.declared.ids.MsgId.{MsgId};
 ghost use Rattle.world.specs.Group.{core_of};
 ghost use Rattle.world.specs.Rest.{IsAtRest};
@@ -72,12 +73,17 @@ fn add<A: Allocator + Copy>(ids: &mut Ids<A>, id: MsgId) -> Result<(), AllocErro
     Ok(())
 }
 
-/// Adds each of these ids.
-fn add_all<A: Allocator + Copy>(ids: &mut Ids<A>, more: &[MsgId]) -> Result<(), AllocError>
-    ensures { OnOk result (Adds ids.old.keys more.now ids.new.keys) }
+/// Adds each id whose timer is armed.
+fn add_timers<A: Allocator + Copy>(
+    ids: &mut Ids<A>,
+    timers: &[Option<MsgId>],
+) -> Result<(), AllocError>
+    ensures { OnOk result (Adds ids.old.keys (somes timers.now) ids.new.keys) }
 {
-    for id in more {
-        add(ids, *id)?;
+    for timer in timers {
+        if let Some(id) = timer {
+            add(ids, *id)?;
+        }
     }
     Ok(())
 }
@@ -173,7 +179,7 @@ fn add_core<C: Core<A>, A: Allocator + Copy>(ids: &mut Ids<A>, core: &C) -> Resu
     ensures { OnOk result (Adds ids.old.keys (core_ids (C.state core.now)) ids.new.keys) }
 {
     add_queued(ids, core.queued())?;
-    add_all(ids, core.timers())
+    add_timers(ids, core.timers())
 }
 
 /// Adds the messages of the core that runs under the name, if there is one.

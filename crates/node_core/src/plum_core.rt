@@ -256,12 +256,16 @@ impl<A: Allocator + Copy> Core<A> for PlumCore<A> {
         self.gossip.peers().queued()
     }
 
-    fn wants(&self) -> &[(MsgId, NodeName, u32)] {
+    fn wants(&self) -> &[Option<(MsgId, NodeName, u32)>] {
         self.gossip.missing().wants()
     }
 
-    fn timers(&self) -> &[MsgId] {
+    fn timers(&self) -> &[Option<MsgId>] {
         self.gossip.missing().timers()
+    }
+
+    fn is_armed(&self, id: &MsgId) -> bool {
+        self.gossip.missing().armed(id)
     }
 }
 

@@ -2,6 +2,7 @@
 ghost use Rattle.std.specs.Prelude.{◌≡◌, ◌↔◌, List, Option, IsErrOf, IsSome, IfOk, IfSome, OnOk, OnErr};
 ghost use Rattle.node_names.specs.NodeName.{Name};
 ghost use Rattle.node_names.specs.Limits.{Limits};
+ghost use Rattle.node_names.specs.Slots.{somes};
 ghost use Rattle.node_names.specs.declared.ids.Origin.{Origin};
 ghost use Rattle.world.specs.CoreState.{CoreState};
 ghost use Rattle.world.specs.Delivery.{Delivery};
@@ -74,9 +75,9 @@ pub trait NodeCore<A: Allocator>: Sized {
     fn active(&self) -> &NameSet<A>
         ensures { result.now.keys ≡ (state self.now).active };
 
-    /// The ids whose timers are armed, in the order in which they were armed.
-    fn timers(&self) -> &[MsgId]
-        ensures { result.now ≡ (state self.now).timers };
+    /// The ids whose timers are armed, in the order in which they were armed. `None` stands where one was taken out.
+    fn timers(&self) -> &[Option<MsgId>]
+        ensures { somes result.now ≡ (state self.now).timers };
 
     /// No step delivers more than one message, and a broadcast delivers its own.
     ghost delivers_one: { OneDelivery state steps };
@@ -139,7 +140,7 @@ impl<A: Allocator + Copy> NodeCore<A> for PlumCore<A> {
         Core::active(self)
     }
 
-    fn timers(&self) -> &[MsgId] {
+    fn timers(&self) -> &[Option<MsgId>] {
         Core::timers(self)
     }
 }

@@ -16,6 +16,7 @@ use crate::writer_place::WriterPlace;
 use bytes::Bytes;
 use crossbeam_utils::CachePadded;
 use frames::Frame;
+use node_core::armed_ids;
 use node_names::{MsgId, NodeName};
 use rand_pcg::Lcg128Xsl64;
 use std::alloc::{AllocError, Allocator};
@@ -297,7 +298,7 @@ impl<C: NodeCore<A> + Drop, A: Allocator + Copy> Shared<C, A> {
     pub(crate) fn timers<R: Wait>(&self, rt: &R) -> Result<Vec<MsgId, A>, HostError> {
         let alloc = self.alloc;
         let timers = with(rt, &self.cell, |cell| {
-            Vec::from_slice(alloc, cell.core().timers())
+            armed_ids(alloc, cell.core().timers())
         });
         match timers {
             Some(timers) => Ok(timers?),

@@ -1,10 +1,10 @@
 //! What a node's gossip shows and gives, as text.
 use gossip_core::{Effects, Gossip};
-use missing::Missing;
+use missing::{Missing, Want};
 use node_names::MsgId;
 use peer_sets::PeerSets;
 use play_script::bodies::push_body;
-use play_script::lists::{end_line, push_ids, push_payload};
+use play_script::lists::{end_line, push_payload};
 use std::alloc::{AllocError, Allocator};
 use std::fmt::Write;
 
@@ -38,24 +38,37 @@ pub(crate) fn push_peers<A: Allocator>(
     Ok(())
 }
 
+/// Appends the announcements of missing messages, if there are any.
+fn push_wanted(text: &mut String, wants: &[Option<Want>]) -> Result<(), AllocError> {
+    if wants.iter().flatten().next().is_none() {
+        return Ok(());
+    }
+    text.push_str("wanted:")?;
+    for (id, peer, round) in wants.iter().flatten() {
+        write!(text, " {id} {round} from {peer},")?;
+    }
+    end_line(text)
+}
+
+/// Appends the ids whose timers are armed, if there are any.
+fn push_armed(text: &mut String, timers: &[Option<MsgId>]) -> Result<(), AllocError> {
+    if timers.iter().flatten().next().is_none() {
+        return Ok(());
+    }
+    text.push_str("armed:")?;
+    for id in timers.iter().flatten() {
+        write!(text, " {id}")?;
+    }
+    text.push('\n')
+}
+
 /// Appends the announcements of missing messages, and the ids whose timers are armed.
 pub(crate) fn push_missing<A: Allocator>(
     text: &mut String,
     missing: &Missing<A>,
 ) -> Result<(), AllocError> {
-    if !missing.wants().is_empty() {
-        text.push_str("wanted:")?;
-        for (id, peer, round) in missing.wants() {
-            write!(text, " {id} {round} from {peer},")?;
-        }
-        end_line(text)?;
-    }
-    if !missing.timers().is_empty() {
-        text.push_str("armed:")?;
-        push_ids(text, missing.timers())?;
-        text.push('\n')?;
-    }
-    Ok(())
+    push_wanted(text, missing.wants())?;
+    push_armed(text, missing.timers())
 }
 
 /// Appends the messages that are held, in order of delivery, each with its payload. Of many it appends how many they are.

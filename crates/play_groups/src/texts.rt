@@ -17,13 +17,13 @@ fn push_name_part(text: &mut String, heading: &str, names: &[NodeName]) -> Resul
     push_names(text, names)
 }
 
-/// Appends ids behind a heading, if there are any.
-fn push_id_part(text: &mut String, heading: &str, ids: &[MsgId]) -> Result<(), AllocError> {
-    if ids.is_empty() {
+/// Appends the ids of messages that are held, if there are any.
+fn push_held(text: &mut String, held: &[MsgId]) -> Result<(), AllocError> {
+    if held.is_empty() {
         return Ok(());
     }
-    write!(text, " | {heading}:")?;
-    push_ids(text, ids)
+    text.push_str(" | held:")?;
+    push_ids(text, held)
 }
 
 /// Appends the announcements that wait to be sent, if there are any.
@@ -37,11 +37,24 @@ fn push_queued(text: &mut String, queued: &[(NodeName, MsgId, u32)]) -> Result<(
 }
 
 /// Appends the announcements of messages that are missing, if there are any.
-fn push_wanted(text: &mut String, wants: &[(MsgId, NodeName, u32)]) -> Result<(), AllocError> {
+fn push_wanted(
+    text: &mut String,
+    wants: &[Option<(MsgId, NodeName, u32)>],
+) -> Result<(), AllocError> {
     let mut before = " | wanted:";
-    for (id, peer, round) in wants {
+    for (id, peer, round) in wants.iter().flatten() {
         write!(text, "{before} {id} {round} from {peer}")?;
         before = ",";
+    }
+    Ok(())
+}
+
+/// Appends the ids whose timers are armed, if there are any.
+fn push_armed(text: &mut String, timers: &[Option<MsgId>]) -> Result<(), AllocError> {
+    let mut before = " | armed:";
+    for id in timers.iter().flatten() {
+        write!(text, "{before} {id}")?;
+        before = "";
     }
     Ok(())
 }
@@ -51,10 +64,10 @@ pub fn push_core<C: Core<A>, A: Allocator>(text: &mut String, core: &C) -> Resul
     write!(text, "{}", core.me())?;
     push_name_part(text, "active", core.active().as_slice())?;
     push_name_part(text, "passive", core.passive().as_slice())?;
-    push_id_part(text, "held", core.held())?;
+    push_held(text, core.held())?;
     push_queued(text, core.queued())?;
     push_wanted(text, core.wants())?;
-    push_id_part(text, "armed", core.timers())
+    push_armed(text, core.timers())
 }
 
 /// Appends whether a core knows a message, and the payload that it holds of it.

@@ -1,5 +1,6 @@
 //! A node: its core, and what it sends and delivers, until the caller takes that.
-ghost use Rattle.std.specs.Prelude.{◌≡◌, ◌≢◌, ◌+◌, ◌++◌, ◌%◌, List, [], ◌∷◌, map, slice_get, take, IfOk, IfSome, IfNone, IsTrue, OnOk, OnErr};
+ghost use Rattle.std.specs.Prelude.{◌≡◌, ◌≢◌, ◌+◌, ◌++◌, ◌%◌, List, [], ◌∷◌, length, map, slice_get, take, IfOk, IfSome, IfNone, IsTrue, OnOk, OnErr};
+ghost use Rattle.node_names.specs.Slots.{somes};
 ghost use Rattle.node_core.specs.Plum.{plum_state};
 ghost use Rattle.world.specs.Delivery.{Delivery};
 ghost use Rattle.world.specs.Peers.{are_peers};
@@ -12,7 +13,7 @@ use crate::refusal::Refusal;
 use crate::room::{forget, put};
 use bytes::Bytes;
 use frames::{Frame, FrameFault, decode, encode};
-use node_core::PlumCore;
+use node_core::{PlumCore, armed_at, armed_ids};
 use node_names::{Dice, Limits, MsgId, NodeName, Origin};
 use std::alloc::Global;
 use std::marker::Model;
@@ -60,6 +61,13 @@ impl Model for Node {
 
     // At most half of each list was taken.
     ghost invariant = { λ n. (n.sent + n.sent ≤ length n.out.sends) × (n.given + n.given ≤ length n.out.deliveries) };
+}
+
+/// The number of entries of a list. `None` stands where one was taken out.
+fn number_of<T>(entries: &[Option<T>]) -> usize
+    ensures { result ≡ length (somes entries.now) }
+{
+    entries.iter().flatten().count()
 }
 
 impl Node {
@@ -155,12 +163,12 @@ impl Node {
     pub(crate) fn timer(&self, place: usize) -> Option<MsgId>
         ensures { result ≡ slice_get self.now.core.gossip.missing.timers place }
     {
-        self.core.timers().get(place).copied()
+        armed_at(self.core.timers(), place)
     }
 
-    /// Whether the timer of the id is armed. Searches all timers.
+    /// Whether the timer of the id is armed.
     pub(crate) fn is_armed(&self, id: &MsgId) -> bool {
-        self.core.timers().iter().any(|armed| armed == id)
+        self.core.is_armed(id)
     }
 
     /// Lets the timer of the id fire.
@@ -202,7 +210,7 @@ impl Node {
         ensures { OnOk result (Runs self.old (map stimulus.Fire self.old.core.gossip.missing.timers) self.new) }
     {
         let alloc = *self.out.sends.allocator();
-        let ids = Vec::from_slice(alloc, self.core.timers())?;
+        let ids = armed_ids(alloc, self.core.timers())?;
         self.fire_each(&ids)?;
         Ok(())
     }
@@ -302,8 +310,8 @@ impl Node {
         Counts {
             known: self.taken.wrapping_add(deliveries),
             held: self.core.held().len() as u64,
-            missing: self.core.timers().len() as u64,
-            wants: self.core.wants().len() as u64,
+            missing: number_of(self.core.timers()) as u64,
+            wants: number_of(self.core.wants()) as u64,
             queued: self.core.queued().len() as u64,
             sends: (self.out.sends.len() - self.sent) as u64,
             deliveries,

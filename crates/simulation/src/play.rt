@@ -271,7 +271,7 @@ fn idle_timer<A: Allocator + Copy>(
 fn is_armed<A: Allocator + Copy>(core: &PlumCore<A>, id: &MsgId) -> bool
     ensures { result ≡ has_id (plum_state core.now).timers id.now }
 {
-    core.timers().iter().any(|timer| id == timer)
+    core.is_armed(id)
 }
 
 /// Whether a core has the peer in its active view.

@@ -2,7 +2,7 @@
 ghost use Rattle.std.specs.Prelude.{◌≡◌, ◌++◌, [], codes, length, OnOk, nat_eq, string_bytes, if◌then◌else◌};
 ghost use Rattle.std.specs.Fmt.{decimal};
 ghost use Rattle.node_names.specs.Ids.{msg_id_text, origin_text};
-ghost use Rattle.trace_text.specs.Names.{id_item, id_items, maybe_name, name_item, name_items, names_text, or_dash};
+ghost use Rattle.trace_text.specs.Names.{id_item, maybe_name, name_item, name_items, names_text};
 
 use node_names::{MsgId, NodeName, Origin};
 use std::alloc::{AllocError, Allocator};
@@ -91,28 +91,8 @@ pub fn push_maybe_name<A: Allocator>(
     }
 }
 
-/// Appends a list of ids.
-#[tactic(auto, using(crate::proofs::Dashes::dashed))]
-pub fn push_ids<A: Allocator>(text: &mut String<A>, ids: &[MsgId]) -> Result<(), AllocError>
-    ensures { OnOk result (string_bytes text.new ≡ string_bytes text.old ++ or_dash (id_items ids.now)) }
-{
-    let start = text.len();
-    push_id_items(text, ids)?;
-    push_dash_at(text, start)
-}
-
-/// Appends each of these ids after a space.
-fn push_id_items<A: Allocator>(text: &mut String<A>, ids: &[MsgId]) -> Result<(), AllocError>
-    ensures { OnOk result (string_bytes text.new ≡ string_bytes text.old ++ id_items ids.now) }
-{
-    for id in ids {
-        push_id_item(text, id)?;
-    }
-    Ok(())
-}
-
 /// Appends an id after a space.
-fn push_id_item<A: Allocator>(text: &mut String<A>, id: &MsgId) -> Result<(), AllocError>
+pub fn push_id_item<A: Allocator>(text: &mut String<A>, id: &MsgId) -> Result<(), AllocError>
     ensures { OnOk result (string_bytes text.new ≡ string_bytes text.old ++ id_item id.now) }
 {
     text.push(' ')?;

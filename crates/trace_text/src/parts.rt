@@ -1,9 +1,10 @@
 //! Prints the parts of a node's state.
 ghost use Rattle.std.specs.Prelude.{◌≡◌, ◌++◌, OnOk, IfOk, string_bytes, codes};
+ghost use Rattle.node_names.specs.Slots.{somes};
 ghost use Rattle.trace_text.specs.Names.{id_items, name_items, or_dash};
 ghost use Rattle.trace_text.specs.Parts.{changed, is_of, member_item, member_items, queue_item, queue_items, want_item, want_items};
 
-use crate::names::{push_dash_at, push_ids, push_name_item, push_names};
+use crate::names::{push_dash_at, push_id_item, push_name_item, push_names};
 use crate::packets::push_announcement;
 use node_names::{MsgId, NodeName};
 use peer_sets::{Member, PeerKind};
@@ -145,9 +146,9 @@ fn push_queue_item<A: Allocator>(
 /// The part of the announcements of messages that the node lacks.
 pub fn wants_part<A: Allocator>(
     alloc: A,
-    wants: &[(MsgId, NodeName, u32)],
+    wants: &[Option<(MsgId, NodeName, u32)>],
 ) -> Result<String<A>, AllocError>
-    ensures { IfOk result (λ text. string_bytes text ≡ codes " | wants:" ++ or_dash (want_items wants.now)) }
+    ensures { IfOk result (λ text. string_bytes text ≡ codes " | wants:" ++ or_dash (want_items (somes wants.now))) }
 {
     let mut text = String::new(alloc);
     text.push_str(" | wants:")?;
@@ -159,9 +160,9 @@ pub fn wants_part<A: Allocator>(
 #[tactic(auto, using(crate::proofs::Dashes::dashed))]
 fn push_wants<A: Allocator>(
     text: &mut String<A>,
-    wants: &[(MsgId, NodeName, u32)],
+    wants: &[Option<(MsgId, NodeName, u32)>],
 ) -> Result<(), AllocError>
-    ensures { OnOk result (string_bytes text.new ≡ string_bytes text.old ++ or_dash (want_items wants.now)) }
+    ensures { OnOk result (string_bytes text.new ≡ string_bytes text.old ++ or_dash (want_items (somes wants.now))) }
 {
     let start = text.len();
     push_want_items(text, wants)?;
@@ -171,12 +172,14 @@ fn push_wants<A: Allocator>(
 /// Appends each of these announcements with its sender, after a space.
 fn push_want_items<A: Allocator>(
     text: &mut String<A>,
-    wants: &[(MsgId, NodeName, u32)],
+    wants: &[Option<(MsgId, NodeName, u32)>],
 ) -> Result<(), AllocError>
-    ensures { OnOk result (string_bytes text.new ≡ string_bytes text.old ++ want_items wants.now) }
+    ensures { OnOk result (string_bytes text.new ≡ string_bytes text.old ++ want_items (somes wants.now)) }
 {
-    for entry in wants {
-        push_want_item(text, entry)?;
+    for want in wants {
+        if let Some(entry) = want {
+            push_want_item(text, entry)?;
+        }
     }
     Ok(())
 }
@@ -195,13 +198,44 @@ fn push_want_item<A: Allocator>(
 }
 
 /// The part of the ids whose timers are armed.
-pub fn timers_part<A: Allocator>(alloc: A, timers: &[MsgId]) -> Result<String<A>, AllocError>
-    ensures { IfOk result (λ text. string_bytes text ≡ codes " | timers:" ++ or_dash (id_items timers.now)) }
+pub fn timers_part<A: Allocator>(
+    alloc: A,
+    timers: &[Option<MsgId>],
+) -> Result<String<A>, AllocError>
+    ensures { IfOk result (λ text. string_bytes text ≡ codes " | timers:" ++ or_dash (id_items (somes timers.now))) }
 {
     let mut text = String::new(alloc);
     text.push_str(" | timers:")?;
-    push_ids(&mut text, timers)?;
+    push_timers(&mut text, timers)?;
     Ok(text)
+}
+
+/// Appends ids whose timers are armed.
+#[tactic(auto, using(crate::proofs::Dashes::dashed))]
+fn push_timers<A: Allocator>(
+    text: &mut String<A>,
+    timers: &[Option<MsgId>],
+) -> Result<(), AllocError>
+    ensures { OnOk result (string_bytes text.new ≡ string_bytes text.old ++ or_dash (id_items (somes timers.now))) }
+{
+    let start = text.len();
+    push_timer_items(text, timers)?;
+    push_dash_at(text, start)
+}
+
+/// Appends each of these ids after a space.
+fn push_timer_items<A: Allocator>(
+    text: &mut String<A>,
+    timers: &[Option<MsgId>],
+) -> Result<(), AllocError>
+    ensures { OnOk result (string_bytes text.new ≡ string_bytes text.old ++ id_items (somes timers.now)) }
+{
+    for timer in timers {
+        if let Some(id) = timer {
+            push_id_item(text, id)?;
+        }
+    }
+    Ok(())
 }
 
 /// Appends a part.

@@ -1,5 +1,6 @@
 //! The printed state of the node that an event touches.
 ghost use Rattle.std.specs.Prelude.{◌≡◌, ◌++◌, None, OnOk, IfOk, string_bytes};
+ghost use Rattle.node_names.specs.Slots.{somes};
 ghost use Rattle.world.specs.Group.{core_of};
 ghost use Rattle.trace_text.specs.Events.{number_by, parts_under, receiver_of, touched_by, touched_parts};
 ghost use Rattle.trace_text.specs.Parts.{changes_text, parts_from, parts_in, parts_of, parts_text};
@@ -108,10 +109,10 @@ impl<A: Allocator + Copy> Touched<A> {
         passive: &[NodeName],
         members: &[Member],
         queued: &[(NodeName, MsgId, u32)],
-        wants: &[(MsgId, NodeName, u32)],
-        timers: &[MsgId],
+        wants: &[Option<(MsgId, NodeName, u32)>],
+        timers: &[Option<MsgId>],
     ) -> Result<Touched<A>, AllocError>
-        ensures { IfOk result (λ touched. touched ≡ parts_from active.now passive.now members.now queued.now wants.now timers.now) }
+        ensures { IfOk result (λ touched. touched ≡ parts_from active.now passive.now members.now queued.now (somes wants.now) (somes timers.now)) }
     {
         Ok(Touched {
             active: names_part(alloc, " | active:", active)?,

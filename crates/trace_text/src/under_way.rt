@@ -2,6 +2,7 @@
 ghost use Rattle.std.specs.Prelude.{◌≡◌, ◌++◌, ◌&&◌, [], codes, not, IfOk, OnOk, string_bytes, if◌then◌else◌};
 ghost use Rattle.node_names.specs.Ids.{origin_text};
 ghost use Rattle.node_names.specs.Same.{same_id};
+ghost use Rattle.node_names.specs.Slots.{somes};
 ghost use Rattle.node_names.specs.declared.ids.MsgId.{MsgId};
 ghost use Rattle.world.specs.Group.{origin_of};
 ghost use Rattle.frames.specs.Content.{frame_content};
@@ -251,12 +252,14 @@ fn add_timers_by<A: Allocator + Copy>(
     alloc: A,
     texts: &mut Texts<A>,
     node: &Origin,
-    timers: &[MsgId],
+    timers: &[Option<MsgId>],
 ) -> Result<(), AllocError>
-    ensures { OnOk result ((id : MsgId) → text_at id texts.new.entries ≡ text_at id texts.old.entries ++ timers_by id node.now timers.now) }
+    ensures { OnOk result ((id : MsgId) → text_at id texts.new.entries ≡ text_at id texts.old.entries ++ timers_by id node.now (somes timers.now)) }
 {
-    for timed in timers {
-        add_timer(alloc, texts, node, timed)?;
+    for timer in timers {
+        if let Some(timed) = timer {
+            add_timer(alloc, texts, node, timed)?;
+        }
     }
     Ok(())
 }

@@ -11,7 +11,7 @@ use crate::node::WireNode;
 use crate::step::make_step;
 use bytes::Bytes;
 use frames::Frame;
-use node_core::PlumCore;
+use node_core::{PlumCore, armed_ids};
 use node_names::{Dice, Listed, MsgId, NodeName};
 use std::alloc::Allocator;
 use world::{Core, CoreError, Delivery, Stimulus, StimulusOf};
@@ -30,7 +30,7 @@ fn fire_all<A: Allocator + Copy>(
     ensures settled { AreSettled entries.new.items }
 {
     let alloc = *entries.allocator();
-    let ids = Vec::from_slice(alloc, core.timers())?;
+    let ids = armed_ids(alloc, core.timers())?;
     fire_each(core, entries, pending, &ids)
 }
 
