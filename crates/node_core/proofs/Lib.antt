@@ -4,3 +4,4 @@ pub mod Openings
 pub mod Told
 pub mod SameSets
 pub mod Parting
+pub mod Slots

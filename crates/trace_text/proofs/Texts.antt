@@ -1,6 +1,9 @@
 -- Told lists, one item longer.
 use Rattle.std.proofs.Common.{◌≡◌, ℕ, ◌+◌, ◌<◌, ◌≤◌, ◌∙◌, List, [], ◌∷◌, ◌++◌, length, get_or, take, drop, ap, sym, append_assoc, append-nil}
+use Rattle.std.specs.Prelude.{Option, Some}
 use Rattle.std.proofs.lemmas.List.{drop_all, drop_more, take_all, take_more}
+use Rattle.node_names.specs.Slots.{somes}
+use Rattle.node_core.proofs.Slots.{somes_some}
 
 -- what is appended in two steps
 pub joined : (new text old part step whole : List ℕ) → new ≡ text ++ step → text ≡ old ++ part → whole ≡ part ++ step → new ≡ old ++ whole
@@ -14,6 +17,10 @@ module _ {T : Type 0} (line : T → List ℕ) (lines : List T → List ℕ) (non
 
   pub lines-more : (xs : List T) (i : ℕ) (x d : T) → i < length xs → x ≡ get_or xs i d → lines (take (i + 1) xs) ≡ lines (take i xs) ++ line x
   lines-more xs i x d h e = ap lines (take_more xs i d h) ∙ ap (λ (y : T). lines (take i xs ++ y ∷ [])) (sym e) ∙ lines-push (take i xs) x
+
+  -- the lines of slots, one slot with a value longer
+  pub slots-more : (slots : List (Option T)) (i : ℕ) (slot : Option T) (x : T) → i < length slots → slot ≡ get_or slots i slot → slot ≡ Some x → lines (somes (take (i + 1) slots)) ≡ lines (somes (take i slots)) ++ line x
+  slots-more slots i slot x h e is = ap lines (somes_some slots i slot x h e is) ∙ lines-push (somes (take i slots)) x
 
 -- the lines of a list whose items are numbered, from the item at each place on
 module _ {T : Type 0} (line : ℕ → T → List ℕ) (lines : ℕ → List T → List ℕ) (none : (i : ℕ) → lines i [] ≡ []) (one : (i : ℕ) (x : T) (xs : List T) → lines i (x ∷ xs) ≡ line i x ++ lines (i + 1) xs) where
