@@ -1,10 +1,9 @@
-use Rattle.std.proofs.Common.{◌≡◌, ◌∙◌, ap, slice_get, subst, List}
+use Rattle.std.proofs.Common.{◌∙◌, ap, slice_get, List}
 use Rattle.std.specs.Iterator.Adapters.{option_iter_steps}
 use Rattle.std.specs.Option.{option_to_list}
-use Rattle.std.proofs.lemmas.Iterator.{YieldsList, YieldsList-from_slice}
+use Rattle.std.proofs.lemmas.Iterator.{YieldsList-from_slice}
 use Rattle.std.proofs.lemmas.Iterator.Adapters.{YieldsList-from_flatten}
-use Rattle.std.proofs.lemmas.Iterator.Consumers.{YieldsList-at, nth_from_yields_List}
-use Rattle.node_names.specs.Slots.{somes}
+use Rattle.std.proofs.lemmas.Iterator.Consumers.{nth_from_yields_List}
 use Rattle.node_names.specs.declared.ids.MsgId.{MsgId}
 use Rattle.node_core.proofs.Slots.{slot_yields, slots_give}
 use Rattle.node_core.proofs.timers.armed_at.Goals as goal

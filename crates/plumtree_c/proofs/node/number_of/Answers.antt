@@ -1,7 +1,7 @@
-use Rattle.std.proofs.Common.{◌≡◌, ◌∙◌, ap, length, List}
+use Rattle.std.proofs.Common.{◌∙◌, ap, length, List}
 use Rattle.std.specs.Iterator.Adapters.{option_iter_steps}
 use Rattle.std.specs.Option.{option_to_list}
-use Rattle.std.proofs.lemmas.Iterator.{YieldsList, YieldsList-from_slice}
+use Rattle.std.proofs.lemmas.Iterator.{YieldsList-from_slice}
 use Rattle.std.proofs.lemmas.Iterator.Adapters.{YieldsList-from_flatten}
 use Rattle.std.proofs.lemmas.Iterator.Consumers.{count_from_yields_List}
 use Rattle.node_core.proofs.Slots.{slot_yields, slots_give}
