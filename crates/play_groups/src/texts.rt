@@ -42,9 +42,11 @@ fn push_wanted(
     wants: &[Option<(MsgId, NodeName, u32)>],
 ) -> Result<(), AllocError> {
     let mut before = " | wanted:";
-    for (id, peer, round) in wants.iter().flatten() {
-        write!(text, "{before} {id} {round} from {peer}")?;
-        before = ",";
+    for want in wants {
+        if let Some((id, peer, round)) = want {
+            write!(text, "{before} {id} {round} from {peer}")?;
+            before = ",";
+        }
     }
     Ok(())
 }
@@ -52,9 +54,11 @@ fn push_wanted(
 /// Appends the ids whose timers are armed, if there are any.
 fn push_armed(text: &mut String, timers: &[Option<MsgId>]) -> Result<(), AllocError> {
     let mut before = " | armed:";
-    for id in timers.iter().flatten() {
-        write!(text, "{before} {id}")?;
-        before = "";
+    for timer in timers {
+        if let Some(id) = timer {
+            write!(text, "{before} {id}")?;
+            before = "";
+        }
     }
     Ok(())
 }

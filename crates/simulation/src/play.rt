@@ -2,7 +2,7 @@
 ghost use Rattle.std.specs.Prelude.{◌≡◌, ◌≢◌, None, IfOk, IfErr, IfSome, OnOk};
 ghost use Rattle.frames.specs.Content.{frame_content};
 ghost use Rattle.node_core.specs.Plum.{plum_state};
-ghost use Rattle.node_names.specs.Same.{has_id, has_name};
+ghost use Rattle.node_names.specs.Same.{has_name};
 ghost use Rattle.node_core.specs.Steps.{PlumIsSpent, PlumStarts, PlumSteps};
 ghost use Rattle.simulation.specs.Play.{event_of, fault_of, empty_group, rolls_after, HaltsIn, IsHalted, IsIdle, PlaysAction, PlaysActions, Refuses, Takes};
 ghost use Rattle.simulation.specs.Rolls.{rolled, rolls_in, rolls_of};
@@ -262,16 +262,9 @@ fn idle_timer<A: Allocator + Copy>(
     ensures busy { result ≡ None → (why : Idle) → ¬ IsIdle plum_state why (Action.Fire node.now id.now) group.now.group }
 {
     match group.core(node) {
-        Some(core) if !is_armed(core, id) => Some(Idle::NoTimer),
+        Some(core) if !core.is_armed(id) => Some(Idle::NoTimer),
         _ => None,
     }
-}
-
-/// Whether a core has armed the timer.
-fn is_armed<A: Allocator + Copy>(core: &PlumCore<A>, id: &MsgId) -> bool
-    ensures { result ≡ has_id (plum_state core.now).timers id.now }
-{
-    core.is_armed(id)
 }
 
 /// Whether a core has the peer in its active view.
