@@ -4,4 +4,3 @@ pub mod SlotWants
 pub mod WantLemmas
 pub mod PlaceLemmas
 pub mod SoundLemmas
-pub mod LackLemmas

@@ -1,19 +1,15 @@
--- The places of announcements stand in the order of the announcements.
-use Rattle.std.proofs.Common.{◌≡◌, ◌∙◌, ◌||◌, ℕ, Bool, true, false, not, cond, List, [], ◌∷◌, ◌++◌, filter, map, ap, refl}
+-- Announcements by their places, and filters of them.
+use Rattle.std.proofs.Common.{◌≡◌, ◌||◌, ℕ, Bool, true, false, not, cond, List, [], ◌∷◌, ◌++◌, filter, map, ap, refl}
 use Rattle.std.specs.Prelude.{if◌then◌else◌}
 use Rattle.std.specs.List.{list_any}
 use Rattle.node_names.specs.NodeName.{Name}
-use Rattle.node_names.specs.Same.{same_name}
 use Rattle.node_names.specs.declared.ids.MsgId.{MsgId}
-use Rattle.missing.specs.Wants.{place_of, same_place, is_wanted, with_want, without_peer, without_peers}
+use Rattle.missing.specs.Wants.{place_of, same_place, is_wanted, with_want}
 
 -- an entry is in the list exactly if its place is among the places
 pub is_wanted-places : (id : MsgId) (peer : Name) (wants : List (MsgId × Name × ℕ)) → list_any (same_place (id, peer)) (map place_of wants) ≡ is_wanted id peer wants
 is_wanted-places id peer [] = refl
 is_wanted-places id peer (entry ∷ wants) = ap (λ b. same_place (id, peer) (place_of entry) || b) (is_wanted-places id peer wants)
-
-pub is_place-wanted : (id : MsgId) (peer : Name) (wants : List (MsgId × Name × ℕ)) (places : List (MsgId × Name)) → places ≡ map place_of wants → list_any (same_place (id, peer)) places ≡ is_wanted id peer wants
-is_place-wanted id peer wants places are = ap (list_any (same_place (id, peer))) are ∙ is_wanted-places id peer wants
 
 -- one more entry, where its place is new and where it is not
 pub with_want-new : (id : MsgId) (peer : Name) (round : ℕ) (wants : List (MsgId × Name × ℕ)) → is_wanted id peer wants ≡ false → with_want id peer round wants ≡ wants ++ (id, peer, round) ∷ []
@@ -22,16 +18,7 @@ with_want-new id peer round wants new = ap (λ b. if b then wants else wants ++ 
 pub with_want-old : (id : MsgId) (peer : Name) (round : ℕ) (wants : List (MsgId × Name × ℕ)) → is_wanted id peer wants ≡ true → with_want id peer round wants ≡ wants
 with_want-old id peer round wants old = ap (λ b. if b then wants else wants ++ (id, peer, round) ∷ []) old
 
--- the places of the entries that are left are the places that are left
-pub places-filter : (test : MsgId × Name → Bool) (wants : List (MsgId × Name × ℕ)) → filter test (map place_of wants) ≡ map place_of (filter (λ entry. test (place_of entry)) wants)
-places-filter test [] = refl
-places-filter test (entry ∷ wants) = go (test (place_of entry)) (places-filter test wants)
-  where
-    go : (b : Bool) → filter test (map place_of wants) ≡ map place_of (filter (λ e. test (place_of e)) wants) → cond b (place_of entry ∷ filter test (map place_of wants)) (filter test (map place_of wants)) ≡ map place_of (cond b (entry ∷ filter (λ e. test (place_of e)) wants) (filter (λ e. test (place_of e)) wants))
-    go true later = ap (λ ps. place_of entry ∷ ps) later
-    go false later = later
-
--- ---- entries that are taken out in one pass
+-- ---- filters
 
 -- a filter that drops nothing
 pub filter-nothing : {X : Type 0} (xs : List X) → filter (λ x. not false) xs ≡ xs
@@ -46,10 +33,3 @@ filter-both f h (x ∷ xs) = go (f x) (filter-both f h xs)
     go : (b : Bool) → filter (λ y. not (f y || h y)) xs ≡ filter (λ y. not (h y)) (filter (λ y. not (f y)) xs) → cond (not (b || h x)) (x ∷ filter (λ y. not (f y || h y)) xs) (filter (λ y. not (f y || h y)) xs) ≡ filter (λ y. not (h y)) (cond (not b) (x ∷ filter (λ y. not (f y)) xs) (filter (λ y. not (f y)) xs))
     go true later = later
     go false later = ap (λ others. cond (not (h x)) (x ∷ others) others) later
-
--- what one pass leaves is what is left after one pass for each peer
-pub without_peers-once : (peers : List Name) (wants : List (MsgId × Name × ℕ)) → filter (λ entry. not (list_any (λ peer. same_name peer entry.1) peers)) wants ≡ without_peers peers wants
-without_peers-once [] wants = filter-nothing wants
-without_peers-once (peer ∷ peers) wants =
-    filter-both (λ entry. same_name peer entry.1) (λ entry. list_any (λ other. same_name other entry.1) peers) wants
-    ∙ without_peers-once peers (without_peer peer wants)

@@ -74,19 +74,6 @@ module _ {X : Type 0} (t : X → Bool) where
       go true passes h rest = (x, ap (slice_get (x ∷ xs)) (sym (some_same 0 n h)), passes)
       go false fails h rest = by (place t xs) refl h rest
 
-  -- nothing passes where no place is found
-  pub place-none : (xs : List X) → place t xs ≡ None → Each (λ x. t x ≡ false) xs
-  place-none [] is = tt
-  place-none (x ∷ xs) is = go (t x) refl is (λ h. place-none xs h)
-    where
-      go : (b : Bool) → t x ≡ b → cond b (Some zero) (later (place t xs)) ≡ None → (place t xs ≡ None → Each (λ y. t y ≡ false) xs) → (t x ≡ false) × Each (λ y. t y ≡ false) xs
-      go true passes h rest = absurd (true≢false (ap is_some h))
-      go false fails h rest = (fails, rest (later-None (place t xs) h))
-
-  pub none-place : (xs : List X) → Each (λ x. t x ≡ false) xs → place t xs ≡ None
-  none-place [] h = refl
-  none-place (x ∷ xs) h = ap (λ b. cond b (Some zero) (later (place t xs))) h.0 ∙ ap later (none-place xs h.1)
-
   -- one that does not pass takes the place of one that does not
   pub place-set : (xs : List X) (n : ℕ) (y x : X) → slice_get xs n ≡ Some x → t x ≡ false → t y ≡ false → place t (set xs n y) ≡ place t xs
   place-set [] n y x at fails new = refl

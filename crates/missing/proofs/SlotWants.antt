@@ -1,7 +1,7 @@
 -- The slots of announcements, and the map of their places.
-use Rattle.std.proofs.Common.{◌≡◌, ◌∙◌, ◌&&◌, ◌||◌, ◌+◌, ◌<◌, ◌≤◌, ℕ, zero, suc, Bool, true, false, not, cond, List, [], ◌∷◌, ◌++◌, Option, None, Some, filter, map, length, take, get_or, sym, ap, subst, refl, arith}
+use Rattle.std.proofs.Common.{◌≡◌, ◌∙◌, ◌&&◌, ◌||◌, ◌+◌, ◌<◌, ◌≤◌, ℕ, zero, suc, Bool, true, false, not, cond, List, [], ◌∷◌, ◌++◌, Option, None, Some, filter, map, length, take, get_or, sym, ap, refl, arith}
 use Rattle.std.specs.Prelude.{set, slice_get, is_some, if◌then◌else◌}
-use Rattle.std.specs.List.{AllByRecursion as Each, IsDistinct, list_any}
+use Rattle.std.specs.List.{AllByRecursion as Each, IsDistinct}
 use Rattle.std.proofs.lemmas.Bool.{false≢true, true≢false}
 use Rattle.std.proofs.lemmas.List.{append-nil, take_more}
 use Rattle.std.proofs.lemmas.List.Folds.{list_any-append}

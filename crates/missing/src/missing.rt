@@ -4,7 +4,7 @@ ghost use Rattle.indexmap.specs.IndexMap.{spare};
 ghost use Rattle.node_names.specs.Same.{has_id, has_name};
 ghost use Rattle.node_names.specs.Slots.{somes};
 ghost use Rattle.missing.specs.Missing.{IsSound, announced, announced_all, taken_first, got, without, without_all};
-ghost use Rattle.missing.specs.Slots.{ArePlaced, AreBy, AreTimed, IsKept};
+ghost use Rattle.missing.specs.Slots.{AreTimed, IsKept};
 ghost use Rattle.missing.specs.Wants.{with_want, with_wants, first_want, without_first, without_id};
 ghost use Rattle.missing.specs.Timers.{with_timer, with_timers, without_timer};
 
@@ -30,10 +30,9 @@ pub struct Missing<A: Allocator = Global> {
 }
 
 impl<A: Allocator> Model for Missing<A> {
-    ghost use Rattle.std.specs.Prelude.{};
     ghost use Rattle.node_names.specs.Slots.{somes};
     ghost use Rattle.missing.specs.Missing.{Missing, IsSound};
-    ghost use Rattle.missing.specs.Slots.{ArePlaced, AreBy, AreTimed, IsKept};
+    ghost use Rattle.missing.specs.Slots.{AreTimed, IsKept};
 
     ghost Value = { Missing };
 

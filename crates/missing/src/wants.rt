@@ -213,7 +213,12 @@ pub(crate) fn remove_id<A: Allocator>(wants: &mut Wants<A>, id: &MsgId)
     ensures left { somes wants.new.slots.items ≡ without_id id.now (somes wants.old.slots.items) }
     ensures kept { IsKept wants.new.slots.items wants.new.places wants.new.peers.keys }
 {
-    remove_by(&mut wants.slots, &mut wants.places, id, wants.peers.as_slice());
+    remove_by(
+        &mut wants.slots,
+        &mut wants.places,
+        id,
+        wants.peers.as_slice(),
+    );
 }
 
 /// Removes the announcements by `peer`, which are all of these ids.

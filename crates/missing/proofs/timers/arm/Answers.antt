@@ -1,8 +1,8 @@
-use Rattle.std.proofs.Common.{◌≡◌, ◌∙◌, ◌++◌, ◌∷◌, [], Some, true, false, not, cond, length, sym, ap, subst, refl}
+use Rattle.std.proofs.Common.{◌≡◌, ◌∙◌, ◌++◌, ◌∷◌, [], Some, not, cond, sym, ap, subst}
 use Rattle.std.specs.Prelude.{is_some, OnOk, if◌then◌else◌}
 use Rattle.std.specs.Result.{is_ok}
 use Rattle.indexmap.specs.IndexMap.{get, Updates}
-use Rattle.node_names.specs.Same.{same_id, has_id}
+use Rattle.node_names.specs.Same.{same_id}
 use Rattle.node_names.specs.Slots.{somes}
 use Rattle.node_names.specs.declared.ids.MsgId.{MsgId}
 use Rattle.missing.specs.Slots.{AreGone, place, has_timer}
@@ -28,9 +28,9 @@ returns-clause-timers g c = ap somes (pushed g c) ∙ armed-new c.args.timers.no
 timed : (g : _) (c : goal.After-unwrap-2 g) (id : MsgId) → get same_id c.insert.new.self id ≡ place (has_timer id) c.push.new.self.items
 timed g c id =
     timed-push c.args.timers.now.slots.items (get same_id c.args.timers.now.places) (get same_id c.insert.new.self) c.requires.timed.0 c.args.id.now
-      (lacks (get same_id c.args.timers.now.places c.args.id.now) (sym c.contains_key.ensures ∙ c.if-contains_key.false))
-      (λ k. (subst (λ r. OnOk r (Updates same_id c.args.timers.now.places c.insert.new.self c.args.id.now (Some c.len.result))) c.unwrap.ensures c.insert.ensures.updates).0 k ∙ ap (λ n. cond (same_id c.args.id.now k) (Some n) (get same_id c.args.timers.now.places k)) (c.len.ensures ∙ c.args.timers.now.slots.ok.0))
-      id
+    (lacks (get same_id c.args.timers.now.places c.args.id.now) (sym c.contains_key.ensures ∙ c.if-contains_key.false))
+    (λ k. (subst (λ r. OnOk r (Updates same_id c.args.timers.now.places c.insert.new.self c.args.id.now (Some c.len.result))) c.unwrap.ensures c.insert.ensures.updates).0 k ∙ ap (λ n. cond (same_id c.args.id.now k) (Some n) (get same_id c.args.timers.now.places k)) (c.len.ensures ∙ c.args.timers.now.slots.ok.0))
+    id
     ∙ ap (place (has_timer id)) (sym (pushed g c))
 
 pub returns-clause-timed : goal.returns-clause-timed

@@ -1,4 +1,4 @@
-use Rattle.std.proofs.Common.{◌∙◌, ◌≤◌, ◌-◌, length, drop, ap, arith}
+use Rattle.std.proofs.Common.{◌∙◌, ◌-◌, length, drop, ap, arith}
 use Rattle.std.proofs.lemmas.List.{length-drop, take_all}
 use Rattle.node_names.specs.Slots.{somes}
 use Rattle.missing.proofs.SlotLemmas.{gone-somes}

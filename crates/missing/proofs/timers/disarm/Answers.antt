@@ -1,4 +1,4 @@
-use Rattle.std.proofs.Common.{◌≡◌, ◌∙◌, ◌<◌, None, Some, sym, ap, subst}
+use Rattle.std.proofs.Common.{◌∙◌, ◌<◌, sym, subst}
 use Rattle.indexmap.specs.IndexMap.{get}
 use Rattle.node_names.specs.Same.{same_id}
 use Rattle.missing.specs.Slots.{AreGone, has_timer}
@@ -13,9 +13,10 @@ pub returns-in-Some-clause-timers : goal.returns-in-Some-clause-timers
 returns-in-Some-clause-timers g c = disarmed c.args.timers.now.slots.items c.args.id.now c.in-Some.at c.requires.distinct (sym (c.requires.timed.0 c.args.id.now) ∙ sym c.swap_remove.ensures.value ∙ c.in-Some.is)
 
 pub returns-in-Some-clause-timed : goal.returns-in-Some-clause-timed
-returns-in-Some-clause-timed g c =
-    ( timed-taken_out c.args.timers.now.slots.items (get same_id c.args.timers.now.places) (get same_id c.swap_remove.new.self) c.requires.timed.0 c.args.id.now c.in-Some.at c.requires.distinct (sym c.swap_remove.ensures.value ∙ c.in-Some.is) c.swap_remove.ensures.updates.0
-    , subst (AreGone c.front-timers.result) c.deref.ensures.value c.front-timers.ensures )
+returns-in-Some-clause-timed g c = (
+  timed-taken_out c.args.timers.now.slots.items (get same_id c.args.timers.now.places) (get same_id c.swap_remove.new.self) c.requires.timed.0 c.args.id.now c.in-Some.at c.requires.distinct (sym c.swap_remove.ensures.value ∙ c.in-Some.is) c.swap_remove.ensures.updates.0,
+  subst (AreGone c.front-timers.result) c.deref.ensures.value c.front-timers.ensures,
+)
 
 pub front-timers-requires : goal.front-timers-requires
 front-timers-requires g c = rw c.deref.ensures.value (gone-set c.args.timers.now.gone c.in-Some.at c.args.timers.now.slots.items c.requires.timed.1)

@@ -1,4 +1,3 @@
-use Rattle.std.proofs.Common.{sym}
 use Rattle.missing.proofs.SlotLemmas.{gone-within}
 use Rattle.missing.proofs.timers.slots.Goals as goal
 

@@ -1,4 +1,4 @@
-use Rattle.std.proofs.Common.{◌≡◌, ◌∙◌, ◌≤◌, take, get_or, sym, ap, subst, arith}
+use Rattle.std.proofs.Common.{◌∙◌, take, sym, ap, subst, arith}
 use Rattle.std.proofs.lemmas.List.{take_all}
 use Rattle.std.proofs.lemmas.List.Elements.{same_from_all_zip}
 use Rattle.node_names.specs.Slots.{somes}
@@ -8,12 +8,13 @@ use Rattle.missing.proofs.SlotWants.{copy-step}
 use Rattle.missing.proofs.wants.copy.Goals as goal
 
 pub loop-slot-preserved : goal.loop-slot-preserved
-loop-slot-preserved g c =
-    ( c.in_ok-put_slot.ensures.wants
+loop-slot-preserved g c = (
+  c.in_ok-put_slot.ensures.wants
       ∙ ap (with_slot c.slot-item.result) c.loop-slot.invariant.0
       ∙ ap (λ slot. with_slot slot (somes (take c.loop-slot.slot-index c.as_slice-slot-items.result.now))) c.slot-item.is
-      ∙ copy-step c.as_slice-slot-items.result.now c.loop-slot.slot-index c.slot-item.result (rw c.as_slice-slot-items.ensures.value c.requires.once) c.loop-slot-test.true
-    , c.in_ok-put_slot.ensures.placed )
+      ∙ copy-step c.as_slice-slot-items.result.now c.loop-slot.slot-index c.slot-item.result (rw c.as_slice-slot-items.ensures.value c.requires.once) c.loop-slot-test.true,
+  c.in_ok-put_slot.ensures.placed,
+)
 
 pub returns-clause-wants : goal.returns-clause-wants
 returns-clause-wants g c = c.loop-slot.invariant.0 ∙ ap somes (take_all c.loop-slot.slot-index c.as_slice-slot-items.result.now (omega arith) ∙ c.as_slice-slot-items.ensures.value)

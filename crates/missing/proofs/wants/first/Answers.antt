@@ -1,7 +1,6 @@
-use Rattle.std.proofs.Common.{◌≡◌, ◌∙◌, ◌<◌, length, None, Some, sym, ap, subst}
-use Rattle.std.specs.Prelude.{slice_get}
+use Rattle.std.proofs.Common.{◌∙◌, ◌<◌, Some, sym, ap, subst}
 use Rattle.std.proofs.lemmas.Option.{slice_get_read}
-use Rattle.missing.specs.Slots.{place, is_of}
+use Rattle.missing.specs.Slots.{is_of}
 use Rattle.missing.proofs.SlotLemmas.{within-place}
 use Rattle.missing.proofs.SlotWants.{first_want-at, first_want-lacks, want_of}
 use Rattle.missing.proofs.wants.first.Goals as goal

@@ -1,6 +1,6 @@
-use Rattle.std.proofs.Common.{◌≡◌, ◌∙◌, ◌≤◌, take, length, get_or, sym, ap, arith}
+use Rattle.std.proofs.Common.{◌≡◌, ◌∙◌, get_or, sym, ap, arith}
 use Rattle.std.proofs.lemmas.List.{take_all}
-use Rattle.missing.specs.Slots.{earlier, place, has_place, is_by, AreBy}
+use Rattle.missing.specs.Slots.{earlier, place, has_place, is_by}
 use Rattle.missing.proofs.SlotWants.{by_none, by_more, by_all}
 use Rattle.missing.proofs.wants.first_place.Goals as goal
 

@@ -1,11 +1,11 @@
 -- The place is new where the peer has not announced the id.
-use Rattle.std.proofs.Common.{◌≡◌, ◌∙◌, ◌++◌, ◌∷◌, [], Some, true, false, cond, length, sym, ap, subst, refl}
+use Rattle.std.proofs.Common.{◌≡◌, ◌∙◌, ◌++◌, ◌∷◌, [], Some, cond, sym, ap, subst}
 use Rattle.std.specs.Prelude.{is_some, OnOk, if◌then◌else◌}
 use Rattle.std.specs.Result.{is_ok}
 use Rattle.indexmap.specs.IndexMap.{get, Updates}
 use Rattle.node_names.specs.Slots.{somes}
 use Rattle.missing.specs.Slots.{place, has_place}
-use Rattle.missing.specs.Wants.{is_wanted, same_place}
+use Rattle.missing.specs.Wants.{same_place}
 use Rattle.missing.proofs.SlotLemmas.{lacks}
 use Rattle.missing.proofs.SlotWants.{wanted-place, put-old, put-new, put-placed}
 use Rattle.missing.proofs.wants.put.Goals as goal
@@ -22,7 +22,7 @@ returns-clause-wants g c = ap somes (pushed g c) ∙ put-new c.args.slots.now.it
 pub returns-clause-placed : goal.returns-clause-placed
 returns-clause-placed g c at =
     put-placed c.args.slots.now.items (get same_place c.args.places.now) (get same_place c.insert.new.self) c.requires.placed c.args.entry.now
-      (lacks (get same_place c.args.places.now (c.args.entry.now.0, c.args.entry.now.1)) (sym c.contains_key.ensures ∙ c.if-contains_key.false))
-      (λ k. (subst (λ r. OnOk r (Updates same_place c.args.places.now c.insert.new.self (c.args.entry.now.0, c.args.entry.now.1) (Some c.len.result))) c.unwrap.ensures c.insert.ensures.updates).0 k ∙ ap (λ n. cond (same_place (c.args.entry.now.0, c.args.entry.now.1) k) (Some n) (get same_place c.args.places.now k)) (c.len.ensures ∙ c.args.slots.now.ok.0))
-      at
+    (lacks (get same_place c.args.places.now (c.args.entry.now.0, c.args.entry.now.1)) (sym c.contains_key.ensures ∙ c.if-contains_key.false))
+    (λ k. (subst (λ r. OnOk r (Updates same_place c.args.places.now c.insert.new.self (c.args.entry.now.0, c.args.entry.now.1) (Some c.len.result))) c.unwrap.ensures c.insert.ensures.updates).0 k ∙ ap (λ n. cond (same_place (c.args.entry.now.0, c.args.entry.now.1) k) (Some n) (get same_place c.args.places.now k)) (c.len.ensures ∙ c.args.slots.now.ok.0))
+    at
     ∙ ap (place (has_place at)) (sym (pushed g c))

@@ -1,4 +1,4 @@
-use Rattle.std.proofs.Common.{◌≡◌, ◌∙◌, ◌<◌, None, Some, sym, ap, subst}
+use Rattle.std.proofs.Common.{◌∙◌, ◌<◌, sym, subst}
 use Rattle.indexmap.specs.IndexMap.{get}
 use Rattle.missing.specs.Slots.{has_place}
 use Rattle.missing.specs.Wants.{same_place}

@@ -1,4 +1,4 @@
-use Rattle.std.proofs.Common.{◌≡◌, ◌∙◌, ◌≤◌, not, filter, map, Some, take, get_or, sym, ap, subst, arith}
+use Rattle.std.proofs.Common.{◌∙◌, not, filter, map, Some, get_or, sym, ap, subst, arith}
 use Rattle.std.specs.List.{IsDistinct}
 use Rattle.std.proofs.lemmas.List.{take_all}
 use Rattle.node_names.specs.Slots.{somes}

@@ -1,4 +1,4 @@
-use Rattle.std.proofs.Common.{◌∙◌, not, map, take, get_or, sym, ap, subst}
+use Rattle.std.proofs.Common.{◌∙◌, not, map, get_or, sym, ap, subst}
 use Rattle.std.specs.List.{IsDistinct}
 use Rattle.node_names.specs.Same.{same_name}
 use Rattle.node_names.specs.Slots.{somes}

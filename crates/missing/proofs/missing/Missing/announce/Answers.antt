@@ -1,4 +1,3 @@
-use Rattle.std.proofs.Common.{sym, ap, ◌∙◌}
 use Rattle.node_names.specs.Slots.{somes}
 use Rattle.missing.proofs.SlotWants.{by-grown}
 use Rattle.missing.proofs.SoundLemmas.{sound-announced}
