@@ -29,7 +29,8 @@ use world::{Core, CoreError, Out, Prepared, StimulusOf, StimulusRef};
 /// One run of one node.
 ///
 /// The cost of a step depends on what it sends and changes: an event of the membership copies its views, of at most 80
-/// names, and a call of the gossip finds ids by hash. Only the cost of `copy` depends on how much the node holds.
+/// names, and a call of the gossip finds ids by hash. Only a link that goes down passes over what is missing and what
+/// waits to be announced, and only `copy` over what the node holds.
 #[derive(Drop)]
 pub struct PlumCore<A: Allocator = Global> {
     me: Origin,

@@ -12,7 +12,7 @@ use std::time::{Clock, Instant};
 use world::{Core, Out, Stimulus};
 
 /// Makes a node without peers that holds the last `keep` of the messages that it delivered, or all for 0.
-fn start<C: Core<Global>>(alloc: Global, keep: u32) -> Result<C> {
+pub(crate) fn start<C: Core<Global>>(alloc: Global, keep: u32) -> Result<C> {
     let me = origin_named(ME)?;
     let mut opening = Out::new(alloc);
     let limits = Limits::STANDARD.keeping(keep);
@@ -31,7 +31,7 @@ fn step_once<C: Core<Global, Note = Frame>>(
 }
 
 /// Lets a core take stimuli, and returns how many frames come out.
-fn step_all<C: Core<Global, Note = Frame>>(
+pub(crate) fn step_all<C: Core<Global, Note = Frame>>(
     alloc: Global,
     core: &mut C,
     stimuli: &[Stimulus<Frame>],
@@ -44,7 +44,7 @@ fn step_all<C: Core<Global, Note = Frame>>(
 }
 
 /// Times how a core takes stimuli.
-fn time_steps<R: Clock, C: Core<Global, Note = Frame>>(
+pub(crate) fn time_steps<R: Clock, C: Core<Global, Note = Frame>>(
     rt: &R,
     alloc: Global,
     core: &mut C,

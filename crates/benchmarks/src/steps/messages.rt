@@ -22,7 +22,7 @@ pub(crate) struct Taken {
 }
 
 /// The arrival of a frame from its sender.
-fn arrival(note: Frame) -> Stimulus<Frame> {
+pub(crate) fn arrival(note: Frame) -> Stimulus<Frame> {
     StimulusOf::Arrive {
         sender: note.sender(),
         note,
@@ -51,7 +51,7 @@ pub(crate) fn message(
 }
 
 /// Appends the requests of all peers.
-fn push_requests(stimuli: &mut Vec<Stimulus<Frame>>) -> Result<()> {
+pub(crate) fn push_requests(stimuli: &mut Vec<Stimulus<Frame>>) -> Result<()> {
     for peer in PEERS {
         stimuli.push(request(origin_named(peer)?)?)?;
     }
@@ -59,7 +59,11 @@ fn push_requests(stimuli: &mut Vec<Stimulus<Frame>>) -> Result<()> {
 }
 
 /// Appends `count` messages of the first peer.
-fn push_messages(stimuli: &mut Vec<Stimulus<Frame>>, payload: &Bytes, count: u64) -> Result<()> {
+pub(crate) fn push_messages(
+    stimuli: &mut Vec<Stimulus<Frame>>,
+    payload: &Bytes,
+    count: u64,
+) -> Result<()> {
     let peer = origin_named("p")?;
     for k in 0..count {
         stimuli.push(message(peer, peer, k.saturating_add(1), payload)?)?;
