@@ -1,11 +1,11 @@
 -- What waits for a name, and what goes out of it.
-use Rattle.std.specs.Prelude.{◌≡◌, ◌<◌, ℕ, Bool, true, false, List, [], ◌∷◌, All, drop, get_or, length, map, min, refl, if◌then◌else◌}
+use Rattle.std.specs.Prelude.{◌≡◌, ◌<◌, ℕ, Bool, true, false, List, [], ◌∷◌, All, drop, get_or, length, map, min, not, refl, if◌then◌else◌}
 use Rattle.std.proofs.Common.{◌∙◌, ap, arith, set, sym, zero, suc}
 use Rattle.std.proofs.lemmas.List.{drop_all, drop_min}
 use Rattle.std.proofs.lemmas.List.Elements.{All-head, All-tail}
 use Rattle.node_names.specs.NodeName.{Name}
 use Rattle.node_names.specs.Same.{same_name, same_name-Decides}
-use Rattle.wire_node.specs.Acting.{AreSettled}
+use Rattle.wire_node.specs.Acting.{AreSettled, without}
 use Rattle.wire_node.specs.Waiting.{Waiting, settled_for, undrafted}
 use Rattle.wire_node.proofs.Drafting.{IsOther, made, other_name}
 
@@ -83,3 +83,35 @@ gone_none ws name n other all = go (same_name other name) refl
 pub less_of : (count : ℕ) (now e new : Waiting) (taken : ℕ) → now ≡ e → taken ≡ min count (length e.settled) → new ≡ made now.name (drop taken now.settled) now.drafted → new ≡ with_less count e
 less_of count now e new taken is few made_so =
     made_so ∙ ap (with_less taken) is ∙ ap (λ (s : List ℕ). made e.name s e.drafted) (ap (λ (t : ℕ). drop t e.settled) few ∙ drop_min count e.settled)
+
+-- no entry of the name is left
+gone_all : (ws : List Waiting) (name : Name) → settled_for (without name ws) name ≡ []
+gone_all [] name = refl
+gone_all (w ∷ ws) name = go (same_name name w.name) refl (gone_all ws name)
+  where
+    go : (b : Bool) → same_name name w.name ≡ b → settled_for (without name ws) name ≡ [] → settled_for (if not b then w ∷ without name ws else without name ws) name ≡ []
+    go true e more = more
+    go false e more = ap (λ (t : Bool). if t then w.settled else settled_for (without name ws) name) e ∙ more
+
+-- what waits for another name stays
+others_stay : (ws : List Waiting) (name other : Name) → same_name other name ≡ false → settled_for (without name ws) other ≡ settled_for ws other
+others_stay [] name other apart = refl
+others_stay (w ∷ ws) name other apart = go (same_name name w.name) refl (others_stay ws name other apart)
+  where
+    go : (b : Bool) → same_name name w.name ≡ b → settled_for (without name ws) other ≡ settled_for ws other → settled_for (if not b then w ∷ without name ws else without name ws) other ≡ (if same_name other w.name then w.settled else settled_for ws other)
+    go true e more = more ∙ sym (ap (λ (m : Name). if same_name other m then w.settled else settled_for ws other) (sym ((same_name-Decides name w.name).0 e)) ∙ ap (λ (t : Bool). if t then w.settled else settled_for ws other) apart)
+    go false e more = ap (λ (l : List ℕ). if same_name other w.name then w.settled else l) more
+
+-- where nothing waits for a name, all stays without its entries
+pub swept : (ws : List Waiting) (name other : Name) → length (settled_for ws name) ≡ 0 → settled_for (without name ws) other ≡ settled_for ws other
+swept ws name other none = go (same_name other name) refl
+  where
+    empty : (l : List ℕ) → length l ≡ 0 → l ≡ []
+    empty [] h = refl
+    empty (x ∷ l) h = absurd (omega (arith, h))
+
+    go : (b : Bool) → same_name other name ≡ b → settled_for (without name ws) other ≡ settled_for ws other
+    go true e =
+        let same : other ≡ name = (same_name-Decides other name).0 e in
+        ap (settled_for (without name ws)) same ∙ gone_all ws name ∙ sym (empty (settled_for ws name) none) ∙ sym (ap (settled_for ws) same)
+    go false e = others_stay ws name other e

@@ -12,7 +12,7 @@ use std::alloc::Allocator;
 use world::{CoreError, Delivery, StimulusOf};
 
 /// Drops what waits for the name.
-fn forget<A: Allocator + Copy>(entries: &mut Vec<Entry<A>, A>, name: &NodeName)
+pub(crate) fn forget<A: Allocator + Copy>(entries: &mut Vec<Entry<A>, A>, name: &NodeName)
     ensures { entries.new.items ≡ without name.now entries.old.items }
 {
     entries.retain(

@@ -9,6 +9,7 @@ mod downs;
 mod drafts;
 mod entry;
 mod error;
+mod idle;
 mod limits;
 mod node;
 mod opening;

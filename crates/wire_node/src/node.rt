@@ -14,6 +14,9 @@ use std::alloc::{Allocator, Global};
 use std::marker::Model;
 use world::{Delivery, Out, are_peers};
 
+/// For how many names it keeps bytes at first before it looks for those for whom nothing waits.
+pub(crate) const NAMES: usize = 16;
+
 /// A node of bytes: a core, what waits to go out for each name, what was delivered, and what came over connections.
 ///
 /// It is called by one thread at a time, and never waits.
@@ -27,6 +30,8 @@ pub struct WireNode<A: Allocator = Global> {
     pub(crate) lost: Listed<NodeName, A>,
     /// How many bytes may wait for a name.
     pub(crate) limit: usize,
+    /// How many names it may keep bytes for before it looks for those for whom nothing waits.
+    pub(crate) names: usize,
     /// How many connections were numbered.
     pub(crate) numbered: u64,
     pub(crate) ticks: u64,
@@ -78,6 +83,7 @@ impl<A: Allocator + Copy> WireNode<A> {
             connections: Vec::new(alloc),
             lost: Listed::new(alloc),
             limit: limits.waiting,
+            names: NAMES,
             numbered: 0,
             ticks: 0,
         })

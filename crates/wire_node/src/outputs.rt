@@ -8,8 +8,9 @@ ghost use Rattle.wire_node.specs.Waiting.{settled_for};
 
 use crate::drafts::place_of;
 use crate::entry::Entry;
-use crate::node::WireNode;
-use node_names::{Listed, NodeName};
+use crate::idle::drop_idle;
+use crate::node::{NAMES, WireNode};
+use node_names::{Listed, NameSet, NodeName};
 use std::alloc::{AllocError, Allocator};
 use std::mem;
 use world::{Core, Delivery};
@@ -42,6 +43,27 @@ fn take_front<A: Allocator + Copy>(entries: &mut Vec<Entry<A>, A>, name: &NodeNa
     entries[place].advance(taken);
 }
 
+/// Takes the first `count` of the bytes that wait for the name. Where there are more than `names` entries, drops those
+/// of names for whom nothing waits and that are no peers. Returns how many there may be before that is done next.
+fn take_and_sweep<A: Allocator + Copy>(
+    entries: &mut Vec<Entry<A>, A>,
+    peers: &NameSet<A>,
+    name: &NodeName,
+    count: usize,
+    names: usize,
+) -> usize
+    requires { AreSettled entries.old.items }
+    ensures settled { AreSettled entries.new.items }
+    ensures gone { (other : Name) → settled_for entries.new.items other ≡ (if same_name other name.now then drop count (settled_for entries.old.items other) else settled_for entries.old.items other) }
+{
+    take_front(entries, name, count);
+    if entries.len() <= names {
+        return names;
+    }
+    drop_idle(entries, peers);
+    entries.len().saturating_mul(2).max(NAMES)
+}
+
 impl<A: Allocator + Copy> WireNode<A> {
     /// The names for whom bytes wait.
     pub fn receivers(&self) -> Result<Vec<NodeName, A>, AllocError> {
@@ -68,7 +90,13 @@ impl<A: Allocator + Copy> WireNode<A> {
         ensures rest { self.new ≡ record self.old { machine = record self.old.machine { waiting = self.new.machine.waiting } } }
         ensures gone { (other : Name) → settled_for self.new.machine.waiting other ≡ (if same_name other name.now then drop count (settled_for self.old.machine.waiting other) else settled_for self.old.machine.waiting other) }
     {
-        take_front(&mut self.entries, name, count);
+        self.names = take_and_sweep(
+            &mut self.entries,
+            self.core.active(),
+            name,
+            count,
+            self.names,
+        );
     }
 
     /// Returns the deliveries that were not taken yet, in order. This call takes them.
