@@ -17,3 +17,4 @@ mod UnsentLemmas
 mod DistinctLemmas
 mod MoveLemmas
 mod EndLemmas
+mod LeftLemmas

@@ -4,3 +4,4 @@ pub mod FrameIds
 pub mod Numbers
 pub mod Held
 pub mod Steps
+pub mod Left

@@ -64,6 +64,10 @@ impl<A: Allocator + Copy> Merging<A> {
 /// starts once all traces of its name with lower incarnations are played out, and a frame arrives once it is sent.
 /// `Doubled` comes first; `Unlike` and `NotARun` come where the trace that is gone over has them; `Stuck` where none
 /// can be played on.
+///
+/// A trace that waits is visited again only once what it waits for has happened. So the traces cost what their steps
+/// cost, up to a logarithm of the frames and of the traces; but each frame that arrives moves those behind it in the
+/// group's flight.
 pub fn merge<A: Allocator + Copy>(
     alloc: A,
     limits: Limits,

@@ -16,6 +16,8 @@ mod sameness;
 mod starting;
 mod stepping;
 mod stuck;
+mod unfinished;
+mod visits;
 
 pub use fault::{MergeFault, ProjectFault};
 pub use group_run::merge;

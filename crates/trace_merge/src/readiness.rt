@@ -1,47 +1,78 @@
 //! Whether a run may start.
-ghost use Rattle.std.specs.Prelude.{◌≡◌, true, false};
+ghost use Rattle.std.specs.Prelude.{◌≡◌, Some, true, false, IfNone, IfSome, slice_get};
 ghost use Rattle.std.specs.Bool.{Decides};
+ghost use Rattle.world.specs.Trace.{Trace as Traced};
+ghost use Rattle.frames.specs.Frame.{Frame as Said};
 ghost use Rattle.trace_merge.specs.Held.{IsEarlier};
-ghost use Rattle.trace_merge.specs.Merging.{AwaitsRun, IsOut, IsReady};
+ghost use Rattle.trace_merge.specs.Left.{AreLeft};
+ghost use Rattle.trace_merge.specs.Merging.{AreDistinct, AwaitsRun, IsOut, IsReady, place_at};
 
 use crate::stuck::{is_out, place_at};
+use crate::unfinished::Unfinished;
 use frames::Frame;
 use node_names::Origin;
 use std::alloc::Allocator;
 use world::Trace;
 
 /// Whether the first run is an earlier run of the same name as the other.
-fn is_earlier(one: &Origin, other: &Origin) -> bool
+pub(crate) fn is_earlier(one: &Origin, other: &Origin) -> bool
     ensures { Decides result (IsEarlier one.now other.now) }
 {
     one.name == other.name && one.incarnation.0 < other.incarnation.0
 }
 
-/// Whether a trace is of an earlier run of the name and is not finished.
-fn is_awaited<A: Allocator>(
-    trace: &Trace<Frame<A>, A>,
-    place: Option<usize>,
-    origin: &Origin,
+/// Whether the trace at index `at` is finished.
+fn is_out_at<A: Allocator>(
+    traces: &[Trace<Frame<A>, A>],
+    places: &[Option<usize>],
+    at: usize,
 ) -> bool
-    ensures awaited { result ≡ true → IsEarlier trace.now.origin origin.now × (¬ IsOut trace.now place) }
-    ensures free { result ≡ false → IsEarlier trace.now.origin origin.now → IsOut trace.now place }
+    ensures { (t : Traced Said) → slice_get traces.now at ≡ Some t → Decides result (IsOut t (place_at places.now at)) }
 {
-    is_earlier(&trace.origin(), origin) && !is_out(trace, place)
+    match traces.get(at) {
+        Some(trace) => is_out(trace, place_at(places, at)),
+        None => false,
+    }
+}
+
+/// The last earlier run of the name that is not finished, if there is one. Runs that are found to be finished are taken
+/// out of `left`, so that all calls together cost no more than one look-up each and one for each run.
+pub(crate) fn awaited_run<A: Allocator + Copy>(
+    traces: &[Trace<Frame<A>, A>],
+    places: &[Option<usize>],
+    left: &mut Unfinished<A>,
+    origin: &Origin,
+) -> Option<Origin>
+    requires distinct { AreDistinct traces.now }
+    requires left { AreLeft traces.now places.now left.old.runs }
+    ensures left { AreLeft traces.now places.now left.new.runs }
+    ensures ready { IfNone result (IsReady traces.now places.now origin.now) }
+    ensures awaits { IfSome result (λ run. AwaitsRun traces.now places.now origin.now) }
+{
+    while let Some((run, at)) = left.last_before(origin) {
+        if !is_out_at(traces, places, at) {
+            return Some(run);
+        }
+        left.remove(&run);
+    }
+    None
 }
 
 /// Whether all earlier runs of the name are finished.
-pub(crate) fn is_ready<A: Allocator>(
+pub(crate) fn is_ready<A: Allocator + Copy>(
     traces: &[Trace<Frame<A>, A>],
     places: &[Option<usize>],
+    left: &mut Unfinished<A>,
     origin: &Origin,
 ) -> bool
+    requires distinct { AreDistinct traces.now }
+    requires left { AreLeft traces.now places.now left.old.runs }
+    ensures left { AreLeft traces.now places.now left.new.runs }
     ensures ready { result ≡ true → IsReady traces.now places.now origin.now }
     ensures awaits { result ≡ false → AwaitsRun traces.now places.now origin.now }
 {
-    for (at, trace) in traces.iter().enumerate() {
-        if is_awaited(trace, place_at(places, at), origin) {
-            return false;
-        }
+    match awaited_run(traces, places, left, origin) {
+        Some(_) => false,
+        None => true,
     }
-    true
 }

@@ -49,18 +49,20 @@ next traces at false false old now new so played waits =
 
 pub loop-at-preserved : goal.loop-at-preserved
 loop-at-preserved g c =
-    next c.args.traces.now c.loop-at.at c.loop-at.moved c.in_ok-moved.field-0 c.args.self.now c.loop-at.self c.play_on.new.self c.loop-at.invariant
+    let on =
+    next c.args.traces.now c.loop-at.at c.loop-at.moved c.in_ok-moved.field-0 c.args.self.now c.loop-at.self c.play_on.new.self (c.loop-at.invariant.moves, c.loop-at.invariant.held)
     (λ it. c.play_on.ensures.played (c.in_ok-moved.was ∙ ap Ok it))
-    (λ it. c.play_on.ensures.waits (c.in_ok-moved.was ∙ ap Ok it))
+    (λ it. c.play_on.ensures.waits (c.in_ok-moved.was ∙ ap Ok it)) in
+    record { moves = on.0; held = on.1; left = c.in_ok-moved.ensures.left }
 
 pub returns-clause-played : goal.returns-clause-played
 returns-clause-played g c it =
     let is : c.loop-at.moved ≡ true = cc in
-    moved_advances c.args.traces.now c.loop-at.moved c.args.self.now c.loop-at.self c.loop-at.invariant.0 is
+    moved_advances c.args.traces.now c.loop-at.moved c.args.self.now c.loop-at.self c.loop-at.invariant.moves is
 
 pub returns-clause-waits : goal.returns-clause-waits
 returns-clause-waits g c it i t at_i =
     let is : c.loop-at.moved ≡ false = cc in
     let within : i < length c.args.traces.now = slice_get_within c.args.traces.now i t at_i in
     let low : i < c.loop-at.at = omega (arith, within, c.loop-at-test.false) in
-    c.loop-at.invariant.1 is i t low at_i
+    c.loop-at.invariant.held is i t low at_i
