@@ -1,7 +1,7 @@
 pub mod Borrowed
 pub mod Digits
 pub mod Ending
-pub mod Finding
+pub mod Flights
 pub mod Idling
 pub mod Inputs
 pub mod Items

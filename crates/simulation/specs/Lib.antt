@@ -1,5 +1,6 @@
 pub mod Code
 pub mod Drawn
+pub mod Flights
 pub mod Form
 pub mod Graph
 pub mod Key

@@ -3,6 +3,7 @@ ghost use Rattle.std.specs.Prelude.{◌≡◌, ◌++◌, ℕ, List, OnOk, string
 ghost use Rattle.std.specs.Io.KnownBytes.{Appends};
 ghost use Rattle.simulation.specs.Graph.{DrawsGroup};
 
+mod flights;
 mod flying;
 mod overlay;
 mod parts;
