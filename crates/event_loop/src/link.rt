@@ -1,0 +1,110 @@
+//! A link that was dialled.
+use mio::event::Event;
+use mio::net::TcpStream;
+use node_names::NodeName;
+use std::alloc::Allocator;
+use std::io;
+use std::io::{ErrorKind, IoSlice};
+use wire_node::WireNode;
+
+/// A connection that was dialled, which is only written.
+#[derive(Drop)]
+pub(crate) struct Link {
+    stream: TcpStream,
+    name: NodeName,
+    /// Whether a write may take bytes. The poll tells only of changes, so this stays until a write takes none.
+    is_ready: bool,
+    /// Whether dialling failed, or it has ended.
+    is_over: bool,
+    /// The node's tick in which it was dialled, or took bytes last.
+    used: u64,
+}
+
+/// Writes the first of the bytes that wait for the name. Returns how many went out.
+fn write_first<A: Allocator + Copy>(
+    stream: &TcpStream,
+    node: &WireNode<A>,
+    name: &NodeName,
+) -> io::Result<usize> {
+    let [first, second, third, fourth] = node.transmit(name);
+    if first.is_empty() && second.is_empty() {
+        return Ok(0);
+    }
+    stream.write_vectored(&[
+        IoSlice::new(first),
+        IoSlice::new(second),
+        IoSlice::new(third),
+        IoSlice::new(fourth),
+    ])
+}
+
+impl Link {
+    /// Makes a link to the name that is being dialled. A write tells whether it is connected already.
+    pub(crate) fn new(stream: TcpStream, name: NodeName, now: u64) -> Link {
+        Link {
+            stream,
+            name,
+            is_ready: true,
+            is_over: false,
+            used: now,
+        }
+    }
+
+    /// The name that it leads to.
+    pub(crate) fn name(&self) -> NodeName {
+        self.name
+    }
+
+    /// Whether the node is to be told that the name cannot be reached.
+    pub(crate) fn is_over(&self) -> bool {
+        self.is_over
+    }
+
+    /// Whether it took no bytes in the last `ticks` ticks.
+    pub(crate) fn is_idle(&self, now: u64, ticks: u64) -> bool {
+        self.used.saturating_add(ticks) < now
+    }
+
+    /// Has the node be told that the name cannot be reached.
+    pub(crate) fn end(&mut self) {
+        self.is_over = true;
+    }
+
+    /// Notes what the poll tells of it.
+    pub(crate) fn note(&mut self, event: &Event) {
+        if event.is_error() || event.is_read_closed() || event.is_write_closed() {
+            self.is_over = true;
+        }
+        if event.is_writable() {
+            self.is_ready = true;
+        }
+    }
+
+    /// Writes once of what waits for its name. Returns whether bytes went out.
+    pub(crate) fn write<A: Allocator + Copy>(&mut self, node: &mut WireNode<A>) -> bool {
+        if !self.is_ready || self.is_over {
+            return false;
+        }
+        match write_first(&self.stream, node, &self.name) {
+            Ok(0) => false,
+            Ok(count) => {
+                node.transmitted(&self.name, count);
+                self.used = node.ticks();
+                true
+            }
+            Err(error) => {
+                self.note_refusal(error.kind());
+                false
+            }
+        }
+    }
+
+    /// Notes why a write took nothing.
+    fn note_refusal(&mut self, kind: ErrorKind) {
+        match kind {
+            ErrorKind::WouldBlock => self.is_ready = false,
+            ErrorKind::Interrupted => {}
+            _ => self.is_over = true,
+        }
+    }
+}
