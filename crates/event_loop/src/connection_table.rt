@@ -4,11 +4,10 @@ use crate::error::LoopError;
 use crate::source::connection_token;
 use mio::net::{TcpListener, TcpStream};
 use mio::{Interest, Registry};
-use node_names::Dice;
 use slab::Slab;
 use std::alloc::Allocator;
 use std::io::ErrorKind;
-use wire_node::{ConnectionId, WireError, WireNode};
+use wire_node::{ConnectionId, WireNode};
 
 /// How many connections are open at most that came in. More wait at the listener until one of these is closed.
 pub const CONNECTIONS: usize = 1_024;
@@ -110,24 +109,18 @@ impl<A: Allocator + Copy> ConnectionTable<A> {
         }
     }
 
-    /// Tells the node of the connection at this place if it is over, and closes it.
-    pub(crate) fn close_if_over(
-        &mut self,
-        place: usize,
-        node: &mut WireNode<A>,
-        dice: &Dice,
-    ) -> Result<(), LoopError> {
-        let Some(connection) = self.all.get(place) else {
-            return Ok(());
-        };
-        if !connection.is_over() {
-            return Ok(());
+    /// The node's number of the connection at this place, if it is to be closed.
+    pub(crate) fn over_at(&self, place: usize) -> Option<ConnectionId> {
+        let connection = self.all.get(place)?;
+        if connection.is_over() {
+            Some(connection.id())
+        } else {
+            None
         }
-        match node.ended(connection.id(), dice) {
-            Ok(()) | Err(WireError::NoConnection) => {}
-            Err(error) => return Err(LoopError::from(error)),
-        }
+    }
+
+    /// Closes the connection at this place.
+    pub(crate) fn close(&mut self, place: usize) {
         self.all.try_remove(place);
-        Ok(())
     }
 }

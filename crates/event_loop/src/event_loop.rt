@@ -32,6 +32,8 @@ pub struct EventLoop<S: Resolve + Drop, A: Allocator + Copy = Global> {
     pub(crate) connections: ConnectionTable<A>,
     pub(crate) links: LinkTable<A>,
     pub(crate) buffer: Buffer<A>,
+    /// The place of the connection that the next turn reads first.
+    pub(crate) next_read: usize,
     /// Whether there is more to do than the last turn did, so that the next must not wait.
     pub(crate) is_behind: bool,
 }
@@ -60,6 +62,7 @@ impl<S: Resolve + Drop, A: Allocator + Copy> EventLoop<S, A> {
             connections: ConnectionTable::new(alloc, listener),
             links: LinkTable::new(alloc),
             buffer: Buffer::new(alloc)?,
+            next_read: 0,
             is_behind: true,
         })
     }

@@ -13,6 +13,10 @@ use wire_node::{ReceiveError, WireError};
 /// How many reads a turn makes of each connection at most.
 const READS: usize = 16;
 
+/// How many reads a turn makes at most. What they bring is four megabytes: half of what may wait for a name, so that the
+/// turn can send it before too much waits.
+const ALL_READS: usize = 64;
+
 /// How many connections a turn takes at most.
 const ACCEPTS: usize = 16;
 
@@ -42,10 +46,10 @@ impl<S: Resolve + Drop, A: Allocator + Copy> EventLoop<S, A> {
         self.wait(wait)?;
         self.is_behind = true;
         self.give()?;
-        self.accept_some()?;
-        let is_behind = self.read_all()?;
+        let may_read = self.read_all()?;
         self.close_ended()?;
-        self.is_behind = is_behind || self.connections.may_accept();
+        let may_accept = self.accept_some()?;
+        self.is_behind = may_read || may_accept;
         Ok(())
     }
 
@@ -56,39 +60,47 @@ impl<S: Resolve + Drop, A: Allocator + Copy> EventLoop<S, A> {
         Ok(())
     }
 
-    /// Takes connections that wait at the listener.
-    fn accept_some(&mut self) -> Result<(), LoopError> {
+    /// Takes connections that wait at the listener. Returns whether more may wait. Where the system refuses one, the
+    /// next turn tries again, after its wait.
+    fn accept_some(&mut self) -> Result<bool, LoopError> {
         for _ in 0..ACCEPTS {
-            if !self.connections.may_accept() {
-                return Ok(());
-            }
-            if !self
-                .connections
-                .accept(self.poll.registry(), &mut self.node)?
+            if !self.connections.may_accept()
+                || !self
+                    .connections
+                    .accept(self.poll.registry(), &mut self.node)?
             {
-                return Ok(());
+                return Ok(false);
             }
         }
-        Ok(())
+        Ok(true)
     }
 
-    /// Reads from all connections that are ready. Returns whether more may wait at one.
+    /// Reads from the connections that are ready, from where the last turn ended. Returns whether more may wait.
     fn read_all(&mut self) -> Result<bool, LoopError> {
+        let places = self.connections.places();
+        let first = self.next_read;
         let mut is_behind = false;
-        for place in 0..self.connections.places() {
-            if self.read_some(place)? {
+        let mut left = ALL_READS;
+        for step in 0..places {
+            let place = first.wrapping_add(step) % places;
+            if self.read_some(place, &mut left)? {
                 is_behind = true;
+            }
+            if left == 0 {
+                self.next_read = place;
+                return Ok(true);
             }
         }
         Ok(is_behind)
     }
 
-    /// Reads from the connection at this place. Returns whether more may wait.
-    fn read_some(&mut self, place: usize) -> Result<bool, LoopError> {
-        for _ in 0..READS {
+    /// Reads from the connection at this place, as often as reads are left. Returns whether more may wait.
+    fn read_some(&mut self, place: usize, left: &mut usize) -> Result<bool, LoopError> {
+        for _ in 0..READS.min(*left) {
             if !self.read_once(place)? {
                 return Ok(false);
             }
+            *left = left.saturating_sub(1);
         }
         Ok(true)
     }
@@ -132,13 +144,26 @@ impl<S: Resolve + Drop, A: Allocator + Copy> EventLoop<S, A> {
         Ok(())
     }
 
-    /// Closes the connections that have ended, or sent what is no frame, once the node was told.
+    /// Closes the connections that have ended, or sent what is no frame.
     fn close_ended(&mut self) -> Result<(), LoopError> {
         for place in 0..self.connections.places() {
-            let dice = self.draw();
-            self.connections
-                .close_if_over(place, &mut self.node, &dice)?;
+            self.close_if_over(place)?;
         }
         Ok(())
+    }
+
+    /// Closes the connection at this place if it has ended, or sent what is no frame, once the node was told.
+    fn close_if_over(&mut self, place: usize) -> Result<(), LoopError> {
+        let Some(id) = self.connections.over_at(place) else {
+            return Ok(());
+        };
+        let dice = self.draw();
+        match self.node.ended(id, &dice) {
+            Ok(()) | Err(WireError::NoConnection) => {
+                self.connections.close(place);
+                Ok(())
+            }
+            Err(error) => Err(LoopError::from(error)),
+        }
     }
 }
