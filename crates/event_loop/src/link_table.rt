@@ -79,7 +79,8 @@ impl<A: Allocator + Copy> LinkTable<A> {
         self.places.reserve(1)
     }
 
-    /// Dials the name. Returns whether this began well; where an allocation is refused it did not begin.
+    /// Dials the name, to whom there is no link. Returns the place of the link, unless the system refuses. Where an
+    /// allocation is refused, nothing is dialled.
     pub(crate) fn dial<R: Net>(
         &mut self,
         rt: &R,
@@ -87,17 +88,14 @@ impl<A: Allocator + Copy> LinkTable<A> {
         name: NodeName,
         at: SocketAddr,
         now: u64,
-    ) -> Result<bool, LoopError> {
+    ) -> Result<Option<usize>, LoopError> {
         self.make_room()?;
-        let place = self.all.vacant_key();
-        match dial_at(rt, registry, at, place) {
-            Ok(stream) => {
-                self.places.insert(name, place)?;
-                self.all.insert(Link::new(stream, name, now))?;
-                Ok(true)
-            }
-            Err(_) => Ok(false),
-        }
+        let Ok(stream) = dial_at(rt, registry, at, self.all.vacant_key()) else {
+            return Ok(None);
+        };
+        let place = self.all.insert(Link::new(stream, name, now))?;
+        self.places.insert(name, place)?;
+        Ok(Some(place))
     }
 
     /// Closes the link to the name, if there is one.

@@ -88,30 +88,26 @@ impl<S: Resolve + Drop, A: Allocator + Copy> EventLoop<S, A> {
         }
     }
 
-    /// Sends what waits for the name.
+    /// Sends what waits for the name. If it cannot be dialled, the node is told so.
     fn send_to<R: Net>(&mut self, rt: &R, name: NodeName) -> Result<(), LoopError> {
-        if !self.reach(rt, name)? {
+        let Some(place) = self.reach(rt, name)? else {
             return self.give_up(name);
-        }
-        let Some(place) = self.links.place_of(&name) else {
-            return Ok(());
         };
-        let Some(link) = self.links.get_mut(place) else {
-            return Ok(());
-        };
-        if write_some(link, &mut self.node) || link.is_over() {
-            self.is_behind = true;
+        if let Some(link) = self.links.get_mut(place) {
+            if write_some(link, &mut self.node) || link.is_over() {
+                self.is_behind = true;
+            }
         }
         Ok(())
     }
 
-    /// Dials the name, unless there is a link to it. Returns whether there is one then.
-    fn reach<R: Net>(&mut self, rt: &R, name: NodeName) -> Result<bool, LoopError> {
-        if self.links.place_of(&name).is_some() {
-            return Ok(true);
+    /// Dials the name, unless there is a link to it. Returns the place of the link, unless it cannot be dialled.
+    fn reach<R: Net>(&mut self, rt: &R, name: NodeName) -> Result<Option<usize>, LoopError> {
+        if let Some(place) = self.links.place_of(&name) {
+            return Ok(Some(place));
         }
         let Some(at) = self.resolver.resolve(&name) else {
-            return Ok(false);
+            return Ok(None);
         };
         let now = self.node.ticks();
         self.links.dial(rt, self.poll.registry(), name, at, now)

@@ -47,7 +47,6 @@ impl<S: Resolve + Drop, A: Allocator + Copy> EventLoop<S, A> {
         self.is_behind = true;
         self.give()?;
         let may_read = self.read_all()?;
-        self.close_ended()?;
         let may_accept = self.accept_some()?;
         self.is_behind = may_read || may_accept;
         Ok(())
@@ -75,7 +74,8 @@ impl<S: Resolve + Drop, A: Allocator + Copy> EventLoop<S, A> {
         Ok(true)
     }
 
-    /// Reads from the connections that are ready, from where the last turn ended. Returns whether more may wait.
+    /// Reads from the connections that are ready, from where the last turn ended, and closes those that are over.
+    /// Returns whether more may wait.
     fn read_all(&mut self) -> Result<bool, LoopError> {
         let places = self.connections.places();
         let first = self.next_read;
@@ -86,8 +86,9 @@ impl<S: Resolve + Drop, A: Allocator + Copy> EventLoop<S, A> {
             if self.read_some(place, &mut left)? {
                 is_behind = true;
             }
+            self.close_if_over(place)?;
             if left == 0 {
-                self.next_read = place;
+                self.next_read = place.wrapping_add(1);
                 return Ok(true);
             }
         }
@@ -127,12 +128,17 @@ impl<S: Resolve + Drop, A: Allocator + Copy> EventLoop<S, A> {
             self.buffer.clear();
             return Ok(());
         };
-        match self.node.receive(connection.id(), self.buffer.rest(), &dice) {
+        match self
+            .node
+            .receive(connection.id(), self.buffer.rest(), &dice)
+        {
             Ok(()) => self.buffer.clear(),
-            Err(ReceiveError {
-                error: WireError::Frame(_) | WireError::NoConnection,
-                ..
-            }) => {
+            Err(
+                ReceiveError {
+                    error: WireError::Frame(_) | WireError::NoConnection,
+                    ..
+                },
+            ) => {
                 self.buffer.clear();
                 connection.end();
             }
@@ -140,14 +146,6 @@ impl<S: Resolve + Drop, A: Allocator + Copy> EventLoop<S, A> {
                 self.buffer.skip(taken);
                 return Err(LoopError::from(error));
             }
-        }
-        Ok(())
-    }
-
-    /// Closes the connections that have ended, or sent what is no frame.
-    fn close_ended(&mut self) -> Result<(), LoopError> {
-        for place in 0..self.connections.places() {
-            self.close_if_over(place)?;
         }
         Ok(())
     }

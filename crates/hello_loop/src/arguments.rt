@@ -25,9 +25,15 @@ pub fn command<'a>(alloc: Global) -> Result<Command<'a>, AllocError> {
         .value_name("NAME")
         .help("A node that runs already, which takes this one into its group");
     Command::new(alloc, "hello_loop")
-        .about("Runs a node that greets its group once, and ends when it has a greeting of each node")
+        .about(
+            "Runs a node that greets its group once, and ends when it has a greeting of each node",
+        )
         .arg(contact)?
-        .arg(Arg::new(alloc, "NAME").required(true).help("The node to run"))?
+        .arg(
+            Arg::new(alloc, "NAME")
+                .required(true)
+                .help("The node to run"),
+        )?
         .arg(Arg::new(alloc, "TEXT").required(true).help("Its greeting"))?
         .arg(
             Arg::new(alloc, "NODE")

@@ -37,7 +37,9 @@ fn main(rt: HostRuntime) -> Result<ExitCode> {
         contact,
         nodes,
     } = requested(alloc, &matches)?;
-    let at = nodes.resolve(&name).context("the node is not among the nodes")?;
+    let at = nodes
+        .resolve(&name)
+        .context("the node is not among the nodes")?;
     let me = Origin {
         name,
         incarnation: Incarnation(1),
