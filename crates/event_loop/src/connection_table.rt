@@ -1,4 +1,7 @@
 //! The connections that came in, and the listener that they come to.
+ghost use Rattle.std.specs.Prelude.{◌<◌, ◌≤◌};
+ghost use Rattle.slab.specs.Slab.{slab_len};
+
 use crate::connection::Connection;
 use crate::error::LoopError;
 use crate::source::connection_token;
@@ -39,11 +42,6 @@ impl<A: Allocator + Copy> ConnectionTable<A> {
         &self.listener
     }
 
-    /// Whether a connection may be taken: one may wait, and there is room for it.
-    pub(crate) fn may_accept(&self) -> bool {
-        self.is_ready && self.all.len() < CONNECTIONS
-    }
-
     /// A number above all places.
     pub(crate) fn places(&self) -> usize {
         self.all.capacity()
@@ -66,13 +64,18 @@ impl<A: Allocator + Copy> ConnectionTable<A> {
         }
     }
 
-    /// Takes a connection that waits at the listener, if one does. Returns whether one did. Where an allocation is
-    /// refused none is taken.
+    /// Takes a connection that waits at the listener, if there is one, and room for it. Returns whether it did. Where an
+    /// allocation is refused, none is taken.
     pub(crate) fn accept(
         &mut self,
         registry: &Registry,
         node: &mut WireNode<A>,
-    ) -> Result<bool, LoopError> {
+    ) -> Result<bool, LoopError>
+        ensures few { slab_len self.old.all ≤ CONNECTIONS → slab_len self.new.all ≤ CONNECTIONS }
+    {
+        if !self.is_ready || self.all.len() >= CONNECTIONS {
+            return Ok(false);
+        }
         self.all.reserve(1)?;
         let id = match self.next {
             Some(id) => id,
@@ -94,7 +97,10 @@ impl<A: Allocator + Copy> ConnectionTable<A> {
     }
 
     /// Has the poll watch a connection, and keeps it. One that cannot be watched is closed.
-    fn admit(&mut self, registry: &Registry, mut stream: TcpStream, id: ConnectionId) {
+    fn admit(&mut self, registry: &Registry, mut stream: TcpStream, id: ConnectionId)
+        requires { slab_len self.old.all < CONNECTIONS }
+        ensures { slab_len self.new.all ≤ CONNECTIONS }
+    {
         let Some(token) = connection_token(self.all.vacant_key()) else {
             return;
         };

@@ -60,6 +60,11 @@ impl Link {
         self.is_over
     }
 
+    /// Whether it took no bytes when that was tried last, and no change was noted since.
+    pub(crate) fn is_blocked(&self) -> bool {
+        !self.is_ready
+    }
+
     /// Whether it took no bytes in the last `ticks` ticks.
     pub(crate) fn is_idle(&self, now: u64, ticks: u64) -> bool {
         self.used.saturating_add(ticks) < now

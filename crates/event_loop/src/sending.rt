@@ -12,8 +12,8 @@ use world::Core;
 /// How many writes a turn makes to each link at most.
 const WRITES: usize = 16;
 
-/// For how many ticks a link that leads to no neighbour stays open without use: a node that asked to become a neighbour
-/// may be waiting for the answer.
+/// For how many ticks a link may take no bytes. Then one that does not take what waits counts as ended, and one that leads
+/// to no neighbour is closed; sooner, a node that asked to become a neighbour could still wait for the answer.
 const IDLE: u64 = 64;
 
 /// Writes to the link what waits for its name. Returns whether more may wait that it would take.
@@ -46,7 +46,8 @@ impl<S: Resolve + Drop, A: Allocator + Copy> EventLoop<S, A> {
         Ok(())
     }
 
-    /// Makes a tick of the node, and closes the links to strangers that were not used for some time.
+    /// Makes a tick of the node, and looks for links that took no bytes for some time: those that do not take what waits
+    /// for their names end, and of the others those to strangers are closed.
     pub fn tick(&mut self) -> Result<(), LoopError> {
         let dice = self.draw();
         self.node.tick(&dice)?;
@@ -113,19 +114,21 @@ impl<S: Resolve + Drop, A: Allocator + Copy> EventLoop<S, A> {
         self.links.dial(rt, self.poll.registry(), name, at, now)
     }
 
-    /// Closes the link at this place, if it was not used for some time and leads to no neighbour. If bytes wait for its
-    /// name that it did not take, the node is told that the name cannot be reached.
+    /// If the link at this place took no bytes for some time, ends it if it does not take what waits for its name, and
+    /// else closes it if it leads to no neighbour.
     fn close_idle(&mut self, place: usize) {
         let Some(link) = self.links.get_mut(place) else {
             return;
         };
-        let name = link.name();
-        if !link.is_idle(self.node.ticks(), IDLE) || self.node.core().active().contains(&name) {
+        if !link.is_idle(self.node.ticks(), IDLE) {
             return;
         }
+        let name = link.name();
         if has_mail(&self.node, &name) {
-            link.end();
-        } else {
+            if link.is_blocked() {
+                link.end();
+            }
+        } else if !self.node.core().active().contains(&name) {
             self.links.close(&name);
         }
     }

@@ -33,6 +33,7 @@ pub(crate) fn link_token(place: usize) -> Option<Token>
 impl Source {
     /// What the token stands for.
     pub(crate) fn of(token: Token) -> Source
+        ensures listener { token.0 ≡ 0 → result ≡ Source.Listener }
         ensures connection { (place : ℕ) → token.0 ≡ 2 * place + 1 → result ≡ Source.Connection place }
         ensures link { (place : ℕ) → token.0 ≡ 2 * place + 2 → result ≡ Source.Link place }
     {

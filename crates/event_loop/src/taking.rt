@@ -63,11 +63,10 @@ impl<S: Resolve + Drop, A: Allocator + Copy> EventLoop<S, A> {
     /// next turn tries again, after its wait.
     fn accept_some(&mut self) -> Result<bool, LoopError> {
         for _ in 0..ACCEPTS {
-            if !self.connections.may_accept()
-                || !self
-                    .connections
-                    .accept(self.poll.registry(), &mut self.node)?
-            {
+            let taken = self
+                .connections
+                .accept(self.poll.registry(), &mut self.node)?;
+            if !taken {
                 return Ok(false);
             }
         }
