@@ -64,8 +64,8 @@ impl<A: Allocator + Copy> ConnectionTable<A> {
         }
     }
 
-    /// Takes a connection that waits at the listener, if there is one, and room for it. Returns whether it did. Where an
-    /// allocation is refused, none is taken.
+    /// Takes a connection that waits at the listener, if there is one, and room for it. Returns whether it did. Where
+    /// an allocation is refused, none is taken.
     pub(crate) fn accept(
         &mut self,
         registry: &Registry,

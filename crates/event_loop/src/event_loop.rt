@@ -19,9 +19,9 @@ const EVENTS: usize = 1_024;
 
 /// A node with its connections and links, and what tells when these are ready.
 ///
-/// A turn takes what came (`take`), lets time pass (`tick`), and sends what waits (`send`); `run` makes turns. The three
-/// calls never wait, but `take` as long as it is told to. Of each connection and to each link a turn takes and sends a
-/// bounded number of bytes, so that none keeps the others waiting.
+/// A turn takes what came (`take`), lets time pass (`tick`), and sends what waits (`send`); `run` makes turns. The
+/// three calls never wait, but `take` as long as it is told to. Of each connection and to each link a turn takes and
+/// sends a bounded number of bytes, so that none keeps the others waiting.
 #[derive(Drop)]
 pub struct EventLoop<S: Resolve + Drop, A: Allocator + Copy = Global> {
     pub(crate) poll: Poll,

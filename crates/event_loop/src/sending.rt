@@ -12,8 +12,8 @@ use world::Core;
 /// How many writes a turn makes to each link at most.
 const WRITES: usize = 16;
 
-/// For how many ticks a link may take no bytes. Then one that does not take what waits counts as ended, and one that leads
-/// to no neighbour is closed; sooner, a node that asked to become a neighbour could still wait for the answer.
+/// For how many ticks a link may take no bytes. Then one that does not take what waits counts as ended, and one that
+/// leads to no neighbour is closed; sooner, a node that asked to become a neighbour could still wait for the answer.
 const IDLE: u64 = 64;
 
 /// Writes to the link what waits for its name. Returns whether more may wait that it would take.
@@ -46,8 +46,8 @@ impl<S: Resolve + Drop, A: Allocator + Copy> EventLoop<S, A> {
         Ok(())
     }
 
-    /// Makes a tick of the node, and looks for links that took no bytes for some time: those that do not take what waits
-    /// for their names end, and of the others those to strangers are closed.
+    /// Makes a tick of the node, and looks for links that took no bytes for some time: those that do not take what
+    /// waits for their names end, and of the others those to strangers are closed.
     pub fn tick(&mut self) -> Result<(), LoopError> {
         let dice = self.draw();
         self.node.tick(&dice)?;

@@ -13,8 +13,8 @@ use wire_node::{ReceiveError, WireError};
 /// How many reads a turn makes of each connection at most.
 const READS: usize = 16;
 
-/// How many reads a turn makes at most. What they bring is four megabytes: half of what may wait for a name, so that the
-/// turn can send it before too much waits.
+/// How many reads a turn makes at most. What they bring is four megabytes: half of what may wait for a name, so that
+/// the turn can send it before too much waits.
 const ALL_READS: usize = 64;
 
 /// How many connections a turn takes at most.
