@@ -10,11 +10,7 @@ use std::time::Clock;
 use world::{Core, Stimulus, StimulusOf};
 
 /// Appends the announcement of the first peer's next 64 messages behind `before`, by the second peer.
-fn push_announcement(
-    alloc: Global,
-    stimuli: &mut Vec<Stimulus<Frame>>,
-    before: u64,
-) -> Result<()> {
+fn push_announcement(alloc: Global, stimuli: &mut Vec<Stimulus<Frame>>, before: u64) -> Result<()> {
     let origin = origin_named("p")?;
     let mut entries = Listed::new(alloc);
     for place in 0..MAX_ANNOUNCEMENTS as u64 {
@@ -40,10 +36,7 @@ fn wanting<C: Core<Global, Note = Frame>>(alloc: Global, frames: u64) -> Result<
 }
 
 /// The firing of all armed timers.
-fn firings<C: Core<Global, Note = Frame>>(
-    alloc: Global,
-    core: &C,
-) -> Result<Vec<Stimulus<Frame>>> {
+fn firings<C: Core<Global, Note = Frame>>(alloc: Global, core: &C) -> Result<Vec<Stimulus<Frame>>> {
     let mut stimuli = Vec::new(alloc);
     for slot in core.timers() {
         if let Some(id) = slot {
