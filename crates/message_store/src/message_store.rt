@@ -63,7 +63,7 @@ fn free_place<A: Allocator>(messages: &mut Delivered<A>, gone: usize, id: &MsgId
     ensures absent { lookup (same_id id.now) messages.new.entries ≡ None }
     ensures room { spare messages.old ≤ spare messages.new }
 {
-    if messages.contains_key(id) {
+    if gone != 0 && messages.contains_key(id) {
         drop_front(messages, gone);
         0
     } else {

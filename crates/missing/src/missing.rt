@@ -167,6 +167,10 @@ impl<A: Allocator + Copy> Missing<A> {
         ensures ok { OnOk result (self.new ≡ announced_all peer.now entries.now self.old) }
         ensures err { OnErr result (self.new ≡ self.old) }
     {
+        // A peer that announces nothing new is not noted either, so this takes no memory.
+        if entries.is_empty() {
+            return Ok(());
+        }
         self.tidy()?;
         self.wants.slots.reserve(entries.len())?;
         self.wants.places.reserve(entries.len())?;
