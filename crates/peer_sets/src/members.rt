@@ -85,15 +85,11 @@ pub(crate) fn remove_all<A: Allocator>(members: &mut Vec<Member, A>, names: &[No
     }
 }
 
-/// Returns `member` with its kind replaced by `kind` if its name is `name`, and unchanged otherwise.
-fn changed(member: &Member, name: &NodeName, kind: PeerKind) -> Member
-    ensures { result ≡ (if same_name name.now member.now.0 then (member.now.0, kind) else member.now) }
+/// Returns the kind of `member` once that of the member `name` is `kind`.
+fn kind_after(member: &Member, name: &NodeName, kind: PeerKind) -> PeerKind
+    ensures { (member.now.0, result) ≡ (if same_name name.now member.now.0 then (member.now.0, kind) else member.now) }
 {
-    if *name == member.0 {
-        (member.0, kind)
-    } else {
-        *member
-    }
+    if *name == member.0 { kind } else { member.1 }
 }
 
 /// Sets the kind of the member `name` to `kind`. Does nothing if there is no such member.
@@ -101,7 +97,7 @@ fn set_kind_in(members: &mut [Member], name: &NodeName, kind: PeerKind)
     ensures { members.new ≡ with_kind name.now kind members.old }
 {
     for member in members {
-        *member = changed(member, name, kind);
+        member.1 = kind_after(member, name, kind);
     }
 }
 
