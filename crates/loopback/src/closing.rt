@@ -3,7 +3,7 @@ ghost use Rattle.std.specs.Prelude.{◌≡◌, ◌+◌, [], ◌∷◌, ◌++◌,
 ghost use Rattle.node_threads.specs.History.{IsHistory};
 
 use crate::error::RunError;
-use crate::inbox::Inbox;
+use crate::inbox::{Given, Inbox};
 use crate::node::Node;
 use crate::speech::{Speech, Stamp};
 use crate::stopping::stop_all;
@@ -32,7 +32,7 @@ pub struct RunReport {
 
 impl RunReport {
     /// Makes an empty report.
-    fn new(alloc: Global) -> RunReport
+    pub fn new(alloc: Global) -> RunReport
         ensures { result.traces.items ≡ [] }
     {
         RunReport {
@@ -44,18 +44,16 @@ impl RunReport {
     }
 
     /// Appends what a node leaves.
-    fn add<R: Wait>(
+    pub fn add(
         &mut self,
-        rt: &R,
         trace: Trace<Frame>,
-        speech: &mut Speech,
-        inbox: &Inbox,
+        speech: Speech,
+        mut given: Given,
     ) -> Result<(), AllocError>
         ensures { OnOk result (self.new.traces.items ≡ self.old.traces.items ++ trace ∷ []) }
     {
-        self.broadcasts.append(&mut speech.stamps)?;
+        self.broadcasts.append(&mut speech.into_stamps())?;
         keep(&mut self.traces, trace)?;
-        let mut given = inbox.take(rt)?;
         self.deliveries.append(&mut given.deliveries)?;
         self.times.append(&mut given.times)?;
         Ok(())
@@ -76,10 +74,10 @@ fn close_node<R: Threads + Wait, C: NodeCore<Global> + Drop>(
         engine,
         ports,
         inbox,
-        mut speech,
+        speech,
     } = node;
     match engine.close(rt, ports) {
-        Ok(trace) => match ran.add(rt, trace, &mut speech, &inbox) {
+        Ok(trace) => match leave(rt, trace, speech, &inbox, ran) {
             Ok(()) => Ok(()),
             Err(_) => Err(RunError::short(name, Shortage::Memory)),
         },
@@ -87,9 +85,23 @@ fn close_node<R: Threads + Wait, C: NodeCore<Global> + Drop>(
     }
 }
 
+/// Adds what a closed node leaves.
+fn leave<R: Wait>(
+    rt: &R,
+    trace: Trace<Frame>,
+    speech: Speech,
+    inbox: &Inbox,
+    ran: &mut RunReport,
+) -> Result<(), AllocError>
+    ensures { OnOk result (ran.new.traces.items ≡ ran.old.traces.items ++ trace ∷ []) }
+{
+    let given = inbox.take(rt)?;
+    ran.add(trace, speech, given)
+}
+
 /// Why the first of the nodes that refused a broadcast did so, if one did.
 fn first_refusal<C: NodeCore<Global> + Drop>(nodes: &[Node<C>]) -> Option<RunError> {
-    nodes.iter().find_map(|node| node.speech.refused)
+    nodes.iter().find_map(|node| node.speech.refused())
 }
 
 /// Closes all nodes in order, adds what they leave, and returns the first fault.

@@ -18,7 +18,7 @@ use std::sync::Wait;
 use std::time::{Duration, Instant};
 
 /// How many milliseconds a tick takes.
-const TICK: u64 = 20;
+pub const TICK: u64 = 20;
 
 /// The maximum number of ticks that pass before the nodes begin to broadcast.
 const MAX_QUIET_TICKS: u32 = 10;
@@ -102,6 +102,11 @@ fn delivered<R: Wait, C: NodeCore<Global> + Drop + Send + 'static>(
     count
 }
 
+/// How many of these ticks pass before the nodes begin to broadcast.
+pub fn quiet_ticks(ticks: u32) -> u64 {
+    u64::from(MAX_QUIET_TICKS.min(ticks / 10))
+}
+
 /// How many messages each node may broadcast in this turn. `None`: the run is to end.
 fn allowed<V: Watch>(watch: &mut V, now: u64, quiet: u64) -> Option<usize> {
     if now < quiet { Some(0) } else { watch.allow() }
@@ -120,7 +125,7 @@ where
     V: Watch,
 {
     let rt = common.rt;
-    let quiet = u64::from(MAX_QUIET_TICKS.min(ticks / 10));
+    let quiet = quiet_ticks(ticks);
     let mut looked: u64 = 0;
     for _ in rt.forever() {
         let now = common.ticking.now();

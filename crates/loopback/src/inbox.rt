@@ -9,7 +9,7 @@ use world::Delivery;
 
 /// Deliveries, and when each was handed out, since the run began.
 #[derive(Drop)]
-pub(crate) struct Given {
+pub struct Given {
     pub(crate) deliveries: Vec<Delivery>,
     pub(crate) times: Vec<Duration>,
     /// Whether some were lost because an allocation was refused.
@@ -18,7 +18,7 @@ pub(crate) struct Given {
 
 impl Given {
     /// Makes a list without deliveries.
-    fn new(alloc: Global) -> Given {
+    pub fn new(alloc: Global) -> Given {
         Given {
             deliveries: Vec::new(alloc),
             times: Vec::new(alloc),
@@ -27,12 +27,17 @@ impl Given {
     }
 
     /// Appends deliveries that were handed out at this time.
-    fn put(&mut self, batch: &mut Vec<Delivery>, at: Duration) -> Result<(), AllocError> {
+    pub fn put(&mut self, batch: &mut Vec<Delivery>, at: Duration) -> Result<(), AllocError> {
         for _ in 0..batch.len() {
             self.times.push(at)?;
         }
         self.deliveries.append(batch)?;
         Ok(())
+    }
+
+    /// How many deliveries there are.
+    pub fn len(&self) -> usize {
+        self.deliveries.len()
     }
 }
 
@@ -62,7 +67,7 @@ impl Inbox {
 
     /// How many deliveries there are.
     pub(crate) fn len<R: Wait>(&self, rt: &R) -> usize {
-        self.given.lock(rt).deliveries.len()
+        self.given.lock(rt).len()
     }
 
     /// Takes the deliveries out. `AllocError`: there was no memory for some of them.

@@ -15,8 +15,10 @@ mod watch;
 
 pub use closing::RunReport;
 pub use error::RunError;
-pub use group::{Plan, run};
+pub use group::{Plan, TICK, quiet_ticks, run};
+pub use inbox::Given;
 pub use member::{Member, may_start};
 pub use plumtree_node::{Machine, Shortage};
-pub use speech::Stamp;
+pub use speech::{Speech, Stamp};
+pub use starting::{address, check_port};
 pub use watch::{Unwatched, Watch};

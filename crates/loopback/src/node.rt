@@ -3,8 +3,8 @@ use crate::error::RunError;
 use crate::inbox::{Inbox, ToInbox};
 use crate::speech::Speech;
 use node_names::NodeName;
-use node_threads::{NodeCore, Port};
-use plumtree_node::{Common, Engine, Machine, Shortage};
+use node_threads::{HostError, NodeCore, Port};
+use plumtree_node::{Common, Engine, Machine, Shortage, broadcast};
 use std::alloc::Global;
 use std::net::TcpListener;
 use std::sync::{Arc, Wait};
@@ -46,7 +46,7 @@ impl<C: NodeCore<Global> + Drop + Send + 'static> Node<C> {
     {
         let to = ToInbox {
             rt: common.rt,
-            start: self.speech.start,
+            start: self.speech.start(),
             inbox: Arc::try_clone(&self.inbox)?,
         };
         self.engine
@@ -71,11 +71,25 @@ impl<C: NodeCore<Global> + Drop + Send + 'static> Node<C> {
         R: Machine,
     {
         let are_read = self.engine.read_links(common)?;
-        let ports = self.ports.as_mut_slice();
-        self.speech
-            .broadcast_next(&common.rt, self.name, ports, most)?;
+        self.speak(&common.rt, most)?;
         let are_written = self.engine.write_links(common)?;
         Ok(are_read || are_written)
+    }
+
+    /// Broadcasts at most `most` of the next texts through the first of the node's ports, until one is refused.
+    fn speak<R: Machine>(&mut self, rt: &R, most: usize) -> Result<(), Shortage> {
+        for _ in 0..Speech::TEXTS.min(most) {
+            let Some(text) = self.speech.take_next() else {
+                return Ok(());
+            };
+            let at = self.speech.now(rt);
+            match broadcast(rt, self.ports.as_mut_slice(), text) {
+                Ok(id) => self.speech.note(id, at)?,
+                Err(HostError::OutOfMemory) => return Err(Shortage::Memory),
+                Err(why) => self.speech.refuse(self.name, why),
+            }
+        }
+        Ok(())
     }
 }
 

@@ -3,14 +3,9 @@ use crate::error::RunError;
 use crate::since::since;
 use bytes::Bytes;
 use node_names::{MsgId, NodeName};
-use node_threads::{HostError, NodeCore, Port};
-use plumtree_node::{Shortage, broadcast, keep};
+use node_threads::HostError;
 use std::alloc::{AllocError, Global};
-use std::sync::Wait;
 use std::time::{Clock, Duration, Instant};
-
-/// The most texts that a node broadcasts in one turn, so that the rings of its links do not overflow.
-const TEXTS: usize = 64;
 
 /// When a message was broadcast.
 #[derive(Clone, Copy, Debug)]
@@ -23,15 +18,15 @@ pub struct Stamp {
 
 /// What a node is to broadcast, and what it did.
 #[derive(Drop)]
-pub(crate) struct Speech {
+pub struct Speech {
     /// When the run began, if the clock could be read.
-    pub(crate) start: Option<Instant>,
+    start: Option<Instant>,
     /// The texts that are left, the last first.
     left: Vec<Bytes>,
     /// The broadcasts so far, in order.
-    pub(crate) stamps: Vec<Stamp>,
+    stamps: Vec<Stamp>,
     /// Why a broadcast was refused, if one was.
-    pub(crate) refused: Option<RunError>,
+    refused: Option<RunError>,
 }
 
 /// Moves the texts into another list, the last first.
@@ -45,8 +40,12 @@ fn reverse(texts: &mut Vec<Bytes>, last_first: &mut Vec<Bytes>) -> Result<(), Al
 }
 
 impl Speech {
-    /// Makes the speech of a node that is to broadcast these texts, in order.
-    pub(crate) fn new(
+    /// The most texts that a node broadcasts in one turn, so that what waits for its links does not overflow.
+    pub const TEXTS: usize = 64;
+
+    /// Makes the speech of a node that is to broadcast these texts, in order. The run began at `start`, if the clock could
+    /// be read.
+    pub fn new(
         alloc: Global,
         start: Option<Instant>,
         mut texts: Vec<Bytes>,
@@ -61,55 +60,48 @@ impl Speech {
         })
     }
 
+    /// When the run began, if the clock could be read.
+    pub fn start(&self) -> Option<Instant> {
+        self.start
+    }
+
+    /// The time since the run began. It is 0 if the clock can't be read.
+    pub fn now<R: Clock>(&self, rt: &R) -> Duration {
+        since(rt, &self.start)
+    }
+
+    /// Takes the next text. There is none once a broadcast was refused.
+    pub fn take_next(&mut self) -> Option<Bytes> {
+        if self.refused.is_some() {
+            return None;
+        }
+        self.left.pop()
+    }
+
     /// Whether there is nothing more to broadcast.
-    pub(crate) fn is_over(&self) -> bool {
+    pub fn is_over(&self) -> bool {
         self.left.is_empty() || self.refused.is_some()
     }
 
-    /// Broadcasts at most `most` of the next texts through the first of the node's ports, until one is refused.
-    pub(crate) fn broadcast_next<R, C>(
-        &mut self,
-        rt: &R,
-        node: NodeName,
-        ports: &mut [Port<C>],
-        most: usize,
-    ) -> Result<(), Shortage>
-    where
-        R: Wait + Clock,
-        C: NodeCore<Global> + Drop,
-    {
-        for _ in 0..TEXTS.min(most) {
-            if self.refused.is_some() {
-                return Ok(());
-            }
-            match self.left.pop() {
-                Some(text) => self.say(rt, node, ports, text)?,
-                None => return Ok(()),
-            }
-        }
+    /// Notes that a text was broadcast at this time, as the message of this id.
+    pub fn note(&mut self, id: MsgId, at: Duration) -> Result<(), AllocError> {
+        self.stamps.push(Stamp { id, at })?;
         Ok(())
     }
 
-    /// Has the node broadcast a text.
-    fn say<R, C>(
-        &mut self,
-        rt: &R,
-        node: NodeName,
-        ports: &mut [Port<C>],
-        text: Bytes,
-    ) -> Result<(), Shortage>
-    where
-        R: Wait + Clock,
-        C: NodeCore<Global> + Drop,
-    {
-        let at = since(rt, &self.start);
-        match broadcast(rt, ports, text) {
-            Ok(id) => Ok(keep(&mut self.stamps, Stamp { id, at })?),
-            Err(HostError::OutOfMemory) => Err(Shortage::Memory),
-            Err(why) => {
-                self.refused = Some(RunError::Refused { node, why });
-                Ok(())
-            }
-        }
+    /// Notes why a broadcast of this node was refused, which is its last.
+    pub fn refuse(&mut self, node: NodeName, why: HostError) {
+        self.refused = Some(RunError::Refused { node, why });
+    }
+
+    /// Why a broadcast was refused, if one was.
+    pub fn refused(&self) -> Option<RunError> {
+        self.refused
+    }
+
+    /// The broadcasts, in order.
+    pub(crate) fn into_stamps(self) -> Vec<Stamp> {
+        let Speech { stamps, .. } = self;
+        stamps
     }
 }

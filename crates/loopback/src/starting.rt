@@ -19,7 +19,7 @@ use std::sync::Arc;
 use std::time::Instant;
 
 /// A port of 127.0.0.1.
-fn address(port: u16) -> SocketAddr {
+pub fn address(port: u16) -> SocketAddr {
     SocketAddr::V4(SocketAddrV4::new(Ipv4Addr::LOCALHOST, port))
 }
 
@@ -43,17 +43,23 @@ fn owner_of(members: &[Member], port: u16) -> Option<NodeName> {
         .map(|member| member.me.name)
 }
 
+/// Refuses the port of a member that an earlier member has.
+pub fn check_port(members: &[Member], member: &Member) -> Result<(), RunError> {
+    let node = member.me.name;
+    match owner_of(members, member.port) {
+        Some(other) if other != node => Err(RunError::SamePort { node, other }),
+        _ => Ok(()),
+    }
+}
+
 /// Listens on the port of a member, unless an earlier member has the port.
 fn listen_for<R: Net<Listener = TcpListener, Stream = TcpStream>>(
     rt: &R,
     members: &[Member],
     member: &Member,
 ) -> Result<TcpListener, RunError> {
-    let node = member.me.name;
-    match owner_of(members, member.port) {
-        Some(other) if other != node => Err(RunError::SamePort { node, other }),
-        _ => listen_on(rt, member.port, node),
-    }
+    check_port(members, member)?;
+    listen_on(rt, member.port, member.me.name)
 }
 
 /// Listens on the ports of all members, in order.

@@ -25,7 +25,16 @@ pub enum Task {
     /// Its events are played in a simulated group.
     Play,
     /// Its nodes are run.
-    Run,
+    Run(Host),
+}
+
+/// By what nodes are run.
+#[derive(Clone, Copy, Debug, PartialEq, Eq)]
+pub enum Host {
+    /// By threads, several for each node.
+    Threads,
+    /// By one thread for all, with an event loop.
+    Loop,
 }
 
 /// What the program is to do: play or run a scenario, and write the outcome.
@@ -50,7 +59,7 @@ pub fn parse<'a>(alloc: Global, words: &'a [String]) -> Result<Request<'a>, Erro
         Err(error) => return Err(with_tip(alloc, words, error)),
     };
     match matches.subcommand() {
-        Some((name, words)) => requested(alloc, task_of(name), words),
+        Some((name, words)) => requested(alloc, task_of(name, words.get_flag("loop")), words),
         None => Ok(Request {
             task: Task::Play,
             file: None,
@@ -83,9 +92,15 @@ fn tip_error(alloc: Global, word: &str) -> Result<Error, AllocError> {
     command(alloc)?.error(ErrorKind::InvalidSubcommand, message.as_str())
 }
 
-/// The task of a subcommand.
-fn task_of(name: &str) -> Task {
-    if name == "run" { Task::Run } else { Task::Play }
+/// The task of a subcommand. `is_looped`: an event loop was asked for.
+fn task_of(name: &str, is_looped: bool) -> Task
+    ensures looped { name.now ≡ codes "run" → is_looped ≡ true → result ≡ Task.Run Host.Loop }
+    ensures threaded { name.now ≡ codes "run" → is_looped ≡ false → result ≡ Task.Run Host.Threads }
+{
+    if name != "run" {
+        return Task::Play;
+    }
+    Task::Run(if is_looped { Host::Loop } else { Host::Threads })
 }
 
 /// What the arguments after a subcommand ask for.
@@ -186,7 +201,7 @@ fn no_message_error(alloc: Global, task: Task) -> Result<Error, AllocError> {
     let message = "a message is written NODE/INCARNATION/NUMBER, as a/1/2";
     let mut command = match task {
         Task::Play => sim(alloc)?.bin_name("plumtree sim")?,
-        Task::Run => run(alloc)?.bin_name("plumtree run")?,
+        Task::Run(_) => run(alloc)?.bin_name("plumtree run")?,
     };
     command.error(ErrorKind::ValueValidation, message)
 }
@@ -262,12 +277,18 @@ fn sim<'a>(alloc: Global) -> Result<Command<'a>, AllocError> {
 
 /// The subcommand that runs a scenario's nodes.
 fn run<'a>(alloc: Global) -> Result<Command<'a>, AllocError> {
+    let looped = flag(
+        alloc,
+        "loop",
+        "Runs all nodes by one event loop on one thread, instead of threads for each",
+    );
     subcommand(
         alloc,
         "run",
         "Runs a scenario's nodes over TCP on localhost, with the same output",
         "Example: plumtree run scenarios/run/hello.toml",
-    )
+    )?
+    .arg(looped)
 }
 
 fn command<'a>(alloc: Global) -> Result<Command<'a>, AllocError> {

@@ -2,7 +2,7 @@
 ghost use Rattle.std.specs.Prelude.{◌≡◌, ◌≤◌, IfSome};
 
 use crate::arguments;
-use crate::arguments::{Request, Task};
+use crate::arguments::{Host, Request, Task};
 use crate::code::RunCode;
 use crate::progress::{Progress, is_terminal};
 use crate::run_group::{GroupError, run_group};
@@ -188,13 +188,14 @@ where
     let mut input = text;
     match task {
         Task::Play => play_input(rt.alloc(), form, is_strict, &mut input, out, faults),
-        Task::Run => run_text(rt, form, is_strict, text, out, faults),
+        Task::Run(host) => run_text(rt, host, form, is_strict, text, out, faults),
     }
 }
 
 /// Runs the nodes of a text's scenario, without looking for unknown keys.
 fn run_text<R, W, F>(
     rt: &R,
+    host: Host,
     form: Form,
     is_strict: bool,
     text: &[u8],
@@ -210,7 +211,7 @@ where
     let alloc = rt.alloc();
     let is_plain = form == Form::Lines;
     let mut progress = Progress::new(faults, is_terminal(rt, alloc));
-    let ended = run_group(*rt, alloc, form, text, out, &mut progress);
+    let ended = run_group(*rt, alloc, host, form, text, out, &mut progress);
     let is_told = progress.end();
     let status = match ended {
         Err(GroupError::Refused(ScenarioError::Refused { place, key })) if is_strict => {

@@ -1,6 +1,7 @@
 //! Runs a group, and writes the outcome.
+use crate::arguments::Host;
 use crate::group::GroupScenario;
-use loopback::{Machine, RunError, RunReport, Watch, run};
+use loopback::{Machine, Member, Plan, RunError, RunReport, Watch};
 use node_core::PlumCore;
 use node_names::{Limits, MsgId};
 use simulation::{
@@ -62,6 +63,7 @@ impl From<AllocError> for GroupError {
 pub fn run_group<R, W, V>(
     rt: R,
     alloc: Global,
+    host: Host,
     form: Form,
     text: &[u8],
     out: &mut W,
@@ -70,11 +72,30 @@ pub fn run_group<R, W, V>(
 where
     R: Machine,
     W: Write,
-    V: Watch,
+    V: Watch + Drop,
 {
     let GroupScenario { plan, members } = read_group(alloc, text)?;
-    let ran = run(rt, alloc, &plan, members, watch)?;
+    let ran = run_by(rt, alloc, host, &plan, members, watch)?;
     write_run(alloc, form, plan.limits, &ran, out)
+}
+
+/// Runs a group by the host that was asked for.
+fn run_by<R, V>(
+    rt: R,
+    alloc: Global,
+    host: Host,
+    plan: &Plan,
+    members: Vec<Member>,
+    watch: &mut V,
+) -> Result<RunReport, RunError>
+where
+    R: Machine,
+    V: Watch + Drop,
+{
+    match host {
+        Host::Threads => loopback::run(rt, alloc, plan, members, watch),
+        Host::Loop => loop_group::run_recorded(rt, alloc, plan, members, watch),
+    }
 }
 
 /// Reads a text as the scenario of a group.

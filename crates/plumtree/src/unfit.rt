@@ -47,7 +47,7 @@ fn lack_of(task: Task, document: &Table) -> Option<Unfit> {
     }
     match task {
         Task::Play if !has_events => Some(Unfit::NoEvents),
-        Task::Run if !has_nodes => Some(Unfit::NoNodes),
+        Task::Run(_) if !has_nodes => Some(Unfit::NoNodes),
         _ => None,
     }
 }

@@ -37,7 +37,7 @@ impl<T: Drop> From<AllocFailed<T>> for Shortage {
 
 impl Shortage {
     /// The shortage that made a call fail, if that is why it failed.
-    pub(crate) fn of(error: &io::Error) -> Option<Shortage> {
+    pub fn of(error: &io::Error) -> Option<Shortage> {
         let number = error.raw_os_error().unwrap_or(0);
         if number == PROCESS_IS_FULL || number == SYSTEM_IS_FULL {
             return Some(Shortage::Descriptors);

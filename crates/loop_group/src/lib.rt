@@ -1,0 +1,15 @@
+//! Groups of nodes that run on one thread, by one event loop, and write to each other over TCP connections on
+//! localhost.
+#![tactic(auto)]
+
+mod fault;
+mod group;
+mod group_node;
+mod group_program;
+mod places;
+mod recorded;
+mod seat;
+mod starting;
+
+pub use group::{run, run_recorded};
+pub use group_node::GroupNode;

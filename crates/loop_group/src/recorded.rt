@@ -1,0 +1,55 @@
+//! A node of bytes that records its steps, in a group.
+use crate::group_node::GroupNode;
+use bytes::Bytes;
+use frames::Frame;
+use node_names::{Limits, Listed, MsgId, NodeName, Origin};
+use std::alloc::{AllocError, Global};
+use wire_node::{Recorded, WireError, WireLimits, WireNode};
+use world::{Delivery, Segment, Trace};
+
+/// Appends the steps of a segment to a trace.
+fn append(trace: &mut Trace<Frame>, segment: Segment<Frame>) -> Result<(), AllocError> {
+    for step in segment.steps.into_vec() {
+        trace.push(step)?;
+    }
+    Ok(())
+}
+
+impl GroupNode for WireNode<Global, Recorded> {
+    fn start(
+        alloc: Global,
+        me: Origin,
+        limits: Limits,
+        peers: &[NodeName],
+        contact: Option<NodeName>,
+    ) -> Result<WireNode<Global, Recorded>, WireError> {
+        let limits = WireLimits::new(limits);
+        WireNode::start(alloc, me, limits, peers, contact, Recorded::new(alloc))
+    }
+
+    fn ticks(&self) -> u64 {
+        self.ticks()
+    }
+
+    fn broadcast(&mut self, payload: Bytes) -> Result<MsgId, WireError> {
+        self.broadcast(payload)
+    }
+
+    fn take_deliveries(&mut self) -> Vec<Delivery> {
+        self.take_deliveries()
+    }
+
+    fn into_history(
+        mut self,
+        me: Origin,
+        peers: Vec<NodeName>,
+        contact: Option<NodeName>,
+    ) -> Result<Trace<Frame>, AllocError> {
+        let opening = self.take_opening();
+        let steps = self.take_steps();
+        let alloc = *peers.allocator();
+        let mut trace = Trace::new(alloc, me, Listed::from_vec(peers), contact, opening);
+        append(&mut trace, steps)?;
+        Ok(trace)
+    }
+}

@@ -1,0 +1,56 @@
+//! What a node of a group is to broadcast, and what it delivered.
+use crate::fault::refusal;
+use crate::group_node::GroupNode;
+use loopback::{Given, Shortage, Speech};
+use node_names::{NodeName, Origin};
+use std::alloc::AllocError;
+use std::time::Clock;
+use wire_node::WireError;
+
+/// What a node of a group is to broadcast, and what it delivered.
+#[derive(Drop)]
+pub(crate) struct Seat {
+    pub(crate) me: Origin,
+    /// The peers that the node started with.
+    pub(crate) peers: Vec<NodeName>,
+    pub(crate) contact: Option<NodeName>,
+    pub(crate) speech: Speech,
+    pub(crate) given: Given,
+}
+
+impl Seat {
+    /// Broadcasts at most `most` of the next texts, until one is refused.
+    pub(crate) fn speak<R: Clock, N: GroupNode>(
+        &mut self,
+        rt: &R,
+        node: &mut N,
+        most: usize,
+    ) -> Result<(), Shortage> {
+        for _ in 0..Speech::TEXTS.min(most) {
+            let Some(text) = self.speech.take_next() else {
+                return Ok(());
+            };
+            let at = self.speech.now(rt);
+            match node.broadcast(text) {
+                Ok(id) => self.speech.note(id, at)?,
+                Err(WireError::OutOfMemory) => return Err(Shortage::Memory),
+                Err(why) => self.speech.refuse(self.me.name, refusal(why)),
+            }
+        }
+        Ok(())
+    }
+
+    /// Takes what the node delivered since the last call.
+    pub(crate) fn listen<R: Clock, N: GroupNode>(
+        &mut self,
+        rt: &R,
+        node: &mut N,
+    ) -> Result<(), AllocError> {
+        let mut batch = node.take_deliveries();
+        if batch.is_empty() {
+            return Ok(());
+        }
+        let at = self.speech.now(rt);
+        self.given.put(&mut batch, at)
+    }
+}
