@@ -12,7 +12,6 @@ use std::alloc::{AllocError, Global};
 use std::net::Net;
 use std::sync::Wait;
 use std::time::{Clock, Duration, Instant};
-use wire_node::{Recorded, WireNode};
 
 /// Makes a loop without nodes.
 fn new_loop<R: Net, N: GroupNode>(
@@ -47,6 +46,9 @@ where
         quiet: quiet_ticks(plan.ticks),
         ticks: plan.ticks,
         looked: 0,
+        round: 0,
+        most: Some(0),
+        delivered: 0,
         fault: None,
     };
     if let Err(error) = group.run(&rt, Duration::from_millis(TICK), &mut program) {
@@ -84,9 +86,12 @@ fn leave<N: GroupNode>(node: N, seat: Seat, ran: &mut RunReport) -> Result<(), A
         contact,
         speech,
         given,
+        ..
     } = seat;
-    let trace = node.into_history(me, peers, contact)?;
-    ran.add(trace, speech, given)
+    match node.into_history(me, peers, contact)? {
+        Some(trace) => ran.add(trace, speech, given),
+        None => ran.add_said(speech, given),
+    }
 }
 
 /// Returns what the nodes leave, or the first fault of a broadcast.
@@ -145,19 +150,4 @@ where
     let seats = seats_of(alloc, start, members)?;
     let seats = run_nodes(rt, first, plan, &mut group, seats, watch)?;
     report(alloc, group.into_nodes()?, seats)
-}
-
-/// Runs a group of nodes of bytes that record their steps, as `run` does.
-pub fn run_recorded<R, V>(
-    rt: R,
-    alloc: Global,
-    plan: &Plan,
-    members: Vec<Member>,
-    watch: &mut V,
-) -> Result<RunReport, RunError>
-where
-    R: Wait + Clock + Net + Copy + Drop,
-    V: Watch + Drop,
-{
-    run::<WireNode<Global, Recorded>, R, V>(rt, alloc, plan, members, watch)
 }

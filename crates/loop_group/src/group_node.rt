@@ -7,7 +7,7 @@ use std::alloc::{AllocError, Global};
 use wire_node::WireError;
 use world::{Delivery, Trace};
 
-/// A node of a group that one event loop runs: a `WireNode` that records its steps. Each call does what the one of the
+/// A node of a group that one event loop runs: a `WireNode`, which records its steps or not. Each call does what the one of the
 /// same name of a `WireNode` does.
 ///
 /// The group is generic in it, since each function that owns a node takes the prover a minute if its type is named.
@@ -30,11 +30,12 @@ pub trait GroupNode: LoopNode<Global> {
     /// Returns the deliveries that were not taken yet, in order. This call takes them.
     fn take_deliveries(&mut self) -> Vec<Delivery>;
 
-    /// Ends the node, and returns its history: it started as this run, with these peers and this contact.
+    /// Ends the node, and returns its history, if it recorded one: it started as this run, with these peers and this
+    /// contact.
     fn into_history(
         self,
         me: Origin,
         peers: Vec<NodeName>,
         contact: Option<NodeName>,
-    ) -> Result<Trace<Frame>, AllocError>;
+    ) -> Result<Option<Trace<Frame>>, AllocError>;
 }

@@ -19,17 +19,14 @@ pub(crate) struct GroupProgram<'a, R, V: Drop> {
     pub(crate) ticks: u32,
     /// The tick at which the watch looked last.
     pub(crate) looked: u64,
+    /// How many rounds began. In one each node is called once at most.
+    pub(crate) round: u64,
+    /// How many messages a node may broadcast in this round. `None`: the run is to end.
+    pub(crate) most: Option<usize>,
+    /// How many messages were delivered.
+    pub(crate) delivered: usize,
     /// The shortage that ended the run, if one did.
     pub(crate) fault: Option<RunError>,
-}
-
-/// How many messages were delivered.
-fn delivered(seats: &[Seat]) -> usize {
-    let mut count: usize = 0;
-    for seat in seats {
-        count = count.saturating_add(seat.given.len());
-    }
-    count
 }
 
 /// Whether the node of each seat has nothing more to broadcast.
@@ -38,21 +35,26 @@ fn are_over(seats: &[Seat]) -> bool {
 }
 
 impl<R: Clock + Drop, V: Watch + Drop> GroupProgram<'_, R, V> {
-    /// How many messages a node may broadcast at this tick. `None`: the run is to end.
-    fn allowed(&mut self, now: u64) -> Option<usize> {
+    /// How many messages the node of this place may broadcast at this tick. The watch is asked once a round: a node that
+    /// is called again begins the next one.
+    fn allowed(&mut self, place: usize, now: u64) -> Option<usize> {
+        let seat = self.seats.get_mut(place)?;
         if now < self.quiet {
-            Some(0)
-        } else {
-            self.watch.allow()
+            return Some(0);
         }
+        if seat.round == self.round {
+            self.round = self.round.wrapping_add(1);
+            self.most = self.watch.allow();
+        }
+        seat.round = self.round;
+        self.most
     }
 
     /// Lets the watch look, once a tick.
     fn show(&mut self, now: u64) {
         if now != self.looked {
             self.looked = now;
-            let count = delivered(self.seats.as_slice());
-            self.watch.look(now, self.ticks, count);
+            self.watch.look(now, self.ticks, self.delivered);
         }
     }
 
@@ -68,7 +70,8 @@ impl<R: Clock + Drop, V: Watch + Drop> GroupProgram<'_, R, V> {
             return Ok(false);
         };
         seat.speak(&self.rt, node, most)?;
-        seat.listen(&self.rt, node)?;
+        let count = seat.listen(&self.rt, node)?;
+        self.delivered = self.delivered.saturating_add(count);
         Ok(!seat.speech.is_over())
     }
 
@@ -85,9 +88,12 @@ impl<R: Clock + Drop, V: Watch + Drop> GroupProgram<'_, R, V> {
     fn step<N: GroupNode>(&mut self, place: usize, node: &mut N, now: u64, most: usize) -> Next {
         match self.hear(place, node, most) {
             Err(of) => self.fail(place, of),
-            Ok(has_more) if has_more && now >= self.quiet => Next::Again,
-            Ok(_) if now >= u64::from(self.ticks) && are_over(self.seats.as_slice()) => Next::End,
-            Ok(_) => Next::Wait,
+            Ok(true) if most > 0 => Next::Again,
+            Ok(true) => Next::Wait,
+            Ok(false) if now >= u64::from(self.ticks) && are_over(self.seats.as_slice()) => {
+                Next::End
+            }
+            Ok(false) => Next::Wait,
         }
     }
 }
@@ -96,7 +102,7 @@ impl<R: Clock + Drop, V: Watch + Drop, N: GroupNode> Program<N> for GroupProgram
     fn turn(&mut self, place: usize, node: &mut N) -> Next {
         let now = node.ticks();
         self.show(now);
-        match self.allowed(now) {
+        match self.allowed(place, now) {
             Some(most) => self.step(place, node, now, most),
             None => Next::End,
         }

@@ -10,6 +10,9 @@ mod places;
 mod recorded;
 mod seat;
 mod starting;
+mod unrecorded;
 
-pub use group::{run, run_recorded};
+pub use group::run;
 pub use group_node::GroupNode;
+pub use recorded::run_recorded;
+pub use unrecorded::run_unrecorded;

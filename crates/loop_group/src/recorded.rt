@@ -1,9 +1,14 @@
-//! A node of bytes that records its steps, in a group.
+//! Groups of nodes of bytes that record their steps.
+use crate::group::run;
 use crate::group_node::GroupNode;
 use bytes::Bytes;
 use frames::Frame;
+use loopback::{Member, Plan, RunError, RunReport, Watch};
 use node_names::{Limits, Listed, MsgId, NodeName, Origin};
 use std::alloc::{AllocError, Global};
+use std::net::Net;
+use std::sync::Wait;
+use std::time::Clock;
 use wire_node::{Recorded, WireError, WireLimits, WireNode};
 use world::{Delivery, Segment, Trace};
 
@@ -44,12 +49,27 @@ impl GroupNode for WireNode<Global, Recorded> {
         me: Origin,
         peers: Vec<NodeName>,
         contact: Option<NodeName>,
-    ) -> Result<Trace<Frame>, AllocError> {
+    ) -> Result<Option<Trace<Frame>>, AllocError> {
         let opening = self.take_opening();
         let steps = self.take_steps();
         let alloc = *peers.allocator();
         let mut trace = Trace::new(alloc, me, Listed::from_vec(peers), contact, opening);
         append(&mut trace, steps)?;
-        Ok(trace)
+        Ok(Some(trace))
     }
+}
+
+/// Runs a group of nodes that record their steps, as `run` does. The report has their histories.
+pub fn run_recorded<R, V>(
+    rt: R,
+    alloc: Global,
+    plan: &Plan,
+    members: Vec<Member>,
+    watch: &mut V,
+) -> Result<RunReport, RunError>
+where
+    R: Wait + Clock + Net + Copy + Drop,
+    V: Watch + Drop,
+{
+    run::<WireNode<Global, Recorded>, R, V>(rt, alloc, plan, members, watch)
 }

@@ -16,6 +16,8 @@ pub(crate) struct Seat {
     pub(crate) contact: Option<NodeName>,
     pub(crate) speech: Speech,
     pub(crate) given: Given,
+    /// The round in which the node was called last.
+    pub(crate) round: u64,
 }
 
 impl Seat {
@@ -40,17 +42,18 @@ impl Seat {
         Ok(())
     }
 
-    /// Takes what the node delivered since the last call.
+    /// Takes what the node delivered since the last call. Returns how many messages these are.
     pub(crate) fn listen<R: Clock, N: GroupNode>(
         &mut self,
         rt: &R,
         node: &mut N,
-    ) -> Result<(), AllocError> {
+    ) -> Result<usize, AllocError> {
         let mut batch = node.take_deliveries();
-        if batch.is_empty() {
-            return Ok(());
+        let count = batch.len();
+        if count > 0 {
+            let at = self.speech.now(rt);
+            self.given.put(&mut batch, at)?;
         }
-        let at = self.speech.now(rt);
-        self.given.put(&mut batch, at)
+        Ok(count)
     }
 }

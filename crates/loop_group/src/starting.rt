@@ -70,6 +70,7 @@ fn seat_of(alloc: Global, start: Option<Instant>, member: Member) -> Result<Seat
         contact,
         speech: Speech::new(alloc, start, texts)?,
         given: Given::new(alloc),
+        round: 0,
     })
 }
 

@@ -48,12 +48,19 @@ impl RunReport {
         &mut self,
         trace: Trace<Frame>,
         speech: Speech,
-        mut given: Given,
+        given: Given,
     ) -> Result<(), AllocError>
         ensures { OnOk result (self.new.traces.items ≡ self.old.traces.items ++ trace ∷ []) }
     {
+        self.add_said(speech, given)?;
+        keep(&mut self.traces, trace)
+    }
+
+    /// Appends what a node broadcast and delivered that has no history.
+    pub fn add_said(&mut self, speech: Speech, mut given: Given) -> Result<(), AllocError>
+        ensures { OnOk result (self.new.traces.items ≡ self.old.traces.items) }
+    {
         self.broadcasts.append(&mut speech.into_stamps())?;
-        keep(&mut self.traces, trace)?;
         self.deliveries.append(&mut given.deliveries)?;
         self.times.append(&mut given.times)?;
         Ok(())
