@@ -7,7 +7,7 @@ mod running;
 mod usage;
 
 use crate::groups::figures::{Figures, measured, repeated};
-pub(crate) use crate::groups::overlay::Group;
+pub(crate) use crate::groups::overlay::{Group, Host};
 use crate::groups::phase::Phase;
 use crate::groups::running::run_somewhere;
 use crate::groups::usage::Usage;
@@ -19,6 +19,7 @@ use std::rt::Files;
 
 /// The group that runs when nothing is measured.
 const SMALL: Group = Group {
+    host: Host::Threads,
     nodes: 4,
     messages: 3,
     bytes: 100,
@@ -58,9 +59,13 @@ fn tell_figures(rt: &impl Print, group: &Group, figures: &Figures, used: &Usage)
     Ok(())
 }
 
-/// Prints how many messages a small group delivers.
+/// Prints how many messages a small group delivers, in threads and by an event loop.
 pub(crate) fn tell<R: Print + Machine>(rt: R, alloc: Global) -> Result<()> {
-    tell_ran(&rt, &run_somewhere(rt, alloc, &SMALL, &mut Unwatched)?)
+    for host in [Host::Threads, Host::Loop] {
+        let group = Group { host, ..SMALL };
+        tell_ran(&rt, &run_somewhere(rt, alloc, &group, &mut Unwatched)?)?;
+    }
+    Ok(())
 }
 
 /// Prints how fast the messages of this group are delivered, except for the first, which is delivered before, and at

@@ -17,7 +17,7 @@ mod streams;
 mod words;
 
 use crate::broadcasts::{hops, settling};
-use crate::groups::Group;
+use crate::groups::{Group, Host};
 use crate::plumtree::Measured;
 use crate::words::{number, size, small};
 use anyhow::Result;
@@ -34,8 +34,9 @@ use std::time::Clock;
 
 /// The group that the arguments describe: the number of nodes, of messages besides the one that makes the tree, and of
 /// bytes, and the number of ticks after which the nodes are stopped if not all is delivered before.
-fn group(words: &[String]) -> Result<Group> {
+fn group(words: &[String], host: Host) -> Result<Group> {
     Ok(Group {
+        host,
         nodes: size(words, 2, 8)?,
         messages: size(words, 3, 1_000)?.saturating_add(1),
         bytes: size(words, 4, 100)?,
@@ -69,7 +70,8 @@ where
             let count = number(words, 2, 100_000)?;
             running_node::measure::<R, C>(rt, alloc, count, number(words, 3, 0)?)
         }
-        "groups" => groups::measure(rt, alloc, &group(words)?),
+        "groups" => groups::measure(rt, alloc, &group(words, Host::Threads)?),
+        "loops" => groups::measure(rt, alloc, &group(words, Host::Loop)?),
         part => steps::measure::<R, C>(&rt, alloc, part, number(words, 2, 100_000)?),
     }
 }

@@ -6,9 +6,19 @@ use bytes::Bytes;
 use loopback::Member;
 use std::alloc::{AllocError, Global};
 
+/// By what the nodes of a group are run.
+#[derive(Clone, Copy)]
+pub(crate) enum Host {
+    /// By threads, several for each node.
+    Threads,
+    /// By one event loop. The nodes keep no history.
+    Loop,
+}
+
 /// A group, and what its first node broadcasts.
 #[derive(Clone, Copy)]
 pub(crate) struct Group {
+    pub(crate) host: Host,
     pub(crate) nodes: usize,
     pub(crate) messages: usize,
     /// The bytes of each message.

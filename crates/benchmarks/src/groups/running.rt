@@ -1,7 +1,8 @@
 //! Runs a group at free ports.
-use crate::groups::overlay::{Group, members};
+use crate::groups::overlay::{Group, Host, members};
 use anyhow::{Result, bail};
-use loopback::{Machine, Plan, RunError, RunReport, Watch, run};
+use loop_group::run_unrecorded;
+use loopback::{Machine, Member, Plan, RunError, RunReport, Watch, run};
 use node_names::Limits;
 use std::alloc::Global;
 
@@ -14,6 +15,25 @@ const APART: u16 = 100;
 /// How many times a run is tried.
 const ATTEMPTS: u16 = 100;
 
+/// Runs the members by the host of the group.
+fn run_by<R, V>(
+    rt: R,
+    alloc: Global,
+    host: Host,
+    plan: &Plan,
+    members: Vec<Member>,
+    watch: &mut V,
+) -> Result<RunReport, RunError>
+where
+    R: Machine,
+    V: Watch + Drop,
+{
+    match host {
+        Host::Threads => run(rt, alloc, plan, members, watch),
+        Host::Loop => run_unrecorded(rt, alloc, plan, members, watch),
+    }
+}
+
 /// Runs a group with ports from this one on. Returns `None` if one of them is taken.
 fn run_at<R, V>(
     rt: R,
@@ -24,7 +44,7 @@ fn run_at<R, V>(
 ) -> Result<Option<RunReport>>
 where
     R: Machine,
-    V: Watch,
+    V: Watch + Drop,
 {
     let plan = Plan {
         limits: Limits::STANDARD,
@@ -32,7 +52,7 @@ where
         ticks: group.ticks,
     };
     let members = members(alloc, group, first_port)?;
-    match run(rt, alloc, &plan, members, watch) {
+    match run_by(rt, alloc, group.host, &plan, members, watch) {
         Ok(ran) => Ok(Some(ran)),
         Err(RunError::CannotListen { .. }) => Ok(None),
         Err(fault) => Err(fault.into()),
@@ -48,7 +68,7 @@ pub(crate) fn run_somewhere<R, V>(
 ) -> Result<RunReport>
 where
     R: Machine,
-    V: Watch,
+    V: Watch + Drop,
 {
     for attempt in 0..ATTEMPTS {
         let first_port = FIRST_PORT.saturating_add(APART.saturating_mul(attempt));
