@@ -5,8 +5,8 @@ use crate::event_loop::EventLoop;
 use crate::loop_node::LoopNode;
 use crate::resolve::Resolve;
 use crate::source::Source;
-use mio::net::TcpStream;
 use mio::Interest;
+use mio::net::TcpStream;
 use std::alloc::Allocator;
 use wire_node::ConnectionId;
 
@@ -77,7 +77,12 @@ impl<N: LoopNode<A>, S: Resolve + Drop, A: Allocator + Copy> EventLoop<N, S, A> 
     }
 
     /// Has the poll watch a connection, and keeps it. One that cannot be watched is closed.
-    fn admit(&mut self, owner: usize, stream: TcpStream, id: ConnectionId) -> Result<(), LoopError> {
+    fn admit(
+        &mut self,
+        owner: usize,
+        stream: TcpStream,
+        id: ConnectionId,
+    ) -> Result<(), LoopError> {
         let mut stream = stream;
         let Some(token) = Source::Connection(self.connections.next_place()).token() else {
             return Ok(());

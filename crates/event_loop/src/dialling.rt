@@ -70,9 +70,7 @@ impl<N: LoopNode<A>, S: Resolve + Drop, A: Allocator + Copy> EventLoop<N, S, A> 
         name: NodeName,
         stream: TcpStream,
     ) -> Result<usize, LoopError> {
-        let link = self
-            .links
-            .insert(Link::new(stream, place, name, self.now))?;
+        let link = self.links.insert(Link::new(stream, place, name, self.now))?;
         if let Some(hosted) = self.nodes.get_mut(place) {
             hosted.note(name, link)?;
         }

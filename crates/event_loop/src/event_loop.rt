@@ -87,12 +87,7 @@ impl<N: LoopNode<A>, S: Resolve + Drop, A: Allocator + Copy> EventLoop<N, S, A> 
 
     /// Adds a node that takes connections at this address, and returns its place: 0, 1, 2 and so on. With port 0, the
     /// system chooses a free port, and `address` tells it. If the call is refused, the node is dropped.
-    pub fn add<R: Net>(
-        &mut self,
-        rt: &R,
-        listen: SocketAddr,
-        node: N,
-    ) -> Result<usize, LoopError> {
+    pub fn add<R: Net>(&mut self, rt: &R, listen: SocketAddr, node: N) -> Result<usize, LoopError> {
         self.nodes.reserve()?;
         self.listeners.reserve()?;
         let Some(token) = Source::Listener(self.nodes.next_place()).token() else {

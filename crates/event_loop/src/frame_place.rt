@@ -6,62 +6,57 @@ const PREFIX: usize = 4;
 /// Where in a frame a stream of bytes stands.
 #[derive(Clone, Copy, Debug, PartialEq, Eq)]
 pub(crate) struct FramePlace {
-    /// How many bytes of the prefix came, where it is not whole.
+    /// How many bytes of the prefix are lacking.
     prefix: usize,
-    /// The number that they spell.
+    /// The number that the others spell.
     number: u32,
     /// How many bytes are lacking after a whole prefix.
-    lacking: usize,
+    rest: usize,
 }
 
 impl FramePlace {
     /// The front of a frame.
     pub(crate) const FRONT: FramePlace = FramePlace {
-        prefix: 0,
+        prefix: PREFIX,
         number: 0,
-        lacking: 0,
+        rest: 0,
     };
 
     /// Whether a part of a frame came, and not all of it.
     pub(crate) fn is_within(&self) -> bool {
-        self.prefix > 0 || self.lacking > 0
+        self.prefix < PREFIX || self.rest > 0
     }
 
     /// Goes on by these bytes. Returns whether a frame ended with one of them.
     pub(crate) fn pass(&mut self, bytes: &[u8]) -> bool {
-        let mut rest = bytes;
-        let mut ended = false;
+        let mut left = bytes;
+        let mut has_ended = false;
         for _ in 0..bytes.len() {
-            if self.lacking == 0 {
-                rest = self.pass_prefix(rest);
-            }
-            let count = self.lacking.min(rest.len());
-            if count > 0 {
-                self.lacking -= count;
-                rest = &rest[count..];
-                ended = ended || self.lacking == 0;
-            }
-            if rest.is_empty() {
-                break;
+            let [first, others @ ..] = left else {
+                return has_ended;
+            };
+            if self.rest > 0 {
+                let count = self.rest.min(left.len());
+                self.rest -= count;
+                left = &left[count..];
+                has_ended = has_ended || self.rest == 0;
+            } else {
+                self.pass_prefix(*first);
+                left = others;
             }
         }
-        ended
+        has_ended
     }
 
-    /// Goes on by one byte of a prefix, if there is one. Returns the others.
-    fn pass_prefix<'a>(&mut self, bytes: &'a [u8]) -> &'a [u8] {
-        let [first, rest @ ..] = bytes else {
-            return bytes;
-        };
-        self.number = self.number % 0x100_0000 * 0x100 + *first as u32;
-        self.prefix += 1;
-        if self.prefix >= PREFIX {
-            self.lacking = self.number as usize;
+    /// Goes on by a byte of a prefix.
+    fn pass_prefix(&mut self, byte: u8) {
+        self.prefix = self.prefix.saturating_sub(1);
+        self.number = self.number << 8 | byte as u32;
+        if self.prefix == 0 {
             *self = FramePlace {
-                lacking: self.number as usize,
+                rest: self.number as usize,
                 ..FramePlace::FRONT
             };
         }
-        rest
     }
 }

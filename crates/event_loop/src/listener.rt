@@ -1,5 +1,6 @@
 //! Where a node takes connections.
 ghost use Rattle.std.specs.Prelude.{◌≤◌};
+ghost use Rattle.event_loop.specs.declared.listener.TheConstants.{CONNECTIONS};
 
 use mio::net::{TcpListener, TcpStream};
 use std::io;
@@ -17,8 +18,8 @@ pub(crate) struct Listener {
     /// The node's number for the next connection. It is asked for first, so that no connection is taken in vain.
     next: Option<ConnectionId>,
     /// How many connections are open.
-    open: usize,
-    ghost few: { open ≤ CONNECTIONS },
+    opened: usize,
+    ghost few: { opened ≤ CONNECTIONS },
 }
 
 impl Listener {
@@ -27,7 +28,7 @@ impl Listener {
         Listener {
             socket,
             next: None,
-            open: 0,
+            opened: 0,
         }
     }
 
@@ -38,7 +39,7 @@ impl Listener {
 
     /// Whether as many connections are open as may be.
     pub(crate) fn is_full(&self) -> bool {
-        self.open >= CONNECTIONS
+        self.opened >= CONNECTIONS
     }
 
     /// The node's number for the next connection, if it was asked for.
@@ -59,16 +60,16 @@ impl Listener {
 
     /// Counts a connection that was opened under the next number. Returns whether there was room for it.
     pub(crate) fn open(&mut self) -> bool {
-        if self.open >= CONNECTIONS {
+        if self.opened >= CONNECTIONS {
             return false;
         }
-        self.open += 1;
+        self.opened += 1;
         self.next = None;
         true
     }
 
     /// Counts a connection that was closed.
     pub(crate) fn close(&mut self) {
-        self.open = self.open.saturating_sub(1);
+        self.opened = self.opened.saturating_sub(1);
     }
 }

@@ -12,12 +12,7 @@ pub trait LoopNode<A: Allocator + Copy>: Drop {
     fn accept(&mut self) -> Result<ConnectionId, WireError>;
 
     /// Takes bytes that came over the connection.
-    fn receive(
-        &mut self,
-        id: ConnectionId,
-        bytes: &[u8],
-        dice: &Dice,
-    ) -> Result<(), ReceiveError>;
+    fn receive(&mut self, id: ConnectionId, bytes: &[u8], dice: &Dice) -> Result<(), ReceiveError>;
 
     /// Drops the connection: it is closed.
     fn ended(&mut self, id: ConnectionId, dice: &Dice) -> Result<(), WireError>;

@@ -64,11 +64,8 @@ impl<N: LoopNode<A>, S: Resolve + Drop, A: Allocator + Copy> EventLoop<N, S, A> 
             if left.is_zero() {
                 return Ok(false);
             }
-            self.wait(if self.nodes.queued() > 0 {
-                Duration::ZERO
-            } else {
-                left
-            })?;
+            let is_behind = self.nodes.queued() > 0;
+            self.wait(if is_behind { Duration::ZERO } else { left })?;
         }
         unreachable!()
     }

@@ -140,12 +140,7 @@ impl<N: LoopNode<A>, S: Resolve + Drop, A: Allocator + Copy> EventLoop<N, S, A> 
     }
 
     /// Sends what waits for the name. If it cannot be dialled, the node is told so. Returns whether more may be sent.
-    fn send_to<R: Net>(
-        &mut self,
-        rt: &R,
-        place: usize,
-        name: NodeName,
-    ) -> Result<bool, LoopError> {
+    fn send_to<R: Net>(&mut self, rt: &R, place: usize, name: NodeName) -> Result<bool, LoopError> {
         let Some(link_place) = self.reach(rt, place, name)? else {
             self.give_up(place, name)?;
             return Ok(true);

@@ -10,12 +10,7 @@ impl<A: Allocator + Copy> LoopNode<A> for WireNode<A> {
         self.accept()
     }
 
-    fn receive(
-        &mut self,
-        id: ConnectionId,
-        bytes: &[u8],
-        dice: &Dice,
-    ) -> Result<(), ReceiveError> {
+    fn receive(&mut self, id: ConnectionId, bytes: &[u8], dice: &Dice) -> Result<(), ReceiveError> {
         self.receive(id, bytes, dice)
     }
 
