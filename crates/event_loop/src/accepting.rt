@@ -8,7 +8,16 @@ use crate::source::Source;
 use mio::Interest;
 use mio::net::TcpStream;
 use std::alloc::Allocator;
+use std::io::ErrorKind;
 use wire_node::ConnectionId;
+
+/// Whether an error of this kind concerns only the connection that would have been taken, so that others may wait.
+fn is_of_peer(kind: ErrorKind) -> bool {
+    matches!(
+        kind,
+        ErrorKind::ConnectionAborted | ErrorKind::ConnectionReset | ErrorKind::Interrupted
+    )
+}
 
 /// How many connections of each node a turn takes at most.
 const ACCEPTS: usize = 16;
@@ -40,8 +49,8 @@ impl<N: LoopNode<A>, S: Resolve + Drop, A: Allocator + Copy> EventLoop<N, S, A> 
         Ok(true)
     }
 
-    /// Takes a connection that waits at the listener of this place, if there is one, and room for it. Returns whether it
-    /// did. Where an allocation is refused, none is taken.
+    /// Takes a connection that waits at the listener of this place, if there is one, and room for it. Returns whether
+    /// more may wait. Where an allocation is refused, none is taken.
     fn accept_one(&mut self, place: usize) -> Result<bool, LoopError> {
         self.connections.reserve()?;
         let Some(id) = self.next_id(place)? else {
@@ -50,11 +59,13 @@ impl<N: LoopNode<A>, S: Resolve + Drop, A: Allocator + Copy> EventLoop<N, S, A> 
         let Some(listener) = self.listeners.get(place) else {
             return Ok(false);
         };
-        let Ok(stream) = listener.accept() else {
-            return Ok(false);
-        };
-        self.admit(place, stream, id)?;
-        Ok(true)
+        match listener.accept() {
+            Ok(stream) => {
+                self.admit(place, stream, id)?;
+                Ok(true)
+            }
+            Err(error) => Ok(is_of_peer(error.kind())),
+        }
     }
 
     /// The node's number for the next connection, unless it has as many as it may.

@@ -131,6 +131,11 @@ impl<N: LoopNode<A>, S: Resolve + Drop, A: Allocator + Copy> EventLoop<N, S, A> 
         }
     }
 
+    /// What tells the addresses of names, to be told more.
+    pub fn resolver_mut(&mut self) -> &mut S {
+        &mut self.resolver
+    }
+
     /// Whether there is something to do that waits for no change.
     pub(crate) fn is_behind(&self) -> bool {
         self.nodes.queued() > 0

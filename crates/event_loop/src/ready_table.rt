@@ -120,6 +120,14 @@ impl<T: Drop, A: Allocator> ReadyTable<T, A> {
         }
     }
 
+    /// Whether the place is queued.
+    pub(crate) fn is_queued(&self, place: usize) -> bool {
+        match self.slots.get(place) {
+            Some(slot) => slot.is_queued,
+            None => false,
+        }
+    }
+
     /// Takes the first place off the queue.
     pub(crate) fn take_first(&mut self) -> Option<usize> {
         let place = self.first?;

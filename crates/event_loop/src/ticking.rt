@@ -43,8 +43,11 @@ impl<N: LoopNode<A>, S: Resolve + Drop, A: Allocator + Copy> EventLoop<N, S, A> 
         Ok(())
     }
 
-    /// Ends the connection at this place if it owes bytes for too long.
+    /// Ends the connection at this place if it owes bytes for too long. Where some may wait, it is read first.
     fn end_stalled(&mut self, place: usize) {
+        if self.connections.is_queued(place) {
+            return;
+        }
         if let Some(connection) = self.connections.get_mut(place) {
             if connection.is_stalled(self.now, self.patience) {
                 connection.end();
