@@ -19,11 +19,11 @@ use std::sync::Wait;
 use std::time::{Clock, Duration};
 use wire_node::{WireLimits, WireNode};
 
-/// How long a tick takes.
-const TICK: Duration = Duration::from_millis(100);
+/// How many milliseconds a tick takes.
+const TICK: u64 = 100;
 
-/// How long the others may take to accept the last bytes.
-const GRACE: Duration = Duration::from_secs(5);
+/// How many seconds the others may take to accept the last bytes.
+const GRACE: u64 = 5;
 
 /// Runs the node of this name until the program ends it.
 fn run<R, N, P>(rt: &R, name: &NodeName, nodes: Nodes, node: N, program: &mut P) -> Result<()>
@@ -35,8 +35,8 @@ where
     let at = nodes.address(name).context("it is none of the nodes")?;
     let mut event_loop = EventLoop::new(rt, rt.alloc(), nodes, 1)?;
     event_loop.add(rt, at, node)?;
-    event_loop.run(rt, TICK, program)?;
-    event_loop.finish(rt, GRACE)?;
+    event_loop.run(rt, Duration::from_millis(TICK), program)?;
+    event_loop.finish(rt, Duration::from_secs(GRACE))?;
     Ok(())
 }
 
