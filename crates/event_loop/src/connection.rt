@@ -28,6 +28,8 @@ pub(crate) struct Connection {
     id: ConnectionId,
     /// Whether it has ended, sent what is no frame, or kept the node waiting too long.
     is_over: bool,
+    /// Whether bytes may wait that the program of its node holds.
+    is_held: bool,
     /// Where in a frame its bytes stand, if any came.
     at: Option<FramePlace>,
     /// The tick of the loop in which it came, or in which the last frame ended.
@@ -42,6 +44,7 @@ impl Connection {
             owner,
             id,
             is_over: false,
+            is_held: false,
             at: None,
             since: now,
         }
@@ -67,6 +70,18 @@ impl Connection {
         self.is_over = true;
     }
 
+    /// Notes that bytes may wait that the program of its node holds.
+    pub(crate) fn hold(&mut self) {
+        self.is_held = true;
+    }
+
+    /// Notes that bytes are held no more. Returns whether they were.
+    pub(crate) fn release(&mut self) -> bool {
+        let was_held = self.is_held;
+        self.is_held = false;
+        was_held
+    }
+
     /// Whether it owes bytes for more than this number of ticks: it sent none since it came, or not the rest of a
     /// frame.
     pub(crate) fn is_stalled(&self, now: u64, ticks: u64) -> bool {
@@ -74,7 +89,7 @@ impl Connection {
             Some(place) => place.is_within(),
             None => true,
         };
-        owes && self.since.saturating_add(ticks) < now
+        owes && !self.is_held && self.since.saturating_add(ticks) < now
     }
 
     /// Reads once into the buffer.

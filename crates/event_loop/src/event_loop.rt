@@ -10,7 +10,7 @@ use crate::ready_table::ReadyTable;
 use crate::resolve::Resolve;
 use crate::source::Source;
 use mio::net::TcpListener;
-use mio::{Events, Interest, Poll};
+use mio::{Events, Interest, Poll, Waker};
 use rand_core::SeedableRng;
 use rand_pcg::Lcg128Xsl64;
 use slab::Slab;
@@ -128,6 +128,15 @@ impl<N: LoopNode<A>, S: Resolve + Drop, A: Allocator + Copy> EventLoop<N, S, A> 
         match self.nodes.get_mut(place) {
             Some(hosted) => Some(&mut hosted.node),
             None => None,
+        }
+    }
+
+    /// Makes what other threads wake the loop by: once for one wake or several, the program is called for the node at
+    /// this place. A wake is lost if the waker is dropped before the loop has seen it.
+    pub fn waker(&self, place: usize) -> Result<Waker, LoopError> {
+        match Source::Waker(place).token() {
+            Some(token) => Ok(Waker::new(self.poll.registry(), token)?),
+            None => Err(LoopError::OutOfMemory),
         }
     }
 

@@ -14,6 +14,10 @@ pub(crate) struct HostedNode<N, A: Allocator + Copy> {
     links: IndexMap<NodeName, usize, BuildHasherDefault<FoldHasher>, A>,
     /// Whether one of them may be over that the node was not told of.
     pub(crate) may_have_ended: bool,
+    /// Whether bytes wait and no link to their names took any when that was tried last.
+    pub(crate) is_blocked: bool,
+    /// Whether the program holds what comes.
+    pub(crate) is_held: bool,
 }
 
 impl<N: Drop, A: Allocator + Copy> HostedNode<N, A> {
@@ -23,6 +27,8 @@ impl<N: Drop, A: Allocator + Copy> HostedNode<N, A> {
             node,
             links: IndexMap::new(alloc),
             may_have_ended: false,
+            is_blocked: false,
+            is_held: false,
         }
     }
 

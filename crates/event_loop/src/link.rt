@@ -93,7 +93,7 @@ impl Link {
         }
     }
 
-    /// Writes once of what waits for its name. Returns whether bytes went out.
+    /// Writes once of what waits for its name. Returns whether another write may take more.
     pub(crate) fn write<N: LoopNode<A>, A: Allocator + Copy>(
         &mut self,
         node: &mut N,
@@ -109,19 +109,17 @@ impl Link {
                 self.used = now;
                 true
             }
-            Err(error) => {
-                self.note_refusal(error.kind());
-                false
-            }
+            Err(error) => self.may_write_after(error.kind()),
         }
     }
 
-    /// Notes why a write took nothing.
-    fn note_refusal(&mut self, kind: ErrorKind) {
+    /// Notes why a write took nothing. Returns whether the next may take some.
+    fn may_write_after(&mut self, kind: ErrorKind) -> bool {
         match kind {
             ErrorKind::WouldBlock => self.is_ready = false,
-            ErrorKind::Interrupted => {}
+            ErrorKind::Interrupted => return true,
             _ => self.is_over = true,
         }
+        false
     }
 }

@@ -1,5 +1,6 @@
 //! A node that an event loop runs.
 use node_names::{Dice, NodeName};
+use rand_core::Rng;
 use std::alloc::{AllocError, Allocator};
 use wire_node::{ConnectionId, ReceiveError, WireError};
 
@@ -11,8 +12,13 @@ pub trait LoopNode<A: Allocator + Copy>: Drop {
     /// Accepts a connection, over which bytes may come from now on.
     fn accept(&mut self) -> Result<ConnectionId, WireError>;
 
-    /// Takes bytes that came over the connection.
-    fn receive(&mut self, id: ConnectionId, bytes: &[u8], dice: &Dice) -> Result<(), ReceiveError>;
+    /// Takes bytes that came over the connection, with dice of the generator.
+    fn receive<G: Rng>(
+        &mut self,
+        id: ConnectionId,
+        bytes: &[u8],
+        generator: &mut G,
+    ) -> Result<(), ReceiveError>;
 
     /// Drops the connection: it is closed.
     fn ended(&mut self, id: ConnectionId, dice: &Dice) -> Result<(), WireError>;

@@ -2,7 +2,9 @@
 use crate::connection::Found;
 use crate::error::LoopError;
 use crate::event_loop::EventLoop;
+use crate::hosted_node::HostedNode;
 use crate::loop_node::LoopNode;
+use crate::ready_table::ReadyTable;
 use crate::resolve::Resolve;
 use node_names::Dice;
 use std::alloc::Allocator;
@@ -14,6 +16,17 @@ const READS: usize = 16;
 /// How many reads a turn makes at most. What they bring is four megabytes: half of what may wait for a name, so that
 /// the turn can send it before too much waits.
 const ALL_READS: usize = 64;
+
+/// Whether the program holds what comes to the node at this place.
+fn is_held<N: Drop, A: Allocator + Copy>(
+    nodes: &ReadyTable<HostedNode<N, A>, A>,
+    place: usize,
+) -> bool {
+    match nodes.get(place) {
+        Some(hosted) => hosted.is_held,
+        None => false,
+    }
+}
 
 impl<N: LoopNode<A>, S: Resolve + Drop, A: Allocator + Copy> EventLoop<N, S, A> {
     /// Reads from the connections that are queued, each once at most, and closes those that are over.
@@ -60,6 +73,10 @@ impl<N: LoopNode<A>, S: Resolve + Drop, A: Allocator + Copy> EventLoop<N, S, A> 
         if connection.is_over() {
             return Ok(Found::End);
         }
+        if is_held(&self.nodes, connection.owner()) {
+            connection.hold();
+            return Ok(Found::Nothing);
+        }
         let found = connection.read(&mut self.buffer, place, self.now);
         self.give()?;
         Ok(found)
@@ -100,10 +117,9 @@ impl<N: LoopNode<A>, S: Resolve + Drop, A: Allocator + Copy> EventLoop<N, S, A> 
         let Some(hosted) = self.nodes.get_mut(connection.owner()) else {
             return Ok(());
         };
-        let dice = Dice::draw(&mut self.generator);
         hosted
             .node
-            .receive(connection.id(), self.buffer.rest(), &dice)
+            .receive(connection.id(), self.buffer.rest(), &mut self.generator)
     }
 
     /// Closes the connection at this place, once its node was told.

@@ -3,7 +3,6 @@ use crate::error::LoopError;
 use crate::event_loop::EventLoop;
 use crate::link::Link;
 use crate::loop_node::LoopNode;
-use crate::program::{Next, Program, Silence};
 use crate::resolve::Resolve;
 use node_names::{Dice, NodeName};
 use std::alloc::Allocator;
@@ -12,77 +11,53 @@ use std::net::Net;
 /// How many writes a turn makes to each link at most.
 const WRITES: usize = 16;
 
-/// Writes to the link what waits for its name. Returns whether more may wait that it would take.
+/// What a turn sent of the bytes that wait for a name.
+#[derive(Clone, Copy, Debug, PartialEq, Eq)]
+enum Sent {
+    /// All that may be sent.
+    All,
+    /// A part: the next turn may go on.
+    Part,
+    /// What the link took. It takes no more.
+    Blocked,
+}
+
+/// Writes to the link what waits for its name.
 fn write_some<N: LoopNode<A>, A: Allocator + Copy>(
     link: &mut Link,
     node: &mut N,
     now: u64,
-) -> bool {
+) -> Sent {
     for _ in 0..WRITES {
         if !link.write(node, now) {
-            return false;
+            return if link.is_blocked() {
+                Sent::Blocked
+            } else {
+                Sent::All
+            };
         }
     }
-    true
+    Sent::Part
 }
 
 impl<N: LoopNode<A>, S: Resolve + Drop, A: Allocator + Copy> EventLoop<N, S, A> {
-    /// Sends what waits, as far as the links take it. Links are dialled where there is none. Before that the links are
-    /// closed whose names went down, so that nothing follows bytes that were dropped.
-    ///
-    /// Where more is left than a turn sends, the next `take` waits for nothing.
-    pub fn send<R: Net>(&mut self, rt: &R) -> Result<(), LoopError> {
-        self.serve(rt, &mut Silence)?;
-        Ok(())
-    }
-
-    /// Calls the program for each node that is queued, and sends what waits there. Returns whether the program goes on.
-    pub(crate) fn serve<R, P>(&mut self, rt: &R, program: &mut P) -> Result<bool, LoopError>
-    where
-        R: Net,
-        P: Program<N>,
-    {
-        let mut goes_on = true;
-        for _ in 0..self.nodes.queued() {
-            let Some(place) = self.nodes.take_first() else {
-                return Ok(goes_on);
-            };
-            let next = if goes_on {
-                self.call(place, program)
-            } else {
-                Next::Wait
-            };
-            goes_on = goes_on && next != Next::End;
-            let sent = self.send_of(rt, place);
-            if next == Next::Again || !matches!(sent, Ok(false)) {
-                self.nodes.queue(place);
-            }
-            sent?;
-        }
-        Ok(goes_on)
-    }
-
-    /// Calls the program for the node at this place.
-    fn call<P: Program<N>>(&mut self, place: usize, program: &mut P) -> Next {
-        match self.nodes.get_mut(place) {
-            Some(hosted) => program.turn(place, &mut hosted.node),
-            None => Next::Wait,
-        }
-    }
-
     /// Sends what waits in the node at this place. Returns whether more may wait that can be sent.
-    fn send_of<R: Net>(&mut self, rt: &R, place: usize) -> Result<bool, LoopError> {
+    pub(crate) fn send_of<R: Net>(&mut self, rt: &R, place: usize) -> Result<bool, LoopError> {
         self.end_links(place)?;
         self.close_lost(place);
         let names = match self.nodes.get(place) {
             Some(hosted) => hosted.node.receivers()?,
             None => return Ok(false),
         };
+        let mut is_blocked = !names.is_empty();
         let mut is_behind = false;
         for name in names {
-            if self.send_to(rt, place, name)? {
-                is_behind = true;
-            }
+            let sent = self.send_to(rt, place, name)?;
+            is_blocked = is_blocked && sent == Sent::Blocked;
+            is_behind = is_behind || sent == Sent::Part;
+        }
+        if let Some(hosted) = self.nodes.get_mut(place) {
+            hosted.is_blocked = is_blocked;
         }
         Ok(is_behind)
     }
@@ -139,22 +114,23 @@ impl<N: LoopNode<A>, S: Resolve + Drop, A: Allocator + Copy> EventLoop<N, S, A> 
         }
     }
 
-    /// Sends what waits for the name. If it cannot be dialled, the node is told so. Returns whether more may be sent.
-    fn send_to<R: Net>(&mut self, rt: &R, place: usize, name: NodeName) -> Result<bool, LoopError> {
+    /// Sends what waits for the name. If it cannot be dialled, the node is told so.
+    fn send_to<R: Net>(&mut self, rt: &R, place: usize, name: NodeName) -> Result<Sent, LoopError> {
         let Some(link_place) = self.reach(rt, place, name)? else {
             self.give_up(place, name)?;
-            return Ok(true);
+            return Ok(Sent::Part);
         };
         let Some(link) = self.links.get_mut(link_place) else {
-            return Ok(false);
+            return Ok(Sent::All);
         };
         let Some(hosted) = self.nodes.get_mut(place) else {
-            return Ok(false);
+            return Ok(Sent::All);
         };
-        let has_more = write_some(link, &mut hosted.node, self.now);
+        let sent = write_some(link, &mut hosted.node, self.now);
         if link.is_over() {
             hosted.may_have_ended = true;
+            return Ok(Sent::Part);
         }
-        Ok(has_more || link.is_over())
+        Ok(sent)
     }
 }

@@ -47,6 +47,7 @@ fn note_all<N: Drop, A: Allocator + Copy>(
             Source::Listener(place) => listeners.queue(place),
             Source::Connection(place) => connections.queue(place),
             Source::Link(place) => note_link(links, nodes, place, event),
+            Source::Waker(place) => nodes.queue(place),
         }
     }
 }

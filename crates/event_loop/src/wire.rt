@@ -1,6 +1,7 @@
 //! A node of bytes in an event loop.
 use crate::loop_node::LoopNode;
 use node_names::{Dice, NodeName};
+use rand_core::Rng;
 use std::alloc::{AllocError, Allocator};
 use wire_node::{ConnectionId, ReceiveError, WireError, WireNode};
 use world::Core;
@@ -10,8 +11,13 @@ impl<A: Allocator + Copy> LoopNode<A> for WireNode<A> {
         self.accept()
     }
 
-    fn receive(&mut self, id: ConnectionId, bytes: &[u8], dice: &Dice) -> Result<(), ReceiveError> {
-        self.receive(id, bytes, dice)
+    fn receive<G: Rng>(
+        &mut self,
+        id: ConnectionId,
+        bytes: &[u8],
+        generator: &mut G,
+    ) -> Result<(), ReceiveError> {
+        self.receive(id, bytes, &Dice::draw(generator))
     }
 
     fn ended(&mut self, id: ConnectionId, dice: &Dice) -> Result<(), WireError> {

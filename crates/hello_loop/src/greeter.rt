@@ -1,7 +1,7 @@
 //! The program that the event loop calls.
 use anyhow::Result;
 use bytes::Bytes;
-use event_loop::{Next, Program};
+use event_loop::{Next, Program, Situation};
 use std::io::Print;
 use wire_node::WireNode;
 use world::{Core, Delivery};
@@ -65,7 +65,7 @@ impl<'a, R: Print + AllocGlobal> Greeter<'a, R> {
 }
 
 impl<'a, R: Print + AllocGlobal> Program<WireNode> for Greeter<'a, R> {
-    fn turn(&mut self, _place: usize, node: &mut WireNode) -> Next {
+    fn turn(&mut self, _at: Situation, node: &mut WireNode) -> Next {
         self.result = self.work(node);
         if self.result.is_ok() && self.left > 0 {
             Next::Wait

@@ -1,7 +1,7 @@
 //! Many nodes in one loop.
 use crate::tests::nodes::{Book, TestedNode, any_port};
 use anyhow::Result;
-use event_loop::{EventLoop, Next, Program};
+use event_loop::{EventLoop, Next, Program, Situation};
 use node_names::NodeName;
 use std::alloc::Global;
 use std::net::Net;
@@ -32,11 +32,11 @@ fn name_at(place: usize) -> Result<NodeName> {
 }
 
 impl<N: TestedNode> Program<N> for Hearing {
-    fn turn(&mut self, place: usize, node: &mut N) -> Next {
+    fn turn(&mut self, at: Situation, node: &mut N) -> Next {
         if !self.has_said {
             self.has_said = node.say(self.alloc, 1_000).is_ok();
         }
-        if let Some(heard) = self.heard.get_mut(place) {
+        if let Some(heard) = self.heard.get_mut(at.place) {
             *heard = heard.saturating_add(node.hear());
         }
         self.calls = self.calls.saturating_add(1);
