@@ -1,30 +1,58 @@
 //! A connection that came in.
 use crate::buffer::Buffer;
+use crate::frame_place::FramePlace;
 use mio::net::TcpStream;
 use std::alloc::Allocator;
 use std::io::ErrorKind;
 use wire_node::ConnectionId;
 
+/// What a read of a connection found.
+#[derive(Clone, Copy, Debug, PartialEq, Eq)]
+pub(crate) enum Found {
+    /// Bytes, which are in the buffer.
+    Bytes,
+    /// None, but there may be some.
+    Interruption,
+    /// None, until the poll tells of a change.
+    Nothing,
+    /// That it is over.
+    End,
+}
+
 /// A connection that came in, which is only read.
 #[derive(Drop)]
 pub(crate) struct Connection {
     stream: TcpStream,
+    /// The place of the node that it came to.
+    owner: usize,
     id: ConnectionId,
-    /// Whether bytes may wait. The poll tells only of changes, so this stays until a read finds none.
-    is_ready: bool,
-    /// Whether it has ended, or sent what is no frame.
+    /// Whether it has ended, sent what is no frame, or kept the node waiting too long.
     is_over: bool,
+    /// Whether bytes may wait that the program of its node holds.
+    is_held: bool,
+    /// Where in a frame its bytes stand, if any came.
+    at: Option<FramePlace>,
+    /// The tick of the loop in which it came, or in which the last frame ended.
+    since: u64,
 }
 
 impl Connection {
-    /// Makes a connection over which bytes may wait.
-    pub(crate) fn new(stream: TcpStream, id: ConnectionId) -> Connection {
+    /// Makes a connection that came in this tick.
+    pub(crate) fn new(stream: TcpStream, owner: usize, id: ConnectionId, now: u64) -> Connection {
         Connection {
             stream,
+            owner,
             id,
-            is_ready: true,
             is_over: false,
+            is_held: false,
+            at: None,
+            since: now,
         }
+    }
+
+    /// The place of the node that it came to.
+    pub(crate) fn owner(&self) -> usize {
+        self.owner
     }
 
     /// The node's number of it.
@@ -32,19 +60,9 @@ impl Connection {
         self.id
     }
 
-    /// Whether bytes may wait.
-    pub(crate) fn is_ready(&self) -> bool {
-        self.is_ready && !self.is_over
-    }
-
     /// Whether it is to be closed.
     pub(crate) fn is_over(&self) -> bool {
         self.is_over
-    }
-
-    /// Notes that bytes may wait, or that it has ended, which a read finds out.
-    pub(crate) fn wake(&mut self) {
-        self.is_ready = true;
     }
 
     /// Has it be closed.
@@ -52,27 +70,67 @@ impl Connection {
         self.is_over = true;
     }
 
-    /// Reads once into the buffer. Returns whether bytes came.
-    pub(crate) fn read<A: Allocator>(&mut self, buffer: &mut Buffer<A>, place: usize) -> bool {
+    /// Notes that bytes may wait that the program of its node holds.
+    pub(crate) fn hold(&mut self) {
+        self.is_held = true;
+    }
+
+    /// Notes that bytes are held no more. Returns whether they were.
+    pub(crate) fn release(&mut self) -> bool {
+        let was_held = self.is_held;
+        self.is_held = false;
+        was_held
+    }
+
+    /// Whether it owes bytes for more than this number of ticks: it sent none since it came, or not the rest of a
+    /// frame.
+    pub(crate) fn is_stalled(&self, now: u64, ticks: u64) -> bool {
+        let owes = match self.at {
+            Some(place) => place.is_within(),
+            None => true,
+        };
+        owes && !self.is_held && self.since.saturating_add(ticks) < now
+    }
+
+    /// Reads once into the buffer.
+    pub(crate) fn read<A: Allocator>(
+        &mut self,
+        buffer: &mut Buffer<A>,
+        place: usize,
+        now: u64,
+    ) -> Found {
         match buffer.read(&mut self.stream, place) {
             Ok(0) => {
                 self.is_over = true;
-                false
+                Found::End
             }
-            Ok(_) => true,
-            Err(error) => {
-                self.note(error.kind());
-                false
+            Ok(_) => {
+                self.follow(buffer.rest(), now);
+                Found::Bytes
             }
+            Err(error) => self.found(error.kind()),
         }
     }
 
-    /// Notes why a read brought nothing.
-    fn note(&mut self, kind: ErrorKind) {
+    /// Follows the frames of these bytes.
+    fn follow(&mut self, bytes: &[u8], now: u64) {
+        let mut place = self.at.unwrap_or(FramePlace::FRONT);
+        let began = !place.is_within();
+        if place.pass(bytes) || began {
+            self.since = now;
+        }
+        self.at = Some(place);
+    }
+
+    /// What a read found that brought nothing.
+    fn found(&mut self, kind: ErrorKind) -> Found {
         match kind {
-            ErrorKind::WouldBlock => self.is_ready = false,
-            ErrorKind::Interrupted => {}
-            _ => self.is_over = true,
+            ErrorKind::WouldBlock => Found::Nothing,
+            ErrorKind::Interrupted => Found::Interruption,
+            _ => {
+                self.is_over = true;
+                Found::End
+            }
         }
     }
 }

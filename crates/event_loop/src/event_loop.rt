@@ -1,95 +1,155 @@
-//! The event loop of a node.
+//! An event loop, and its nodes.
 use crate::buffer::Buffer;
-use crate::connection_table::ConnectionTable;
+use crate::connection::Connection;
 use crate::error::LoopError;
-use crate::link_table::LinkTable;
+use crate::hosted_node::HostedNode;
+use crate::link::Link;
+use crate::listener::Listener;
+use crate::loop_node::LoopNode;
+use crate::ready_table::ReadyTable;
 use crate::resolve::Resolve;
-use crate::source::LISTENER;
+use crate::source::Source;
 use mio::net::TcpListener;
-use mio::{Events, Interest, Poll};
-use node_names::Dice;
+use mio::{Events, Interest, Poll, Waker};
 use rand_core::SeedableRng;
 use rand_pcg::Lcg128Xsl64;
+use slab::Slab;
 use std::alloc::{Allocator, Global};
+use std::io;
 use std::net::{Net, SocketAddr};
-use wire_node::WireNode;
 
 /// How many events one poll gives at most. More come with the next.
 const EVENTS: usize = 1_024;
 
-/// A node with its connections and links, and what tells when these are ready.
+/// For how many ticks a peer may keep a node waiting, unless another number is set.
+const PATIENCE: u64 = 64;
+
+/// Nodes with their connections and links, and what tells when these are ready.
 ///
-/// A turn takes what came (`take`), lets time pass (`tick`), and sends what waits (`send`); `run` makes turns. The
-/// three calls never wait, but `take` as long as it is told to. Of each connection and to each link a turn takes and
-/// sends a bounded number of bytes, so that none keeps the others waiting.
+/// A turn serves the nodes that took something (`send`), takes what came (`take`), and lets time pass (`tick`); `run`
+/// makes turns. The three calls never wait, but `take` as long as it is told to. Of each connection and to each link a
+/// turn takes and sends a bounded number of bytes, so that none keeps the others waiting; and it looks only at what is
+/// ready.
 #[derive(Drop)]
-pub struct EventLoop<S: Resolve + Drop, A: Allocator + Copy = Global> {
+pub struct EventLoop<N, S, A: Allocator + Copy = Global> {
     pub(crate) poll: Poll,
     pub(crate) events: Events<A>,
-    pub(crate) node: WireNode<A>,
+    pub(crate) alloc: A,
+    /// Those are queued that took something, or have more to send.
+    pub(crate) nodes: ReadyTable<HostedNode<N, A>, A>,
+    /// Each has the place of its node. Those are queued where a connection may wait.
+    pub(crate) listeners: ReadyTable<Listener, A>,
+    /// Those are queued where bytes may wait, or that are over.
+    pub(crate) connections: ReadyTable<Connection, A>,
+    pub(crate) links: Slab<Link, A>,
     pub(crate) resolver: S,
     pub(crate) generator: Lcg128Xsl64,
-    pub(crate) connections: ConnectionTable<A>,
-    pub(crate) links: LinkTable<A>,
     pub(crate) buffer: Buffer<A>,
-    /// The place of the connection that the next turn reads first.
-    pub(crate) next_read: usize,
-    /// Whether there is more to do than the last turn did, so that the next must not wait.
-    pub(crate) is_behind: bool,
+    /// How many ticks were made.
+    pub(crate) now: u64,
+    /// The place of the node that ticks next, where a tick was refused.
+    pub(crate) ticking: usize,
+    pub(crate) patience: u64,
 }
 
-impl<S: Resolve + Drop, A: Allocator + Copy> EventLoop<S, A> {
-    /// Makes the loop of a node that takes connections at this address. With port 0, the system chooses a free port,
-    /// and `address` tells it. The dice of the node's steps are drawn from a generator with this seed.
+impl<N: LoopNode<A>, S: Resolve + Drop, A: Allocator + Copy> EventLoop<N, S, A> {
+    /// Makes a loop without nodes. The dice of the nodes' steps are drawn from a generator with this seed.
     pub fn new<R: Net>(
         rt: &R,
         alloc: A,
-        listen: SocketAddr,
-        node: WireNode<A>,
         resolver: S,
         seed: u64,
-    ) -> Result<EventLoop<S, A>, LoopError> {
-        let poll = Poll::new(rt)?;
-        let mut listener = TcpListener::bind(rt, listen)?;
-        poll.registry()
-            .register(&mut listener, LISTENER, Interest::READABLE)?;
+    ) -> Result<EventLoop<N, S, A>, LoopError> {
         Ok(EventLoop {
-            poll,
+            poll: Poll::new(rt)?,
             events: Events::with_capacity(alloc, EVENTS)?,
-            node,
+            alloc,
+            nodes: ReadyTable::new(alloc),
+            listeners: ReadyTable::new(alloc),
+            connections: ReadyTable::new(alloc),
+            links: Slab::new(alloc),
             resolver,
             generator: Lcg128Xsl64::seed_from_u64(seed),
-            connections: ConnectionTable::new(alloc, listener),
-            links: LinkTable::new(alloc),
             buffer: Buffer::new(alloc)?,
-            next_read: 0,
-            is_behind: true,
+            now: 0,
+            ticking: 0,
+            patience: PATIENCE,
         })
     }
 
-    /// Where the node takes connections.
-    pub fn address(&self) -> Result<SocketAddr, LoopError> {
-        Ok(self.connections.listener().local_addr()?)
+    /// Sets for how many ticks a peer may keep a node waiting: 64, if nothing is set. A connection over which nothing
+    /// came for longer, or not the rest of a frame, is closed; a link that took nothing for longer of what waits for
+    /// its name counts as ended, and one that was not used for longer and leads to no neighbour is closed. The less, the
+    /// sooner is a node that asked to become a neighbour told that it cannot be answered.
+    pub fn set_patience(&mut self, ticks: u64) {
+        self.patience = ticks;
     }
 
-    /// The node, to be read.
-    pub fn node(&self) -> &WireNode<A> {
-        &self.node
+    /// Adds a node that takes connections at this address, and returns its place: 0, 1, 2 and so on. With port 0, the
+    /// system chooses a free port, and `address` tells it. If the call is refused, the node is dropped.
+    pub fn add<R: Net>(&mut self, rt: &R, listen: SocketAddr, node: N) -> Result<usize, LoopError> {
+        self.nodes.reserve()?;
+        self.listeners.reserve()?;
+        let Some(token) = Source::Listener(self.nodes.next_place()).token() else {
+            return Err(LoopError::OutOfMemory);
+        };
+        let mut socket = TcpListener::bind(rt, listen)?;
+        self.poll
+            .registry()
+            .register(&mut socket, token, Interest::READABLE)?;
+        self.listeners.insert(Listener::new(socket))?;
+        Ok(self.nodes.insert(HostedNode::new(self.alloc, node))?)
     }
 
-    /// The node. What a call has it send goes out at the next `send`.
-    pub fn node_mut(&mut self) -> &mut WireNode<A> {
-        &mut self.node
+    /// How many nodes there are.
+    pub fn len(&self) -> usize {
+        self.nodes.len()
     }
 
-    /// Closes all connections and links, and gives the node back.
-    pub fn into_node(self) -> WireNode<A> {
-        let EventLoop { node, .. } = self;
-        node
+    /// Where the node at this place takes connections.
+    pub fn address(&self, place: usize) -> Result<SocketAddr, LoopError> {
+        match self.listeners.get(place) {
+            Some(listener) => Ok(listener.address()?),
+            None => Err(LoopError::System(io::Error::from(io::ErrorKind::NotFound))),
+        }
     }
 
-    /// Draws the dice of a step.
-    pub(crate) fn draw(&mut self) -> Dice {
-        Dice::draw(&mut self.generator)
+    /// The node at this place, to be read.
+    pub fn node(&self, place: usize) -> Option<&N> {
+        match self.nodes.get(place) {
+            Some(hosted) => Some(&hosted.node),
+            None => None,
+        }
+    }
+
+    /// The node at this place. What a call has it send goes out at the next `send`.
+    pub fn node_mut(&mut self, place: usize) -> Option<&mut N> {
+        self.nodes.queue(place);
+        match self.nodes.get_mut(place) {
+            Some(hosted) => Some(&mut hosted.node),
+            None => None,
+        }
+    }
+
+    /// Makes what other threads wake the loop by: once for one wake or several, the program is called for the node at
+    /// this place. A wake is lost if the waker is dropped before the loop has seen it.
+    pub fn waker(&self, place: usize) -> Result<Waker, LoopError> {
+        match Source::Waker(place).token() {
+            Some(token) => Ok(Waker::new(self.poll.registry(), token)?),
+            None => Err(LoopError::OutOfMemory),
+        }
+    }
+
+    /// What tells the addresses of names, to be told more.
+    pub fn resolver_mut(&mut self) -> &mut S {
+        &mut self.resolver
+    }
+
+    /// Whether there is something to do that waits for no change.
+    pub(crate) fn is_behind(&self) -> bool {
+        self.nodes.queued() > 0
+            || self.listeners.queued() > 0
+            || self.connections.queued() > 0
+            || !self.buffer.rest().is_empty()
     }
 }

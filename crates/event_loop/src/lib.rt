@@ -1,27 +1,36 @@
-//! A node that runs on one thread, without a lock: an event loop that takes and makes TCP connections for a node of
-//! bytes.
+//! Nodes that run on one thread, without a lock: an event loop that takes and makes TCP connections for nodes of bytes.
 //!
-//! A program starts a `WireNode`, hands it to an `EventLoop` with what tells the addresses of names, and runs it with a
-//! `Program`, which is called at each turn.
+//! A program starts a `WireNode` or several, adds them to an `EventLoop` that was given what tells the addresses of
+//! names, and runs it with a `Program`, which is called for each node that took something.
 #![tactic(auto)]
 
+mod accepting;
 mod buffer;
 mod connection;
-mod connection_table;
+mod dialling;
 mod error;
 mod event_loop;
+mod frame_place;
+mod hosted_node;
 mod link;
-mod link_table;
+mod listener;
+mod loop_node;
 mod pace;
 mod program;
+mod reading;
+mod ready_table;
 mod resolve;
 mod running;
 mod sending;
+mod serving;
 mod source;
 mod taking;
+mod ticking;
+mod wire;
 
-pub use connection_table::CONNECTIONS;
 pub use error::LoopError;
 pub use event_loop::EventLoop;
-pub use program::Program;
+pub use listener::CONNECTIONS;
+pub use loop_node::LoopNode;
+pub use program::{Next, Program, Situation};
 pub use resolve::Resolve;

@@ -1,29 +1,31 @@
 //! A link that was dialled.
+use crate::loop_node::LoopNode;
 use mio::event::Event;
 use mio::net::TcpStream;
 use node_names::NodeName;
 use std::alloc::Allocator;
 use std::io;
 use std::io::{ErrorKind, IoSlice};
-use wire_node::WireNode;
 
 /// A connection that was dialled, which is only written.
 #[derive(Drop)]
 pub(crate) struct Link {
     stream: TcpStream,
+    /// The place of the node that dialled it.
+    owner: usize,
     name: NodeName,
     /// Whether a write may take bytes. The poll tells only of changes, so this stays until a write takes none.
     is_ready: bool,
     /// Whether dialling failed, or it has ended.
     is_over: bool,
-    /// The node's tick in which it was dialled, or took bytes last.
+    /// The tick of the loop in which it was dialled, or took bytes last.
     used: u64,
 }
 
 /// Writes the first of the bytes that wait for the name. Returns how many went out.
-fn write_first<A: Allocator + Copy>(
+fn write_first<N: LoopNode<A>, A: Allocator + Copy>(
     stream: &TcpStream,
-    node: &WireNode<A>,
+    node: &N,
     name: &NodeName,
 ) -> io::Result<usize> {
     let [first, second, third, fourth] = node.transmit(name);
@@ -39,15 +41,21 @@ fn write_first<A: Allocator + Copy>(
 }
 
 impl Link {
-    /// Makes a link to the name that is being dialled. A write tells whether it is connected already.
-    pub(crate) fn new(stream: TcpStream, name: NodeName, now: u64) -> Link {
+    /// Makes a link to the name that is being dialled in this tick. A write tells whether it is connected already.
+    pub(crate) fn new(stream: TcpStream, owner: usize, name: NodeName, now: u64) -> Link {
         Link {
             stream,
+            owner,
             name,
             is_ready: true,
             is_over: false,
             used: now,
         }
+    }
+
+    /// The place of the node that dialled it.
+    pub(crate) fn owner(&self) -> usize {
+        self.owner
     }
 
     /// The name that it leads to.
@@ -65,7 +73,7 @@ impl Link {
         !self.is_ready
     }
 
-    /// Whether it took no bytes in the last `ticks` ticks.
+    /// Whether it took no bytes for more than this number of ticks.
     pub(crate) fn is_idle(&self, now: u64, ticks: u64) -> bool {
         self.used.saturating_add(ticks) < now
     }
@@ -85,8 +93,12 @@ impl Link {
         }
     }
 
-    /// Writes once of what waits for its name. Returns whether bytes went out.
-    pub(crate) fn write<A: Allocator + Copy>(&mut self, node: &mut WireNode<A>) -> bool {
+    /// Writes once of what waits for its name. Returns whether another write may take more.
+    pub(crate) fn write<N: LoopNode<A>, A: Allocator + Copy>(
+        &mut self,
+        node: &mut N,
+        now: u64,
+    ) -> bool {
         if !self.is_ready || self.is_over {
             return false;
         }
@@ -94,22 +106,20 @@ impl Link {
             Ok(0) => false,
             Ok(count) => {
                 node.transmitted(&self.name, count);
-                self.used = node.ticks();
+                self.used = now;
                 true
             }
-            Err(error) => {
-                self.note_refusal(error.kind());
-                false
-            }
+            Err(error) => self.may_write_after(error.kind()),
         }
     }
 
-    /// Notes why a write took nothing.
-    fn note_refusal(&mut self, kind: ErrorKind) {
+    /// Notes why a write took nothing. Returns whether the next may take some.
+    fn may_write_after(&mut self, kind: ErrorKind) -> bool {
         match kind {
             ErrorKind::WouldBlock => self.is_ready = false,
-            ErrorKind::Interrupted => {}
+            ErrorKind::Interrupted => return true,
             _ => self.is_over = true,
         }
+        false
     }
 }

@@ -1,6 +1,7 @@
-//! Running a node.
+//! Running nodes.
 use crate::error::LoopError;
 use crate::event_loop::EventLoop;
+use crate::loop_node::LoopNode;
 use crate::pace::Pace;
 use crate::program::Program;
 use crate::resolve::Resolve;
@@ -9,13 +10,13 @@ use std::net::Net;
 use std::sync::Wait;
 use std::time::{Clock, Duration};
 
-impl<S: Resolve + Drop, A: Allocator + Copy> EventLoop<S, A> {
-    /// Runs the node until the program ends it. A tick takes this time. If a call is refused, the loop is as that call
+impl<N: LoopNode<A>, S: Resolve + Drop, A: Allocator + Copy> EventLoop<N, S, A> {
+    /// Runs the nodes until the program ends it. A tick takes this time. If a call is refused, the loop is as that call
     /// left it, and may be run on.
     pub fn run<R, P>(&mut self, rt: &R, tick: Duration, program: &mut P) -> Result<(), LoopError>
     where
         R: Wait + Clock + Net,
-        P: Program<A>,
+        P: Program<N>,
     {
         if tick.is_zero() {
             return Err(LoopError::ZeroTick);
@@ -33,11 +34,9 @@ impl<S: Resolve + Drop, A: Allocator + Copy> EventLoop<S, A> {
     fn turn<R, P>(&mut self, rt: &R, pace: &mut Pace, program: &mut P) -> Result<bool, LoopError>
     where
         R: Clock + Net,
-        P: Program<A>,
+        P: Program<N>,
     {
-        let goes_on = program.turn(&mut self.node);
-        self.send(rt)?;
-        if !goes_on {
+        if !self.serve(rt, program)? {
             return Ok(false);
         }
         self.take(pace.left(rt)?)?;
@@ -57,17 +56,29 @@ impl<S: Resolve + Drop, A: Allocator + Copy> EventLoop<S, A> {
     ) -> Result<bool, LoopError> {
         let end = Pace::new(rt, grace)?;
         for _ in rt.forever() {
-            self.is_behind = false;
             self.send(rt)?;
-            if self.node.receivers()?.is_empty() {
+            if !self.has_mail()? {
                 return Ok(true);
             }
             let left = end.left(rt)?;
             if left.is_zero() {
                 return Ok(false);
             }
-            self.wait(if self.is_behind { Duration::ZERO } else { left })?;
+            let is_behind = self.nodes.queued() > 0;
+            self.wait(if is_behind { Duration::ZERO } else { left })?;
         }
         unreachable!()
+    }
+
+    /// Whether bytes wait in a node.
+    fn has_mail(&self) -> Result<bool, LoopError> {
+        for place in 0..self.nodes.places() {
+            if let Some(hosted) = self.nodes.get(place) {
+                if !hosted.node.receivers()?.is_empty() {
+                    return Ok(true);
+                }
+            }
+        }
+        Ok(false)
     }
 }

@@ -1,135 +1,136 @@
-//! Sending what waits, and letting time pass.
+//! Sending what waits.
 use crate::error::LoopError;
 use crate::event_loop::EventLoop;
 use crate::link::Link;
+use crate::loop_node::LoopNode;
 use crate::resolve::Resolve;
-use node_names::NodeName;
+use node_names::{Dice, NodeName};
 use std::alloc::Allocator;
 use std::net::Net;
-use wire_node::WireNode;
-use world::Core;
 
 /// How many writes a turn makes to each link at most.
 const WRITES: usize = 16;
 
-/// For how many ticks a link may take no bytes. Then one that does not take what waits counts as ended, and one that
-/// leads to no neighbour is closed; sooner, a node that asked to become a neighbour could still wait for the answer.
-const IDLE: u64 = 64;
+/// What a turn sent of the bytes that wait for a name.
+#[derive(Clone, Copy, Debug, PartialEq, Eq)]
+enum Sent {
+    /// All that may be sent.
+    All,
+    /// A part: the next turn may go on.
+    Part,
+    /// What the link took. It takes no more.
+    Blocked,
+}
 
-/// Writes to the link what waits for its name. Returns whether more may wait that it would take.
-fn write_some<A: Allocator + Copy>(link: &mut Link, node: &mut WireNode<A>) -> bool {
+/// Writes to the link what waits for its name.
+fn write_some<N: LoopNode<A>, A: Allocator + Copy>(
+    link: &mut Link,
+    node: &mut N,
+    now: u64,
+) -> Sent {
     for _ in 0..WRITES {
-        if !link.write(node) {
-            return false;
+        if !link.write(node, now) {
+            return if link.is_blocked() {
+                Sent::Blocked
+            } else {
+                Sent::All
+            };
         }
     }
-    true
+    Sent::Part
 }
 
-/// Whether bytes wait for the name.
-fn has_mail<A: Allocator + Copy>(node: &WireNode<A>, name: &NodeName) -> bool {
-    let [first, second, ..] = node.transmit(name);
-    !first.is_empty() || !second.is_empty()
-}
-
-impl<S: Resolve + Drop, A: Allocator + Copy> EventLoop<S, A> {
-    /// Sends what waits, as far as the links take it. Links are dialled where there is none. Before that the links are
-    /// closed whose names went down, so that nothing follows bytes that were dropped.
-    ///
-    /// Where more is left than a turn sends, the next `take` waits for nothing.
-    pub fn send<R: Net>(&mut self, rt: &R) -> Result<(), LoopError> {
-        self.end_links()?;
-        self.close_lost();
-        for name in self.node.receivers()? {
-            self.send_to(rt, name)?;
-        }
-        Ok(())
-    }
-
-    /// Makes a tick of the node, and looks for links that took no bytes for some time: those that do not take what
-    /// waits for their names end, and of the others those to strangers are closed.
-    pub fn tick(&mut self) -> Result<(), LoopError> {
-        let dice = self.draw();
-        self.node.tick(&dice)?;
-        for place in 0..self.links.places() {
-            self.close_idle(place);
-        }
-        Ok(())
-    }
-
-    /// Tells the node of the links that have ended. It takes their names down, so that `close_lost` closes them.
-    fn end_links(&mut self) -> Result<(), LoopError> {
-        for place in 0..self.links.places() {
-            self.end_link(place)?;
-        }
-        Ok(())
-    }
-
-    /// Tells the node that the name of the link at this place cannot be reached, if the link has ended.
-    fn end_link(&mut self, place: usize) -> Result<(), LoopError> {
-        let name = match self.links.get(place) {
-            Some(link) if link.is_over() => link.name(),
-            _ => return Ok(()),
+impl<N: LoopNode<A>, S: Resolve + Drop, A: Allocator + Copy> EventLoop<N, S, A> {
+    /// Sends what waits in the node at this place. Returns whether more may wait that can be sent.
+    pub(crate) fn send_of<R: Net>(&mut self, rt: &R, place: usize) -> Result<bool, LoopError> {
+        self.end_links(place)?;
+        self.close_lost(place);
+        let names = match self.nodes.get(place) {
+            Some(hosted) => hosted.node.receivers()?,
+            None => return Ok(false),
         };
-        self.give_up(name)
+        let mut is_blocked = !names.is_empty();
+        let mut is_behind = false;
+        for name in names {
+            let sent = self.send_to(rt, place, name)?;
+            is_blocked = is_blocked && sent == Sent::Blocked;
+            is_behind = is_behind || sent == Sent::Part;
+        }
+        if let Some(hosted) = self.nodes.get_mut(place) {
+            hosted.is_blocked = is_blocked;
+        }
+        Ok(is_behind)
     }
 
-    /// Tells the node that the name cannot be reached.
-    fn give_up(&mut self, name: NodeName) -> Result<(), LoopError> {
-        let dice = self.draw();
-        self.node.unreachable(name, &dice)?;
-        self.is_behind = true;
+    /// Tells the node at this place of its links that are over, and closes them.
+    fn end_links(&mut self, place: usize) -> Result<(), LoopError> {
+        for _ in 0..self.links.len() {
+            let Some(name) = self.ended_name(place) else {
+                return Ok(());
+            };
+            self.give_up(place, name)?;
+            self.close_link(place, &name);
+        }
         Ok(())
     }
 
-    /// Closes the links to the names for whom bytes were dropped.
-    fn close_lost(&mut self) {
-        for name in self.node.take_lost() {
-            self.links.close(&name);
+    /// The name of a link that is over of the node at this place.
+    fn ended_name(&mut self, place: usize) -> Option<NodeName> {
+        let hosted = self.nodes.get_mut(place)?;
+        if !hosted.may_have_ended {
+            return None;
+        }
+        let name = hosted.ended_name(&self.links);
+        hosted.may_have_ended = name.is_some();
+        name
+    }
+
+    /// Tells the node at this place that the name cannot be reached.
+    fn give_up(&mut self, place: usize, name: NodeName) -> Result<(), LoopError> {
+        if let Some(hosted) = self.nodes.get_mut(place) {
+            let dice = Dice::draw(&mut self.generator);
+            hosted.node.unreachable(name, &dice)?;
+        }
+        Ok(())
+    }
+
+    /// Closes the link to the name of the node at this place.
+    pub(crate) fn close_link(&mut self, place: usize, name: &NodeName) {
+        if let Some(hosted) = self.nodes.get_mut(place) {
+            if let Some(link) = hosted.forget(name) {
+                self.links.try_remove(link);
+            }
+        }
+    }
+
+    /// Closes the links of the node at this place to the names for whom bytes were dropped.
+    fn close_lost(&mut self, place: usize) {
+        let lost = match self.nodes.get_mut(place) {
+            Some(hosted) => hosted.node.take_lost(),
+            None => return,
+        };
+        for name in lost {
+            self.close_link(place, &name);
         }
     }
 
     /// Sends what waits for the name. If it cannot be dialled, the node is told so.
-    fn send_to<R: Net>(&mut self, rt: &R, name: NodeName) -> Result<(), LoopError> {
-        let Some(place) = self.reach(rt, name)? else {
-            return self.give_up(name);
+    fn send_to<R: Net>(&mut self, rt: &R, place: usize, name: NodeName) -> Result<Sent, LoopError> {
+        let Some(link_place) = self.reach(rt, place, name)? else {
+            self.give_up(place, name)?;
+            return Ok(Sent::Part);
         };
-        if let Some(link) = self.links.get_mut(place) {
-            if write_some(link, &mut self.node) || link.is_over() {
-                self.is_behind = true;
-            }
-        }
-        Ok(())
-    }
-
-    /// Dials the name, unless there is a link to it. Returns the place of the link, unless it cannot be dialled.
-    fn reach<R: Net>(&mut self, rt: &R, name: NodeName) -> Result<Option<usize>, LoopError> {
-        if let Some(place) = self.links.place_of(&name) {
-            return Ok(Some(place));
-        }
-        let Some(at) = self.resolver.resolve(&name) else {
-            return Ok(None);
+        let Some(link) = self.links.get_mut(link_place) else {
+            return Ok(Sent::All);
         };
-        let now = self.node.ticks();
-        self.links.dial(rt, self.poll.registry(), name, at, now)
-    }
-
-    /// If the link at this place took no bytes for some time, ends it if it does not take what waits for its name, and
-    /// else closes it if it leads to no neighbour.
-    fn close_idle(&mut self, place: usize) {
-        let Some(link) = self.links.get_mut(place) else {
-            return;
+        let Some(hosted) = self.nodes.get_mut(place) else {
+            return Ok(Sent::All);
         };
-        if !link.is_idle(self.node.ticks(), IDLE) {
-            return;
+        let sent = write_some(link, &mut hosted.node, self.now);
+        if link.is_over() {
+            hosted.may_have_ended = true;
+            return Ok(Sent::Part);
         }
-        let name = link.name();
-        if has_mail(&self.node, &name) {
-            if link.is_blocked() {
-                link.end();
-            }
-        } else if !self.node.core().active().contains(&name) {
-            self.links.close(&name);
-        }
+        Ok(sent)
     }
 }

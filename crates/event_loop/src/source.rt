@@ -3,46 +3,47 @@ ghost use Rattle.std.specs.Prelude.{◌≡◌, ◌+◌, ◌*◌, ℕ, IfSome};
 
 use mio::Token;
 
-/// The token of the listener.
-pub(crate) const LISTENER: Token = Token(0);
-
-/// What may become ready: the listener, a connection that came in, or a link that was dialled, by its place.
+/// What may become ready, by its place: the listener of a node, a connection that came in, a link that was dialled, or
+/// the waker of a node.
 #[derive(Clone, Copy, Debug, PartialEq, Eq)]
 pub(crate) enum Source {
-    Listener,
+    Listener(usize),
     Connection(usize),
     Link(usize),
-}
-
-/// The token of the connection at this place, which is odd.
-pub(crate) fn connection_token(place: usize) -> Option<Token>
-    ensures { IfSome result (λ token. token.0 ≡ 2 * place + 1) }
-{
-    let number = place.checked_mul(2)?.checked_add(1)?;
-    Some(Token(number))
-}
-
-/// The token of the link at this place, which is even.
-pub(crate) fn link_token(place: usize) -> Option<Token>
-    ensures { IfSome result (λ token. token.0 ≡ 2 * place + 2) }
-{
-    let number = place.checked_add(1)?.checked_mul(2)?;
-    Some(Token(number))
+    Waker(usize),
 }
 
 impl Source {
+    /// The token of what it is: four times the place, and what it is of that.
+    pub(crate) fn token(self) -> Option<Token>
+        ensures listener { (place : ℕ) → self ≡ Source.Listener place → IfSome result (λ token. token.0 ≡ 4 * place) }
+        ensures connection { (place : ℕ) → self ≡ Source.Connection place → IfSome result (λ token. token.0 ≡ 4 * place + 1) }
+        ensures link { (place : ℕ) → self ≡ Source.Link place → IfSome result (λ token. token.0 ≡ 4 * place + 2) }
+        ensures waker { (place : ℕ) → self ≡ Source.Waker place → IfSome result (λ token. token.0 ≡ 4 * place + 3) }
+    {
+        let (place, kind) = match self {
+            Source::Listener(place) => (place, 0),
+            Source::Connection(place) => (place, 1),
+            Source::Link(place) => (place, 2),
+            Source::Waker(place) => (place, 3),
+        };
+        let number = place.checked_mul(4)?.checked_add(kind)?;
+        Some(Token(number))
+    }
+
     /// What the token stands for.
     pub(crate) fn of(token: Token) -> Source
-        ensures listener { token.0 ≡ 0 → result ≡ Source.Listener }
-        ensures connection { (place : ℕ) → token.0 ≡ 2 * place + 1 → result ≡ Source.Connection place }
-        ensures link { (place : ℕ) → token.0 ≡ 2 * place + 2 → result ≡ Source.Link place }
+        ensures listener { (place : ℕ) → token.0 ≡ 4 * place → result ≡ Source.Listener place }
+        ensures connection { (place : ℕ) → token.0 ≡ 4 * place + 1 → result ≡ Source.Connection place }
+        ensures link { (place : ℕ) → token.0 ≡ 4 * place + 2 → result ≡ Source.Link place }
+        ensures waker { (place : ℕ) → token.0 ≡ 4 * place + 3 → result ≡ Source.Waker place }
     {
-        if token.0 % 2 == 1 {
-            return Source::Connection(token.0 / 2);
+        let place = token.0 / 4;
+        match token.0 % 4 {
+            0 => Source::Listener(place),
+            1 => Source::Connection(place),
+            2 => Source::Link(place),
+            _ => Source::Waker(place),
         }
-        if token.0 == 0 {
-            return Source::Listener;
-        }
-        Source::Link(token.0 / 2 - 1)
     }
 }

@@ -1,0 +1,79 @@
+//! Dialling links.
+use crate::error::LoopError;
+use crate::event_loop::EventLoop;
+use crate::link::Link;
+use crate::loop_node::LoopNode;
+use crate::resolve::Resolve;
+use crate::source::Source;
+use mio::net::TcpStream;
+use mio::{Interest, Registry};
+use node_names::NodeName;
+use std::alloc::{AllocError, Allocator};
+use std::io;
+use std::net::{Net, SocketAddr};
+
+/// Begins to connect to an address, for a writer that gathers bytes itself, so that each write is sent at once. Has the
+/// poll watch the connection as the link at this place.
+fn dial_at<R: Net>(
+    rt: &R,
+    registry: &Registry,
+    at: SocketAddr,
+    place: usize,
+) -> io::Result<TcpStream> {
+    let Some(token) = Source::Link(place).token() else {
+        return Err(io::Error::from(io::ErrorKind::OutOfMemory));
+    };
+    let mut stream = TcpStream::connect(rt, at)?;
+    stream.set_nodelay(true)?;
+    registry.register(&mut stream, token, Interest::READABLE | Interest::WRITABLE)?;
+    Ok(stream)
+}
+
+impl<N: LoopNode<A>, S: Resolve + Drop, A: Allocator + Copy> EventLoop<N, S, A> {
+    /// Dials the name for the node at this place, unless there is a link to it. Returns the place of the link, unless
+    /// the name has no address or the system refuses. Where an allocation is refused, nothing is dialled.
+    pub(crate) fn reach<R: Net>(
+        &mut self,
+        rt: &R,
+        place: usize,
+        name: NodeName,
+    ) -> Result<Option<usize>, LoopError> {
+        let Some(hosted) = self.nodes.get(place) else {
+            return Ok(None);
+        };
+        if let Some(link) = hosted.link_to(&name) {
+            return Ok(Some(link));
+        }
+        let Some(at) = self.resolver.resolve(&name) else {
+            return Ok(None);
+        };
+        self.make_room(place)?;
+        let Ok(stream) = dial_at(rt, self.poll.registry(), at, self.links.vacant_key()) else {
+            return Ok(None);
+        };
+        Ok(Some(self.keep_link(place, name, stream)?))
+    }
+
+    /// Makes room for a link of the node at this place.
+    fn make_room(&mut self, place: usize) -> Result<(), AllocError> {
+        self.links.reserve(1)?;
+        match self.nodes.get_mut(place) {
+            Some(hosted) => hosted.reserve(),
+            None => Ok(()),
+        }
+    }
+
+    /// Keeps a link to the name, that is being dialled. Returns its place.
+    fn keep_link(
+        &mut self,
+        place: usize,
+        name: NodeName,
+        stream: TcpStream,
+    ) -> Result<usize, LoopError> {
+        let link = self.links.insert(Link::new(stream, place, name, self.now))?;
+        if let Some(hosted) = self.nodes.get_mut(place) {
+            hosted.note(name, link)?;
+        }
+        Ok(link)
+    }
+}

@@ -1,0 +1,81 @@
+//! Letting time pass.
+use crate::error::LoopError;
+use crate::event_loop::EventLoop;
+use crate::loop_node::LoopNode;
+use crate::resolve::Resolve;
+use node_names::{Dice, NodeName};
+use std::alloc::Allocator;
+
+/// Whether bytes wait for the name.
+fn has_mail<N: LoopNode<A>, A: Allocator + Copy>(node: &N, name: &NodeName) -> bool {
+    let [first, second, ..] = node.transmit(name);
+    !first.is_empty() || !second.is_empty()
+}
+
+impl<N: LoopNode<A>, S: Resolve + Drop, A: Allocator + Copy> EventLoop<N, S, A> {
+    /// Makes a tick of each node, and looks for connections and links that kept a node waiting too long
+    /// (`set_patience`). If a tick is refused, the next call goes on with the node that refused it.
+    pub fn tick(&mut self) -> Result<(), LoopError> {
+        for place in self.ticking..self.nodes.places() {
+            self.ticking = place;
+            self.tick_node(place)?;
+        }
+        self.ticking = 0;
+        self.now = self.now.saturating_add(1);
+        for place in 0..self.connections.places() {
+            self.end_stalled(place);
+        }
+        for place in 0..self.links.capacity() {
+            self.close_idle(place);
+        }
+        Ok(())
+    }
+
+    /// Makes a tick of the node at this place, and has connections be taken where the system refused one.
+    fn tick_node(&mut self, place: usize) -> Result<(), LoopError> {
+        let Some(hosted) = self.nodes.get_mut(place) else {
+            return Ok(());
+        };
+        let dice = Dice::draw(&mut self.generator);
+        hosted.node.tick(&dice)?;
+        self.nodes.queue(place);
+        self.listeners.queue(place);
+        Ok(())
+    }
+
+    /// Ends the connection at this place if it owes bytes for too long. Where some may wait, it is read first.
+    fn end_stalled(&mut self, place: usize) {
+        if self.connections.is_queued(place) {
+            return;
+        }
+        if let Some(connection) = self.connections.get_mut(place) {
+            if connection.is_stalled(self.now, self.patience) {
+                connection.end();
+                self.connections.queue(place);
+            }
+        }
+    }
+
+    /// If the link at this place took no bytes for too long, ends it if it does not take what waits for its name, and
+    /// else closes it if it leads to no neighbour.
+    fn close_idle(&mut self, place: usize) {
+        let Some(link) = self.links.get_mut(place) else {
+            return;
+        };
+        if !link.is_idle(self.now, self.patience) {
+            return;
+        }
+        let (owner, name) = (link.owner(), link.name());
+        let Some(hosted) = self.nodes.get_mut(owner) else {
+            return;
+        };
+        if has_mail(&hosted.node, &name) {
+            if link.is_blocked() {
+                link.end();
+                hosted.may_have_ended = true;
+            }
+        } else if !hosted.node.is_peer(&name) {
+            self.close_link(owner, &name);
+        }
+    }
+}

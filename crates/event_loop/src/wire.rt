@@ -1,0 +1,54 @@
+//! A node of bytes in an event loop.
+use crate::loop_node::LoopNode;
+use node_names::{Dice, NodeName};
+use rand_core::Rng;
+use std::alloc::{AllocError, Allocator};
+use wire_node::{ConnectionId, ReceiveError, WireError, WireNode};
+use world::Core;
+
+impl<A: Allocator + Copy> LoopNode<A> for WireNode<A> {
+    fn accept(&mut self) -> Result<ConnectionId, WireError> {
+        self.accept()
+    }
+
+    fn receive<G: Rng>(
+        &mut self,
+        id: ConnectionId,
+        bytes: &[u8],
+        generator: &mut G,
+    ) -> Result<(), ReceiveError> {
+        self.receive(id, bytes, &Dice::draw(generator))
+    }
+
+    fn ended(&mut self, id: ConnectionId, dice: &Dice) -> Result<(), WireError> {
+        self.ended(id, dice)
+    }
+
+    fn unreachable(&mut self, name: NodeName, dice: &Dice) -> Result<(), WireError> {
+        self.unreachable(name, dice)
+    }
+
+    fn tick(&mut self, dice: &Dice) -> Result<(), WireError> {
+        self.tick(dice)
+    }
+
+    fn receivers(&self) -> Result<Vec<NodeName, A>, AllocError> {
+        self.receivers()
+    }
+
+    fn transmit(&self, name: &NodeName) -> [&[u8]; 4] {
+        self.transmit(name)
+    }
+
+    fn transmitted(&mut self, name: &NodeName, count: usize) {
+        self.transmitted(name, count);
+    }
+
+    fn take_lost(&mut self) -> Vec<NodeName, A> {
+        self.take_lost()
+    }
+
+    fn is_peer(&self, name: &NodeName) -> bool {
+        self.core().active().contains(name)
+    }
+}

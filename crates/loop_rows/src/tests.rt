@@ -1,0 +1,6 @@
+//! The tests, grouped by what they test, and what they share.
+mod greetings;
+mod nodes;
+mod one_loop;
+mod stopped_peer;
+mod strangers;
