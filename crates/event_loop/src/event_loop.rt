@@ -14,7 +14,7 @@ use mio::{Events, Interest, Poll, Waker};
 use rand_core::SeedableRng;
 use rand_pcg::Lcg128Xsl64;
 use slab::Slab;
-use std::alloc::{Allocator, Global};
+use std::alloc::{AllocError, Allocator, Global};
 use std::io;
 use std::net::{Net, SocketAddr};
 
@@ -143,6 +143,22 @@ impl<N: LoopNode<A>, S: Resolve + Drop, A: Allocator + Copy> EventLoop<N, S, A> 
     /// What tells the addresses of names, to be told more.
     pub fn resolver_mut(&mut self) -> &mut S {
         &mut self.resolver
+    }
+
+    /// Closes all connections, and gives the nodes back, in the order in which they were added.
+    pub fn into_nodes(self) -> Result<Vec<N, A>, AllocError> {
+        let EventLoop {
+            alloc,
+            mut nodes,
+            ..
+        } = self;
+        let mut given = Vec::new(alloc);
+        for place in 0..nodes.places() {
+            if let Some(hosted) = nodes.take(place) {
+                given.push(hosted.into_node())?;
+            }
+        }
+        Ok(given)
     }
 
     /// Whether there is something to do that waits for no change.

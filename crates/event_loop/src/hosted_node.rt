@@ -32,6 +32,12 @@ impl<N: Drop, A: Allocator + Copy> HostedNode<N, A> {
         }
     }
 
+    /// The node alone.
+    pub(crate) fn into_node(self) -> N {
+        let HostedNode { node, .. } = self;
+        node
+    }
+
     /// The place of the link to the name, if there is one.
     pub(crate) fn link_to(&self, name: &NodeName) -> Option<usize> {
         self.links.get(name).copied()

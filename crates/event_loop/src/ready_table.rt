@@ -96,6 +96,12 @@ impl<T: Drop, A: Allocator> ReadyTable<T, A> {
         self.slots.try_remove(place);
     }
 
+    /// Takes the value at this place, at the end: the queue is of no use any more.
+    pub(crate) fn take(&mut self, place: usize) -> Option<T> {
+        let slot = self.slots.try_remove(place)?;
+        Some(slot.value)
+    }
+
     /// Queues the place behind the others, unless it is queued.
     pub(crate) fn queue(&mut self, place: usize) {
         match self.slots.get_mut(place) {

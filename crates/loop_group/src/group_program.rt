@@ -2,7 +2,7 @@
 use crate::fault::short;
 use crate::group_node::GroupNode;
 use crate::seat::Seat;
-use event_loop::{Next, Program};
+use event_loop::{Next, Program, Situation};
 use loopback::{RunError, Shortage, Watch};
 use std::time::Clock;
 
@@ -99,11 +99,13 @@ impl<R: Clock + Drop, V: Watch + Drop> GroupProgram<'_, R, V> {
 }
 
 impl<R: Clock + Drop, V: Watch + Drop, N: GroupNode> Program<N> for GroupProgram<'_, R, V> {
-    fn turn(&mut self, place: usize, node: &mut N) -> Next {
+    fn turn(&mut self, at: Situation, node: &mut N) -> Next {
         let now = node.ticks();
         self.show(now);
-        match self.allowed(place, now) {
-            Some(most) => self.step(place, node, now, most),
+        match self.allowed(at.place, now) {
+            // Where no link takes what waits, more of it would soon be more than may wait.
+            Some(_) if at.is_blocked => self.step(at.place, node, now, 0),
+            Some(most) => self.step(at.place, node, now, most),
             None => Next::End,
         }
     }
