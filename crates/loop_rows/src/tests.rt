@@ -2,5 +2,6 @@
 mod greetings;
 mod nodes;
 mod one_loop;
+mod ports;
 mod stopped_peer;
 mod strangers;

@@ -1,0 +1,139 @@
+//! The end of a port in the loop.
+use crate::port_node::PortNode;
+use bytes::Bytes;
+use event_loop::Next;
+use rtrb::{Consumer, Producer, PushError};
+use std::alloc::Allocator;
+use std::vec::IntoIter;
+use wire_node::WireError;
+use world::Delivery;
+
+/// How many messages a turn broadcasts at most.
+const BROADCASTS: usize = 64;
+
+/// The end of a port in the loop.
+#[derive(Drop)]
+pub(crate) struct Lane<A: Allocator> {
+    broadcasts: Consumer<Bytes<A>, A>,
+    deliveries: Producer<Delivery<A>, A>,
+    /// A message whose broadcast was refused for want of memory.
+    refused: Option<Bytes<A>>,
+    /// The first delivery for which there was no room.
+    first: Option<Delivery<A>>,
+    /// Those behind it.
+    rest: IntoIter<Delivery<A>, A>,
+}
+
+impl<A: Allocator + Copy> Lane<A> {
+    /// Makes the end of a port by these rings.
+    pub(crate) fn new(
+        alloc: A,
+        broadcasts: Consumer<Bytes<A>, A>,
+        deliveries: Producer<Delivery<A>, A>,
+    ) -> Lane<A> {
+        Lane {
+            broadcasts,
+            deliveries,
+            refused: None,
+            first: None,
+            rest: Vec::new(alloc).into_iter(),
+        }
+    }
+
+    /// Broadcasts what was handed in, unless the node's links take nothing, and hands out what was delivered. As long
+    /// as not all can be handed out, nothing more is taken.
+    pub(crate) fn turn<N: PortNode<A>>(
+        &mut self,
+        is_blocked: bool,
+        node: &mut N,
+    ) -> Result<Next, WireError> {
+        if !self.hand_out() {
+            return Ok(Next::Hold);
+        }
+        let has_more = !is_blocked && self.broadcast_some(node)?;
+        self.rest = node.take_deliveries().into_iter();
+        if !self.hand_out() {
+            return Ok(Next::Hold);
+        }
+        if has_more {
+            return Ok(Next::Again);
+        }
+        Ok(if self.has_ended() {
+            Next::End
+        } else {
+            Next::Wait
+        })
+    }
+
+    /// Hands out the deliveries that are left. Returns whether there was room for all, or the port is dropped.
+    fn hand_out(&mut self) -> bool {
+        if self.deliveries.is_abandoned() {
+            self.first = None;
+            return true;
+        }
+        for _ in 0..self.rest.len().saturating_add(1) {
+            let Some(message) = self.next_delivery() else {
+                return true;
+            };
+            if let Err(PushError::Full(message)) = self.deliveries.push(message) {
+                self.first = Some(message);
+                return false;
+            }
+        }
+        true
+    }
+
+    /// Takes the next delivery that is left.
+    fn next_delivery(&mut self) -> Option<Delivery<A>> {
+        match self.first.take() {
+            Some(message) => Some(message),
+            None => self.rest.next(),
+        }
+    }
+
+    /// Broadcasts messages that were handed in. Returns whether more may wait.
+    fn broadcast_some<N: PortNode<A>>(&mut self, node: &mut N) -> Result<bool, WireError> {
+        for _ in 0..BROADCASTS {
+            let Some(payload) = self.next_payload() else {
+                return Ok(false);
+            };
+            if !self.try_broadcast(node, payload)? {
+                return Ok(false);
+            }
+        }
+        Ok(true)
+    }
+
+    /// Takes the next message that was handed in.
+    fn next_payload(&mut self) -> Option<Bytes<A>> {
+        match self.refused.take() {
+            Some(payload) => Some(payload),
+            None => self.broadcasts.pop().ok(),
+        }
+    }
+
+    /// Broadcasts a message. Returns whether there was memory for that; else it is kept.
+    fn try_broadcast<N: PortNode<A>>(
+        &mut self,
+        node: &mut N,
+        payload: Bytes<A>,
+    ) -> Result<bool, WireError> {
+        let told = match payload.clone() {
+            Ok(copy) => node.broadcast(copy),
+            Err(_) => Err(WireError::OutOfMemory),
+        };
+        match told {
+            Ok(()) => Ok(true),
+            Err(WireError::OutOfMemory) => {
+                self.refused = Some(payload);
+                Ok(false)
+            }
+            Err(error) => Err(error),
+        }
+    }
+
+    /// Whether the port is dropped, and all was broadcast that it handed in.
+    fn has_ended(&mut self) -> bool {
+        self.broadcasts.is_abandoned() && self.broadcasts.is_empty() && self.refused.is_none()
+    }
+}

@@ -1,0 +1,15 @@
+//! The ends of an event loop's nodes for other threads: messages to broadcast go in and deliveries come out by rings of
+//! a fixed size, and no call waits.
+#![tactic(auto)]
+
+mod error;
+mod lane;
+mod port;
+mod port_node;
+mod ports;
+mod wire;
+
+pub use error::PortError;
+pub use port::Port;
+pub use port_node::PortNode;
+pub use ports::Ports;

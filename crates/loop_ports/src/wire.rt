@@ -1,0 +1,17 @@
+//! A node of bytes with ports.
+use crate::port_node::PortNode;
+use bytes::Bytes;
+use std::alloc::Allocator;
+use wire_node::{WireError, WireNode};
+use world::Delivery;
+
+impl<A: Allocator + Copy> PortNode<A> for WireNode<A> {
+    fn broadcast(&mut self, payload: Bytes<A>) -> Result<(), WireError> {
+        self.broadcast(payload)?;
+        Ok(())
+    }
+
+    fn take_deliveries(&mut self) -> Vec<Delivery<A>, A> {
+        self.take_deliveries()
+    }
+}
