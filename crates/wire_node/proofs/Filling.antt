@@ -14,5 +14,5 @@ filled_twice left bytes one two a b e f =
     f ∙ ap (λ (t : List ℕ). t ++ take b (drop a bytes)) e ∙ append_assoc left (take a bytes) (take b (drop a bytes)) ∙ ap (λ (t : List ℕ). left ++ t) (take_sum a b bytes)
 
 -- what was put behind goes
-pub cut_back : (left more now : List ℕ) (len : ℕ) → now ≡ left ++ more → len ≡ length left → take len now ≡ left
+pub cut_back : {X : Type 0} (left more now : List X) (len : ℕ) → now ≡ left ++ more → len ≡ length left → take len now ≡ left
 cut_back left more now len e size = ap (take len) e ∙ take_at left more len (sym size)

@@ -5,12 +5,10 @@ use Rattle.std.proofs.lemmas.List.{append-nil, map-append, take_more}
 use Rattle.node_names.specs.NodeName.{Name}
 use Rattle.node_names.specs.declared.dice.Dice.{Dice}
 use Rattle.node_names.specs.declared.ids.MsgId.{MsgId}
-use Rattle.world.specs.Stimulus.{Stimulus}
 use Rattle.world.specs.declared.stimulus.StimulusOf.TheVariants.{Fire}
-use Rattle.frames.specs.Frame.{Frame}
-use Rattle.wire_node.specs.Acting.{Acts, ActsAll, GoDown, GoesDown, Machine}
-use Rattle.wire_node.specs.Node.{Relieves}
-use Rattle.wire_node.proofs.Taking.{acts_one, acts_then}
+use Rattle.wire_node.specs.Acting.{GoDown, GoesDown, Machine}
+use Rattle.wire_node.specs.Moving.{Engine, Move, Moves, MovesAll, Relieves, firing}
+use Rattle.wire_node.proofs.Taking.{moves_one, moves_then}
 
 -- none
 pub relieves_none : (old : Machine) (lost : List Name) (dice : Dice) → Relieves old lost dice old lost
@@ -29,13 +27,10 @@ relieves_more old lost dice mid lost' name new lost'' r down noted = record {
   noted = noted ∙ ap (λ (l : List Name). l ++ name ∷ []) r.noted ∙ append_assoc lost r.names (name ∷ []);
 }
 
-abbrev fire : MsgId → Stimulus Frame
-fire id = Fire id
-
 -- one more timer fires
-pub fires_more : (old : Machine) (ids : List MsgId) (i : ℕ) (id : MsgId) (mid new : Machine) → i < length ids → id ≡ get_or ids i id → ActsAll old (map Fire (take i ids)) mid → Acts mid (Fire id) new
-    → ActsAll old (map Fire (take (i + 1) ids)) new
-fires_more old ids i id mid new within at run step =
-    subst (λ stimuli. ActsAll old stimuli new)
-    (sym (ap (λ (some : List MsgId). map fire some) (take_more ids i id within ∙ ap (λ x. take i ids ++ x ∷ []) (sym at)) ∙ map-append fire (take i ids) (id ∷ [])))
-    (acts_then old (map fire (take i ids)) (fire id ∷ []) mid new run (acts_one mid (fire id) new step))
+pub fires_more : (old : Engine) (dice : Dice) (ids : List MsgId) (i : ℕ) (id : MsgId) (mid new : Engine) → i < length ids → id ≡ get_or ids i id → MovesAll old (map (firing dice) (take i ids)) mid → Moves mid (Fire id) dice new
+    → MovesAll old (map (firing dice) (take (i + 1) ids)) new
+fires_more old dice ids i id mid new within at run step =
+    subst (λ (moves : List Move). MovesAll old moves new)
+    (sym (ap (λ (some : List MsgId). map (firing dice) some) (take_more ids i id within ∙ ap (λ x. take i ids ++ x ∷ []) (sym at)) ∙ map-append (firing dice) (take i ids) (id ∷ [])))
+    (moves_then old (map (firing dice) (take i ids)) (firing dice id ∷ []) mid new run (moves_one mid (firing dice id) new step))

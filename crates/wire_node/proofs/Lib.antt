@@ -3,6 +3,8 @@ pub mod Ends
 pub mod Filling
 pub mod Fronts
 pub mod GoingDown
+pub mod Lasts
+pub mod Leading
 pub mod Sending
 pub mod Stepping
 pub mod Taking

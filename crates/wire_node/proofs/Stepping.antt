@@ -1,5 +1,5 @@
 -- A step, put together.
-use Rattle.std.specs.Prelude.{◌≡◌, Bool, true, false, List, [], ◌∷◌, ◌++◌, Result, Ok, Err, OnOk, get_or, is_err, map, not, drop, refl, if◌then◌else◌}
+use Rattle.std.specs.Prelude.{◌≡◌, Bool, true, false, List, [], ◌∷◌, ◌++◌, Option, Result, Ok, Err, OnOk, get_or, is_err, map, not, drop, refl, if◌then◌else◌}
 use Rattle.std.proofs.Common.{◌∙◌, ap, subst, sym}
 use Rattle.node_names.specs.NodeName.{Name}
 use Rattle.node_names.specs.Same.{same_name}
@@ -10,22 +10,28 @@ use Rattle.frames.specs.Frame.{Frame}
 use Rattle.node_core.specs.Plum.{Plum}
 use Rattle.node_core.specs.Steps.{PlumSteps}
 use Rattle.wire_node.specs.Acting.{Acts, AreSettled, Machine, without}
+use Rattle.wire_node.specs.Recording.{Noted, with_step}
 use Rattle.wire_node.specs.Waiting.{Waiting, all_drafted, mail_for, settled, settled_for, undrafted}
 use Rattle.wire_node.proofs.Drafting.{waits_more}
 
-abbrev pub machine : Plum → List Waiting → List Delivery → Machine
-machine core waiting pending = record { core = core; waiting = waiting; pending = pending }
+abbrev pub machine : Plum → List Waiting → List Delivery → Option Noted → Machine
+machine core waiting pending noted = record { core = core; waiting = waiting; pending = pending; noted = noted }
 
 pub on_ok : {X E : Type 0} (P : Type 0) (r : Result X E) → is_err r ≡ false → OnOk r P → P
 on_ok P (Ok x) e h = h
 on_ok P (Err x) e h = absurd cc
 
+same_out : (out : Output Frame) (sends : List (Name × Frame)) (given : List Delivery) → out.sends ≡ sends → out.deliveries ≡ given → out ≡ record { sends = sends; deliveries = given }
+same_out out sends given a b =
+    ap (λ (s : List (Name × Frame)). record { sends = s; deliveries = out.deliveries }) a ∙ ap (λ (g : List Delivery). record { sends = sends; deliveries = g }) b
+
 -- what the core's step gave waits now
-pub step_acts : (core core' after : Plum) (olds news : List Waiting) (pending pending' : List Delivery) (s s' : Stimulus Frame) (none out : Output Frame)
+pub step_acts : (core core' after : Plum) (olds news : List Waiting) (pending pending' : List Delivery) (noted noted' : Option Noted) (s s' : Stimulus Frame) (none out : Output Frame)
     → Stepped PlumSteps core s' none after out → s' ≡ s → none.sends ≡ [] → none.deliveries ≡ [] → core' ≡ after
     → AreSettled olds → news ≡ map settled (all_drafted olds out.sends) → pending' ≡ pending ++ out.deliveries
-    → Acts (machine core olds pending) s (machine core' news pending')
-step_acts core core' after olds news pending pending' s s' none out st its no_sends no_deliveries advanced rest waits delivers =
+    → noted' ≡ with_step noted (record { stimulus = s; out = out })
+    → Acts (machine core olds pending noted) s (machine core' news pending' noted')
+step_acts core core' after olds news pending pending' noted noted' s s' none out st its no_sends no_deliveries advanced rest waits delivers notes =
     let sent : out.sends ≡ st.sends = st.sent ∙ ap (λ (t : List (Name × Frame)). t ++ st.sends) no_sends in
     let given : out.deliveries ≡ st.given = st.delivered ∙ ap (λ (t : List Delivery). t ++ st.given) no_deliveries in
     record {
@@ -33,6 +39,7 @@ step_acts core core' after olds news pending pending' s s' none out st its no_se
       stepped = subst (λ c. PlumSteps core s st.sends st.given c) (sym advanced) (subst (λ t. PlumSteps core t st.sends st.given after) its st.stepped);
       waits = λ name. ap (λ (ws : List Waiting). settled_for ws name) waits ∙ waits_more olds out.sends name rest ∙ ap (λ (t : List (Name × Frame)). settled_for olds name ++ mail_for t name) sent;
       delivers = delivers ∙ ap (λ (t : List Delivery). pending ++ t) given;
+      notes = notes ∙ ap (λ (o : Output Frame). with_step noted (record { stimulus = s; out = o })) (same_out out st.sends st.given sent given);
     }
 
 -- nothing is drafted for the others, if nothing is

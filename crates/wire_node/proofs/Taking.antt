@@ -5,15 +5,14 @@ use Rattle.std.specs.Prelude.{IfNone, IfSome}
 use Rattle.std.proofs.lemmas.List.{append-nil, drop-drop, drop_all, length-append, map-append, take-append-drop}
 use Rattle.node_names.specs.NodeName.{Name}
 use Rattle.node_names.specs.declared.dice.Dice.{Dice}
-use Rattle.world.specs.Stimulus.{Stimulus}
 use Rattle.frames.specs.Answer.{IsFaultOf}
 use Rattle.frames.specs.Cutting.{Begins, Cuts}
 use Rattle.frames.specs.Frame.{Frame}
 use Rattle.frames.specs.Grammar.{IsSpelling, layout, spelled}
 use Rattle.frames.specs.Reading.{read}
 use Rattle.frames.specs.declared.fault.FrameFault.TheVariants.{OutOfMemory, Short}
-use Rattle.wire_node.specs.Acting.{Acts, ActsAll, Machine, arrival}
-use Rattle.wire_node.specs.Receiving.{IsPartial, Takes, peer_of}
+use Rattle.wire_node.specs.Moving.{Engine, Move, Moves, MovesAll, arrival}
+use Rattle.wire_node.specs.Receiving.{IsPartial, Taken, Takes, frames_of, peer_of}
 
 -- a frame takes bytes
 pub spelling_long : (f : Frame) (bytes : List ℕ) → IsSpelling f bytes → 3 < length bytes
@@ -25,16 +24,16 @@ begins_then [] gs stream rest after b c = subst (λ s. Begins gs s after) (sym b
 begins_then (f ∷ fs) gs stream rest after b c = (b.0, b.1, begins_then fs gs b.0 rest after b.2 c)
 
 -- steps and then others
-pub acts_then : (old : Machine) (ss ts : List (Stimulus Frame)) (mid new : Machine) → ActsAll old ss mid → ActsAll mid ts new → ActsAll old (ss ++ ts) new
-acts_then old [] ts mid new a b = subst (λ m. ActsAll m ts new) (sym a) b
-acts_then old (s ∷ ss) ts mid new a b = (a.0, a.1, acts_then a.0 ss ts mid new a.2 b)
+pub moves_then : (old : Engine) (ss ts : List Move) (mid new : Engine) → MovesAll old ss mid → MovesAll mid ts new → MovesAll old (ss ++ ts) new
+moves_then old [] ts mid new a b = subst (λ m. MovesAll m ts new) (sym a) b
+moves_then old (s ∷ ss) ts mid new a b = (a.0, a.1, moves_then a.0 ss ts mid new a.2 b)
 
 -- one step
-pub acts_one : (old : Machine) (s : Stimulus Frame) (new : Machine) → Acts old s new → ActsAll old (s ∷ []) new
-acts_one old s new a = (new, a, refl)
+pub moves_one : (old : Engine) (m : Move) (new : Engine) → Moves old m.0 m.1 new → MovesAll old (m ∷ []) new
+moves_one old m new a = (new, a, refl)
 
 -- the peer stays once it is known
-peer_then : (p : Option Name) (fs gs : List Frame) → peer_of p (fs ++ gs) ≡ peer_of (peer_of p fs) gs
+peer_then : (p : Option Name) (fs gs : List Taken) → peer_of p (fs ++ gs) ≡ peer_of (peer_of p fs) gs
 peer_then (Some p) fs gs = refl
 peer_then None [] gs = refl
 peer_then None (f ∷ fs) gs = refl
@@ -44,25 +43,27 @@ peer_none (Some p) = refl
 peer_none None = refl
 
 -- no frame
-pub takes_none : (old : Machine) (p : Option Name) (bytes : List ℕ) (dice : Dice) → Takes old p bytes dice old p bytes
-takes_none old p bytes dice = record { frames = []; stream = refl; acts = refl; its_peer = peer_none p }
+pub takes_none : (old : Engine) (p : Option Name) (bytes : List ℕ) → Takes old p bytes old p bytes
+takes_none old p bytes = record { taken = []; stream = refl; moves = refl; its_peer = peer_none p }
 
 -- frames and then others
-pub takes_then : (old : Machine) (p : Option Name) (bytes : List ℕ) (dice : Dice) (mid : Machine) (q : Option Name) (rest : List ℕ) (new : Machine) (r : Option Name) (after : List ℕ)
-    → Takes old p bytes dice mid q rest → Takes mid q rest dice new r after → Takes old p bytes dice new r after
-takes_then old p bytes dice mid q rest new r after a b = record {
-  frames = a.frames ++ b.frames;
-  stream = begins_then a.frames b.frames bytes rest after a.stream b.stream;
-  acts =
-      subst (λ ss. ActsAll old ss new) (sym (map-append (arrival dice) a.frames b.frames))
-      (acts_then old (map (arrival dice) a.frames) (map (arrival dice) b.frames) mid new a.acts b.acts);
-  its_peer = b.its_peer ∙ ap (λ x. peer_of x b.frames) a.its_peer ∙ sym (peer_then p a.frames b.frames);
+pub takes_then : (old : Engine) (p : Option Name) (bytes : List ℕ) (mid : Engine) (q : Option Name) (rest : List ℕ) (new : Engine) (r : Option Name) (after : List ℕ)
+    → Takes old p bytes mid q rest → Takes mid q rest new r after → Takes old p bytes new r after
+takes_then old p bytes mid q rest new r after a b = record {
+  taken = a.taken ++ b.taken;
+  stream =
+      subst (λ fs. Begins fs bytes after) (sym (map-append (λ (t : Taken). t.0) a.taken b.taken))
+      (begins_then (frames_of a.taken) (frames_of b.taken) bytes rest after a.stream b.stream);
+  moves =
+      subst (λ ss. MovesAll old ss new) (sym (map-append arrival a.taken b.taken))
+      (moves_then old (map arrival a.taken) (map arrival b.taken) mid new a.moves b.moves);
+  its_peer = b.its_peer ∙ ap (λ x. peer_of x b.taken) a.its_peer ∙ sym (peer_then p a.taken b.taken);
 }
 
 -- one frame
-pub takes_one : (old : Machine) (p : Option Name) (bytes : List ℕ) (dice : Dice) (new : Machine) (q : Option Name) (rest : List ℕ) (f : Frame)
-    → Cuts f bytes rest → Acts old (arrival dice f) new → q ≡ peer_of p (f ∷ []) → Takes old p bytes dice new q rest
-takes_one old p bytes dice new q rest f c a is = record { frames = f ∷ []; stream = (rest, c, refl); acts = acts_one old (arrival dice f) new a; its_peer = is }
+pub takes_one : (old : Engine) (p : Option Name) (bytes : List ℕ) (new : Engine) (q : Option Name) (rest : List ℕ) (f : Frame)
+    → Cuts f bytes rest → (dice : Dice) × Moves old (arrival (f, dice)).0 dice new × (q ≡ peer_of p ((f, dice) ∷ [])) → Takes old p bytes new q rest
+takes_one old p bytes new q rest f c a = record { taken = (f, a.0) ∷ []; stream = (rest, c, refl); moves = moves_one old (arrival (f, a.0)) new a.1; its_peer = a.2 }
 
 -- a frame at a place
 pub cuts_at : (f : Frame) (bytes : List ℕ) (at len : ℕ) → IsSpelling f (take len (drop at bytes)) → Cuts f (drop at bytes) (drop (at + len) bytes)
@@ -101,30 +102,30 @@ completed f left bytes whole now count len e s n =
     subst (λ (t : List ℕ). Cuts f t (now ++ drop count bytes)) parts
     (subst (λ (t : List ℕ). Cuts f (whole ++ drop count bytes) (t ++ drop count bytes)) (sym n) (cuts_before f whole (drop count bytes) len s))
 
-module _ (mid new : Machine) (p q : Option Name) (dice : Dice) (left now bytes rest : List ℕ) (at : ℕ) (from : rest ≡ drop at bytes) where
+module _ (mid new : Engine) (p q : Option Name) (left now bytes rest : List ℕ) (at : ℕ) (from : rest ≡ drop at bytes) where
   -- and others follow from its place on
-  pub resumed : (count : ℕ) → Takes mid p (left ++ rest) dice new q (now ++ drop count rest) → Takes mid p (left ++ drop at bytes) dice new q (now ++ drop (at + count) bytes)
+  pub resumed : (count : ℕ) → Takes mid p (left ++ rest) new q (now ++ drop count rest) → Takes mid p (left ++ drop at bytes) new q (now ++ drop (at + count) bytes)
   resumed count t =
-      subst (λ (b : List ℕ). Takes mid p (left ++ drop at bytes) dice new q (now ++ b)) (drop-drop count at bytes)
-      (subst (λ (b : List ℕ). Takes mid p (left ++ b) dice new q (now ++ drop count b)) from t)
+      subst (λ (b : List ℕ). Takes mid p (left ++ drop at bytes) new q (now ++ b)) (drop-drop count at bytes)
+      (subst (λ (b : List ℕ). Takes mid p (left ++ b) new q (now ++ drop count b)) from t)
 
   -- all that came is kept
-  pub kept_all : Takes mid p (left ++ rest) dice new q now → Takes mid p (left ++ drop at bytes) dice new q (now ++ drop (length bytes) bytes)
+  pub kept_all : Takes mid p (left ++ rest) new q now → Takes mid p (left ++ drop at bytes) new q (now ++ drop (length bytes) bytes)
   kept_all t =
-      subst (λ (b : List ℕ). Takes mid p (left ++ drop at bytes) dice new q b) (sym (append-nil now) ∙ ap (λ (b : List ℕ). now ++ b) (sym (drop_all (length bytes) bytes (omega arith))))
-      (subst (λ (b : List ℕ). Takes mid p (left ++ b) dice new q now) from t)
+      subst (λ (b : List ℕ). Takes mid p (left ++ drop at bytes) new q b) (sym (append-nil now) ∙ ap (λ (b : List ℕ). now ++ b) (sym (drop_all (length bytes) bytes (omega arith))))
+      (subst (λ (b : List ℕ). Takes mid p (left ++ b) new q now) from t)
 
   -- nothing was left of a frame
-  pub from_none : (count : ℕ) → left ≡ [] → Takes mid p rest dice new q (drop count rest) → Takes mid p (left ++ drop at bytes) dice new q (left ++ drop (at + count) bytes)
+  pub from_none : (count : ℕ) → left ≡ [] → Takes mid p rest new q (drop count rest) → Takes mid p (left ++ drop at bytes) new q (left ++ drop (at + count) bytes)
   from_none count none t =
-      subst (λ (l : List ℕ). Takes mid p (l ++ drop at bytes) dice new q (l ++ drop (at + count) bytes)) (sym none)
-      (subst (λ (b : List ℕ). Takes mid p (drop at bytes) dice new q b) (drop-drop count at bytes)
-      (subst (λ (b : List ℕ). Takes mid p b dice new q (drop count b)) from t))
+      subst (λ (l : List ℕ). Takes mid p (l ++ drop at bytes) new q (l ++ drop (at + count) bytes)) (sym none)
+      (subst (λ (b : List ℕ). Takes mid p (drop at bytes) new q b) (drop-drop count at bytes)
+      (subst (λ (b : List ℕ). Takes mid p b new q (drop count b)) from t))
 
   -- nothing was left of a frame, and what is no whole frame yet is kept
-  pub from_none_kept : (count : ℕ) (last : List ℕ) → left ≡ [] → last ≡ drop (at + count) bytes → now ≡ left ++ last → Takes mid p rest dice new q (drop count rest)
-      → Takes mid p (left ++ drop at bytes) dice new q (now ++ drop (length bytes) bytes)
+  pub from_none_kept : (count : ℕ) (last : List ℕ) → left ≡ [] → last ≡ drop (at + count) bytes → now ≡ left ++ last → Takes mid p rest new q (drop count rest)
+      → Takes mid p (left ++ drop at bytes) new q (now ++ drop (length bytes) bytes)
   from_none_kept count last none its kept t =
       let all : now ++ drop (length bytes) bytes ≡ left ++ drop (at + count) bytes =
       ap (λ (b : List ℕ). now ++ b) (drop_all (length bytes) bytes (omega arith)) ∙ append-nil now ∙ kept ∙ ap (λ (b : List ℕ). left ++ b) its in
-      subst (λ (b : List ℕ). Takes mid p (left ++ drop at bytes) dice new q b) (sym all) (from_none count none t)
+      subst (λ (b : List ℕ). Takes mid p (left ++ drop at bytes) new q b) (sym all) (from_none count none t)

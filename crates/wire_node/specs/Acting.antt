@@ -1,39 +1,38 @@
 -- The steps of a node of bytes: what each does to the core, to what waits, and to the deliveries.
-use Rattle.std.specs.Prelude.{◌≡◌, ◌≢◌, ◌%◌, ◌++◌, ℕ, List, [], ◌∷◌, map, not, filter}
+use Rattle.std.specs.Prelude.{◌≡◌, ◌++◌, List, [], ◌∷◌, Option, map, not, filter}
 use Rattle.node_names.specs.NodeName.{Name}
 use Rattle.node_names.specs.Same.{same_name}
 use Rattle.node_names.specs.declared.dice.Dice.{Dice}
 use Rattle.world.specs.Delivery.{Delivery}
 use Rattle.world.specs.Output.{Output}
 use Rattle.world.specs.Stimulus.{Stimulus}
-use Rattle.world.specs.declared.stimulus.StimulusOf.TheVariants.{Arrive, Down, Fire, Flush, Shuffle}
+use Rattle.world.specs.Trace.{Step}
+use Rattle.world.specs.declared.stimulus.StimulusOf.TheVariants.{Down}
 use Rattle.frames.specs.Frame.{Frame}
 use Rattle.node_core.specs.Plum.{Plum}
 use Rattle.node_core.specs.Steps.{PlumSteps}
+use Rattle.wire_node.specs.Recording.{Leads, Noted, with_step, with_steps}
 use Rattle.wire_node.specs.Waiting.{Waiting, mail_for, settled_for, undrafted}
 
--- A core, what waits to go out, and the deliveries that were not taken yet.
+-- A core, what waits to go out, the deliveries that were not taken yet, and what is noted, if anything is.
 pub record Machine : Type 0 where
   pub core : Plum
   pub waiting : List Waiting
   pub pending : List Delivery
+  pub noted : Option Noted
 
 -- No step is under way: nothing is drafted.
 abbrev pub AreSettled : List Waiting → Type 0
 AreSettled waiting = map undrafted waiting ≡ waiting
 
 -- The core made one step. For each name, the bytes of the frames that go to it wait behind what waited, in their order,
--- and what the step delivers waits behind what was delivered before.
+-- what the step delivers waits behind what was delivered before, and the step is noted behind those before it.
 pub record Acts (old : Machine) (stimulus : Stimulus Frame) (new : Machine) : Type 0 where
   pub out : Output Frame
   pub stepped : PlumSteps old.core stimulus out.sends out.deliveries new.core
   pub waits : (name : Name) → settled_for new.waiting name ≡ settled_for old.waiting name ++ mail_for out.sends name
   pub delivers : new.pending ≡ old.pending ++ out.deliveries
-
--- The core made these steps, one after the other.
-abbrev pub ActsAll : Machine → List (Stimulus Frame) → Machine → Type 0
-ActsAll old [] new = old ≡ new
-ActsAll old (stimulus ∷ stimuli) new = (mid : Machine) × Acts old stimulus mid × ActsAll mid stimuli new
+  pub notes : new.noted ≡ with_step old.noted (record { stimulus = stimulus; out = out })
 
 -- what waits for the other names
 abbrev pub without : Name → List Waiting → List Waiting
@@ -43,23 +42,15 @@ without name waiting = filter (λ (w : Waiting). not (same_name name w.name)) wa
 pub record GoesDown (old : Machine) (name : Name) (dice : Dice) (new : Machine) : Type 0 where
   pub told : Machine
   pub acts : Acts old (Down name dice) told
-  pub dropped : new ≡ record { core = told.core; waiting = without name told.waiting; pending = told.pending }
+  pub dropped : new ≡ record { core = told.core; waiting = without name told.waiting; pending = told.pending; noted = told.noted }
 
 -- These names went down, one after the other.
 abbrev pub GoDown : Machine → List Name → Dice → Machine → Type 0
 GoDown old [] dice new = old ≡ new
 GoDown old (name ∷ names) dice new = (mid : Machine) × GoesDown old name dice mid × GoDown mid names dice new
 
--- a frame comes from whoever sent it
-abbrev pub arrival : Dice → Frame → Stimulus Frame
-arrival dice frame = Arrive frame.sender frame dice
-
--- The steps of a tick: all that was queued was sent, each timer that was armed fired, and at a tenth tick the passive
--- view was shuffled.
-pub record TickSteps (old : Machine) (ticks : ℕ) (dice : Dice) (new : Machine) : Type 0 where
-  pub flushed : Machine
-  pub fired : Machine
-  pub flushes : Acts old Flush flushed
-  pub fires : ActsAll flushed (map Fire flushed.core.gossip.missing.timers) fired
-  pub shuffles : ticks % 10 ≡ 0 → Acts fired (Shuffle dice) new
-  pub stays : ticks % 10 ≢ 0 → new ≡ fired
+-- Steps lead from the old core to the new one, and just these were noted, behind those before them.
+pub record LeadsOn (old new : Machine) : Type 0 where
+  pub steps : List (Step Frame)
+  pub leads : Leads old.core steps new.core
+  pub notes : new.noted ≡ with_steps old.noted steps

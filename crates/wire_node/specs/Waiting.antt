@@ -1,5 +1,6 @@
 -- What waits for each name, and what the frames of a step add to it.
-use Rattle.std.specs.Prelude.{◌≡◌, ℕ, List, [], ◌∷◌, ◌++◌, length, map, take, if◌then◌else◌}
+use Rattle.std.specs.Prelude.{◌≡◌, ℕ, List, [], ◌∷◌, ◌++◌, length, map, nat_lt, take, if◌then◌else◌}
+use Rattle.std.specs.List.{flat_map}
 use Rattle.std.specs.Int.{w32, to_be_bytes}
 use Rattle.node_names.specs.NodeName.{Name}
 use Rattle.node_names.specs.Same.{same_name}
@@ -29,6 +30,14 @@ mail_for (send ∷ sends) name = mail_of send name ++ mail_for sends name
 abbrev pub settled_for : List Waiting → Name → List ℕ
 settled_for [] name = []
 settled_for (waiting ∷ others) name = if same_name name waiting.name then waiting.settled else settled_for others name
+
+-- the name, if bytes wait for it
+abbrev pub receiver_of : Waiting → List Name
+receiver_of waiting = if nat_lt 0 (length waiting.settled) then waiting.name ∷ [] else []
+
+-- the names for whom bytes wait
+abbrev pub receivers_of : List Waiting → List Name
+receivers_of waiting = flat_map receiver_of waiting
 
 -- what is drafted for the name
 abbrev pub drafted_for : List Waiting → Name → List ℕ

@@ -1,7 +1,7 @@
 //! What came over a connection and is no whole frame yet.
-ghost use Rattle.std.specs.Prelude.{◌≡◌, ◌<◌, ◌≤◌, ◌++◌, [], None, drop, length, take, IfOk, OnErr};
+ghost use Rattle.std.specs.Prelude.{◌≡◌, ◌<◌, ◌≤◌, ◌++◌, [], ℕ, None, drop, length, take, IfOk, OnErr};
 
-use frames::MAX_BODY;
+use frames::{MAX_BODY, MAX_FRAME};
 use node_names::NodeName;
 use std::alloc::{AllocError, Allocator};
 use std::marker::Model;
@@ -17,11 +17,15 @@ pub(crate) struct Connection<A: Allocator> {
 }
 
 impl<A: Allocator> Model for Connection<A> {
+    ghost use Rattle.std.specs.Prelude.{◌≤◌, length};
+    ghost use Rattle.frames.specs.declared.TheConstants.{MAX_FRAME};
     ghost use Rattle.wire_node.specs.Receiving.{Connection};
 
     ghost Value = { Connection };
 
     ghost view = { λ link. record { number = link.number; left = link.left.items; peer = link.peer } };
+
+    ghost invariant = { λ link. length link.left.items ≤ MAX_FRAME };
 }
 
 impl<A: Allocator> Connection<A> {
@@ -71,7 +75,9 @@ pub(crate) fn drop_front<A: Allocator>(left: &mut Vec<u8, A>, count: usize)
 }
 
 /// How many bytes the frame has that begins so, as far as that is known.
-fn frame_len(front: &[u8]) -> usize {
+fn frame_len(front: &[u8]) -> usize
+    ensures { result ≤ MAX_FRAME }
+{
     match front {
         [a, b, c, d, ..] => {
             let body = u32::from_be_bytes([*a, *b, *c, *d]) as usize;
@@ -86,6 +92,7 @@ fn fill<A: Allocator>(left: &mut Vec<u8, A>, len: usize, bytes: &[u8]) -> Result
     ensures within { IfOk result (λ count. count ≤ length bytes.now) }
     ensures ok { IfOk result (λ count. left.new.items ≡ left.old.items ++ take count bytes.now) }
     ensures some { IfOk result (λ count. length left.old.items < len → 0 < length bytes.now → 0 < count) }
+    ensures few { (most : ℕ) → len ≤ most → length left.old.items ≤ most → length left.new.items ≤ most }
     ensures err { OnErr result (left.new.items ≡ left.old.items) }
 {
     let lacking = len.saturating_sub(left.len());
@@ -98,16 +105,21 @@ fn fill<A: Allocator>(left: &mut Vec<u8, A>, len: usize, bytes: &[u8]) -> Result
     Ok(count)
 }
 
-/// Appends the first of the bytes: as many as the frame lacks that was cut, and one at least where there is one.
-/// Returns how many.
+/// Appends the first of the bytes: as many as the frame lacks that was cut, and one at least where there is one and room
+/// in the longest frame. Returns how many.
 pub(crate) fn top_up<A: Allocator>(left: &mut Vec<u8, A>, bytes: &[u8]) -> Result<usize, AllocError>
+    requires { length left.old.items ≤ MAX_FRAME }
     ensures within { IfOk result (λ count. count ≤ length bytes.now) }
     ensures ok { IfOk result (λ count. left.new.items ≡ left.old.items ++ take count bytes.now) }
-    ensures some { IfOk result (λ count. 0 < length bytes.now → 0 < count) }
+    ensures few { length left.new.items ≤ MAX_FRAME }
     ensures err { OnErr result (left.new.items ≡ left.old.items) }
 {
     let len = left.len();
-    let more = if len < PREFIX { PREFIX } else { len + 1 };
+    let more = if len < PREFIX {
+        PREFIX
+    } else {
+        (len + 1).min(MAX_FRAME)
+    };
     let front = fill(left, more, bytes)?;
     match fill(left, frame_len(left), after(bytes, front)) {
         Ok(count) => Ok(front + count),

@@ -1,19 +1,18 @@
 //! The connections of a node of bytes.
-ghost use Rattle.std.specs.Prelude.{◌≡◌, ◌∷◌, ◌++◌, [], None, length, nat_eq, position, IfOk, OnErr, OnOk};
-ghost use Rattle.wire_node.specs.Acting.{AreSettled};
-ghost use Rattle.wire_node.specs.Node.{Hears};
+ghost use Rattle.std.specs.Prelude.{◌≡◌, ◌⊎◌, ◌∷◌, ◌++◌, [], None, filter, length, nat_eq, not, position, IfErr, IfOk, OnErr, OnOk};
+ghost use Rattle.wire_node.specs.Node.{Closes, EndsPeer, Hears};
 ghost use Rattle.wire_node.specs.Receiving.{IsPartial, Receives};
 
 use crate::connection::Connection;
-use crate::downs::relieve;
-use crate::entry::Entry;
+use crate::dice_source::DiceSource;
+use crate::engine::Engine;
 use crate::error::WireError;
 use crate::node::WireNode;
 use crate::receiving::receive_on;
-use node_core::PlumCore;
-use node_names::{Dice, Listed, NodeName};
+use crate::record::Record;
+use node_names::{Dice, NodeName};
 use std::alloc::Allocator;
-use world::{Core, Delivery};
+use world::CoreError;
 
 /// A connection of a node. No other connection of the node ever has the same number.
 #[derive(Clone, Copy, Debug, PartialEq, Eq)]
@@ -36,31 +35,61 @@ fn place_of<A: Allocator>(connections: &[Connection<A>], id: ConnectionId) -> Op
 }
 
 /// Takes bytes that came over the connection. Returns how many of them were taken or kept, and why not all.
-fn receive_at<A: Allocator + Copy>(
-    core: &mut PlumCore<A>,
-    entries: &mut Vec<Entry<A>, A>,
-    pending: &mut Listed<Delivery<A>, A>,
+fn receive_at<A: Allocator + Copy, R: Record<A> + Drop, D: DiceSource>(
+    engine: &mut Engine<A, R>,
     link: &mut Connection<A>,
     bytes: &[u8],
-    dice: &Dice,
+    source: &mut D,
 ) -> (usize, Result<(), WireError>)
-    requires { AreSettled entries.old.items }
-    ensures receives { Receives (record { core = core.old; waiting = entries.old.items; pending = pending.old }) link.old bytes.now dice.now result.0 (record { core = core.new; waiting = entries.new.items; pending = pending.new }) link.new }
+    ensures receives { Receives engine.old link.old bytes.now result.0 engine.new link.new }
     ensures partial { OnOk result.1 ((result.0 ≡ length bytes.now) × IsPartial link.new.left) }
-    ensures settled { AreSettled entries.new.items }
 {
-    receive_on(
-        core,
-        entries,
-        pending,
-        &mut link.left,
-        &mut link.peer,
-        bytes,
-        dice,
-    )
+    receive_on(engine, &mut link.left, &mut link.peer, bytes, source)
 }
 
-impl<A: Allocator + Copy> WireNode<A> {
+/// Whether another of the connections has this peer.
+fn has_other<A: Allocator>(
+    connections: &[Connection<A>],
+    id: ConnectionId,
+    peer: &NodeName,
+) -> bool {
+    connections
+        .iter()
+        .any(|link| link.number() != id.0 && link.peer() == Some(*peer))
+}
+
+/// Takes the peer of a connection that has ended down, unless it is down already or has another connection.
+fn end_peer<A: Allocator + Copy, R: Record<A> + Drop>(
+    engine: &mut Engine<A, R>,
+    connections: &[Connection<A>],
+    id: ConnectionId,
+    peer: Option<NodeName>,
+    dice: &Dice,
+) -> Result<(), CoreError>
+    ensures ok { OnOk result (EndsPeer engine.old peer dice.now engine.new) }
+    ensures err { OnErr result (engine.new ≡ engine.old) }
+{
+    let Some(name) = peer else {
+        return Ok(());
+    };
+    if !engine.is_up(&name) || has_other(connections, id, &name) {
+        return Ok(());
+    }
+    engine.take_down(name, dice)
+}
+
+/// Drops the connection of this number.
+fn forget_link<A: Allocator>(connections: &mut Vec<Connection<A>, A>, number: u64)
+    ensures { connections.new.items ≡ filter (λ link. not (nat_eq link.number number)) connections.old.items }
+{
+    connections.retain(
+        |link: &Connection<A>| -> bool
+            ensures { result ≡ not (nat_eq link.now.number number) }
+        { link.number() != number },
+    );
+}
+
+impl<A: Allocator + Copy, R: Record<A> + Drop> WireNode<A, R> {
     /// Accepts a connection, over which bytes may come from now on.
     pub fn accept(&mut self) -> Result<ConnectionId, WireError>
         ensures ok { IfOk result (λ id. self.new ≡ record self.old { connections = self.old.connections ++ record { number = id.0; left = []; peer = None } ∷ [] }) }
@@ -69,7 +98,7 @@ impl<A: Allocator + Copy> WireNode<A> {
         let Some(number) = self.numbered.checked_add(1) else {
             return Err(WireError::NoConnection);
         };
-        let link = Connection::new(self.alloc(), number);
+        let link = Connection::new(self.engine.alloc(), number);
         if self.connections.push(link).is_err() {
             return Err(WireError::OutOfMemory);
         }
@@ -77,18 +106,19 @@ impl<A: Allocator + Copy> WireNode<A> {
         Ok(ConnectionId(number))
     }
 
-    /// Takes bytes that came over the connection. Each whole frame is one step, in their order, and what is no whole
-    /// frame yet is kept.
+    /// Takes bytes that came over the connection. Each whole frame is one step with dice of its own, in their order,
+    /// and what is no whole frame yet is kept: never more than 32,880 bytes.
     ///
-    /// Where memory is refused, `ReceiveError::taken` says how many of the bytes were taken; where the bytes are no
-    /// frame, close the connection.
-    pub fn receive(
+    /// `NoConnection`: there is no such connection, and nothing is taken. Where memory is refused,
+    /// `ReceiveError::taken` says how many of the bytes were taken; where the bytes are no frame, close the connection.
+    pub fn receive<D: DiceSource>(
         &mut self,
         id: ConnectionId,
         bytes: &[u8],
-        dice: &Dice,
+        source: &mut D,
     ) -> Result<(), ReceiveError>
-        ensures ok { OnOk result (Hears self.old id.0 bytes.now dice.now self.new) }
+        ensures ok { OnOk result ((hears : Hears self.old id.0 bytes.now (length bytes.now) self.new) × IsPartial hears.link'.left) }
+        ensures err { IfErr result (λ failed. Hears self.old id.0 bytes.now failed.taken self.new ⊎ ((self.new ≡ self.old) × (failed ≡ record { taken = 0; error = WireError.NoConnection }))) }
     {
         let Some(place) = place_of(&self.connections, id) else {
             return Err(ReceiveError {
@@ -97,20 +127,10 @@ impl<A: Allocator + Copy> WireNode<A> {
             });
         };
         let (taken, ended) = receive_at(
-            &mut self.core,
-            &mut self.entries,
-            &mut self.pending,
+            &mut self.engine,
             &mut self.connections[place],
             bytes,
-            dice,
-        );
-        relieve(
-            &mut self.core,
-            &mut self.entries,
-            &mut self.pending,
-            &mut self.lost,
-            self.limit,
-            dice,
+            source,
         );
         if let Err(error) = ended {
             return Err(ReceiveError { taken, error });
@@ -118,35 +138,18 @@ impl<A: Allocator + Copy> WireNode<A> {
         Ok(())
     }
 
-    /// Whether the name is one that may go down: the core keeps a link to it, or bytes wait for it.
-    fn is_up(&self, name: &NodeName) -> bool {
-        self.core.active().contains(name)
-            || self
-                .entries
-                .iter()
-                .any(|entry| entry.name() == *name && entry.len() > 0)
-    }
-
-    /// Whether another connection has this peer.
-    fn has_other(&self, id: ConnectionId, peer: &NodeName) -> bool {
-        self.connections
-            .iter()
-            .any(|link| link.number() != id.0 && link.peer() == Some(*peer))
-    }
-
     /// Drops the connection, with what came over it and is no whole frame. Its peer goes down, unless it is down
     /// already or has another connection. If the step of that is refused, nothing changes.
-    pub fn ended(&mut self, id: ConnectionId, dice: &Dice) -> Result<(), WireError> {
+    pub fn ended(&mut self, id: ConnectionId, dice: &Dice) -> Result<(), WireError>
+        ensures ok { OnOk result (Closes self.old id.0 dice.now self.new) }
+        ensures err { OnErr result (self.new ≡ self.old) }
+    {
         let Some(place) = place_of(&self.connections, id) else {
             return Err(WireError::NoConnection);
         };
-        if let Some(peer) = self.connections[place].peer() {
-            if self.is_up(&peer) && !self.has_other(id, &peer) {
-                self.unreachable(peer, dice)?;
-            }
-        }
-        let number = id.0;
-        self.connections.retain(|link| link.number() != number);
+        let peer = self.connections[place].peer();
+        end_peer(&mut self.engine, &self.connections, id, peer, dice)?;
+        forget_link(&mut self.connections, id.0);
         Ok(())
     }
 }

@@ -1,10 +1,11 @@
 //! Names that are down: the core is told, and what waited for them is dropped.
-ghost use Rattle.std.specs.Prelude.{◌≡◌, ◌≤◌, ◌∷◌, ◌++◌, [], All, IsNone, OnErr, OnOk, filter, length, not};
+ghost use Rattle.std.specs.Prelude.{◌≡◌, ◌≤◌, ◌∷◌, ◌++◌, [], All, IsNone, OnErr, OnOk, length, not};
 ghost use Rattle.node_names.specs.Same.{same_name};
 ghost use Rattle.wire_node.specs.Acting.{AreSettled, GoesDown, without};
-ghost use Rattle.wire_node.specs.Node.{Relieves};
+ghost use Rattle.wire_node.specs.Moving.{Relieves};
 
 use crate::entry::Entry;
+use crate::record::Record;
 use crate::step::make_step;
 use node_core::PlumCore;
 use node_names::{Dice, Listed, NodeName};
@@ -22,35 +23,37 @@ pub(crate) fn forget<A: Allocator + Copy>(entries: &mut Vec<Entry<A>, A>, name: 
     );
 }
 
-/// Tells the core that the name is down, drops what waits for it, and notes it in `lost`. If the step is refused,
+/// Tells the core that the name is down, drops what waits for it, and puts it into `lost`. If the step is refused,
 /// nothing changes.
-pub(crate) fn take_down<A: Allocator + Copy>(
+pub(crate) fn take_down<A: Allocator + Copy, R: Record<A>>(
     core: &mut PlumCore<A>,
     entries: &mut Vec<Entry<A>, A>,
     pending: &mut Listed<Delivery<A>, A>,
+    notes: &mut R,
     lost: &mut Listed<NodeName, A>,
     name: NodeName,
     dice: &Dice,
 ) -> Result<(), CoreError>
     requires { AreSettled entries.old.items }
-    ensures down { OnOk result (GoesDown (record { core = core.old; waiting = entries.old.items; pending = pending.old }) name dice.now (record { core = core.new; waiting = entries.new.items; pending = pending.new })) }
-    ensures noted { OnOk result (lost.new ≡ lost.old ++ name ∷ []) }
+    ensures down { OnOk result (GoesDown (record { core = core.old; waiting = entries.old.items; pending = pending.old; noted = R.noted notes.old }) name dice.now (record { core = core.new; waiting = entries.new.items; pending = pending.new; noted = R.noted notes.new })) }
+    ensures lost { OnOk result (lost.new ≡ lost.old ++ name ∷ []) }
     ensures settled { AreSettled entries.new.items }
-    ensures err { OnErr result ((core.new ≡ core.old) × (entries.new.items ≡ entries.old.items) × (pending.new ≡ pending.old) × (lost.new ≡ lost.old)) }
+    ensures err { OnErr result ((core.new ≡ core.old) × (entries.new.items ≡ entries.old.items) × (pending.new ≡ pending.old) × (R.noted notes.new ≡ R.noted notes.old) × (lost.new ≡ lost.old)) }
 {
-    let noted = lost.len();
+    let before = lost.len();
     lost.push(name)?;
     let told = make_step(
         core,
         entries,
         pending,
+        notes,
         &StimulusOf::Down {
             peer: name,
             dice: *dice,
         },
     );
     if let Err(error) = told {
-        lost.truncate(noted);
+        lost.truncate(before);
         return Err(error);
     }
     forget(entries, &name);
@@ -71,23 +74,24 @@ fn overfull<A: Allocator + Copy>(entries: &[Entry<A>], limit: usize) -> Option<N
 
 /// Takes the names down for whom more than `limit` bytes wait, until there are none or a step is refused.
 #[tactic(auto, using(crate::proofs::GoingDown::relieves_none))]
-pub(crate) fn relieve<A: Allocator + Copy>(
+pub(crate) fn relieve<A: Allocator + Copy, R: Record<A>>(
     core: &mut PlumCore<A>,
     entries: &mut Vec<Entry<A>, A>,
     pending: &mut Listed<Delivery<A>, A>,
+    notes: &mut R,
     lost: &mut Listed<NodeName, A>,
     limit: usize,
     dice: &Dice,
 )
     requires { AreSettled entries.old.items }
-    ensures relieved { Relieves (record { core = core.old; waiting = entries.old.items; pending = pending.old }) lost.old dice.now (record { core = core.new; waiting = entries.new.items; pending = pending.new }) lost.new }
+    ensures relieved { Relieves (record { core = core.old; waiting = entries.old.items; pending = pending.old; noted = R.noted notes.old }) lost.old dice.now (record { core = core.new; waiting = entries.new.items; pending = pending.new; noted = R.noted notes.new }) lost.new }
     ensures settled { AreSettled entries.new.items }
 {
     for _ in 0..entries.len() {
         let Some(name) = overfull(entries, limit) else {
             return;
         };
-        match take_down(core, entries, pending, lost, name, dice) {
+        match take_down(core, entries, pending, notes, lost, name, dice) {
             Ok(()) => {}
             Err(_) => return,
         }

@@ -52,3 +52,9 @@ impl From<AllocError> for WireError {
         WireError::OutOfMemory
     }
 }
+
+impl From<CoreError> for WireError {
+    fn from(error: CoreError) -> WireError {
+        WireError::of_core(error)
+    }
+}

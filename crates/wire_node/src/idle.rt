@@ -11,7 +11,7 @@ use node_names::{NameSet, NodeName};
 use std::alloc::Allocator;
 
 /// How many bytes wait for the name.
-fn waiting_for<A: Allocator + Copy>(entries: &Vec<Entry<A>, A>, name: &NodeName) -> usize
+pub(crate) fn waiting_for<A: Allocator + Copy>(entries: &Vec<Entry<A>, A>, name: &NodeName) -> usize
     ensures { result ≡ length (settled_for entries.now.items name.now) }
 {
     match place_of(entries, name) {

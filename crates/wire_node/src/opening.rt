@@ -1,5 +1,5 @@
 //! The start of a node: its core, and what its first frames have wait.
-ghost use Rattle.std.specs.Prelude.{◌≡◌, [], List, IfOk, IsTrue};
+ghost use Rattle.std.specs.Prelude.{◌≡◌, [], List, IfOk, IsTrue, OnOk};
 ghost use Rattle.node_names.specs.NodeName.{Name};
 ghost use Rattle.frames.specs.Frame.{Frame as Sent};
 ghost use Rattle.world.specs.Peers.{are_peers};
@@ -27,8 +27,9 @@ pub(crate) fn start_core<A: Allocator + Copy>(
     out: &mut Out<Frame<A>, A>,
 ) -> Result<PlumCore<A>, WireError>
     requires peers { IsTrue (are_peers limits.now.core me.name peers.now contact) }
-    requires empty { out.old.sends ≡ [] }
-    ensures { IfOk result (λ core. PlumStarts me limits.now.core peers.now contact out.new.sends core) }
+    requires empty { (out.old.sends ≡ []) × (out.old.deliveries ≡ []) }
+    ensures started { IfOk result (λ core. PlumStarts me limits.now.core peers.now contact out.new.sends core) }
+    ensures nothing { OnOk result (out.new.deliveries ≡ []) }
 {
     match PlumCore::start(alloc, me, limits.core, peers, contact, out) {
         Ok(core) => Ok(core),

@@ -1,19 +1,48 @@
 //! What a node of bytes has for its driver: bytes by the name that they go to, deliveries, and names that are down.
-ghost use Rattle.std.specs.Prelude.{◌≡◌, ◌<◌, ◌++◌, ℕ, List, [], drop, length, if◌then◌else◌};
+ghost use Rattle.std.specs.Prelude.{◌≡◌, ◌<◌, ◌++◌, ◌∷◌, ℕ, List, [], IfOk, OnOk, drop, length, if◌then◌else◌};
 ghost use Rattle.bytes.specs.Unread.{concat_slices};
 ghost use Rattle.node_names.specs.NodeName.{Name};
 ghost use Rattle.node_names.specs.Same.{same_name};
 ghost use Rattle.wire_node.specs.Acting.{AreSettled};
-ghost use Rattle.wire_node.specs.Waiting.{settled_for};
+ghost use Rattle.wire_node.specs.Waiting.{receivers_of, settled_for};
 
 use crate::drafts::place_of;
+use crate::engine::Engine;
 use crate::entry::Entry;
 use crate::idle::drop_idle;
 use crate::node::{NAMES, WireNode};
+use crate::record::Record;
 use node_names::{Listed, NameSet, NodeName};
 use std::alloc::{AllocError, Allocator};
 use std::mem;
 use world::{Core, Delivery};
+
+/// Appends the name if bytes wait for it.
+fn add_receiver<A: Allocator + Copy>(
+    names: &mut Vec<NodeName, A>,
+    entry: &Entry<A>,
+) -> Result<(), AllocError>
+    ensures { OnOk result (names.new.items ≡ names.old.items ++ receivers_of (entry.now ∷ [])) }
+{
+    if entry.len() > 0 {
+        names.push(entry.name())?;
+    }
+    Ok(())
+}
+
+/// The names for whom bytes wait.
+fn receivers_of<A: Allocator + Copy>(
+    alloc: A,
+    entries: &[Entry<A>],
+) -> Result<Vec<NodeName, A>, AllocError>
+    ensures { IfOk result (λ names. names.items ≡ receivers_of entries.now) }
+{
+    let mut names = Vec::new(alloc);
+    for entry in entries {
+        add_receiver(&mut names, entry)?;
+    }
+    Ok(names)
+}
 
 /// The first of the bytes that wait for the name, in up to four slices.
 fn front_of<'a, A: Allocator + Copy>(
@@ -64,29 +93,25 @@ fn take_and_sweep<A: Allocator + Copy>(
     entries.len().saturating_mul(2).max(NAMES)
 }
 
-impl<A: Allocator + Copy> WireNode<A> {
-    /// The names for whom bytes wait.
-    pub fn receivers(&self) -> Result<Vec<NodeName, A>, AllocError> {
-        let mut names = Vec::new(self.alloc());
-        for entry in self.entries.as_slice() {
-            if entry.len() > 0 {
-                names.push(entry.name())?;
-            }
-        }
-        Ok(names)
+impl<A: Allocator + Copy, R: Record<A> + Drop> Engine<A, R> {
+    /// The names for whom bytes wait, in no order that is promised.
+    pub(crate) fn receivers(&self) -> Result<Vec<NodeName, A>, AllocError>
+        ensures { IfOk result (λ names. names.items ≡ receivers_of self.now.machine.waiting) }
+    {
+        receivers_of(self.alloc(), &self.entries)
     }
 
     /// The first of the bytes that wait for the name, in up to four slices. Where any wait, the first two slices are
-    /// not both empty. What of them went out is told by `transmitted`.
-    pub fn transmit(&self, name: &NodeName) -> [&[u8]; 4]
+    /// not both empty.
+    pub(crate) fn transmit(&self, name: &NodeName) -> [&[u8]; 4]
         ensures front { (rest : List ℕ) × (concat_slices result ++ rest ≡ settled_for self.now.machine.waiting name.now) }
         ensures some { 0 < length (settled_for self.now.machine.waiting name.now) → 0 < length (concat_slices result) }
     {
         front_of(&self.entries, name)
     }
 
-    /// Takes the first `count` of the bytes that wait for the name: they went out. Where fewer wait, takes all.
-    pub fn transmitted(&mut self, name: &NodeName, count: usize)
+    /// Takes the first `count` of the bytes that wait for the name. Where fewer wait, takes all.
+    pub(crate) fn transmitted(&mut self, name: &NodeName, count: usize)
         ensures rest { self.new ≡ record self.old { machine = record self.old.machine { waiting = self.new.machine.waiting } } }
         ensures gone { (other : Name) → settled_for self.new.machine.waiting other ≡ (if same_name other name.now then drop count (settled_for self.old.machine.waiting other) else settled_for self.old.machine.waiting other) }
     {
@@ -99,8 +124,8 @@ impl<A: Allocator + Copy> WireNode<A> {
         );
     }
 
-    /// Returns the deliveries that were not taken yet, in order. This call takes them.
-    pub fn take_deliveries(&mut self) -> Vec<Delivery<A>, A>
+    /// Takes the deliveries that were not taken yet.
+    pub(crate) fn take_deliveries(&mut self) -> Vec<Delivery<A>, A>
         ensures given { result.items ≡ self.old.machine.pending }
         ensures rest { self.new ≡ record self.old { machine = record self.old.machine { pending = [] } } }
     {
@@ -108,13 +133,55 @@ impl<A: Allocator + Copy> WireNode<A> {
         mem::replace(&mut self.pending, Listed::new(alloc)).into_vec()
     }
 
-    /// Returns the names for whom bytes were dropped since the last call, in order: what leads to them is to be closed
-    /// before anything more is sent there.
-    pub fn take_lost(&mut self) -> Vec<NodeName, A>
+    /// Takes the names for whom bytes were dropped.
+    pub(crate) fn take_lost(&mut self) -> Vec<NodeName, A>
         ensures given { result.items ≡ self.old.lost }
         ensures rest { self.new ≡ record self.old { lost = [] } }
     {
         let alloc = self.alloc();
         mem::replace(&mut self.lost, Listed::new(alloc)).into_vec()
+    }
+}
+
+impl<A: Allocator + Copy, R: Record<A> + Drop> WireNode<A, R> {
+    /// The names for whom bytes wait, each once.
+    pub fn receivers(&self) -> Result<Vec<NodeName, A>, AllocError>
+        ensures { IfOk result (λ names. names.items ≡ receivers_of self.now.engine.machine.waiting) }
+    {
+        self.engine.receivers()
+    }
+
+    /// The first of the bytes that wait for the name, in up to four slices. Where any wait, the first two slices are
+    /// not both empty. What of them went out is told by `transmitted`.
+    pub fn transmit(&self, name: &NodeName) -> [&[u8]; 4]
+        ensures front { (rest : List ℕ) × (concat_slices result ++ rest ≡ settled_for self.now.engine.machine.waiting name.now) }
+        ensures some { 0 < length (settled_for self.now.engine.machine.waiting name.now) → 0 < length (concat_slices result) }
+    {
+        self.engine.transmit(name)
+    }
+
+    /// Takes the first `count` of the bytes that wait for the name: they went out. Where fewer wait, takes all.
+    pub fn transmitted(&mut self, name: &NodeName, count: usize)
+        ensures rest { self.new ≡ record self.old { engine = record self.old.engine { machine = record self.old.engine.machine { waiting = self.new.engine.machine.waiting } } } }
+        ensures gone { (other : Name) → settled_for self.new.engine.machine.waiting other ≡ (if same_name other name.now then drop count (settled_for self.old.engine.machine.waiting other) else settled_for self.old.engine.machine.waiting other) }
+    {
+        self.engine.transmitted(name, count);
+    }
+
+    /// Returns the deliveries that were not taken yet, in order. This call takes them.
+    pub fn take_deliveries(&mut self) -> Vec<Delivery<A>, A>
+        ensures given { result.items ≡ self.old.engine.machine.pending }
+        ensures rest { self.new ≡ record self.old { engine = record self.old.engine { machine = record self.old.engine.machine { pending = [] } } } }
+    {
+        self.engine.take_deliveries()
+    }
+
+    /// Returns the names for whom bytes were dropped since the last call, in order: what leads to them is to be closed
+    /// before anything more is sent there.
+    pub fn take_lost(&mut self) -> Vec<NodeName, A>
+        ensures given { result.items ≡ self.old.engine.lost }
+        ensures rest { self.new ≡ record self.old { engine = record self.old.engine { lost = [] } } }
+    {
+        self.engine.take_lost()
     }
 }

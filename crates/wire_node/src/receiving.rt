@@ -1,73 +1,36 @@
 //! Taking frames off the bytes that come over a connection, by one step each.
-ghost use Rattle.std.specs.Prelude.{◌≡◌, ◌<◌, ◌≤◌, ◌+◌, ◌++◌, [], ◌∷◌, true, false, drop, length, IfNone, IfOk, IfSome, OnErr, OnOk};
-ghost use Rattle.wire_node.specs.Acting.{Acts, AreSettled, arrival};
-ghost use Rattle.wire_node.specs.Receiving.{IsPartial, Takes, peer_of};
+ghost use Rattle.std.specs.Prelude.{◌≡◌, ◌<◌, ◌≤◌, ◌+◌, ◌++◌, [], true, false, drop, length, IfNone, IfOk, IfSome, OnErr, OnOk};
+ghost use Rattle.frames.specs.declared.TheConstants.{MAX_FRAME as FrameMost};
+ghost use Rattle.wire_node.specs.Receiving.{IsPartial, Takes};
 
+use crate::arriving::take_frame;
 use crate::connection::{after, drop_front, top_up};
-use crate::entry::Entry;
+use crate::dice_source::DiceSource;
+use crate::engine::Engine;
 use crate::error::WireError;
-use crate::step::make_step;
-use frames::{Frame, FrameFault, decode};
-use node_core::PlumCore;
-use node_names::{Dice, Listed, NodeName};
+use crate::record::Record;
+use frames::{FrameFault, MAX_FRAME, decode};
+use node_names::NodeName;
 use std::alloc::Allocator;
-use world::{CoreError, Delivery, StimulusOf};
-
-/// Takes a frame by one step, whose sender is the connection's peer if it is the first.
-fn take_frame<A: Allocator + Copy>(
-    core: &mut PlumCore<A>,
-    entries: &mut Vec<Entry<A>, A>,
-    pending: &mut Listed<Delivery<A>, A>,
-    peer: &mut Option<NodeName>,
-    frame: Frame<A>,
-    dice: &Dice,
-) -> Result<(), CoreError>
-    requires { AreSettled entries.old.items }
-    ensures acts { OnOk result (Acts (record { core = core.old; waiting = entries.old.items; pending = pending.old }) (arrival dice.now frame) (record { core = core.new; waiting = entries.new.items; pending = pending.new })) }
-    ensures peer { OnOk result (peer.new ≡ peer_of peer.old (frame ∷ [])) }
-    ensures settled { AreSettled entries.new.items }
-    ensures err { OnErr result ((core.new ≡ core.old) × (entries.new.items ≡ entries.old.items) × (pending.new ≡ pending.old) × (peer.new ≡ peer.old)) }
-{
-    let name = frame.sender().name;
-    let sender = frame.sender();
-    make_step(
-        core,
-        entries,
-        pending,
-        &StimulusOf::Arrive {
-            sender,
-            note: frame,
-            dice: *dice,
-        },
-    )?;
-    if peer.is_none() {
-        *peer = Some(name);
-    }
-    Ok(())
-}
 
 /// Takes the whole frames that the bytes begin with, where they lie. Returns how many bytes they have, and why no more
 /// frames were taken: the rest is no whole frame (`Ok`), or is none at all, or a step was refused.
-fn take_frames<A: Allocator + Copy>(
-    core: &mut PlumCore<A>,
-    entries: &mut Vec<Entry<A>, A>,
-    pending: &mut Listed<Delivery<A>, A>,
+fn take_frames<A: Allocator + Copy, R: Record<A> + Drop, D: DiceSource>(
+    engine: &mut Engine<A, R>,
     peer: &mut Option<NodeName>,
     bytes: &[u8],
-    dice: &Dice,
+    source: &mut D,
 ) -> (usize, Result<(), WireError>)
-    requires { AreSettled entries.old.items }
     ensures within { result.0 ≤ length bytes.now }
-    ensures taken { Takes (record { core = core.old; waiting = entries.old.items; pending = pending.old }) peer.old bytes.now dice.now (record { core = core.new; waiting = entries.new.items; pending = pending.new }) peer.new (drop result.0 bytes.now) }
+    ensures taken { Takes engine.old peer.old bytes.now engine.new peer.new (drop result.0 bytes.now) }
     ensures partial { OnOk result.1 (IsPartial (drop result.0 bytes.now)) }
-    ensures settled { AreSettled entries.new.items }
 {
-    let alloc = *entries.allocator();
+    let alloc = engine.alloc();
     let mut at: usize = 0;
     loop {
         match decode(alloc, after(bytes, at)) {
             Ok((frame, len)) => {
-                if let Err(error) = take_frame(core, entries, pending, peer, frame, dice) {
+                if let Err(error) = take_frame(engine, peer, frame, source) {
                     return (at, Err(WireError::of_core(error)));
                 }
                 at += len;
@@ -78,41 +41,50 @@ fn take_frames<A: Allocator + Copy>(
     }
 }
 
+/// What comes of a frame that is not whole yet, behind which `count` of `len` bytes were kept: how many were, or `None`
+/// if all are. No frame is longer than `MAX_FRAME` bytes, so one that has as many is whole.
+fn go_on(count: usize, len: usize) -> Result<Option<usize>, WireError>
+    requires { count ≤ len }
+    ensures some { IfOk result (λ r. IfSome r (λ some. (some ≡ count) × (0 < count))) }
+    ensures none { IfOk result (λ r. IfNone r (count ≡ len)) }
+    ensures err { OnErr result (count ≡ 0) }
+{
+    if count == len {
+        return Ok(None);
+    }
+    if count == 0 {
+        return Err(WireError::Frame(FrameFault::TooLong));
+    }
+    Ok(Some(count))
+}
+
 /// Completes a frame that was cut with the first of the bytes, and takes it. Returns how many bytes were taken, or
 /// `None` if all are kept, and the frame is not whole yet. If it is refused, nothing changes.
-fn complete<A: Allocator + Copy>(
-    core: &mut PlumCore<A>,
-    entries: &mut Vec<Entry<A>, A>,
-    pending: &mut Listed<Delivery<A>, A>,
+fn complete<A: Allocator + Copy, R: Record<A> + Drop, D: DiceSource>(
+    engine: &mut Engine<A, R>,
     left: &mut Vec<u8, A>,
     peer: &mut Option<NodeName>,
     bytes: &[u8],
-    dice: &Dice,
+    source: &mut D,
 ) -> Result<Option<usize>, WireError>
-    requires { AreSettled entries.old.items }
+    requires { length left.old.items ≤ FrameMost }
     ensures within { IfOk result (λ r. IfSome r (λ count. (count ≤ length bytes.now) × (length left.new.items < length left.old.items + (count + count)))) }
-    ensures some { IfOk result (λ r. IfSome r (λ count. Takes (record { core = core.old; waiting = entries.old.items; pending = pending.old }) peer.old (left.old.items ++ bytes.now) dice.now (record { core = core.new; waiting = entries.new.items; pending = pending.new }) peer.new (left.new.items ++ drop count bytes.now))) }
-    ensures none { IfOk result (λ r. IfNone r (Takes (record { core = core.old; waiting = entries.old.items; pending = pending.old }) peer.old (left.old.items ++ bytes.now) dice.now (record { core = core.new; waiting = entries.new.items; pending = pending.new }) peer.new left.new.items × IsPartial left.new.items)) }
-    ensures settled { AreSettled entries.new.items }
-    ensures err { OnErr result ((core.new ≡ core.old) × (entries.new.items ≡ entries.old.items) × (pending.new ≡ pending.old) × (peer.new ≡ peer.old) × (left.new.items ≡ left.old.items)) }
+    ensures some { IfOk result (λ r. IfSome r (λ count. Takes engine.old peer.old (left.old.items ++ bytes.now) engine.new peer.new (left.new.items ++ drop count bytes.now))) }
+    ensures none { IfOk result (λ r. IfNone r (Takes engine.old peer.old (left.old.items ++ bytes.now) engine.new peer.new left.new.items × IsPartial left.new.items)) }
+    ensures few { length left.new.items ≤ FrameMost }
+    ensures err { OnErr result ((engine.new ≡ engine.old) × (peer.new ≡ peer.old) × (left.new.items ≡ left.old.items)) }
 {
     let len = left.len();
     let count = top_up(left, bytes)?;
-    let (frame, whole) = match decode(*entries.allocator(), left.as_slice()) {
+    let (frame, whole) = match decode(engine.alloc(), left.as_slice()) {
         Ok(decoded) => decoded,
-        Err(FrameFault::Short) => {
-            return Ok(if count < bytes.len() {
-                Some(count)
-            } else {
-                None
-            });
-        }
+        Err(FrameFault::Short) => return go_on(count, bytes.len()),
         Err(fault) => {
             left.truncate(len);
             return Err(WireError::of_frame(fault));
         }
     };
-    if let Err(error) = take_frame(core, entries, pending, peer, frame, dice) {
+    if let Err(error) = take_frame(engine, peer, frame, source) {
         left.truncate(len);
         return Err(WireError::of_core(error));
     }
@@ -122,25 +94,23 @@ fn complete<A: Allocator + Copy>(
 
 /// Completes the frame that was cut, if there is one. Returns how many bytes were taken, and whether nothing is left of
 /// it; else all bytes are kept, and it is not whole yet.
-fn finish_cut<A: Allocator + Copy>(
-    core: &mut PlumCore<A>,
-    entries: &mut Vec<Entry<A>, A>,
-    pending: &mut Listed<Delivery<A>, A>,
+fn finish_cut<A: Allocator + Copy, R: Record<A> + Drop, D: DiceSource>(
+    engine: &mut Engine<A, R>,
     left: &mut Vec<u8, A>,
     peer: &mut Option<NodeName>,
     bytes: &[u8],
-    dice: &Dice,
+    source: &mut D,
 ) -> (usize, Result<bool, WireError>)
-    requires { AreSettled entries.old.items }
+    requires { length left.old.items ≤ FrameMost }
     ensures within { result.0 ≤ length bytes.now }
-    ensures taken { Takes (record { core = core.old; waiting = entries.old.items; pending = pending.old }) peer.old (left.old.items ++ bytes.now) dice.now (record { core = core.new; waiting = entries.new.items; pending = pending.new }) peer.new (left.new.items ++ drop result.0 bytes.now) }
+    ensures taken { Takes engine.old peer.old (left.old.items ++ bytes.now) engine.new peer.new (left.new.items ++ drop result.0 bytes.now) }
     ensures whole { IfOk result.1 (λ finished. finished ≡ true → left.new.items ≡ []) }
     ensures partial { IfOk result.1 (λ finished. finished ≡ false → (result.0 ≡ length bytes.now) × IsPartial left.new.items) }
-    ensures settled { AreSettled entries.new.items }
+    ensures few { length left.new.items ≤ FrameMost }
 {
     let mut at: usize = 0;
     while !left.is_empty() {
-        match complete(core, entries, pending, left, peer, after(bytes, at), dice) {
+        match complete(engine, left, peer, after(bytes, at), source) {
             Ok(Some(count)) => at += count,
             Ok(None) => return (bytes.len(), Ok(false)),
             Err(error) => return (at, Err(error)),
@@ -149,36 +119,49 @@ fn finish_cut<A: Allocator + Copy>(
     (at, Ok(true))
 }
 
+/// Keeps what is no whole frame. No frame is longer than `MAX_FRAME` bytes, so what has more of them begins with one or
+/// with none at all, and was refused before.
+fn keep<A: Allocator>(left: &mut Vec<u8, A>, rest: &[u8]) -> Result<(), WireError>
+    requires { left.old.items ≡ [] }
+    ensures ok { OnOk result (left.new.items ≡ rest.now) }
+    ensures few { length left.new.items ≤ FrameMost }
+    ensures err { OnErr result (left.new.items ≡ left.old.items) }
+{
+    if rest.len() > MAX_FRAME {
+        return Err(WireError::Frame(FrameFault::TooLong));
+    }
+    left.extend_from_slice(rest)?;
+    Ok(())
+}
+
 /// Takes the whole frames of what was left and of the bytes, in their order, by one step each, and keeps the rest.
 /// Returns how many of the bytes were taken or kept, and why not all.
-pub(crate) fn receive_on<A: Allocator + Copy>(
-    core: &mut PlumCore<A>,
-    entries: &mut Vec<Entry<A>, A>,
-    pending: &mut Listed<Delivery<A>, A>,
+pub(crate) fn receive_on<A: Allocator + Copy, R: Record<A> + Drop, D: DiceSource>(
+    engine: &mut Engine<A, R>,
     left: &mut Vec<u8, A>,
     peer: &mut Option<NodeName>,
     bytes: &[u8],
-    dice: &Dice,
+    source: &mut D,
 ) -> (usize, Result<(), WireError>)
-    requires { AreSettled entries.old.items }
+    requires { length left.old.items ≤ FrameMost }
     ensures within { result.0 ≤ length bytes.now }
-    ensures taken { Takes (record { core = core.old; waiting = entries.old.items; pending = pending.old }) peer.old (left.old.items ++ bytes.now) dice.now (record { core = core.new; waiting = entries.new.items; pending = pending.new }) peer.new (left.new.items ++ drop result.0 bytes.now) }
+    ensures taken { Takes engine.old peer.old (left.old.items ++ bytes.now) engine.new peer.new (left.new.items ++ drop result.0 bytes.now) }
     ensures partial { OnOk result.1 ((result.0 ≡ length bytes.now) × IsPartial left.new.items) }
-    ensures settled { AreSettled entries.new.items }
+    ensures few { length left.new.items ≤ FrameMost }
 {
-    let (at, finished) = finish_cut(core, entries, pending, left, peer, bytes, dice);
+    let (at, finished) = finish_cut(engine, left, peer, bytes, source);
     match finished {
         Ok(true) => {}
         Ok(false) => return (at, Ok(())),
         Err(error) => return (at, Err(error)),
     }
-    let (count, ended) = take_frames(core, entries, pending, peer, after(bytes, at), dice);
+    let (count, ended) = take_frames(engine, peer, after(bytes, at), source);
     let taken = at + count;
     if let Err(error) = ended {
         return (taken, Err(error));
     }
-    match left.extend_from_slice(after(bytes, taken)) {
+    match keep(left, after(bytes, taken)) {
         Ok(()) => (bytes.len(), Ok(())),
-        Err(_) => (taken, Err(WireError::OutOfMemory)),
+        Err(error) => (taken, Err(error)),
     }
 }

@@ -3,10 +3,12 @@ ghost use Rattle.std.specs.Prelude.{◌≡◌, ◌++◌, OnOk, OnErr, IsErrOf};
 ghost use Rattle.world.specs.IdentityLaw.{IsTooLong};
 ghost use Rattle.node_core.specs.Steps.{PlumIsSpent};
 ghost use Rattle.wire_node.specs.Acting.{Acts, AreSettled};
+ghost use Rattle.wire_node.specs.Recording.{with_step};
 ghost use Rattle.wire_node.specs.Waiting.{KeepsSettled, all_drafted};
 
 use crate::drafts::{draft_all, settle_all, undraft_all};
 use crate::entry::Entry;
+use crate::record::Record;
 use frames::Frame;
 use node_core::PlumCore;
 use node_names::Listed;
@@ -39,18 +41,44 @@ fn draft_out<A: Allocator + Copy>(
     Ok(())
 }
 
+/// Notes a step, drafts its frames, and appends its deliveries: all of this, or nothing if it is refused.
+fn note_and_draft<A: Allocator + Copy, R: Record<A>>(
+    entries: &mut Vec<Entry<A>, A>,
+    pending: &mut Listed<Delivery<A>, A>,
+    notes: &mut R,
+    stimulus: &Stimulus<Frame<A>, A>,
+    out: Out<Frame<A>, A>,
+) -> Result<(), AllocError>
+    requires { AreSettled entries.old.items }
+    ensures drafted { OnOk result (entries.new.items ≡ all_drafted entries.old.items out.sends) }
+    ensures delivered { OnOk result (pending.new ≡ pending.old ++ out.deliveries) }
+    ensures noted { OnOk result (R.noted notes.new ≡ with_step (R.noted notes.old) (record { stimulus = stimulus.now; out = out })) }
+    ensures kept { KeepsSettled entries.old.items entries.new.items }
+    ensures err { OnErr result ((entries.new.items ≡ entries.old.items) × (pending.new ≡ pending.old) × (R.noted notes.new ≡ R.noted notes.old)) }
+{
+    notes.note(stimulus, &out)?;
+    match draft_out(entries, pending, out) {
+        Ok(()) => Ok(()),
+        Err(error) => {
+            notes.take_back();
+            Err(error)
+        }
+    }
+}
+
 /// Makes a step. If it is refused, nothing changes: `advance`, which cannot be taken back, is the last call that can be
 /// refused.
-pub(crate) fn make_step<A: Allocator + Copy>(
+pub(crate) fn make_step<A: Allocator + Copy, R: Record<A>>(
     core: &mut PlumCore<A>,
     entries: &mut Vec<Entry<A>, A>,
     pending: &mut Listed<Delivery<A>, A>,
+    notes: &mut R,
     stimulus: &Stimulus<Frame<A>, A>,
 ) -> Result<(), CoreError>
     requires { AreSettled entries.old.items }
-    ensures acts { OnOk result (Acts (record { core = core.old; waiting = entries.old.items; pending = pending.old }) stimulus.now (record { core = core.new; waiting = entries.new.items; pending = pending.new })) }
+    ensures acts { OnOk result (Acts (record { core = core.old; waiting = entries.old.items; pending = pending.old; noted = R.noted notes.old }) stimulus.now (record { core = core.new; waiting = entries.new.items; pending = pending.new; noted = R.noted notes.new })) }
     ensures settled { AreSettled entries.new.items }
-    ensures err { OnErr result ((core.new ≡ core.old) × (entries.new.items ≡ entries.old.items) × (pending.new ≡ pending.old)) }
+    ensures err { OnErr result ((core.new ≡ core.old) × (entries.new.items ≡ entries.old.items) × (pending.new ≡ pending.old) × (R.noted notes.new ≡ R.noted notes.old)) }
     ensures too_long { IsErrOf result CoreError.PayloadTooLong → IsTooLong stimulus.now }
     ensures spent { IsErrOf result CoreError.SeqSpent → PlumIsSpent core.old stimulus.now }
 {
@@ -59,10 +87,11 @@ pub(crate) fn make_step<A: Allocator + Copy>(
     let Prepared { turn, .. } = core.prepare(&lent, &mut out)?;
     let len = entries.len();
     let given = pending.len();
-    draft_out(entries, pending, out)?;
+    note_and_draft(entries, pending, notes, stimulus, out)?;
     if core.advance(&lent, turn).is_err() {
         undraft_all(entries, len);
         pending.truncate(given);
+        notes.take_back();
         return Err(CoreError::OutOfMemory);
     }
     settle_all(entries);

@@ -7,10 +7,11 @@ use Rattle.wire_node.proofs.downs.take_down.Goals as goal
 pub returns-clause-down : goal.returns-clause-down
 returns-clause-down g c =
     let told = c.make_step-told.new in
+    let noted = g.R.Record.noted told.notes in
     record {
-      told = machine told.core told.entries.items told.pending;
+      told = machine told.core told.entries.items told.pending noted;
       acts = c.in_default.ensures.acts;
-      dropped = ap (λ (ws : List Waiting). machine told.core ws told.pending) c.forget.ensures;
+      dropped = ap (λ (ws : List Waiting). machine told.core ws told.pending noted) c.forget.ensures;
     }
 
 pub returns-clause-settled : goal.returns-clause-settled

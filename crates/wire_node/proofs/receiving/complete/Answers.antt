@@ -1,6 +1,5 @@
 use Rattle.std.proofs.Common.{◌++◌, drop, subst, take}
 use Rattle.frames.specs.Grammar.{IsSpelling}
-use Rattle.wire_node.proofs.Stepping.{machine}
 use Rattle.wire_node.proofs.Taking.{completed, takes_one}
 use Rattle.wire_node.proofs.receiving.complete.Goals as goal
 
@@ -12,9 +11,7 @@ returns-clause-some g c =
     let now = c.drop_front.new.left.items in
     let count = c.in_ok-count.count in
     let frame = c.in-Ok.decoded.0 in
-    let old = machine c.args.core.now c.args.entries.now.items c.args.pending.now in
-    let new = machine c.take_frame.new.core c.take_frame.new.entries.items c.take_frame.new.pending in
     let spelled : IsSpelling frame (take c.in-Ok.decoded.1 whole) = subst (λ t. IsSpelling frame (take c.in-Ok.decoded.1 t)) c.as_slice.ensures.value c.in-Ok.ensures.found.0 in
-    takes_one old c.args.peer.now (left ++ bytes) c.args.dice.now new c.take_frame.new.peer (now ++ drop count bytes) frame
+    takes_one c.args.engine.now c.args.peer.now (left ++ bytes) c.take_frame.new.engine c.take_frame.new.peer (now ++ drop count bytes) frame
     (completed frame left bytes whole now count c.in-Ok.decoded.1 c.in_ok-count.ensures.ok spelled c.drop_front.ensures)
-    c.in_default.ensures.acts c.in_default.ensures.peer
+    c.in_default.ensures.ok

@@ -1,5 +1,4 @@
 use Rattle.std.proofs.Common.{◌≤◌, ◌-◌, drop, length}
-use Rattle.wire_node.specs.Acting.{AreSettled}
 use Rattle.wire_node.specs.Receiving.{Takes}
 use Rattle.wire_node.proofs.receiving.take_frames.Given as goal
 
@@ -7,10 +6,7 @@ use Rattle.wire_node.proofs.receiving.take_frames.Given as goal
 abbrev pub invariant-loop-frame : goal.invariant-loop-frame
 invariant-loop-frame g l =
     (l.at ≤ length l.bytes)
-    × AreSettled l.entries.items
-    × Takes
-    (record { core = l.fn.core; waiting = l.fn.entries.items; pending = l.fn.pending }) l.fn.peer l.bytes l.dice
-    (record { core = l.core; waiting = l.entries.items; pending = l.pending }) l.peer (drop l.at l.bytes)
+    × Takes l.fn.engine l.fn.peer l.bytes l.engine l.peer (drop l.at l.bytes)
 
 abbrev pub decreases-loop-frame : goal.decreases-loop-frame
 decreases-loop-frame g l = length l.bytes - l.at

@@ -7,13 +7,16 @@ use Rattle.wire_node.proofs.node.WireNode.start.Goals as goal
 
 pub returns : goal.returns
 returns g c =
-    let sends : c.as_slice.result.now ≡ c.start_core.new.out.sends = c.as_slice.ensures ∙ ap (λ (o : Output Frame). o.sends) c.out.view_is in
+    let out = c.start_core.new.out in
+    let sends : c.as_slice.result.now ≡ out.sends = c.as_slice.ensures ∙ ap (λ (o : Output Frame). o.sends) c.out.view_is in
     record {
-      sends = c.start_core.new.out.sends;
-      started = c.in_ok-core.ensures;
+      opening = out;
+      started = c.in_ok-core.ensures.started;
+      nothing = c.in_ok-core.ensures.nothing;
       waits = λ name. c.in_ok-entries.ensures.waits name ∙ ap (λ (s : List (Name × Frame)). mail_for s name) sends;
       delivered = c.new.ensures;
-      connections = c.new-2.ensures.items;
-      lost = c.new-3.ensures;
+      notes = c.in_ok-open.ensures;
+      lost = c.new-2.ensures;
+      connections = c.new-3.ensures.items;
       ticks = refl;
     }

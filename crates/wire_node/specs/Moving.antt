@@ -1,0 +1,69 @@
+-- What a node of bytes does at a step: the step itself, and then names go down for whom too much waits.
+use Rattle.std.specs.Prelude.{◌≡◌, ◌≢◌, ◌%◌, ◌++◌, ℕ, List, [], ◌∷◌, map, replicate}
+use Rattle.node_names.specs.NodeName.{Name}
+use Rattle.node_names.specs.declared.dice.Dice.{Dice}
+use Rattle.node_names.specs.declared.ids.MsgId.{MsgId}
+use Rattle.world.specs.DeliveryLaw.{ids}
+use Rattle.world.specs.PayloadLaw.{next_id}
+use Rattle.world.specs.Stimulus.{Stimulus}
+use Rattle.world.specs.declared.stimulus.StimulusOf.TheVariants.{Arrive, Broadcast, Fire, Flush, Shuffle}
+use Rattle.frames.specs.Frame.{Frame}
+use Rattle.node_core.specs.Plum.{plum_state}
+use Rattle.wire_node.specs.Acting.{Acts, GoDown, GoesDown, Machine}
+
+-- A core with what waits, what it delivered and what is noted; and the names for whom bytes were dropped since that was
+-- asked last.
+pub record Engine : Type 0 where
+  pub machine : Machine
+  pub lost : List Name
+
+-- Some names went down with these dice, for whom more than the limit waited.
+pub record Relieves (old : Machine) (lost : List Name) (dice : Dice) (new : Machine) (lost' : List Name) : Type 0 where
+  pub names : List Name
+  pub downs : GoDown old names dice new
+  pub noted : lost' ≡ lost ++ names
+
+-- The core made this step, and then names went down for whom too much waited.
+pub record Moves (old : Engine) (stimulus : Stimulus Frame) (dice : Dice) (new : Engine) : Type 0 where
+  pub stepped : Machine
+  pub acts : Acts old.machine stimulus stepped
+  pub relieves : Relieves stepped old.lost dice new.machine new.lost
+
+-- The core broadcast this payload under this id, which was its next one: the step delivers this message and no other.
+-- Names for whom too much waited went down by dice of zeros.
+pub record Broadcasts (old : Engine) (payload : List ℕ) (id : MsgId) (new : Engine) : Type 0 where
+  pub moves : Moves old (Broadcast payload) (record { 0 = replicate 16 0 }) new
+  pub its_id : ids moves.acts.out.deliveries ≡ id ∷ []
+  pub next : id ≡ next_id (plum_state old.machine.core)
+
+-- What makes the core step, and the dice for names that go down after it.
+abbrev pub Move : Type 0
+Move = Stimulus Frame × Dice
+
+-- These steps were made, one after the other.
+abbrev pub MovesAll : Engine → List Move → Engine → Type 0
+MovesAll old [] new = old ≡ new
+MovesAll old (move ∷ moves) new = (mid : Engine) × Moves old move.0 move.1 mid × MovesAll mid moves new
+
+-- a frame comes from whoever sent it, with these dice
+abbrev pub arrival : Frame × Dice → Move
+arrival taken = (Arrive taken.0.sender taken.0 taken.1, taken.1)
+
+-- the timer of the id fires
+abbrev pub firing : Dice → MsgId → Move
+firing dice id = (Fire id, dice)
+
+-- The core was told that the name is down, what waited for it was dropped, and it is among those for whom bytes were.
+pub record GoesAway (old : Engine) (name : Name) (dice : Dice) (new : Engine) : Type 0 where
+  pub down : GoesDown old.machine name dice new.machine
+  pub noted : new.lost ≡ old.lost ++ name ∷ []
+
+-- The steps of a tick: all that was queued was sent, each timer that was armed fired, and at a tenth tick the passive
+-- view was shuffled.
+pub record TickSteps (old : Engine) (ticks : ℕ) (dice : Dice) (new : Engine) : Type 0 where
+  pub flushed : Engine
+  pub fired : Engine
+  pub flushes : Moves old Flush dice flushed
+  pub fires : MovesAll flushed (map (firing dice) flushed.machine.core.gossip.missing.timers) fired
+  pub shuffles : ticks % 10 ≡ 0 → Moves fired (Shuffle dice) dice new
+  pub stays : ticks % 10 ≢ 0 → new ≡ fired

@@ -1,0 +1,171 @@
+//! The core of a node, with what its steps leave to be taken.
+ghost use Rattle.std.specs.Prelude.{◌≡◌, List, ◌∷◌, [], ◌++◌, Some, IfOk, OnErr, OnOk};
+ghost use Rattle.world.specs.Delivery.{Delivery as Given};
+ghost use Rattle.wire_node.specs.Moving.{Broadcasts, GoesAway, Moves};
+ghost use Rattle.world.specs.declared.stimulus.StimulusOf.TheVariants as stimulus;
+
+use crate::downs::{relieve, take_down};
+use crate::entry::Entry;
+use crate::idle::waiting_for;
+use crate::record::Record;
+use crate::step::make_step;
+use bytes::Bytes;
+use frames::Frame;
+use node_core::{PlumCore, armed_ids};
+use node_names::{Dice, Listed, MsgId, NodeName};
+use std::alloc::{AllocError, Allocator};
+use std::marker::Model;
+use world::{Core, CoreError, Delivery, Stimulus, StimulusOf};
+
+/// A core, and what its steps leave to be taken: bytes by the name that they go to, deliveries, what is noted, and names
+/// that are down.
+#[derive(Drop)]
+pub(crate) struct Engine<A: Allocator, R: Record<A> + Drop> {
+    pub(crate) core: PlumCore<A>,
+    pub(crate) entries: Vec<Entry<A>, A>,
+    pub(crate) pending: Listed<Delivery<A>, A>,
+    pub(crate) record: R,
+    /// The names for whom bytes were dropped.
+    pub(crate) lost: Listed<NodeName, A>,
+    /// How many bytes may wait for a name.
+    pub(crate) limit: usize,
+    /// How many names it may keep bytes for before it looks for those for whom nothing waits.
+    pub(crate) names: usize,
+}
+
+impl<A: Allocator, R: Record<A> + Drop> Model for Engine<A, R> {
+    ghost use Rattle.wire_node.specs.Acting.{AreSettled, Machine};
+    ghost use Rattle.wire_node.specs.Moving.{Engine};
+    ghost use Rattle.std.specs.FinSet as set;
+    ghost use Rattle.std.specs.Coded.{codes};
+    ghost use Rattle.node_names.specs.Order.{id_cmp};
+    ghost use Rattle.node_names.specs.contracts.ids.MsgId as id;
+
+    ghost Value = { Engine };
+
+    ghost coded = { Prim.hlevel (codes, set.code {R = id_cmp} id.the_row.coded) };
+
+    ghost view = { λ e. record {
+      machine = record { core = e.core; waiting = e.entries.items; pending = e.pending; noted = R.noted e.record };
+      lost = e.lost;
+    } };
+
+    ghost invariant = { λ e. AreSettled e.entries.items };
+}
+
+/// The id of the last delivery.
+#[tactic(auto, using(crate::proofs::Lasts::last_of))]
+fn last_id<A: Allocator>(pending: &Listed<Delivery<A>, A>) -> Option<MsgId>
+    ensures { (before : List Given) (last : Given) → pending.now ≡ before ++ last ∷ [] → result ≡ Some last.id }
+{
+    match pending.as_slice().last() {
+        Some(delivery) => Some(delivery.id),
+        None => None,
+    }
+}
+
+impl<A: Allocator + Copy, R: Record<A> + Drop> Engine<A, R> {
+    /// The allocator of all that it keeps.
+    pub(crate) fn alloc(&self) -> A {
+        *self.entries.allocator()
+    }
+
+    /// The core, to be read.
+    pub(crate) fn core(&self) -> &PlumCore<A>
+        ensures { result.now ≡ self.now.machine.core }
+    {
+        &self.core
+    }
+
+    /// What notes the steps, to be read.
+    pub(crate) fn record(&self) -> &R
+        ensures { R.noted result.now ≡ self.now.machine.noted }
+    {
+        &self.record
+    }
+
+    /// The ids whose timers are armed.
+    pub(crate) fn armed(&self) -> Result<Vec<MsgId, A>, AllocError>
+        ensures { IfOk result (λ ids. ids.items ≡ self.now.machine.core.gossip.missing.timers) }
+    {
+        armed_ids(self.alloc(), self.core.timers())
+    }
+
+    /// Whether the name is one that may go down: the core keeps a link to it, or bytes wait for it.
+    pub(crate) fn is_up(&self, name: &NodeName) -> bool {
+        self.core.active().contains(name) || waiting_for(&self.entries, name) > 0
+    }
+
+    /// Makes a step, and then takes the names down for whom too much waits. If the step is refused, nothing changes.
+    pub(crate) fn step(
+        &mut self,
+        stimulus: &Stimulus<Frame<A>, A>,
+        dice: &Dice,
+    ) -> Result<(), CoreError>
+        ensures ok { OnOk result (Moves self.old stimulus.now dice.now self.new) }
+        ensures err { OnErr result (self.new ≡ self.old) }
+    {
+        make_step(
+            &mut self.core,
+            &mut self.entries,
+            &mut self.pending,
+            &mut self.record,
+            stimulus,
+        )?;
+        relieve(
+            &mut self.core,
+            &mut self.entries,
+            &mut self.pending,
+            &mut self.record,
+            &mut self.lost,
+            self.limit,
+            dice,
+        );
+        Ok(())
+    }
+
+    /// Broadcasts a message, takes the names down for whom too much waits then, and returns the message's id. If the
+    /// step is refused, nothing changes.
+    pub(crate) fn broadcast(&mut self, payload: Bytes<A>) -> Result<MsgId, CoreError>
+        ensures ok { IfOk result (λ id. Broadcasts self.old payload id self.new) }
+        ensures err { OnErr result (self.new ≡ self.old) }
+    {
+        make_step(
+            &mut self.core,
+            &mut self.entries,
+            &mut self.pending,
+            &mut self.record,
+            &StimulusOf::Broadcast(payload),
+        )?;
+        let Some(id) = last_id(&self.pending) else {
+            unreachable!()
+        };
+        relieve(
+            &mut self.core,
+            &mut self.entries,
+            &mut self.pending,
+            &mut self.record,
+            &mut self.lost,
+            self.limit,
+            &Dice::ZEROS,
+        );
+        Ok(id)
+    }
+
+    /// Tells the core that the name is down, and drops what waits for it. If the step is refused, nothing changes.
+    pub(crate) fn take_down(&mut self, name: NodeName, dice: &Dice) -> Result<(), CoreError>
+        ensures ok { OnOk result (GoesAway self.old name dice.now self.new) }
+        ensures err { OnErr result (self.new ≡ self.old) }
+    {
+        take_down(
+            &mut self.core,
+            &mut self.entries,
+            &mut self.pending,
+            &mut self.record,
+            &mut self.lost,
+            name,
+            dice,
+        )?;
+        Ok(())
+    }
+}
