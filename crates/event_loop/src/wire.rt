@@ -3,10 +3,21 @@ use crate::loop_node::LoopNode;
 use node_names::{Dice, NodeName};
 use rand_core::Rng;
 use std::alloc::{AllocError, Allocator};
-use wire_node::{ConnectionId, ReceiveError, WireError, WireNode};
+use wire_node::{ConnectionId, DiceSource, ReceiveError, Record, WireError, WireNode};
 use world::Core;
 
-impl<A: Allocator + Copy> LoopNode<A> for WireNode<A> {
+/// Draws the dice of frames from a generator.
+struct Drawn<'a, G> {
+    generator: &'a mut G,
+}
+
+impl<G: RngCore> DiceSource for Drawn<'_, G> {
+    fn draw(&mut self) -> Dice {
+        Dice::draw(self.generator)
+    }
+}
+
+impl<A: Allocator + Copy, R: Record<A> + Drop> LoopNode<A> for WireNode<A, R> {
     fn accept(&mut self) -> Result<ConnectionId, WireError> {
         self.accept()
     }
@@ -17,7 +28,7 @@ impl<A: Allocator + Copy> LoopNode<A> for WireNode<A> {
         bytes: &[u8],
         generator: &mut G,
     ) -> Result<(), ReceiveError> {
-        self.receive(id, bytes, &Dice::draw(generator))
+        self.receive(id, bytes, &mut Drawn { generator })
     }
 
     fn ended(&mut self, id: ConnectionId, dice: &Dice) -> Result<(), WireError> {

@@ -17,7 +17,7 @@ use std::env;
 use std::net::Net;
 use std::sync::Wait;
 use std::time::{Clock, Duration};
-use wire_node::{WireLimits, WireNode};
+use wire_node::{Unrecorded, WireLimits, WireNode};
 
 /// How many milliseconds a tick takes.
 const TICK: u64 = 100;
@@ -55,7 +55,7 @@ fn main(rt: HostRuntime) -> Result<()> {
     };
     let contact = nodes.contact_of(&name);
     let limits = WireLimits::new(Limits::STANDARD);
-    let node = WireNode::start(alloc, me, limits, &[], contact)?;
+    let node = WireNode::start(alloc, me, limits, &[], contact, Unrecorded)?;
     run(&rt, &name, nodes, node, &mut greeter)?;
     greeter.end()
 }

@@ -2,10 +2,10 @@
 use crate::port_node::PortNode;
 use bytes::Bytes;
 use std::alloc::Allocator;
-use wire_node::{WireError, WireNode};
+use wire_node::{Record, WireError, WireNode};
 use world::Delivery;
 
-impl<A: Allocator + Copy> PortNode<A> for WireNode<A> {
+impl<A: Allocator + Copy, R: Record<A> + Drop> PortNode<A> for WireNode<A, R> {
     fn broadcast(&mut self, payload: Bytes<A>) -> Result<(), WireError> {
         self.broadcast(payload)?;
         Ok(())

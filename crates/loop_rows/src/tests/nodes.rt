@@ -6,7 +6,7 @@ use node_names::{Incarnation, Limits, NodeName, Origin};
 use std::alloc::{AllocError, Global};
 use std::net::{Net, SocketAddr};
 use std::time::Duration;
-use wire_node::{WireError, WireLimits, WireNode};
+use wire_node::{Unrecorded, WireError, WireLimits, WireNode};
 
 /// A node that a test starts.
 ///
@@ -39,7 +39,8 @@ impl TestedNode for WireNode<Global> {
             incarnation: Incarnation(1),
         };
         let core = Limits::STANDARD;
-        WireNode::start(alloc, me, WireLimits { core, waiting }, peers, None)
+        let limits = WireLimits { core, waiting };
+        WireNode::start(alloc, me, limits, peers, None, Unrecorded)
     }
 
     fn say(&mut self, alloc: Global, len: usize) -> Result<(), WireError> {
