@@ -11,7 +11,7 @@ struct Drawn<'a, G> {
     generator: &'a mut G,
 }
 
-impl<G: RngCore> DiceSource for Drawn<'_, G> {
+impl<G: Rng> DiceSource for Drawn<'_, G> {
     fn draw(&mut self) -> Dice {
         Dice::draw(self.generator)
     }
