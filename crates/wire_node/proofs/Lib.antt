@@ -3,6 +3,7 @@ pub mod Ends
 pub mod Filling
 pub mod Fronts
 pub mod GoingDown
+pub mod Heading
 pub mod Lasts
 pub mod Leading
 pub mod Sending

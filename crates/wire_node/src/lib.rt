@@ -14,6 +14,7 @@ mod engine;
 mod entry;
 mod error;
 mod handing;
+mod heads;
 mod idle;
 mod laws;
 mod limits;
