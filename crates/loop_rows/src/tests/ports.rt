@@ -76,7 +76,7 @@ where
 }
 
 /// Adds a node with this peer to a loop, and opens its port.
-fn add<N: TestedNode + PortNode<Global>, R: Net + AllocGlobal>(
+fn add<N: TestedNode<Global> + PortNode<Global>, R: Net + AllocGlobal>(
     rt: &R,
     event_loop: &mut EventLoop<N, Book>,
     ports: &mut Ports,
@@ -93,7 +93,7 @@ fn add<N: TestedNode + PortNode<Global>, R: Net + AllocGlobal>(
 /// Has one thread broadcast by a port, and it and another take all messages. Returns how many each took.
 fn exchange<N, R>(rt: R) -> Result<[Option<usize>; 2]>
 where
-    N: TestedNode + PortNode<Global>,
+    N: TestedNode<Global> + PortNode<Global>,
     R: Threads + Wait + Clock + Net + AllocGlobal + Copy + Send + Drop + 'static,
 {
     let alloc = rt.alloc();
