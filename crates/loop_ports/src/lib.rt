@@ -9,7 +9,7 @@ mod port_node;
 mod ports;
 mod wire;
 
-pub use error::PortError;
+pub use error::{PortError, PortFault};
 pub use port::Port;
 pub use port_node::PortNode;
 pub use ports::Ports;

@@ -1,5 +1,9 @@
 //! The end of a node for another thread.
-use crate::error::PortError;
+ghost use Rattle.std.specs.Prelude.{◌≡◌, ◌<◌, ◌≤◌, ◌∷◌, ◌++◌, [], length, IfErr, IfNone, IfSome, OnOk};
+ghost use Rattle.rtrb.specs.Ring.{received, sent};
+ghost use Rattle.world.specs.declared.TheConstants.{MAX_PAYLOAD};
+
+use crate::error::{PortError, PortFault};
 use bytes::Bytes;
 use mio::Waker;
 use rtrb::{Consumer, Producer, PushError};
@@ -35,32 +39,48 @@ impl<A: Allocator + Copy> Port<A> {
         }
     }
 
-    /// Hands in a message to be broadcast.
-    pub fn broadcast(&mut self, payload: Bytes<A>) -> Result<(), PortError<A>> {
+    /// Hands in a message to be broadcast. Where it is not taken, the error gives it back.
+    pub fn broadcast(&mut self, payload: Bytes<A>) -> Result<(), PortError<A>>
+        ensures ok { OnOk result ((length payload ≤ MAX_PAYLOAD) × (sent self.new.broadcasts ≡ sent self.old.broadcasts ++ payload ∷ [])) }
+        ensures err { IfErr result (λ e. (e.payload ≡ payload) × (sent self.new.broadcasts ≡ sent self.old.broadcasts)) }
+        ensures too_long { IfErr result (λ e. e.fault ≡ PortFault.TooLong → MAX_PAYLOAD < length payload) }
+    {
         if payload.len() > MAX_PAYLOAD {
-            return Err(PortError::TooLong(payload));
+            return Err(PortError {
+                payload,
+                fault: PortFault::TooLong,
+            });
         }
         if self.broadcasts.is_abandoned() {
-            return Err(PortError::Ended(payload));
+            return Err(PortError {
+                payload,
+                fault: PortFault::Ended,
+            });
         }
-        match self.broadcasts.push(payload) {
-            Ok(()) => {
-                self.wake_for_first();
-                Ok(())
-            }
-            Err(PushError::Full(payload)) => Err(PortError::Full(payload)),
+        if let Err(PushError::Full(payload)) = self.broadcasts.push(payload) {
+            return Err(PortError {
+                payload,
+                fault: PortFault::Full,
+            });
         }
+        self.wake_for_first();
+        Ok(())
     }
 
     /// Wakes the loop if no other message waits: it may sleep. If the system refuses that, the next tick does it.
-    fn wake_for_first(&mut self) {
+    fn wake_for_first(&mut self)
+        ensures { sent self.new.broadcasts ≡ sent self.old.broadcasts }
+    {
         if self.broadcasts.slots().saturating_add(1) >= self.broadcasts.capacity() {
             let _ = self.waker.wake();
         }
     }
 
     /// Takes the next message that was delivered, if there is one.
-    pub fn next(&mut self) -> Option<Delivery<A>> {
+    pub fn next(&mut self) -> Option<Delivery<A>>
+        ensures some { IfSome result (λ message. received self.new.deliveries ≡ received self.old.deliveries ++ message ∷ []) }
+        ensures none { IfNone result (received self.new.deliveries ≡ received self.old.deliveries) }
+    {
         let message = self.deliveries.pop().ok()?;
         self.taken = self.taken.saturating_add(1);
         if self.taken >= self.deliveries.capacity() / 2 {

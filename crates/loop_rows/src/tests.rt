@@ -3,5 +3,6 @@ mod greetings;
 mod nodes;
 mod one_loop;
 mod ports;
+mod refusals;
 mod stopped_peer;
 mod strangers;

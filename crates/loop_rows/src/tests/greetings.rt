@@ -2,6 +2,7 @@
 use crate::tests::nodes::{Single, TestedNode};
 use anyhow::Result;
 use node_names::NodeName;
+use std::alloc::Global;
 use std::net::Net;
 use wire_node::{MAX_WAITING, WireNode};
 
@@ -9,7 +10,7 @@ use wire_node::{MAX_WAITING, WireNode};
 const TURNS: usize = 1_000;
 
 /// Starts two nodes that are peers, each in a loop of its own.
-pub(crate) fn start_two<N: TestedNode, R: Net + AllocGlobal>(
+pub(crate) fn start_two<N: TestedNode<Global>, R: Net + AllocGlobal>(
     rt: &R,
 ) -> Result<(Single<N>, Single<N>)> {
     let (a, b) = (NodeName::parse(b"a")?, NodeName::parse(b"b")?);
@@ -21,7 +22,7 @@ pub(crate) fn start_two<N: TestedNode, R: Net + AllocGlobal>(
 }
 
 /// Lets both broadcast, and makes turns until each has heard both messages. Returns whether they have.
-pub(crate) fn greet<N: TestedNode, R: Net + AllocGlobal>(
+pub(crate) fn greet<N: TestedNode<Global>, R: Net + AllocGlobal>(
     rt: &R,
     one: &mut Single<N>,
     two: &mut Single<N>,
@@ -40,7 +41,7 @@ pub(crate) fn greet<N: TestedNode, R: Net + AllocGlobal>(
 }
 
 /// Starts two nodes, and lets them greet each other.
-fn start_and_greet<N: TestedNode, R: Net + AllocGlobal>(rt: &R) -> Result<bool> {
+fn start_and_greet<N: TestedNode<Global>, R: Net + AllocGlobal>(rt: &R) -> Result<bool> {
     let (mut one, mut two) = start_two::<N, R>(rt)?;
     greet(rt, &mut one, &mut two)
 }

@@ -3,7 +3,7 @@ use anyhow::Result;
 use bytes::Bytes;
 use event_loop::{EventLoop, LoopNode, Resolve};
 use node_names::{Incarnation, Limits, NodeName, Origin};
-use std::alloc::{AllocError, Global};
+use std::alloc::{AllocError, Allocator, Global};
 use std::net::{Net, SocketAddr};
 use std::time::Duration;
 use wire_node::{Unrecorded, WireError, WireLimits, WireNode};
@@ -11,29 +11,29 @@ use wire_node::{Unrecorded, WireError, WireLimits, WireNode};
 /// A node that a test starts.
 ///
 /// All helpers are generic in it: a function that owns a node takes the prover a minute if its type is named.
-pub(crate) trait TestedNode: LoopNode<Global> + Sized {
+pub(crate) trait TestedNode<A: Allocator + Copy>: LoopNode<A> + Sized {
     /// Starts a node with these peers, for each of whom this number of bytes may wait.
     fn begin(
-        alloc: Global,
+        alloc: A,
         name: NodeName,
         peers: &[NodeName],
         waiting: usize,
     ) -> Result<Self, WireError>;
 
     /// Broadcasts a message of so many zeros.
-    fn say(&mut self, alloc: Global, len: usize) -> Result<(), WireError>;
+    fn say(&mut self, alloc: A, len: usize) -> Result<(), WireError>;
 
     /// Takes what was delivered. Returns how many messages that were.
     fn hear(&mut self) -> usize;
 }
 
-impl TestedNode for WireNode<Global> {
+impl<A: Allocator + Copy> TestedNode<A> for WireNode<A> {
     fn begin(
-        alloc: Global,
+        alloc: A,
         name: NodeName,
         peers: &[NodeName],
         waiting: usize,
-    ) -> Result<WireNode<Global>, WireError> {
+    ) -> Result<WireNode<A>, WireError> {
         let me = Origin {
             name,
             incarnation: Incarnation(1),
@@ -43,7 +43,7 @@ impl TestedNode for WireNode<Global> {
         WireNode::start(alloc, me, limits, peers, None, Unrecorded)
     }
 
-    fn say(&mut self, alloc: Global, len: usize) -> Result<(), WireError> {
+    fn say(&mut self, alloc: A, len: usize) -> Result<(), WireError> {
         let zeros = vec![in alloc; 0; len]?;
         self.broadcast(Bytes::copy_from_slice(alloc, &zeros)?)?;
         Ok(())
@@ -86,7 +86,7 @@ impl Resolve for Book {
 
 /// A loop of one node, and how many messages that has delivered.
 #[derive(Drop)]
-pub(crate) struct Single<N: TestedNode> {
+pub(crate) struct Single<N: TestedNode<Global>> {
     pub(crate) event_loop: EventLoop<N, Book>,
     pub(crate) name: NodeName,
     pub(crate) at: SocketAddr,
@@ -98,7 +98,7 @@ pub(crate) fn any_port() -> Result<SocketAddr> {
     Ok("127.0.0.1:0".parse()?)
 }
 
-impl<N: TestedNode> Single<N> {
+impl<N: TestedNode<Global>> Single<N> {
     /// Starts a node with these peers, for each of whom this number of bytes may wait.
     pub(crate) fn start<R: Net + AllocGlobal>(
         rt: &R,

@@ -31,7 +31,7 @@ fn name_at(place: usize) -> Result<NodeName> {
     Ok(NodeName::parse(&[letter])?)
 }
 
-impl<N: TestedNode> Program<N> for Hearing {
+impl<N: TestedNode<Global>> Program<N> for Hearing {
     fn turn(&mut self, at: Situation, node: &mut N) -> Next {
         if !self.has_said {
             self.has_said = node.say(self.alloc, 1_000).is_ok();
@@ -49,7 +49,7 @@ impl<N: TestedNode> Program<N> for Hearing {
 }
 
 /// Adds the node at this place.
-fn add<N: TestedNode, R: Net + AllocGlobal>(
+fn add<N: TestedNode<Global>, R: Net + AllocGlobal>(
     rt: &R,
     event_loop: &mut EventLoop<N, Book>,
     place: usize,
@@ -66,7 +66,9 @@ fn add<N: TestedNode, R: Net + AllocGlobal>(
 }
 
 /// Lets one node of a loop broadcast. Returns how many messages each node delivered.
-fn deliver<N: TestedNode, R: Wait + Clock + Net + AllocGlobal>(rt: &R) -> Result<Vec<usize>> {
+fn deliver<N: TestedNode<Global>, R: Wait + Clock + Net + AllocGlobal>(
+    rt: &R,
+) -> Result<Vec<usize>> {
     let alloc = rt.alloc();
     let mut event_loop: EventLoop<N, Book> = EventLoop::new(rt, alloc, Book::new(alloc), 1)?;
     for place in 0..NODES {

@@ -1,10 +1,11 @@
-//! A peer that takes connections and reads nothing.
+//! Peers that read nothing, take no connections, or have no address.
 use crate::tests::nodes::{Single, TestedNode, any_port};
 use anyhow::Result;
 use event_loop::LoopNode;
 use mio::net::TcpListener;
 use node_names::NodeName;
-use std::net::Net;
+use std::alloc::Global;
+use std::net::{Net, SocketAddr};
 use wire_node::WireNode;
 
 /// How many bytes may wait for a name.
@@ -16,19 +17,23 @@ const MESSAGE: usize = 30_000;
 /// How many messages are sent at most: far more than the system and the node keep for a peer.
 const MESSAGES: usize = 2_000;
 
-/// What became of a stopped peer, and of another one.
+/// How many turns are made in the end.
+const TURNS: usize = 100;
+
+/// What became of the peers that do not answer, and of the one that does.
 #[derive(Clone, Copy, Debug, PartialEq, Eq)]
 struct Outcome {
-    /// Whether the stopped peer is one no more.
-    is_given_up: bool,
-    /// Whether the other is one still.
-    is_kept: bool,
-    /// How many messages the other lacks.
+    /// Whether they are peers still: the one that reads nothing, the one that takes no connections, and the one without
+    /// an address.
+    has_kept: [bool; 3],
+    /// Whether the one that answers is.
+    has_other: bool,
+    /// How many messages that one lacks.
     lacking: usize,
 }
 
 /// Whether the node of a loop has this peer.
-fn has_peer<N: TestedNode>(single: &Single<N>, name: &NodeName) -> bool {
+fn has_peer<N: TestedNode<Global>>(single: &Single<N>, name: &NodeName) -> bool {
     match single.event_loop.node(0) {
         Some(node) => node.is_peer(name),
         None => false,
@@ -36,7 +41,7 @@ fn has_peer<N: TestedNode>(single: &Single<N>, name: &NodeName) -> bool {
 }
 
 /// Broadcasts until the name is no peer any more. Returns how many messages were sent.
-fn speak<N: TestedNode, R: Net + AllocGlobal>(
+fn speak<N: TestedNode<Global>, R: Net + AllocGlobal>(
     rt: &R,
     one: &mut Single<N>,
     two: &mut Single<N>,
@@ -53,38 +58,49 @@ fn speak<N: TestedNode, R: Net + AllocGlobal>(
     Ok(MESSAGES)
 }
 
-/// Lets a node broadcast to a stopped peer and to another one.
-fn stop<N: TestedNode, R: Net + AllocGlobal>(rt: &R) -> Result<Outcome> {
-    let (a, b, c) = (
-        NodeName::parse(b"a")?,
-        NodeName::parse(b"b")?,
-        NodeName::parse(b"c")?,
+/// An address where nobody listens.
+fn closed_port<R: Net>(rt: &R) -> Result<SocketAddr> {
+    Ok(TcpListener::bind(rt, any_port()?)?.local_addr()?)
+}
+
+/// Lets a node broadcast to a peer that answers, and to three that do not.
+fn speak_to_all<N: TestedNode<Global>, R: Net + AllocGlobal>(rt: &R) -> Result<Outcome> {
+    let (a, b) = (NodeName::parse(b"a")?, NodeName::parse(b"b")?);
+    let (stopped, absent, unknown) = (
+        NodeName::parse(b"stopped")?,
+        NodeName::parse(b"absent")?,
+        NodeName::parse(b"unknown")?,
     );
-    let stopped = TcpListener::bind(rt, any_port()?)?;
-    let mut one: Single<N> = Single::start(rt, a, &[b, c], WAITING)?;
+    let listener = TcpListener::bind(rt, any_port()?)?;
+    let mut one: Single<N> = Single::start(rt, a, &[b, stopped, absent, unknown], WAITING)?;
     let mut two: Single<N> = Single::start(rt, b, &[a], WAITING)?;
     one.meet(b, two.at)?;
-    one.meet(c, stopped.local_addr()?)?;
+    one.meet(stopped, listener.local_addr()?)?;
+    one.meet(absent, closed_port(rt)?)?;
     two.meet(a, one.at)?;
-    let sent = speak(rt, &mut one, &mut two, &c)?;
-    for _ in 0..100 {
+    let sent = speak(rt, &mut one, &mut two, &stopped)?;
+    for _ in 0..TURNS {
         one.turn(rt)?;
         two.turn(rt)?;
     }
     Ok(Outcome {
-        is_given_up: !has_peer(&one, &c),
-        is_kept: has_peer(&one, &b),
+        has_kept: [
+            has_peer(&one, &stopped),
+            has_peer(&one, &absent),
+            has_peer(&one, &unknown),
+        ],
+        has_other: has_peer(&one, &b),
         lacking: sent.saturating_sub(two.heard),
     })
 }
 
 #[test]
-fn a_stopped_peer_is_given_up_and_the_other_goes_on(rt: HostRuntime) -> Result<()> {
+fn peers_that_do_not_answer_are_given_up(rt: HostRuntime) -> Result<()> {
     let want = Outcome {
-        is_given_up: true,
-        is_kept: true,
+        has_kept: [false, false, false],
+        has_other: true,
         lacking: 0,
     };
-    assert_eq!(rt; stop::<WireNode, HostRuntime>(&rt)?, want);
+    assert_eq!(rt; speak_to_all::<WireNode, HostRuntime>(&rt)?, want);
     Ok(())
 }

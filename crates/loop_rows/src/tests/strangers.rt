@@ -3,6 +3,7 @@ use crate::tests::greetings::{greet, start_two};
 use crate::tests::nodes::{Single, TestedNode};
 use anyhow::Result;
 use mio::net::TcpStream;
+use std::alloc::Global;
 use std::io::{ErrorKind, Read, Write};
 use std::net::{Net, SocketAddr};
 use wire_node::WireNode;
@@ -36,7 +37,11 @@ fn closed(strangers: &mut [TcpStream; 3]) -> [bool; 3] {
 }
 
 /// Makes turns of both loops.
-fn pass<N: TestedNode, R: Net>(rt: &R, one: &mut Single<N>, two: &mut Single<N>) -> Result<()> {
+fn pass<N: TestedNode<Global>, R: Net>(
+    rt: &R,
+    one: &mut Single<N>,
+    two: &mut Single<N>,
+) -> Result<()> {
     for _ in 0..TURNS {
         one.turn(rt)?;
         two.turn(rt)?;
@@ -56,7 +61,7 @@ struct Outcome {
 }
 
 /// Has strangers dial a node that has a peer.
-fn be_dialled<N: TestedNode, R: Net + AllocGlobal>(rt: &R) -> Result<Outcome> {
+fn be_dialled<N: TestedNode<Global>, R: Net + AllocGlobal>(rt: &R) -> Result<Outcome> {
     let (mut one, mut two) = start_two::<N, R>(rt)?;
     one.event_loop.set_patience(PATIENCE);
     let mut strangers = [
@@ -64,6 +69,7 @@ fn be_dialled<N: TestedNode, R: Net + AllocGlobal>(rt: &R) -> Result<Outcome> {
         dial(rt, one.at, &[0, 0, 1, 0, 1])?,
         dial(rt, one.at, b"")?,
     ];
+    drop(dial(rt, one.at, &[0, 0])?);
     let first = greet(rt, &mut one, &mut two)?;
     pass(rt, &mut one, &mut two)?;
     let at_once = closed(&mut strangers);
