@@ -9,7 +9,7 @@ use Rattle.node_names.specs.Same.{has_name, same_name}
 use Rattle.world.specs.CoreState.{CoreState}
 use Rattle.world.specs.Group.{Group, core_of}
 use Rattle.world.specs.Links.{IsRunning, Path}
-use Rattle.at_rest.specs.Linking.{has_link, is_next, runs}
+use Rattle.at_rest.specs.Linking.{has_link, is_new, runs}
 use Rattle.at_rest.specs.Reach.{IsDistance}
 use Rattle.at_rest.proofs.Linkings.{has_one, is_link, link_is, one_has}
 use Rattle.at_rest.proofs.Lists.{any_passes, both_hold, fails, first_holds, not_false, not_holds, one_passes, second_holds}
@@ -46,7 +46,7 @@ module _ {C N : Type 0} (state : C → CoreState) (group : Group C N) where
   pub is_running : (name : Name) → IsRunning group name → runs state group.nodes name ≡ true
   is_running name running = ap is_some (runs_core group name running.0 running.1)
 
-  module _ (from : Name) (k : ℕ) (reached level next : List Name) (front : IsFront state group from k reached level) (is : (end : Name) → has_name next end ≡ is_next state group.nodes reached level end) where
+  module _ (from : Name) (k : ℕ) (reached level next : List Name) (front : IsFront state group from k reached level) (is : (end : Name) → has_name next end ≡ (is_new state group.nodes (reached ++ level) end && list_any (λ member. has_link state group.nodes member end) level)) where
     -- the names reached then are those nearer than one link more
     near_then : (end : Name) → (has_name (reached ++ level) end ≡ true) ↔ ((m : ℕ) × (m < suc k) × Path state group m from end)
     near_then end = (
@@ -66,11 +66,11 @@ module _ {C N : Type 0} (state : C → CoreState) (group : Group C N) where
     at_then : (end : Name) → (has_name next end ≡ true) ↔ IsDistance state group from (suc k) end
     at_then end = (
       (λ h.
-          let test : is_next state group.nodes reached level end ≡ true = sym (is end) ∙ h in
-          let running : IsRunning group end = running_is end (first_holds (runs state group.nodes end) _ test) in
-          let rest : (not (has_name reached end) && (not (has_name level end) && list_any (λ member. has_link state group.nodes member end) level)) ≡ true = second_holds (runs state group.nodes end) _ test in
-          let later : (not (has_name level end) && list_any (λ member. has_link state group.nodes member end) level) ≡ true = second_holds (not (has_name reached end)) _ rest in
-          let found = one_passes (λ member. has_link state group.nodes member end) level (second_holds (not (has_name level end)) _ later) in
+          let test : (is_new state group.nodes (reached ++ level) end && list_any (λ member. has_link state group.nodes member end) level) ≡ true = sym (is end) ∙ h in
+          let new : is_new state group.nodes (reached ++ level) end ≡ true = first_holds (is_new state group.nodes (reached ++ level) end) _ test in
+          let running : IsRunning group end = running_is end (first_holds (runs state group.nodes end) _ new) in
+          let unreached : not (has_name (reached ++ level) end) ≡ true = second_holds (runs state group.nodes end) _ new in
+          let found = one_passes (λ member. has_link state group.nodes member end) level (second_holds (is_new state group.nodes (reached ++ level) end) _ test) in
           let link = link_is state group found.0 end found.2 in
           let mid : IsDistance state group from k found.0 = (front.at found.0).0 (one_has level found.0 found.1) in
           record {
@@ -78,8 +78,8 @@ module _ {C N : Type 0} (state : C → CoreState) (group : Group C N) where
             shortest = λ m less path.
                 let within : m ≤ k = omega arith in
                 elim (covered state group from k reached level front m end within path) [
-                  | inl in_reached ↦ not_holds (has_name reached end) (first_holds (not (has_name reached end)) _ rest) in_reached
-                  | inr in_level ↦ not_holds (has_name level end) (first_holds (not (has_name level end)) _ later) in_level
+                  | inl in_reached ↦ not_holds (has_name (reached ++ level) end) unreached (has_left reached level end in_reached)
+                  | inr in_level ↦ not_holds (has_name (reached ++ level) end) unreached (has_right reached level end in_level)
                 ];
           }),
       (λ distance.
@@ -89,12 +89,14 @@ module _ {C N : Type 0} (state : C → CoreState) (group : Group C N) where
             | inl in_reached ↦ (let before = (front.near last.0).0 in_reached in absurd (distance.shortest (suc before.0) (let less : before.0 < k = before.1 in omega arith) (longer state group before.0 from last.0 end before.2 last.2)))
             | inr in_level ↦ in_level
           ] in
-          let not_reached : not (has_name reached end) ≡ true = not_false (has_name reached end) (fails (has_name reached end) (λ h. let before = (front.near end).0 h in distance.shortest before.0 (let less : before.0 < k = before.1 in omega arith) before.2)) in
-          let not_level : not (has_name level end) ≡ true = not_false (has_name level end) (fails (has_name level end) (λ h. distance.shortest k (omega arith) ((front.at end).0 h).path)) in
+          let unreached : not (has_name (reached ++ level) end) ≡ true =
+          not_false (has_name (reached ++ level) end) (fails (has_name (reached ++ level) end) (λ h. elim (has_either reached level end h) [
+            | inl in_reached ↦ (let before = (front.near end).0 in_reached in distance.shortest before.0 (let less : before.0 < k = before.1 in omega arith) before.2)
+            | inr in_level ↦ distance.shortest k (omega arith) ((front.at end).0 in_level).path
+          ])) in
           let linked : list_any (λ member. has_link state group.nodes member end) level ≡ true = any_passes (λ member. has_link state group.nodes member end) level last.0 (has_one level last.0 at_mid) (is_link state group last.0 end (last.2.0, last.2.1, last.2.2)) in
           is end
-          ∙ both_hold (runs state group.nodes end) _ (is_running end (end_runs state group (suc k) from end distance.path))
-          (both_hold (not (has_name reached end)) _ not_reached (both_hold (not (has_name level end)) _ not_level linked))),
+          ∙ both_hold (is_new state group.nodes (reached ++ level) end) _ (both_hold (runs state group.nodes end) _ (is_running end (end_runs state group (suc k) from end distance.path)) unreached) linked),
     )
 
     -- so the front goes one level on

@@ -2,27 +2,32 @@
 use Rattle.std.proofs.Common.{◌≡◌, ◌∙◌, ◌<◌, ◌≤◌, ℕ, suc, List, [], ◌∷◌, ◌++◌, true, false, sym, ap, refl, subst, inl, inr, length, arith}
 use Rattle.std.specs.List.{AllByRecursion as Each}
 use Rattle.std.specs.List.Sorted.{IsStrictlySortedBy}
-use Rattle.std.specs.Prelude.{◌↔◌, ◌&&◌, ◌==◌, Bool, cond, filter, if◌then◌else◌, map, not}
+use Rattle.std.specs.List.{list_any}
+use Rattle.std.specs.Ordering.{is_eq}
+use Rattle.std.specs.Option.{option_map_or}
+use Rattle.std.specs.Cmp.Lexicographic.{texts_ties}
+use Rattle.std.specs.Prelude.{◌↔◌, ◌&&◌, ◌||◌, ◌==◌, Bool, Option, Some, None, cond, filter, fold, if◌then◌else◌, map, not}
 use Rattle.std.specs.declared.cmp.Ordering.TheVariants.{Less}
 use borrow.Author.Tests.{eqb-true}
-use Rattle.std.proofs.lemmas.List.{nil_from_length}
+use Rattle.std.proofs.lemmas.List.{append-nil, append_assoc, nil_from_length}
 use Rattle.std.proofs.lemmas.Bool.{false≢true, cases_lt}
-use Rattle.std.proofs.lemmas.List.Kept.{IsStrictlySortedBy-filter}
+use Rattle.std.proofs.lemmas.List.Folds.{list_any-append}
+use Rattle.indexmap.specs.IndexSet.{insert_all, insert_key}
 use Rattle.std.proofs.lemmas.Map.Views.{any-filter_same}
 use Rattle.node_names.specs.NodeName.{Name}
 use Rattle.node_names.specs.Order.{name_cmp}
 use Rattle.node_names.specs.Same.{has_name, same_name, same_name-Decides}
 use Rattle.world.specs.CoreState.{CoreState}
-use Rattle.world.specs.Group.{Group}
+use Rattle.world.specs.Group.{Group, core_of}
 use Rattle.world.specs.Links.{IsRunning}
 use Rattle.world.specs.Lists.{IsOneOf}
 use Rattle.world.specs.declared.node_state.NodeState.{NodeState}
-use Rattle.at_rest.specs.Linking.{is_next, runs}
+use Rattle.at_rest.specs.Linking.{all_new_links, has_link, is_new, new_links, runs}
 use Rattle.at_rest.specs.Reach.{AreByDistance, AreInReach, IsDistance, IsNearer}
 use Rattle.at_rest.proofs.Linkings.{has_one, one_has}
-use Rattle.at_rest.proofs.Lists.{any_passes, each_of_one, each_one, fails, first_holds, not_false, not_holds}
+use Rattle.at_rest.proofs.Lists.{any_passes, each_of_one, each_one, fails, not_false, not_holds}
 use Rattle.at_rest.proofs.Nodes.{found_one}
-use Rattle.at_rest.proofs.Fronts.{goes_on, has_left, has_right, is_running, running_is}
+use Rattle.at_rest.proofs.Fronts.{goes_on, has_either, has_left, has_right, is_running, running_is}
 use Rattle.at_rest.proofs.Paths.{IsFront, all_reached, end_runs}
 
 -- ---- lists of names
@@ -94,6 +99,71 @@ all_names {C} state group name h =
         mapped : (others : List (NodeState C)) (n : NodeState C) → IsOneOf n others → IsOneOf n.name (map (λ (x : NodeState C). x.name) others)
         mapped [] n here = absurd here
         mapped (other ∷ others) n here = elim here [ inl this ↦ inl (ap (λ (x : NodeState C). x.name) this) | inr later ↦ inr (mapped others n later) ]
+
+-- ---- links
+
+-- names that are sorted and not among the keys go last, in their order
+pub inserts_all : (keys names : List Name) → IsStrictlySortedBy name_cmp names → ((name : Name) → has_name names name ≡ true → has_name keys name ≡ true → ⊥) → insert_all same_name keys names ≡ keys ++ names
+unfolding IsStrictlySortedBy
+inserts_all keys [] sorted new = sym (append-nil keys)
+inserts_all keys (name ∷ names) sorted new =
+    ap (λ ks. insert_all same_name ks names) first ∙ inserts_all (keys ++ name ∷ []) names sorted.1 new_then ∙ append_assoc keys (name ∷ []) names
+  where
+    absent : has_name keys name ≡ false
+    absent = fails (has_name keys name) (new name (one_has (name ∷ names) name (inl refl)))
+
+    first : insert_key same_name keys name ≡ keys ++ name ∷ []
+    first = ap (λ b. if b then keys else keys ++ name ∷ []) absent
+
+    after : (other : Name) → has_name names other ≡ true → other ≡ name → ⊥
+    after other one same =
+        let less : name_cmp name name ≡ Less = subst (λ n. name_cmp name n ≡ Less) same (each_one (λ n. name_cmp name n ≡ Less) names other sorted.0 (has_one names other one)) in
+        false≢true (sym (ap is_eq less) ∙ sym (texts_ties name name) ∙ (same_name-Decides name name).1 refl)
+
+    new_then : (other : Name) → has_name names other ≡ true → has_name (keys ++ name ∷ []) other ≡ true → ⊥
+    new_then other one among = elim (has_either keys (name ∷ []) other among) [
+      | inl before ↦ new other (one_has (name ∷ names) other (inr (has_one names other one))) before
+      | inr last ↦ elim (has_one (name ∷ []) other last) [ inl same ↦ after other one same | inr none ↦ absurd none ]
+    ]
+
+module _ {C : Type 0} (state : C → CoreState) (nodes : List (NodeState C)) (both : List Name) (end : Name) where
+  -- the new links of a name have those to which it is linked, if they are new
+  new_links_have : (name : Name) → has_name (new_links state nodes both name) end ≡ (is_new state nodes both end && has_link state nodes name end)
+  unfolding has_link
+  new_links_have name = go (core_of name nodes)
+    where
+      none : (b : Bool) → false ≡ (b && false)
+      none true = refl
+      none false = refl
+
+      go : (o : Option C) → has_name (option_map_or (λ (core : C). filter (is_new state nodes both) (state core).active) o []) end ≡ (is_new state nodes both end && option_map_or (λ (core : C). has_name (state core).active end) o false)
+      go None = none (is_new state nodes both end)
+      go (Some core) =
+          any-filter_same (same_name end) (is_new state nodes both) (is_new state nodes both end)
+          (λ k same. ap (is_new state nodes both) (sym ((same_name-Decides end k).0 same))) (state core).active
+
+  -- one level more
+  joined : (a n l r : Bool) → ((a || (n && l)) || (n && r)) ≡ (a || (n && (l || r)))
+  joined true n l r = refl
+  joined false true l r = refl
+  joined false false l r = refl
+
+  alone : (a n : Bool) → a ≡ (a || (n && false))
+  alone true n = refl
+  alone false true = refl
+  alone false false = refl
+
+  links_from : (links names : List Name) → has_name (fold (λ ls name. ls ++ new_links state nodes both name) links names) end ≡ (has_name links end || (is_new state nodes both end && list_any (λ member. has_link state nodes member end) names))
+  links_from links [] = alone (has_name links end) (is_new state nodes both end)
+  links_from links (name ∷ names) =
+      links_from (links ++ new_links state nodes both name) names
+      ∙ ap (λ b. b || (is_new state nodes both end && list_any (λ member. has_link state nodes member end) names))
+      (list_any-append (same_name end) links (new_links state nodes both name) ∙ ap (λ b. has_name links end || b) (new_links_have name))
+      ∙ joined (has_name links end) (is_new state nodes both end) (has_link state nodes name end) (list_any (λ member. has_link state nodes member end) names)
+
+  -- and those of a level have the new names to which one of it is linked
+  pub all_new_has : (level : List Name) → has_name (all_new_links state nodes both level) end ≡ (is_new state nodes both end && list_any (λ member. has_link state nodes member end) level)
+  all_new_has level = links_from [] level
 
 module _ {C N : Type 0} (state : C → CoreState) (group : Group C N) (from : Name) where
   -- ---- order
@@ -187,40 +257,36 @@ module _ {C N : Type 0} (state : C → CoreState) (group : Group C N) (from : Na
           | inr within ↦ inl (omega arith)
         ])))
 
-    module _ (names : List Name) (sorted : IsStrictlySortedBy name_cmp names) (all : (other : Name) → runs state group.nodes other ≡ true → has_name names other ≡ true) where
-      -- the names that come next are those that pass its test
-      next_has : (end : Name) → has_name (filter (is_next state group.nodes reached level) names) end ≡ is_next state group.nodes reached level end
-      next_has end =
-          any-filter_same (same_name end) (is_next state group.nodes reached level) (is_next state group.nodes reached level end)
-          (λ k same. ap (is_next state group.nodes reached level) (sym ((same_name-Decides end k).0 same))) names
-          ∙ go (is_next state group.nodes reached level end) refl
-        where
-          go : (b : Bool) → is_next state group.nodes reached level end ≡ b → (b && has_name names end) ≡ b
-          go true is = all end (first_holds (runs state group.nodes end) _ is)
-          go false is = refl
+    -- none of the level was reached, so that each goes last
+    both_keys : insert_all same_name reached level ≡ reached ++ level
+    both_keys = inserts_all reached level stands.sorted level_new
 
-      next_stands : Stands (reached ++ level) (filter (is_next state group.nodes reached level) names)
-      next_stands = record {
-        links = suc stands.links;
-        front = goes_on state group from stands.links reached level (filter (is_next state group.nodes reached level) names) stands.front next_has;
-        ordered = ordered_then;
-        sorted = IsStrictlySortedBy-filter name_cmp (is_next state group.nodes reached level) names sorted;
-      }
+    module _ (keys : List Name) (added : keys ≡ insert_all same_name reached level) where
+      together_keys : keys ≡ reached ++ level
+      together_keys = added ∙ both_keys
 
       -- so the next level stands
-      pub stands_then : (both next : List Name) → both ≡ reached ++ level → next ≡ filter (is_next state group.nodes reached level) names → Stands both next
-      stands_then both next all_of is = subst (λ ns. Stands ns next) (sym all_of) (subst (λ ns. Stands (reached ++ level) ns) (sym is) next_stands)
+      pub stands_then : (next : List Name) → IsStrictlySortedBy name_cmp next → ((end : Name) → has_name next end ≡ has_name (all_new_links state group.nodes keys level) end) → Stands keys next
+      stands_then next sorted is = subst (λ ks. Stands ks next) (sym together_keys) (record {
+        links = suc stands.links;
+        front = goes_on state group from stands.links reached level next stands.front (λ end. is end ∙ ap (λ ks. has_name (all_new_links state group.nodes ks level) end) together_keys ∙ all_new_has state group.nodes (reached ++ level) end level);
+        ordered = ordered_then;
+        sorted = sorted;
+      })
 
       -- and a level with names leaves fewer that are not reached
-      pub fewer_then : (both : List Name) → both ≡ reached ++ level → (level ≡ [] → ⊥) → unreached names both < unreached names reached
-      fewer_then both all_of some = subst (λ ns. unreached names ns < unreached names reached) (sym all_of) (go level refl)
+      pub fewer_then : (level ≡ [] → ⊥) → unreached (map (λ (node : NodeState C). node.name) group.nodes) keys < unreached (map (λ (node : NodeState C). node.name) group.nodes) reached
+      fewer_then some = subst (λ ks. unreached names ks < unreached names reached) (sym together_keys) (go level refl)
         where
+          names : List Name
+          names = map (λ (node : NodeState C). node.name) group.nodes
+
           go : (l : List Name) → level ≡ l → unreached names (reached ++ level) < unreached names reached
           go [] e = absurd (some e)
           go (x ∷ xs) e =
               let here : has_name level x ≡ true = subst (λ ns. has_name ns x ≡ true) (sym e) (one_has (x ∷ xs) x (inl refl)) in
               let run : IsRunning group x = end_runs state group stands.links from x (level_is x here).path in
-              fewer_unreached names reached level x (all x (is_running state group x run)) (level_new x here) here
+              fewer_unreached names reached level x (all_names state group x (is_running state group x run)) (level_new x here) here
 
     -- where the level has none, all in reach are reached
     pub in_reach : level ≡ [] → AreInReach state group from reached

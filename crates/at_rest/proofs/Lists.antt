@@ -34,6 +34,12 @@ pub second_holds : (a b : Bool) → (a && b) ≡ true → b ≡ true
 second_holds true b h = h
 second_holds false b h = absurd (false≢true h)
 
+-- tests of which each holds where the other does are the same
+pub same_truth : (a b : Bool) → (a ≡ true → b ≡ true) → (b ≡ true → a ≡ true) → a ≡ b
+same_truth true b to from = sym (to refl)
+same_truth false true to from = from refl
+same_truth false false to from = refl
+
 -- what all pass each one passes
 pub each_passes : {X : Type 0} (test : X → Bool) (xs : List X) → list_all test xs ≡ true → Each (λ x. test x ≡ true) xs
 each_passes test [] h = tt

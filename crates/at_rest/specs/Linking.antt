@@ -1,6 +1,6 @@
 -- Tests of whether names are linked.
-use Rattle.std.specs.Prelude.{Bool, true, false, not, ◌&&◌, List, is_some}
-use Rattle.std.specs.List.{list_all, list_any}
+use Rattle.std.specs.Prelude.{Bool, true, false, not, ◌&&◌, List, [], ◌++◌, filter, fold, is_some}
+use Rattle.std.specs.List.{list_all}
 use Rattle.std.specs.Option.{option_map_or}
 use Rattle.node_names.specs.NodeName.{Name}
 use Rattle.node_names.specs.Same.{has_name}
@@ -17,10 +17,17 @@ module _ {C : Type 0} (state : C → CoreState) (nodes : List (NodeState C)) whe
   abbrev pub runs : Name → Bool
   runs name = is_some (core_of name nodes)
 
-  -- whether the name comes next after these in reach and the last level of them: it runs, is not among them, and a
-  -- member of the level is linked to it
-  abbrev pub is_next : List Name → List Name → Name → Bool
-  is_next reached level name = runs name && (not (has_name reached name) && (not (has_name level name) && list_any (λ member. has_link member name) level))
+  -- whether the name runs and is not among these
+  abbrev pub is_new : List Name → Name → Bool
+  is_new reached name = runs name && not (has_name reached name)
+
+  -- those of the active members of the core under the name, if one runs, that run and are not among these
+  abbrev pub new_links : List Name → Name → List Name
+  new_links reached name = option_map_or (λ (core : C). filter (is_new reached) (state core).active) (core_of name nodes) []
+
+  -- the same of each of the names, one after the other
+  abbrev pub all_new_links : List Name → List Name → List Name
+  all_new_links reached names = fold (λ links name. links ++ new_links reached name) [] names
 
   -- whether each active member of the core under the name, if one runs, has the name as an active member
   abbrev pub links_back : Name → Bool

@@ -1,22 +1,22 @@
 //! Which nodes can be reached from a name.
-ghost use Rattle.std.specs.Prelude.{◌≡◌, [], ◌∷◌, true, filter, map, IfOk, if◌then◌else◌};
-ghost use Rattle.std.specs.List.{list_any};
+ghost use Rattle.std.specs.Prelude.{◌≡◌, [], ◌∷◌, ◌++◌, filter, map, IfOk, OnOk, if◌then◌else◌};
 ghost use Rattle.std.specs.List.Sorted.{IsStrictlySortedBy};
 ghost use Rattle.node_names.specs.NodeName.{Name};
 ghost use Rattle.node_names.specs.Order.{name_cmp};
-ghost use Rattle.node_names.specs.Same.{has_name};
-ghost use Rattle.at_rest.specs.Linking.{has_link, is_next, runs};
+ghost use Rattle.node_names.specs.Same.{has_name, same_name};
+ghost use Rattle.indexmap.specs.IndexSet.{insert_all};
+ghost use Rattle.at_rest.specs.Linking.{all_new_links, is_new, new_links, runs};
 ghost use Rattle.at_rest.specs.Reach.{AreInReach};
 
-use crate::links::has_link;
-use node_names::{NodeName, has_name};
+use indexmap::IndexSet;
+use node_names::{NameSet, NodeName};
 use std::alloc::{AllocError, Allocator};
-use world::{Core, NodeState, World};
+use world::{Core, World};
 
 /// Returns the names that can be reached over links, by the length of the shortest path and then by name, with the name
 /// itself first.
 ///
-/// The list is empty if nothing runs under the name.
+/// The list is empty if nothing runs under the name. Looks at each node in reach once, and at each of its links.
 pub fn reach<C: Core<A>, A: Allocator + Copy>(
     alloc: A,
     world: &World<C, A>,
@@ -24,57 +24,13 @@ pub fn reach<C: Core<A>, A: Allocator + Copy>(
 ) -> Result<Vec<NodeName, A>, AllocError>
     ensures { IfOk result (λ reached. AreInReach C.state world.now.group name reached.items) }
 {
-    let names = sorted_names(alloc, world.nodes())?;
-    reach_among(alloc, world, names.as_slice(), &name)
-}
-
-/// The names of the nodes, each once, in the order of names.
-fn sorted_names<C, A: Allocator + Copy>(
-    alloc: A,
-    nodes: &[NodeState<C>],
-) -> Result<Vec<NodeName, A>, AllocError>
-    ensures sorted { IfOk result (λ names. IsStrictlySortedBy name_cmp names.items) }
-    ensures all { IfOk result (λ names. (name : Name) → has_name (map (λ node. node.name) nodes.now) name ≡ true → has_name names.items name ≡ true) }
-{
-    let mut names = names_of(alloc, nodes)?;
-    names.sort_unstable();
-    names.dedup();
-    Ok(names)
-}
-
-/// The names of the nodes.
-fn names_of<C, A: Allocator + Copy>(
-    alloc: A,
-    nodes: &[NodeState<C>],
-) -> Result<Vec<NodeName, A>, AllocError>
-    ensures { IfOk result (λ names. names.items ≡ map (λ node. node.name) nodes.now) }
-{
-    let mut names = Vec::new(alloc);
-    for node in nodes {
-        names.push(node.name)?;
-    }
-    Ok(names)
-}
-
-/// The names in reach, found among all names.
-fn reach_among<C: Core<A>, A: Allocator + Copy>(
-    alloc: A,
-    world: &World<C, A>,
-    names: &[NodeName],
-    name: &NodeName,
-) -> Result<Vec<NodeName, A>, AllocError>
-    requires sorted { IsStrictlySortedBy name_cmp names.now }
-    requires all { (other : Name) → runs C.state world.now.group.nodes other ≡ true → has_name names.now other ≡ true }
-    ensures { IfOk result (λ reached. AreInReach C.state world.now.group name.now reached.items) }
-{
-    let mut reached = Vec::new(alloc);
-    let mut level = first_level(alloc, world, name)?;
+    let mut reached = IndexSet::new(alloc);
+    let mut level = first_level(alloc, world, &name)?;
     'levels: while !level.is_empty() {
-        let next = next_level(alloc, world, names, reached.as_slice(), level.as_slice())?;
-        reached.append(&mut level)?;
-        level = next;
+        add_all(&mut reached, level.as_slice())?;
+        level = next_level(alloc, world, &reached, level.as_slice())?;
     }
-    Ok(reached)
+    Vec::from_slice(alloc, reached.as_slice())
 }
 
 /// The name, if it runs.
@@ -92,38 +48,92 @@ fn first_level<C: Core<A>, A: Allocator + Copy>(
     Ok(level)
 }
 
-/// The names, in their order, that a member of the level is linked to and that are neither reached nor in the level.
+/// Adds the names of a level behind those of the levels before it.
+fn add_all<A: Allocator + Copy>(
+    reached: &mut NameSet<A>,
+    level: &[NodeName],
+) -> Result<(), AllocError>
+    ensures { OnOk result (reached.new.keys ≡ insert_all same_name reached.old.keys level.now) }
+{
+    for name in level {
+        reached.insert(*name)?;
+    }
+    Ok(())
+}
+
+/// The names, in their order, that run, are not reached yet, and are linked from a member of the level.
 fn next_level<C: Core<A>, A: Allocator + Copy>(
     alloc: A,
     world: &World<C, A>,
-    names: &[NodeName],
-    reached: &[NodeName],
+    reached: &NameSet<A>,
     level: &[NodeName],
 ) -> Result<Vec<NodeName, A>, AllocError>
-    ensures { IfOk result (λ next. next.items ≡ filter (is_next C.state world.now.group.nodes reached.now level.now) names.now) }
+    ensures sorted { IfOk result (λ next. IsStrictlySortedBy name_cmp next.items) }
+    ensures same { IfOk result (λ next. (name : Name) → has_name next.items name ≡ has_name (all_new_links C.state world.now.group.nodes reached.now.keys level.now) name) }
+{
+    let mut next = links_of_all(alloc, world, reached, level)?;
+    next.sort_unstable();
+    next.dedup();
+    Ok(next)
+}
+
+/// The links of the members of the level to names that run and are not reached yet. A name may occur more than once.
+fn links_of_all<C: Core<A>, A: Allocator + Copy>(
+    alloc: A,
+    world: &World<C, A>,
+    reached: &NameSet<A>,
+    level: &[NodeName],
+) -> Result<Vec<NodeName, A>, AllocError>
+    ensures { IfOk result (λ next. next.items ≡ all_new_links C.state world.now.group.nodes reached.now.keys level.now) }
 {
     let mut next = Vec::new(alloc);
-    for name in names {
-        if is_next(world, reached, level, name) {
-            next.push(*name)?;
-        }
+    for member in level {
+        push_links_of(world, reached, member, &mut next)?;
     }
     Ok(next)
 }
 
-/// Whether the name belongs to the next level: it runs, is neither reached nor in the level, and is linked from it.
-fn is_next<C: Core<A>, A: Allocator + Copy>(
+/// Appends the links of the core that runs under the name, if there is one, to names that run and are not reached yet.
+fn push_links_of<C: Core<A>, A: Allocator + Copy>(
     world: &World<C, A>,
-    reached: &[NodeName],
-    level: &[NodeName],
+    reached: &NameSet<A>,
+    name: &NodeName,
+    next: &mut Vec<NodeName, A>,
+) -> Result<(), AllocError>
+    ensures { OnOk result (next.new.items ≡ next.old.items ++ new_links C.state world.now.group.nodes reached.now.keys name.now) }
+{
+    match world.core(name) {
+        Some(core) => push_new(world, reached, core.active().as_slice(), next),
+        None => Ok(()),
+    }
+}
+
+/// Appends those of the names that run and are not reached yet.
+fn push_new<C: Core<A>, A: Allocator + Copy>(
+    world: &World<C, A>,
+    reached: &NameSet<A>,
+    names: &[NodeName],
+    next: &mut Vec<NodeName, A>,
+) -> Result<(), AllocError>
+    ensures { OnOk result (next.new.items ≡ next.old.items ++ filter (is_new C.state world.now.group.nodes reached.now.keys) names.now) }
+{
+    for name in names {
+        if is_new(world, reached, name) {
+            next.push(*name)?;
+        }
+    }
+    Ok(())
+}
+
+/// Whether the name runs and is not reached yet.
+fn is_new<C: Core<A>, A: Allocator + Copy>(
+    world: &World<C, A>,
+    reached: &NameSet<A>,
     name: &NodeName,
 ) -> bool
-    ensures { result ≡ is_next C.state world.now.group.nodes reached.now level.now name.now }
+    ensures { result ≡ is_new C.state world.now.group.nodes reached.now.keys name.now }
 {
-    is_running(world, name)
-        && !has_name(reached, name)
-        && !has_name(level, name)
-        && has_link_from(world, level, name)
+    is_running(world, name) && !reached.contains(name)
 }
 
 /// Whether a core runs under the name.
@@ -131,15 +141,4 @@ fn is_running<C: Core<A>, A: Allocator + Copy>(world: &World<C, A>, name: &NodeN
     ensures { result ≡ runs C.state world.now.group.nodes name.now }
 {
     world.core(name).is_some()
-}
-
-/// Whether a member of the level runs and has the name as an active member.
-fn has_link_from<C: Core<A>, A: Allocator + Copy>(
-    world: &World<C, A>,
-    level: &[NodeName],
-    name: &NodeName,
-) -> bool
-    ensures { result ≡ list_any (λ member. has_link C.state world.now.group.nodes member name.now) level.now }
-{
-    level.iter().any(|member| has_link(world, member, name))
 }
