@@ -7,6 +7,7 @@ use wire_node::{ConnectionId, DiceSource, ReceiveError, Record, WireError, WireN
 use world::Core;
 
 /// Draws the dice of frames from a generator.
+#[derive(Drop)]
 struct Drawn<'a, G> {
     generator: &'a mut G,
 }
