@@ -16,7 +16,7 @@ mod steps;
 mod streams;
 mod words;
 
-use crate::broadcasts::{hops, settling};
+use crate::broadcasts::{hops, reaching, settling};
 use crate::groups::{Group, Host};
 use crate::plumtree::Measured;
 use crate::words::{number, size, small};
@@ -64,6 +64,7 @@ where
         "broadcasts" => broadcasts::measure::<R, C>(&rt, alloc, size(words, 2, 500)?),
         "hops" => hops::measure::<R, C>(&rt, alloc, small(words, 2, 0)?),
         "settle" => settling::measure::<R, C>(&rt, alloc, size(words, 2, 10_000)?),
+        "reach" => reaching::measure::<R, C>(&rt, alloc, size(words, 2, 1_000)?),
         "frames" => streams::run_all(&rt, alloc, Some(number(words, 2, 32)?)),
         "merge" => merges::measure::<R, C>(&rt, alloc, words),
         "node" => {

@@ -3,6 +3,7 @@ mod cell_steps;
 mod core_steps;
 mod known;
 mod messages;
+mod nothing_new;
 mod sealing;
 mod wanted;
 
@@ -11,6 +12,7 @@ use crate::steps::cell_steps::step_cell;
 use crate::steps::core_steps::{see_all, step_core};
 use crate::steps::known::know_all;
 use crate::steps::messages::Taken;
+use crate::steps::nothing_new::{hear_known, take_again, take_prunes};
 use crate::steps::sealing::seal;
 use crate::steps::wanted::{ask_all, take_wanted};
 use anyhow::{Result, bail};
@@ -50,6 +52,9 @@ fn step<R: Print + Clock, C: Measured>(
         "core" => step_core::<R, C>(rt, alloc, count)?,
         "asks" => ask_all::<R, C>(rt, alloc, count)?,
         "comes" => take_wanted::<R, C>(rt, alloc, count)?,
+        "again" => take_again::<R, C>(rt, alloc, count)?,
+        "told" => hear_known::<R, C>(rt, alloc, count)?,
+        "prune" => take_prunes::<R, C>(rt, alloc, count)?,
         "cell" => step_cell::<R, C>(rt, alloc, count, 0)?,
         "wide" => step_cell::<R, C>(rt, alloc, count, IDLE)?,
         "ids" => know_all(rt, alloc, count, 0)?,
@@ -59,7 +64,7 @@ fn step<R: Print + Clock, C: Measured>(
         "seal" => seal::<R, C>(rt, alloc, count, false)?,
         "copy" => seal::<R, C>(rt, alloc, count, true)?,
         _ => bail!(
-            "broadcasts, hops, settle, frames, merge, node, groups, core, asks, comes, cell, wide, ids, gaps, seen, kept, seal or copy"
+            "broadcasts, hops, settle, reach, frames, merge, node, groups, core, asks, comes, again, told, prune, cell, wide, ids, gaps, seen, kept, seal or copy"
         ),
     };
     tell_taken(rt, word, taken, is_timed)
@@ -68,7 +73,8 @@ fn step<R: Print + Clock, C: Measured>(
 /// Prints the result of a few messages, for each part.
 pub(crate) fn tell<R: Print + Clock, C: Measured>(rt: &R, alloc: Global) -> Result<()> {
     for word in [
-        "core", "asks", "comes", "cell", "wide", "ids", "gaps", "seen", "kept", "seal", "copy",
+        "core", "asks", "comes", "again", "told", "prune", "cell", "wide", "ids", "gaps", "seen",
+        "kept", "seal", "copy",
     ] {
         step::<R, C>(rt, alloc, word, TOLD, false)?;
     }

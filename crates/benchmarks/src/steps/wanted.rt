@@ -10,7 +10,11 @@ use std::time::Clock;
 use world::{Core, Stimulus, StimulusOf};
 
 /// Appends the announcement of the first peer's next 64 messages behind `before`, by the second peer.
-fn push_announcement(alloc: Global, stimuli: &mut Vec<Stimulus<Frame>>, before: u64) -> Result<()> {
+pub(crate) fn push_announcement(
+    alloc: Global,
+    stimuli: &mut Vec<Stimulus<Frame>>,
+    before: u64,
+) -> Result<()> {
     let origin = origin_named("p")?;
     let mut entries = Listed::new(alloc);
     for place in 0..MAX_ANNOUNCEMENTS as u64 {
