@@ -8,6 +8,7 @@ use play_merge::MergeLayer;
 use play_script::layer::Layer;
 use play_script::script::Player;
 use play_streams::{FrameLayer, StreamLayer};
+use play_wire::WireLayer;
 use refusing_allocator::RefusingAllocator;
 use std::alloc::{AllocError, Global};
 
@@ -80,7 +81,7 @@ fn play_streams(
     Ok(true)
 }
 
-/// Plays a case of groups, cells or merged traces. Returns whether `layer` is one of these.
+/// Plays a case of groups, cells, nodes of bytes or merged traces. Returns whether `layer` is one of these.
 fn play_groups(
     heap: &RefusingAllocator,
     alloc: Global,
@@ -92,6 +93,7 @@ fn play_groups(
         "cell" => play(heap, alloc, CellLayer::new(heap), text, out)?,
         "merge" => play(heap, alloc, MergeLayer::new(heap, alloc), text, out)?,
         "plum" => play(heap, alloc, PlumLayer::new(heap, alloc), text, out)?,
+        "wire_node" => play(heap, alloc, WireLayer::new(heap, alloc), text, out)?,
         "world" => play(heap, alloc, FloodLayer::new(heap, alloc), text, out)?,
         _ => return Ok(false),
     }
