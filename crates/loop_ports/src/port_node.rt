@@ -1,12 +1,11 @@
 //! A node that other threads use.
 use bytes::Bytes;
-use event_loop::LoopNode;
 use std::alloc::Allocator;
 use wire_node::WireError;
 use world::Delivery;
 
 /// A node that other threads use. Each call does what the one of the same name of a `WireNode` does.
-pub trait PortNode<A: Allocator + Copy>: LoopNode<A> {
+pub trait PortNode<A: Allocator + Copy>: Drop {
     /// Broadcasts a message.
     fn broadcast(&mut self, payload: Bytes<A>) -> Result<(), WireError>;
 

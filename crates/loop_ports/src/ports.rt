@@ -2,7 +2,7 @@
 use crate::lane::Lane;
 use crate::port::Port;
 use crate::port_node::PortNode;
-use event_loop::{EventLoop, LoopError, Next, Program, Resolve, Situation};
+use event_loop::{EventLoop, LoopError, LoopNode, Next, Program, Resolve, Situation};
 use rtrb::RingBuffer;
 use std::alloc::{AllocError, Allocator, Global};
 use wire_node::WireError;
@@ -38,7 +38,7 @@ impl<A: Allocator + Copy> Ports<A> {
         capacity: usize,
     ) -> Result<Port<A>, LoopError>
     where
-        N: PortNode<A>,
+        N: LoopNode<A> + PortNode<A>,
         S: Resolve + Drop,
     {
         self.make_room(place)?;

@@ -1,6 +1,7 @@
 //! Two nodes that greet each other.
 use crate::tests::nodes::{Single, TestedNode};
 use anyhow::Result;
+use event_loop::LoopNode;
 use node_names::NodeName;
 use std::alloc::Global;
 use std::net::Net;
@@ -10,7 +11,7 @@ use wire_node::{MAX_WAITING, WireNode};
 const TURNS: usize = 1_000;
 
 /// Starts two nodes that are peers, each in a loop of its own.
-pub(crate) fn start_two<N: TestedNode<Global>, R: Net + AllocGlobal>(
+pub(crate) fn start_two<N: LoopNode<Global> + TestedNode<Global>, R: Net + AllocGlobal>(
     rt: &R,
 ) -> Result<(Single<N>, Single<N>)> {
     let (a, b) = (NodeName::parse(b"a")?, NodeName::parse(b"b")?);
@@ -22,7 +23,7 @@ pub(crate) fn start_two<N: TestedNode<Global>, R: Net + AllocGlobal>(
 }
 
 /// Lets both broadcast, and makes turns until each has heard both messages. Returns whether they have.
-pub(crate) fn greet<N: TestedNode<Global>, R: Net + AllocGlobal>(
+pub(crate) fn greet<N: LoopNode<Global> + TestedNode<Global>, R: Net + AllocGlobal>(
     rt: &R,
     one: &mut Single<N>,
     two: &mut Single<N>,
@@ -41,7 +42,9 @@ pub(crate) fn greet<N: TestedNode<Global>, R: Net + AllocGlobal>(
 }
 
 /// Starts two nodes, and lets them greet each other.
-fn start_and_greet<N: TestedNode<Global>, R: Net + AllocGlobal>(rt: &R) -> Result<bool> {
+fn start_and_greet<N: LoopNode<Global> + TestedNode<Global>, R: Net + AllocGlobal>(
+    rt: &R,
+) -> Result<bool> {
     let (mut one, mut two) = start_two::<N, R>(rt)?;
     greet(rt, &mut one, &mut two)
 }

@@ -11,7 +11,7 @@ use wire_node::{Unrecorded, WireError, WireLimits, WireNode};
 /// A node that a test starts.
 ///
 /// All helpers are generic in it: a function that owns a node takes the prover a minute if its type is named.
-pub(crate) trait TestedNode<A: Allocator + Copy>: LoopNode<A> + Sized {
+pub(crate) trait TestedNode<A: Allocator + Copy>: Drop + Sized {
     /// Starts a node with these peers, for each of whom this number of bytes may wait.
     fn begin(
         alloc: A,
@@ -86,7 +86,7 @@ impl Resolve for Book {
 
 /// A loop of one node, and how many messages that has delivered.
 #[derive(Drop)]
-pub(crate) struct Single<N: TestedNode<Global>> {
+pub(crate) struct Single<N: LoopNode<Global> + TestedNode<Global>> {
     pub(crate) event_loop: EventLoop<N, Book>,
     pub(crate) name: NodeName,
     pub(crate) at: SocketAddr,
@@ -98,7 +98,7 @@ pub(crate) fn any_port() -> Result<SocketAddr> {
     Ok("127.0.0.1:0".parse()?)
 }
 
-impl<N: TestedNode<Global>> Single<N> {
+impl<N: LoopNode<Global> + TestedNode<Global>> Single<N> {
     /// Starts a node with these peers, for each of whom this number of bytes may wait.
     pub(crate) fn start<R: Net + AllocGlobal>(
         rt: &R,

@@ -1,7 +1,7 @@
 //! Many nodes in one loop.
 use crate::tests::nodes::{Book, TestedNode, any_port};
 use anyhow::Result;
-use event_loop::{EventLoop, Next, Program, Situation};
+use event_loop::{EventLoop, LoopNode, Next, Program, Situation};
 use node_names::NodeName;
 use std::alloc::Global;
 use std::net::Net;
@@ -31,7 +31,7 @@ fn name_at(place: usize) -> Result<NodeName> {
     Ok(NodeName::parse(&[letter])?)
 }
 
-impl<N: TestedNode<Global>> Program<N> for Hearing {
+impl<N: LoopNode<Global> + TestedNode<Global>> Program<N> for Hearing {
     fn turn(&mut self, at: Situation, node: &mut N) -> Next {
         if !self.has_said {
             self.has_said = node.say(self.alloc, 1_000).is_ok();
@@ -49,7 +49,7 @@ impl<N: TestedNode<Global>> Program<N> for Hearing {
 }
 
 /// Adds the node at this place.
-fn add<N: TestedNode<Global>, R: Net + AllocGlobal>(
+fn add<N: LoopNode<Global> + TestedNode<Global>, R: Net + AllocGlobal>(
     rt: &R,
     event_loop: &mut EventLoop<N, Book>,
     place: usize,
@@ -66,7 +66,7 @@ fn add<N: TestedNode<Global>, R: Net + AllocGlobal>(
 }
 
 /// Lets one node of a loop broadcast. Returns how many messages each node delivered.
-fn deliver<N: TestedNode<Global>, R: Wait + Clock + Net + AllocGlobal>(
+fn deliver<N: LoopNode<Global> + TestedNode<Global>, R: Wait + Clock + Net + AllocGlobal>(
     rt: &R,
 ) -> Result<Vec<usize>> {
     let alloc = rt.alloc();

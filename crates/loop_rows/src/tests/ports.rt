@@ -2,7 +2,7 @@
 use crate::tests::nodes::{Book, TestedNode, any_port};
 use anyhow::Result;
 use bytes::Bytes;
-use event_loop::EventLoop;
+use event_loop::{EventLoop, LoopNode};
 use loop_ports::{Port, PortNode, Ports};
 use node_names::NodeName;
 use std::alloc::Global;
@@ -74,7 +74,7 @@ where
 }
 
 /// Adds a node with this peer to a loop, and opens its port.
-fn add<N: TestedNode<Global> + PortNode<Global>, R: Net + AllocGlobal>(
+fn add<N: LoopNode<Global> + TestedNode<Global> + PortNode<Global>, R: Net + AllocGlobal>(
     rt: &R,
     event_loop: &mut EventLoop<N, Book>,
     ports: &mut Ports,
@@ -91,7 +91,7 @@ fn add<N: TestedNode<Global> + PortNode<Global>, R: Net + AllocGlobal>(
 /// Has one thread broadcast by a port, and it and another take all messages. Returns how many each took.
 fn exchange<N, R>(rt: R) -> Result<[Option<usize>; 2]>
 where
-    N: TestedNode<Global> + PortNode<Global>,
+    N: LoopNode<Global> + TestedNode<Global> + PortNode<Global>,
     R: Threads + Wait + Clock + Net + AllocGlobal + Copy + Send + Drop + 'static,
 {
     let alloc = rt.alloc();

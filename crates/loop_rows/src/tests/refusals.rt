@@ -1,7 +1,7 @@
 //! Two nodes of a loop that greet each other while one allocation is refused.
 use crate::tests::nodes::{Book, TestedNode, any_port};
 use anyhow::Result;
-use event_loop::{EventLoop, LoopError};
+use event_loop::{EventLoop, LoopError, LoopNode};
 use node_names::NodeName;
 use refusing_allocator::RefusingAllocator;
 use std::alloc::{Allocator, Global};
@@ -27,7 +27,7 @@ fn excuse(answer: Result<(), LoopError>) -> Result<()> {
 }
 
 /// Adds a node with this peer to a loop.
-fn add<N: TestedNode<A>, R: Net, A: Allocator + Copy>(
+fn add<N: LoopNode<A> + TestedNode<A>, R: Net, A: Allocator + Copy>(
     rt: &R,
     alloc: A,
     event_loop: &mut EventLoop<N, Book, A>,
@@ -42,7 +42,7 @@ fn add<N: TestedNode<A>, R: Net, A: Allocator + Copy>(
 }
 
 /// Has a node broadcast, and again if that is refused.
-fn say<N: TestedNode<A>, A: Allocator + Copy>(
+fn say<N: LoopNode<A> + TestedNode<A>, A: Allocator + Copy>(
     alloc: A,
     event_loop: &mut EventLoop<N, Book, A>,
     place: usize,
@@ -56,7 +56,7 @@ fn say<N: TestedNode<A>, A: Allocator + Copy>(
 }
 
 /// Makes a turn, and takes what was delivered. Returns how many messages both nodes delivered in it.
-fn turn<N: TestedNode<A>, R: Net, A: Allocator + Copy>(
+fn turn<N: LoopNode<A> + TestedNode<A>, R: Net, A: Allocator + Copy>(
     rt: &R,
     event_loop: &mut EventLoop<N, Book, A>,
 ) -> Result<usize> {
@@ -73,7 +73,7 @@ fn turn<N: TestedNode<A>, R: Net, A: Allocator + Copy>(
 
 /// Has two nodes of a loop greet each other while allocation number `n` is refused. Returns whether there is such an
 /// allocation, or `None` if not both heard both messages.
-fn greet<N: TestedNode<A>, R: Net + AllocGlobal, A: Allocator + Copy>(
+fn greet<N: LoopNode<A> + TestedNode<A>, R: Net + AllocGlobal, A: Allocator + Copy>(
     rt: &R,
     heap: &RefusingAllocator,
     alloc: A,
@@ -103,7 +103,7 @@ fn greet<N: TestedNode<A>, R: Net + AllocGlobal, A: Allocator + Copy>(
 }
 
 /// Refuses each allocation in turn. Returns how many there are, or the first for which not both heard both messages.
-fn sweep<N: TestedNode<A>, R: Net + AllocGlobal, A: Allocator + Copy>(
+fn sweep<N: LoopNode<A> + TestedNode<A>, R: Net + AllocGlobal, A: Allocator + Copy>(
     rt: &R,
     heap: &RefusingAllocator,
     alloc: A,

@@ -33,7 +33,7 @@ struct Outcome {
 }
 
 /// Whether the node of a loop has this peer.
-fn has_peer<N: TestedNode<Global>>(single: &Single<N>, name: &NodeName) -> bool {
+fn has_peer<N: LoopNode<Global> + TestedNode<Global>>(single: &Single<N>, name: &NodeName) -> bool {
     match single.event_loop.node(0) {
         Some(node) => node.is_peer(name),
         None => false,
@@ -41,7 +41,7 @@ fn has_peer<N: TestedNode<Global>>(single: &Single<N>, name: &NodeName) -> bool 
 }
 
 /// Broadcasts until the name is no peer any more. Returns how many messages were sent.
-fn speak<N: TestedNode<Global>, R: Net + AllocGlobal>(
+fn speak<N: LoopNode<Global> + TestedNode<Global>, R: Net + AllocGlobal>(
     rt: &R,
     one: &mut Single<N>,
     two: &mut Single<N>,
@@ -64,7 +64,9 @@ fn closed_port<R: Net>(rt: &R) -> Result<SocketAddr> {
 }
 
 /// Lets a node broadcast to a peer that answers, and to three that do not.
-fn speak_to_all<N: TestedNode<Global>, R: Net + AllocGlobal>(rt: &R) -> Result<Outcome> {
+fn speak_to_all<N: LoopNode<Global> + TestedNode<Global>, R: Net + AllocGlobal>(
+    rt: &R,
+) -> Result<Outcome> {
     let (a, b) = (NodeName::parse(b"a")?, NodeName::parse(b"b")?);
     let (stopped, absent, unknown) = (
         NodeName::parse(b"stopped")?,

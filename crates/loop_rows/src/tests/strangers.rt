@@ -2,6 +2,7 @@
 use crate::tests::greetings::{greet, start_two};
 use crate::tests::nodes::{Single, TestedNode};
 use anyhow::Result;
+use event_loop::LoopNode;
 use mio::net::TcpStream;
 use std::alloc::Global;
 use std::io::{ErrorKind, Read, Write};
@@ -37,7 +38,7 @@ fn closed(strangers: &mut [TcpStream; 3]) -> [bool; 3] {
 }
 
 /// Makes turns of both loops.
-fn pass<N: TestedNode<Global>, R: Net>(
+fn pass<N: LoopNode<Global> + TestedNode<Global>, R: Net>(
     rt: &R,
     one: &mut Single<N>,
     two: &mut Single<N>,
@@ -61,7 +62,9 @@ struct Outcome {
 }
 
 /// Has strangers dial a node that has a peer.
-fn be_dialled<N: TestedNode<Global>, R: Net + AllocGlobal>(rt: &R) -> Result<Outcome> {
+fn be_dialled<N: LoopNode<Global> + TestedNode<Global>, R: Net + AllocGlobal>(
+    rt: &R,
+) -> Result<Outcome> {
     let (mut one, mut two) = start_two::<N, R>(rt)?;
     one.event_loop.set_patience(PATIENCE);
     let mut strangers = [
