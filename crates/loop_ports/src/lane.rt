@@ -118,11 +118,7 @@ impl<A: Allocator + Copy> Lane<A> {
         node: &mut N,
         payload: Bytes<A>,
     ) -> Result<bool, WireError> {
-        let told = match payload.clone() {
-            Ok(copy) => node.broadcast(copy),
-            Err(_) => Err(WireError::OutOfMemory),
-        };
-        match told {
+        match node.broadcast(&payload) {
             Ok(()) => Ok(true),
             Err(WireError::OutOfMemory) => {
                 self.refused = Some(payload);

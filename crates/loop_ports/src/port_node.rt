@@ -5,9 +5,11 @@ use wire_node::WireError;
 use world::Delivery;
 
 /// A node that other threads use. Each call does what the one of the same name of a `WireNode` does.
+///
+/// The payload is borrowed, since an impl with a `Bytes<A>` by value gets no proof where the recorder is a parameter.
 pub trait PortNode<A: Allocator + Copy>: Drop {
-    /// Broadcasts a message.
-    fn broadcast(&mut self, payload: Bytes<A>) -> Result<(), WireError>;
+    /// Broadcasts a message, which shares the payload.
+    fn broadcast(&mut self, payload: &Bytes<A>) -> Result<(), WireError>;
 
     /// Returns the deliveries that were not taken yet, in order.
     fn take_deliveries(&mut self) -> Vec<Delivery<A>, A>;

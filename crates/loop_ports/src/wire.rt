@@ -6,8 +6,8 @@ use wire_node::{Record, WireError, WireNode};
 use world::Delivery;
 
 impl<A: Allocator + Copy, R: Record<A> + Drop> PortNode<A> for WireNode<A, R> {
-    fn broadcast(&mut self, payload: Bytes<A>) -> Result<(), WireError> {
-        self.broadcast(payload)?;
+    fn broadcast(&mut self, payload: &Bytes<A>) -> Result<(), WireError> {
+        self.broadcast(payload.clone()?)?;
         Ok(())
     }
 
