@@ -230,13 +230,9 @@ class Case:
             end = "the reader failed" if has_failed else f"the stream ended with {left} bytes of a frame"
         return ", ".join([*frames[: self.most], end])
 
-    def stepped(self):
-        frames, fault, _ = cut(self.stream)
-        return ", ".join([*frames, FAULTS[fault] if fault else "taken"])
-
     def wanted(self):
         """The line that the program is to print."""
-        return "; ".join([self.decoded(), self.cut(), self.pumped(), self.stepped()])
+        return "; ".join([self.decoded(), self.cut(), self.pumped()])
 
     def labels(self):
         """What is counted of it: what `decode` answers, and how `pump` ends."""

@@ -1,7 +1,6 @@
-//! The answers to a case: what `decode`, a cutter, `pump` and a node of bytes make of its stream.
+//! The answers to a case: what `decode`, a cutter and `pump` return for its stream.
 use crate::case::Case;
 use crate::sink::Kept;
-use crate::stepping::push_stepped;
 use crate::text::push_frame;
 use anyhow::Result;
 use bytes::Bytes;
@@ -127,13 +126,12 @@ fn push_pumped(alloc: Global, text: &mut String, case: &Case) -> Result<(), Allo
     write!(text, "{end}")
 }
 
-/// Appends what `decode`, a cutter, `pump` and a node of bytes make of a case's stream, separated by `; `.
+/// Appends what `decode`, a cutter and `pump` return for a case's stream, separated by `; `.
 pub(crate) fn push_answers(alloc: Global, text: &mut String, case: &Case) -> Result<()> {
     push_decoded(alloc, text, case.stream.as_slice())?;
     text.push_str("; ")?;
     push_cut(alloc, text, case)?;
     text.push_str("; ")?;
     push_pumped(alloc, text, case)?;
-    text.push_str("; ")?;
-    push_stepped(alloc, text, case)
+    Ok(())
 }

@@ -1,11 +1,10 @@
 //! Answers cases of `bench/fuzz`: each line of standard input is a stream of bytes and how it arrives, and the line
-//! that is printed for it says what `decode`, a cutter, `pump` and a node of bytes make of it.
+//! that is printed for it says what `decode`, a cutter and `pump` return for it.
 #![tactic(auto)]
 
 mod answers;
 mod case;
 mod sink;
-mod stepping;
 mod text;
 
 use crate::answers::push_answers;
