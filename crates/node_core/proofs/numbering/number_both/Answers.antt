@@ -1,4 +1,4 @@
-use Rattle.std.proofs.Common.{ap, ◌∙◌, Ok, Err, [], ◌∷◌}
+use Rattle.std.proofs.Common.{Ok, Err}
 use Rattle.std.specs.Prelude.{OnErr, Result}
 use Rattle.node_core.proofs.Frames.{back_within}
 use Rattle.node_core.proofs.numbering.number_both.Goals as goal
