@@ -40,6 +40,7 @@ fn tell_figures(rt: &impl Print, group: &Group, figures: &Figures, used: &Usage)
         deliveries,
         micros,
         each,
+        late,
         last,
         greatest,
         ..
@@ -53,7 +54,7 @@ fn tell_figures(rt: &impl Print, group: &Group, figures: &Figures, used: &Usage)
     let wanted = group.nodes.saturating_mul(figures.broadcasts);
     let rate = (figures.broadcasts as u64).saturating_mul(1_000_000) / micros.max(1);
     print!(rt; "broadcasts/s={rate} deliveries={deliveries} wanted={wanted} span-us={micros} ")?;
-    print!(rt; "each-us={each} last-us={last} greatest-us={greatest} ")?;
+    print!(rt; "each-us={each} each-99-us={late} last-us={last} greatest-us={greatest} ")?;
     print!(rt; "processor-ms={processor} memory-KiB={memory} peak-KiB={peak} ")?;
     println!(rt; "threads={threads}")?;
     Ok(())

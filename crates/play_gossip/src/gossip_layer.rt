@@ -1,8 +1,8 @@
 //! The gossip of one node: `start` makes it, and the others are its calls.
 use crate::distinct::are_distinct;
 use crate::gossip_calls::{OwnedCall, call_of, lent, message_of};
-use crate::gossip_texts::{push_effects, push_gossip};
-use gossip_core::{Call, CallOf, Effects, Gossip, GossipFault};
+use crate::gossip_texts::{push_given, push_gossip};
+use gossip_core::{Answer, Call, CallOf, Effects, Gossip, GossipFault};
 use node_names::MsgId;
 use play_script::layer::{Layer, Outcome, Turn, fill, in_memory};
 use play_script::lists::yes_or_no;
@@ -47,11 +47,29 @@ fn make<A: Allocator + Copy>(
     Ok(())
 }
 
+/// Makes a call at once.
+fn make_whole<A: Allocator + Copy>(
+    alloc: A,
+    node: &mut Gossip<A>,
+    call: &Call<'_, A>,
+    out: &mut Answer<A>,
+) -> Result<(), GossipFault> {
+    let mut effects = Effects::new(alloc);
+    make(node, call, &mut effects)?;
+    let Effects { sends, delivered } = effects;
+    *out = Answer {
+        first: None,
+        others: sends,
+        delivered,
+    };
+    Ok(())
+}
+
 /// Makes a call in two halves: first what it gives is computed, and then the node takes it.
 fn make_halves<A: Allocator + Copy>(
     node: &mut Gossip<A>,
     call: &Call<'_, A>,
-    out: &mut Effects<A>,
+    out: &mut Answer<A>,
 ) -> Result<(), GossipFault> {
     let given = node.answer(call)?;
     node.take(call)?;
@@ -63,10 +81,10 @@ fn make_halves<A: Allocator + Copy>(
 fn push_answer<A: Allocator>(
     said: &mut String,
     answer: Result<(), GossipFault>,
-    out: &Effects<A>,
+    out: &Answer<A>,
 ) -> Result<Outcome, AllocError> {
     match answer {
-        Ok(()) => push_effects(said, out)?,
+        Ok(()) => push_given(said, out)?,
         Err(GossipFault::OutOfMemory) => return Ok(Outcome::NoMemory),
         Err(fault) => writeln!(said, "{fault}")?,
     }
@@ -134,12 +152,12 @@ impl<A: Allocator + Copy> GossipLayer<A> {
         let Some(node) = &mut self.node else {
             return Ok(Outcome::Unknown);
         };
-        let mut out = Effects::new(self.alloc);
+        let mut out = Answer::new(self.alloc);
         turn.begin();
         let answer = if by_halves {
             make_halves(node, &lent(call), &mut out)
         } else {
-            make(node, &lent(call), &mut out)
+            make_whole(self.alloc, node, &lent(call), &mut out)
         };
         turn.end();
         let outcome = push_answer(said, answer, &out)?;

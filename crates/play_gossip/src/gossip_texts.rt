@@ -1,7 +1,8 @@
 //! What a node's gossip shows and gives, as text.
-use gossip_core::{Effects, Gossip};
+use frames::Body;
+use gossip_core::{Answer, Gossip};
 use missing::{Missing, Want};
-use node_names::MsgId;
+use node_names::{MsgId, NodeName};
 use peer_sets::PeerSets;
 use play_script::bodies::push_body;
 use play_script::lists::{end_line, push_payload};
@@ -128,20 +129,32 @@ pub(crate) fn push_gossip<A: Allocator>(
     push_forgotten(text, node, ids)
 }
 
-/// Appends what a call gave: the message that was delivered, and each packet with its receiver.
-pub(crate) fn push_effects<A: Allocator>(
+/// Appends a packet with its receiver.
+fn push_send<A: Allocator>(
     text: &mut String,
-    effects: &Effects<A>,
+    send: &(NodeName, Body<A>),
 ) -> Result<(), AllocError> {
-    if let Some((id, payload)) = &effects.delivered {
+    write!(text, "to {}: ", send.0)?;
+    push_body(text, &send.1)?;
+    text.push('\n')?;
+    Ok(())
+}
+
+/// Appends what a call gave: the message that was delivered, and each packet with its receiver.
+pub(crate) fn push_given<A: Allocator>(
+    text: &mut String,
+    given: &Answer<A>,
+) -> Result<(), AllocError> {
+    if let Some((id, payload)) = &given.delivered {
         write!(text, "deliver {id} ")?;
         push_payload(text, payload.as_slice())?;
         text.push('\n')?;
     }
-    for (to, body) in effects.sends.as_slice() {
-        write!(text, "to {to}: ")?;
-        push_body(text, body)?;
-        text.push('\n')?;
+    if let Some(send) = &given.first {
+        push_send(text, send)?;
+    }
+    for send in given.others.as_slice() {
+        push_send(text, send)?;
     }
     Ok(())
 }

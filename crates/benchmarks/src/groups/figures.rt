@@ -15,6 +15,8 @@ pub(crate) struct Figures {
     pub(crate) micros: u64,
     /// The median time from a message's broadcast to a delivery of it. Deliveries at the origin count too.
     pub(crate) each: u64,
+    /// The 99th percentile of these times.
+    pub(crate) late: u64,
     /// The median time from a message's broadcast to its last delivery.
     pub(crate) last: u64,
     /// The longest time from a message's broadcast to a delivery of it.
@@ -132,6 +134,7 @@ pub(crate) fn measured(alloc: Global, ran: &RunReport) -> Result<Figures> {
         deliveries: latencies.each.len(),
         micros: span(broadcasts, ran.times.as_slice()),
         each: percentile(latencies.each.as_slice(), 50),
+        late: percentile(latencies.each.as_slice(), 99),
         last: percentile(latencies.last.as_slice(), 50),
         greatest: percentile(latencies.last.as_slice(), 100),
     })
