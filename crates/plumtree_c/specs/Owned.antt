@@ -1,17 +1,28 @@
--- What the handle of a node owns: what the box of the node owns, if there is one.
+-- What the handle of a slot owns: what the box of its node owns, if there is one.
 use base.Fml.{Fml, ftrue}
-use base.Stored.{Coded}
 use denote.RawPtr.{Ptr}
-use Rattle.std.specs.Prelude.{Option, None, Some}
-use Rattle.std.specs.Coded.{coded_option}
+use Rattle.std.specs.Prelude.{Bool, true, false, Option, None, Some}
 use Rattle.std.specs.Box.Ownership.{box_owns}
 use Rattle.std.specs.Global.{Global}
 use Rattle.std_heap.specs.contracts.GlobalAllocator.TheImpl.{ghosts}
-use Rattle.plumtree_c.specs.contracts.node.Node.{the_row}
+use Rattle.plumtree_c.specs.Kept.{Kept}
+use Rattle.plumtree_c.specs.Kept.Kept.{Machine, Bytes}
+use Rattle.plumtree_c.specs.contracts.node.Node as node
+use Rattle.plumtree_c.specs.contracts.wire.Wire as wire
 
-abbrev pub node_owned : Global → Ptr → Option the_row.Denot → Fml
-node_owned alloc at None = ftrue
-node_owned alloc at (Some node) = box_owns (ghosts.dealloc_token alloc) the_row at node
+abbrev pub kept_owned : Global → Ptr → Option Kept → Fml
+kept_owned alloc at None = ftrue
+kept_owned alloc at (Some (Machine its)) = box_owns (ghosts.dealloc_token alloc) node.the_row at its
+kept_owned alloc at (Some (Bytes its)) = box_owns (ghosts.dealloc_token alloc) wire.the_row at its
 
-abbrev pub node_coded : Coded (Option the_row.Denot)
-node_coded = coded_option the_row.coded
+-- whether the slot has a state machine
+abbrev pub has_machine : Option Kept → Bool
+has_machine None = false
+has_machine (Some (Machine node)) = true
+has_machine (Some (Bytes wire)) = false
+
+-- whether the slot has a node of bytes
+abbrev pub has_bytes : Option Kept → Bool
+has_bytes None = false
+has_bytes (Some (Machine node)) = false
+has_bytes (Some (Bytes wire)) = true

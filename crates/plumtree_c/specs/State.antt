@@ -60,12 +60,16 @@ pub record Sent (old : NodeState) (to : Name) (bytes : List ℕ) (new : NodeStat
   pub deliveries : new.out.deliveries ≡ old.out.deliveries
   pub ticks : new.ticks ≡ old.ticks
 
--- The first delivery that waited was taken: the message's id and payload.
-pub record Given (old : NodeState) (id : MsgId) (payload : List ℕ) (new : NodeState) : Type 0 where
+-- The first of these deliveries was taken: the message's id and payload.
+pub record Gives (old : List Delivery) (id : MsgId) (payload : List ℕ) (new : List Delivery) : Type 0 where
   pub delivery : Delivery
-  pub first : old.out.deliveries ≡ delivery ∷ new.out.deliveries
+  pub first : old ≡ delivery ∷ new
   pub its_id : delivery.id ≡ id
   pub its_payload : delivery.payload ≡ payload
+
+-- The first delivery that waited was taken: the message's id and payload.
+pub record Given (old : NodeState) (id : MsgId) (payload : List ℕ) (new : NodeState) : Type 0 where
+  pub gives : Gives old.out.deliveries id payload new.out.deliveries
   pub core : new.core ≡ old.core
   pub sends : new.out.sends ≡ old.out.sends
   pub ticks : new.ticks ≡ old.ticks

@@ -6,6 +6,7 @@ ghost use Rattle.plumtree_c.specs.Plain.{dice_of, id_of};
 ghost use Rattle.plumtree_c.specs.Slots.{Both};
 ghost use Rattle.plumtree_c.specs.State.{Broadcasts, FiresAt, Hears, Steps, Ticks};
 
+use crate::node::Node;
 use crate::plain::Id;
 use crate::refusal::{DONE, NONE, Refusal};
 use crate::slot::Slot;
@@ -27,7 +28,7 @@ pub extern "C" fn plumtree_broadcast(
     ensures kept { (IsDone result → ⊥) → slot.new.held.value ≡ slot.old.held.value }
     ensures number { (IsDone result → ⊥) → number.new ≡ number.old }
 {
-    let mut node = match slot.take(alloc) {
+    let mut node = match slot.take::<Node>(alloc) {
         Ok(node) => node,
         Err(refusal) => return refusal.code(),
     };
@@ -56,7 +57,7 @@ pub extern "C" fn plumtree_receive(
     ensures none_taken { (IsDone result → ⊥) → taken.new ≡ 0 }
 {
     *taken = 0;
-    let mut node = match slot.take(alloc) {
+    let mut node = match slot.take::<Node>(alloc) {
         Ok(node) => node,
         Err(refusal) => return refusal.code(),
     };
@@ -79,7 +80,7 @@ pub extern "C" fn plumtree_flush(slot: &mut Slot, alloc: Global) -> i32
     ensures done { IsDone result → Both slot.old.held.value slot.new.held.value (λ old new. Steps old stimulus.Flush new) }
     ensures kept { (IsDone result → ⊥) → slot.new.held.value ≡ slot.old.held.value }
 {
-    let mut node = match slot.take(alloc) {
+    let mut node = match slot.take::<Node>(alloc) {
         Ok(node) => node,
         Err(refusal) => return refusal.code(),
     };
@@ -101,7 +102,7 @@ pub extern "C" fn plumtree_fire(slot: &mut Slot, alloc: Global, id: &Id) -> i32
         Ok(id) => id,
         Err(refusal) => return refusal.code(),
     };
-    let mut node = match slot.take(alloc) {
+    let mut node = match slot.take::<Node>(alloc) {
         Ok(node) => node,
         Err(refusal) => return refusal.code(),
     };
@@ -123,7 +124,7 @@ pub extern "C" fn plumtree_fire_at(slot: &mut Slot, alloc: Global, place: usize)
     ensures done { IsDone result → Both slot.old.held.value slot.new.held.value (FiresAt place) }
     ensures kept { (IsDone result → ⊥) → slot.new.held.value ≡ slot.old.held.value }
 {
-    let mut node = match slot.take(alloc) {
+    let mut node = match slot.take::<Node>(alloc) {
         Ok(node) => node,
         Err(refusal) => return refusal.code(),
     };
@@ -145,7 +146,7 @@ pub extern "C" fn plumtree_shuffle(slot: &mut Slot, alloc: Global, dice: &[u64; 
     ensures done { IsDone result → Both slot.old.held.value slot.new.held.value (λ old new. Steps old (stimulus.Shuffle (dice_of dice.now)) new) }
     ensures kept { (IsDone result → ⊥) → slot.new.held.value ≡ slot.old.held.value }
 {
-    let mut node = match slot.take(alloc) {
+    let mut node = match slot.take::<Node>(alloc) {
         Ok(node) => node,
         Err(refusal) => return refusal.code(),
     };
@@ -164,7 +165,7 @@ pub extern "C" fn plumtree_shuffle(slot: &mut Slot, alloc: Global, dice: &[u64; 
 pub extern "C" fn plumtree_tick(slot: &mut Slot, alloc: Global, dice: &[u64; 16]) -> i32
     ensures { IsDone result → Both slot.old.held.value slot.new.held.value (λ old new. Ticks old (dice_of dice.now) new) }
 {
-    let mut node = match slot.take(alloc) {
+    let mut node = match slot.take::<Node>(alloc) {
         Ok(node) => node,
         Err(refusal) => return refusal.code(),
     };
@@ -191,7 +192,7 @@ pub extern "C" fn plumtree_link_down(
         Ok(peer) => peer,
         Err(_) => return Refusal::BadName.code(),
     };
-    let mut node = match slot.take(alloc) {
+    let mut node = match slot.take::<Node>(alloc) {
         Ok(node) => node,
         Err(refusal) => return refusal.code(),
     };

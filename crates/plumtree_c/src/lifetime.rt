@@ -2,16 +2,20 @@
 ghost use Rattle.std.specs.Prelude.{◌≡◌, map, None, IfOk, OnOk, OnErr};
 ghost use Rattle.plumtree_c.specs.Answers.{IsDone};
 ghost use Rattle.plumtree_c.specs.Plain.{contact_of, limits_of, name_of, origin_of};
-ghost use Rattle.plumtree_c.specs.Slots.{Has};
+ghost use Rattle.plumtree_c.specs.Slots.{Has, HasBytes};
 ghost use Rattle.plumtree_c.specs.State.{Starts};
+ghost use Rattle.plumtree_c.specs.Wire.{WireStarts};
 
+use crate::lodger::Lodger;
 use crate::node::Node;
 use crate::plain::{Name, Sizes};
 use crate::refusal::{DONE, NONE, Refusal};
 use crate::slot::Slot;
+use crate::wire::Wire;
 use node_names::{Incarnation, Limits, Listed, NodeName, Origin};
 use std::alloc::Global;
 use std::boxed::Box;
+use wire_node::WireLimits;
 use world::are_peers;
 
 /// Reads names.
@@ -35,7 +39,17 @@ fn read_contact(contact: &[u8]) -> Result<Option<NodeName>, Refusal>
     }
 }
 
-/// Starts a node in a box of its own.
+/// Puts what a slot may have into a box.
+fn boxed<T: Lodger>(alloc: Global, lodger: T) -> Result<Box<T>, Refusal>
+    ensures { IfOk result (λ made. made.value ≡ lodger) }
+{
+    match Box::new(alloc, lodger) {
+        Ok(made) => Ok(made),
+        Err(_) => Err(Refusal::OutOfMemory),
+    }
+}
+
+/// Starts a state machine in a box of its own.
 fn boxed_node(
     alloc: Global,
     me: Origin,
@@ -52,10 +66,7 @@ fn boxed_node(
         return Err(Refusal::BadPeers);
     }
     let node = Node::start(alloc, me, limits, peers.as_slice(), contact)?;
-    match Box::new(alloc, node) {
-        Ok(node) => Ok(node),
-        Err(_) => Err(Refusal::OutOfMemory),
-    }
+    boxed(alloc, node)
 }
 
 /// Starts a node in the slot.
@@ -110,13 +121,81 @@ pub extern "C" fn plumtree_start(
     }
 }
 
-/// Frees the node, with all that waits. 0: the slot has none, as after it was freed.
+/// Starts a node of bytes in a box of its own.
+fn boxed_wire(
+    alloc: Global,
+    me: Origin,
+    limits: WireLimits,
+    peers: &[Name],
+    contact: &[u8],
+) -> Result<Box<Wire>, Refusal>
+    ensures { IfOk result (λ wire. WireStarts me limits.core (map name_of peers.now) (contact_of contact.now) wire.value) }
+{
+    let peers = read_names(alloc, peers)?;
+    let contact = read_contact(contact)?;
+    let wire = Wire::start(alloc, me, limits, peers.as_slice(), contact)?;
+    boxed(alloc, wire)
+}
+
+/// Starts a node of bytes in the slot.
+fn start_wire(
+    slot: &mut Slot,
+    alloc: Global,
+    me: Origin,
+    limits: &Sizes,
+    waiting: usize,
+    peers: &[Name],
+    contact: &[u8],
+) -> Result<(), Refusal>
+    ensures ok { OnOk result (HasBytes slot.new.held.value (WireStarts me (limits_of limits.now) (map name_of peers.now) (contact_of contact.now))) }
+    ensures free { OnOk result (slot.old.live ≡ 0) }
+    ensures err { OnErr result (slot.new ≡ slot.old) }
+{
+    slot.check_free()?;
+    let core = limits.read()?;
+    let wire = boxed_wire(alloc, me, WireLimits { core, waiting }, peers, contact)?;
+    slot.put(wire);
+    Ok(())
+}
+
+/// Starts a node of bytes in the slot, as `plumtree_start` starts a state machine. `waiting` says how many bytes may
+/// wait for a name before it is taken down.
 #[unsafe(no_mangle)]
-pub extern "C" fn plumtree_free(slot: &mut Slot, alloc: Global) -> i32
+pub extern "C" fn plumtree_wire_start(
+    slot: &mut Slot,
+    alloc: Global,
+    name: &[u8],
+    incarnation: u64,
+    limits: &Sizes,
+    waiting: usize,
+    peers: &[Name],
+    contact: &[u8],
+) -> i32
+    ensures done { IsDone result → HasBytes slot.new.held.value (WireStarts (origin_of name.now incarnation) (limits_of limits.now) (map name_of peers.now) (contact_of contact.now)) }
+    ensures free { IsDone result → slot.old.live ≡ 0 }
+    ensures kept { (IsDone result → ⊥) → slot.new ≡ slot.old }
+{
+    let name = match NodeName::parse(name) {
+        Ok(name) => name,
+        Err(_) => return Refusal::BadName.code(),
+    };
+    let me = Origin {
+        name,
+        incarnation: Incarnation(incarnation),
+    };
+    let answer = start_wire(slot, alloc, me, limits, waiting, peers, contact);
+    match answer {
+        Ok(()) => DONE,
+        Err(refusal) => refusal.code(),
+    }
+}
+
+/// Frees what the slot has, if that is of this type.
+fn free<T: Lodger>(slot: &mut Slot, alloc: Global) -> i32
     ensures freed { IsDone result → slot.new.held.value ≡ None }
     ensures kept { (IsDone result → ⊥) → slot.new.held.value ≡ slot.old.held.value }
 {
-    match slot.take(alloc) {
+    match slot.take::<T>(alloc) {
         Ok(node) => {
             drop(node);
             DONE
@@ -124,6 +203,18 @@ pub extern "C" fn plumtree_free(slot: &mut Slot, alloc: Global) -> i32
         Err(Refusal::NotLive) => NONE,
         Err(refusal) => refusal.code(),
     }
+}
+
+/// Frees the node, of either kind, with all that waits. 0: the slot has none, as after it was freed.
+#[unsafe(no_mangle)]
+pub extern "C" fn plumtree_free(slot: &mut Slot, alloc: Global) -> i32
+    ensures freed { IsDone result → slot.new.held.value ≡ None }
+    ensures kept { (IsDone result → ⊥) → slot.new.held.value ≡ slot.old.held.value }
+{
+    if slot.has_bytes() {
+        return free::<Wire>(slot, alloc);
+    }
+    free::<Node>(slot, alloc)
 }
 
 /// Sets the limits to the standard ones.

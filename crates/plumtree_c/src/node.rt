@@ -1,6 +1,5 @@
 //! A node: its core, and what it sends and delivers, until the caller takes that.
 ghost use Rattle.std.specs.Prelude.{◌≡◌, ◌≢◌, ◌+◌, ◌++◌, ◌%◌, List, [], ◌∷◌, length, map, slice_get, take, IfOk, IfSome, IfNone, IsTrue, OnOk, OnErr};
-ghost use Rattle.node_names.specs.Slots.{somes};
 ghost use Rattle.node_core.specs.Plum.{plum_state};
 ghost use Rattle.world.specs.Delivery.{Delivery};
 ghost use Rattle.world.specs.Peers.{are_peers};
@@ -10,7 +9,7 @@ ghost use Rattle.world.specs.declared.stimulus.StimulusOf.TheVariants as stimulu
 
 use crate::plain::{Counts, Id, Name};
 use crate::refusal::Refusal;
-use crate::room::{forget, put};
+use crate::room::{forget, give, number_of, put};
 use bytes::Bytes;
 use frames::{Frame, FrameFault, decode, encode};
 use node_core::{PlumCore, armed_at, armed_ids};
@@ -61,13 +60,6 @@ impl Model for Node {
 
     // At most half of each list was taken.
     ghost invariant = { λ n. (n.sent + n.sent ≤ length n.out.sends) × (n.given + n.given ≤ length n.out.deliveries) };
-}
-
-/// The number of entries of a list. `None` stands where one was taken out.
-fn number_of<T>(entries: &[Option<T>]) -> usize
-    ensures { result ≡ length (somes entries.now) }
-{
-    entries.iter().flatten().count()
 }
 
 impl Node {
@@ -289,15 +281,9 @@ impl Node {
         ensures none { IfOk result (λ id. IfNone id (self.new ≡ self.old)) }
         ensures err { OnErr result (self.new ≡ self.old) }
     {
-        let Some(delivery) = self.out.deliveries.as_slice().get(self.given) else {
+        let Some(id) = give(&mut self.out.deliveries, &mut self.given, room, length)? else {
             return Ok(None);
         };
-        let id = Id::of(&delivery.id);
-        *length = delivery.payload.len();
-        if !put(room, delivery.payload.as_slice()) {
-            return Err(Refusal::RoomTooSmall);
-        }
-        self.given = forget(&mut self.out.deliveries, self.given + 1);
         self.taken = self.taken.wrapping_add(1);
         Ok(Some(id))
     }
@@ -316,13 +302,6 @@ impl Node {
             sends: (self.out.sends.len() - self.sent) as u64,
             deliveries,
         }
-    }
-
-    /// Whether the node has delivered the message.
-    pub(crate) fn knows(&self, id: &MsgId) -> bool
-        ensures { result ≡ (plum_state self.now.core).has id.now }
-    {
-        self.core.has(id)
     }
 
     /// The core, to be read.

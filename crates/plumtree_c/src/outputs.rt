@@ -5,6 +5,7 @@ ghost use Rattle.plumtree_c.specs.Plain.{id_of, name_of};
 ghost use Rattle.plumtree_c.specs.Slots.{Both};
 ghost use Rattle.plumtree_c.specs.State.{Given, Sent};
 
+use crate::node::Node;
 use crate::plain::{Id, Name};
 use crate::refusal::{DONE, NONE};
 use crate::slot::Slot;
@@ -25,7 +26,7 @@ pub extern "C" fn plumtree_next_send(
     ensures kept { (IsDone result → ⊥) → slot.new.held.value ≡ slot.old.held.value }
 {
     *length = 0;
-    let mut node = match slot.take(alloc) {
+    let mut node = match slot.take::<Node>(alloc) {
         Ok(node) => node,
         Err(refusal) => return refusal.code(),
     };
@@ -58,7 +59,7 @@ pub extern "C" fn plumtree_next_delivery(
     ensures kept { (IsDone result → ⊥) → slot.new.held.value ≡ slot.old.held.value }
 {
     *length = 0;
-    let mut node = match slot.take(alloc) {
+    let mut node = match slot.take::<Node>(alloc) {
         Ok(node) => node,
         Err(refusal) => return refusal.code(),
     };

@@ -64,6 +64,24 @@ pub struct Counts {
 
 const _: () = prove!(size_of::<Counts>() == 56);
 
+/// How much a node of bytes has.
+#[repr(C)]
+#[derive(Clone, Copy)]
+pub struct WireCounts {
+    /// Messages whose payloads it holds.
+    pub held: u64,
+    /// Messages that it lacks and may ask for: the timers that are armed.
+    pub missing: u64,
+    /// Announcements of these that came.
+    pub wants: u64,
+    /// Announcements that wait for the next tick.
+    pub queued: u64,
+    /// Ticks that were made.
+    pub ticks: u64,
+}
+
+const _: () = prove!(size_of::<WireCounts>() == 40);
+
 impl Name {
     /// The name for C.
     pub(crate) fn of(name: &NodeName) -> Name

@@ -4,6 +4,7 @@ ghost use Rattle.plumtree_c.specs.Answers.{IsRefusal};
 use frames::FrameFault;
 use node_names::{LimitsFault, NameFault};
 use std::alloc::AllocError;
+use wire_node::WireError;
 use world::CoreError;
 
 /// The call was made.
@@ -15,7 +16,7 @@ pub(crate) const NONE: i32 = 0;
 /// Why a call was refused. Nothing has changed then.
 #[derive(Clone, Copy, Debug, PartialEq, Eq)]
 pub(crate) enum Refusal {
-    /// The slot has no node.
+    /// The slot has no node of this kind.
     NotLive,
     /// The slot has a node already.
     Live,
@@ -51,6 +52,8 @@ pub(crate) enum Refusal {
     BadCount,
     /// Bytes of the frame follow its last field.
     Trailing,
+    /// The node has no such connection, or no more can be numbered.
+    NoConnection,
 }
 
 impl Refusal {
@@ -77,6 +80,7 @@ impl Refusal {
             Refusal::BadField => -16,
             Refusal::BadCount => -17,
             Refusal::Trailing => -18,
+            Refusal::NoConnection => -19,
         }
     }
 }
@@ -86,7 +90,7 @@ pub(crate) fn words_of(code: i32) -> &'static str {
     match code {
         1 => "done",
         0 => "there is none, or it is not whole yet",
-        -1 => "the slot has no node",
+        -1 => "the slot has no such node",
         -2 => "the slot has a node already",
         -3 => "the slot was not zeroed",
         -4 => "the slot is a copy of one that was used since",
@@ -104,6 +108,7 @@ pub(crate) fn words_of(code: i32) -> &'static str {
         -16 => "a field of the frame is cut off or out of range",
         -17 => "a count in the frame is out of range",
         -18 => "bytes of the frame follow its last field",
+        -19 => "there is no such connection",
         _ => "",
     }
 }
@@ -148,6 +153,18 @@ impl From<FrameFault> for Refusal {
             FrameFault::BadField => Refusal::BadField,
             FrameFault::BadCount => Refusal::BadCount,
             FrameFault::Trailing => Refusal::Trailing,
+        }
+    }
+}
+
+impl From<WireError> for Refusal {
+    fn from(error: WireError) -> Refusal {
+        match error {
+            WireError::Refused(error) => error.into(),
+            WireError::Frame(fault) => fault.into(),
+            WireError::NoConnection => Refusal::NoConnection,
+            WireError::BadPeers => Refusal::BadPeers,
+            WireError::OutOfMemory => Refusal::OutOfMemory,
         }
     }
 }

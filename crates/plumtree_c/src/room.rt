@@ -1,11 +1,15 @@
 //! Rooms of the caller for bytes and names, and lists whose first items are taken.
-ghost use Rattle.std.specs.Prelude.{◌≡◌, ◌+◌, ◌≤◌, MatchBool, drop, length, map, take};
-ghost use Rattle.plumtree_c.specs.Plain.{name_of};
+ghost use Rattle.std.specs.Prelude.{◌≡◌, ◌+◌, ◌≤◌, IfNone, IfOk, IfSome, MatchBool, OnErr, drop, length, map, take};
+ghost use Rattle.node_names.specs.Slots.{somes};
+ghost use Rattle.plumtree_c.specs.Plain.{id_of, name_of};
+ghost use Rattle.plumtree_c.specs.State.{Gives};
 
-use crate::plain::Name;
+use crate::plain::{Id, Name};
+use crate::refusal::Refusal;
 use node_names::{Listed, NodeName};
 use peer_sets::{Member, PeerKind};
 use std::mem;
+use world::Delivery;
 
 /// Puts the bytes at the front of the room, or answers `false` if they are too many.
 pub(crate) fn put(room: &mut [u8], bytes: &[u8]) -> bool
@@ -45,6 +49,39 @@ pub(crate) fn forget<T: Drop>(items: &mut Listed<T>, given: usize) -> usize
     rest.drain(..given);
     *items = Listed::from_vec(rest);
     0
+}
+
+/// The number of entries of a list. `None` stands where one was taken out.
+pub(crate) fn number_of<T>(entries: &[Option<T>]) -> usize
+    ensures { result ≡ length (somes entries.now) }
+{
+    entries.iter().flatten().count()
+}
+
+/// Takes the first delivery that was not given yet: returns the message's id, and puts its payload at the front of the
+/// room. `given` of them were. `count` is then the number of bytes, also where the room is too small.
+pub(crate) fn give(
+    deliveries: &mut Listed<Delivery>,
+    given: &mut usize,
+    room: &mut [u8],
+    count: &mut usize,
+) -> Result<Option<Id>, Refusal>
+    requires { given.old + given.old ≤ length deliveries.old }
+    ensures some { IfOk result (λ id. IfSome id (λ id. Gives (drop given.old deliveries.old) (id_of id) (take count.new room.new) (drop given.new deliveries.new))) }
+    ensures none { IfOk result (λ id. IfNone id ((deliveries.new ≡ deliveries.old) × (given.new ≡ given.old))) }
+    ensures err { OnErr result ((deliveries.new ≡ deliveries.old) × (given.new ≡ given.old)) }
+    ensures few { given.new + given.new ≤ length deliveries.new }
+{
+    let Some(delivery) = deliveries.as_slice().get(*given) else {
+        return Ok(None);
+    };
+    let id = Id::of(&delivery.id);
+    *count = delivery.payload.len();
+    if !put(room, delivery.payload.as_slice()) {
+        return Err(Refusal::RoomTooSmall);
+    }
+    *given = forget(deliveries, *given + 1);
+    Ok(Some(id))
 }
 
 /// Puts the names of as many members of this kind at the front of the room as it has places for. Returns the number of

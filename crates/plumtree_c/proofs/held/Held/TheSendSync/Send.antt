@@ -11,14 +11,19 @@ use Rattle.std.specs.Prelude.{Option, None, Some}
 use Rattle.std.specs.Global.{Global}
 use Rattle.std_alloc.proofs.SendSync.{quiet, lies}
 use Rattle.std_heap.proofs.Global.TheSendSync as handle
-use Rattle.plumtree_c.specs.Owned.{node_owned}
+use Rattle.plumtree_c.specs.Kept.{Kept}
+use Rattle.plumtree_c.specs.Kept.Kept.{Machine, Bytes}
+use Rattle.plumtree_c.specs.Owned.{kept_owned}
 use Rattle.plumtree_c.specs.contracts.node.Node as Node
+use Rattle.plumtree_c.specs.contracts.wire.Wire as Wire
 use Rattle.plumtree_c.proofs.node.Node.TheSendSync.{the_send as node}
+use Rattle.plumtree_c.proofs.wire.Wire.TheSendSync.{the_send as wire}
 use Rattle.plumtree_c.specs.contracts.held.Held.{the_row, the_type}
 
-owned : (alloc : Global) (at : Ptr) (value : Option Node.the_row.Denot) → Keyless (node_owned alloc at value)
+owned : (alloc : Global) (at : Ptr) (kept : Option Kept) → Keyless (kept_owned alloc at kept)
 owned alloc at None = tt
-owned alloc at (Some value) = (lies Node.the_row node at value, heap.frees.frees alloc (raw (lone Node.the_row.mir)) at)
+owned alloc at (Some (Machine its)) = (lies Node.the_row node at its, heap.frees.frees alloc (raw (lone Node.the_row.mir)) at)
+owned alloc at (Some (Bytes its)) = (lies Wire.the_row wire at its, heap.frees.frees alloc (raw (lone Wire.the_row.mir)) at)
 
 pub send : IsSend the_row
 send =

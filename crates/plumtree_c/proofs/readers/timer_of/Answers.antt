@@ -1,0 +1,9 @@
+use Rattle.std.proofs.Common.{rules}
+use Rattle.plumtree_c.proofs.readers.timer_of.Goals as goal
+
+pub returns-in-Some-clause-done : goal.returns-in-Some-clause-done
+returns-in-Some-clause-done g c done = record {
+  kept = g.T.Lodger.kept c.in-Ok.node.value;
+  has = c.in-Ok.ensures.ok;
+  holds = search rules;
+}

@@ -1,0 +1,11 @@
+use Rattle.std.proofs.Common.{rules}
+use Rattle.plumtree_c.proofs.wire_calls.plumtree_wire_broadcast.Goals as goal
+
+pub returns-in-Ok-answer-clause-done : goal.returns-in-Ok-answer-clause-done
+returns-in-Ok-answer-clause-done c done = record {
+  before = c.deref_mut.result.now;
+  after = c.broadcast-answer.new.self;
+  had = search rules;
+  has = search rules;
+  done = c.in-Ok-answer.ensures.ok;
+}
