@@ -6,42 +6,29 @@
  *   chat b 7202 --join a a=7201
  *
  * The node that is joined runs already: a node whose first call comes to nothing stays alone. Every name that the node
- * may have to call stands on the command line with its port on this machine. A connection carries frames from the one
- * who called to the other, and nothing else. One thread, one poll; a peer that takes nothing for a second is hung up. */
+ * may have to call stands on the command line with its port on this machine. One thread, one poll; a peer that takes
+ * nothing for a second is hung up. */
 #define _DEFAULT_SOURCE
 #include "plumtree.h"
 
 #include <arpa/inet.h>
-#include <errno.h>
 #include <poll.h>
 #include <stdio.h>
 #include <stdlib.h>
 #include <string.h>
+#include <sys/random.h>
 #include <sys/socket.h>
-#include <sys/time.h>
+#include <sys/timerfd.h>
 #include <time.h>
 #include <unistd.h>
 
-enum { PEERS = 64, CALLERS = 64, TICK = 100 /* milliseconds */ };
-
-/* Another node: its port, and the connection to it, if there is one. */
-typedef struct peer {
-    const char *name;
-    uint16_t port;
-    int socket;
-} peer;
-
-/* A connection that someone made to this node, with what came in and is no whole frame yet. */
-typedef struct caller {
-    int socket;
-    size_t length;
-    uint8_t in[PLUMTREE_FRAME_MAX];
-} caller;
+enum { PEERS = 64, CALLERS = 64, LISTENER = 0, INPUT, TIMER, FIRST_CALLER, ALL = FIRST_CALLER + CALLERS };
 
 static plumtree_node node;
-static peer peers[PEERS];
-static size_t peer_count;
-static caller callers[CALLERS];
+static plumtree_name peers[PEERS]; /* other nodes, with their ports and the connections to them, or -1 */
+static int ports[PEERS], links[PEERS], peer_count;
+static struct pollfd polled[ALL]; /* connections of others have these numbers */
+static uint64_t numbers[ALL];
 
 /* Ends the program unless the call was done, or there was nothing to do. */
 static int32_t checked(const char *what, int32_t answer)
@@ -59,200 +46,146 @@ static int32_t checked(const char *what, int32_t answer)
 static const uint64_t *roll(void)
 {
     static uint64_t dice[PLUMTREE_DICE];
-    for (int i = 0; i < PLUMTREE_DICE; i++)
-        dice[i] = (uint64_t)random() << 33 ^ (uint64_t)random() << 11 ^ (uint64_t)random();
+    checked("getrandom", getrandom(dice, sizeof dice, 0) == sizeof dice ? PLUMTREE_DONE : PLUMTREE_OUT_OF_MEMORY);
     return dice;
 }
 
-/* ---- Connections to others ---- */
-
-static struct sockaddr_in place(uint16_t port)
+/* Connects to a port of this machine, or listens at it. Returns -1 if that fails. */
+static int open_socket(int port, int is_listener)
 {
-    struct sockaddr_in at = {.sin_family = AF_INET, .sin_port = htons(port)};
-    at.sin_addr.s_addr = htonl(INADDR_LOOPBACK);
-    return at;
-}
-
-static int call(const peer *it)
-{
-    struct sockaddr_in at = place(it->port);
+    struct sockaddr_in at = {AF_INET, htons((uint16_t)port), {htonl(INADDR_LOOPBACK)}, {0}};
     struct timeval second = {1, 0};
-    int made = socket(AF_INET, SOCK_STREAM, 0);
+    int on = 1, made = socket(AF_INET, SOCK_STREAM, 0);
+    setsockopt(made, SOL_SOCKET, SO_REUSEADDR, &on, sizeof on);
     setsockopt(made, SOL_SOCKET, SO_SNDTIMEO, &second, sizeof second);
-    if (made >= 0 && connect(made, (struct sockaddr *)&at, sizeof at) == 0)
+    if (is_listener ? bind(made, (struct sockaddr *)&at, sizeof at) == 0 && listen(made, CALLERS) == 0
+                    : connect(made, (struct sockaddr *)&at, sizeof at) == 0)
         return made;
-    if (made >= 0)
-        close(made);
+    close(made);
     return -1;
 }
 
-static int write_all(int socket, const uint8_t *bytes, size_t length)
+/* The place of a name among the peers, or their number. */
+static int place_of(const plumtree_name *name)
 {
-    while (length > 0) {
-        ssize_t done = send(socket, bytes, length, MSG_NOSIGNAL);
-        if (done < 0 && errno != EINTR)
-            return 0;
-        bytes += done > 0 ? done : 0;
-        length -= done > 0 ? (size_t)done : 0;
-    }
-    return 1;
+    int place = 0;
+    while (place < peer_count && strcmp(peers[place].text, name->text) != 0)
+        place++;
+    return place;
 }
 
-/* Writes a frame to the connection to its receiver, which is made where there is none. */
-static void send_to(const char *name, const uint8_t *frame, size_t length)
+/* Writes what waits for a name to a connection, which is made where there is none. */
+static void send_to(const plumtree_name *name)
 {
-    peer *it = NULL;
-    for (size_t i = 0; i < peer_count; i++)
-        if (strcmp(peers[i].name, name) == 0)
-            it = &peers[i];
-    if (it != NULL && it->socket < 0)
-        it->socket = call(it);
-    if (it != NULL && it->socket >= 0 && write_all(it->socket, frame, length))
-        return;
-    if (it != NULL && it->socket >= 0)
-        close(it->socket);
-    if (it != NULL)
-        it->socket = -1;
-    checked("link_down", plumtree_link_down(&node, (const uint8_t *)name, strlen(name), roll()));
+    const uint8_t *text = (const uint8_t *)name->text;
+    int place = place_of(name);
+    plumtree_piece pieces[PLUMTREE_PIECES];
+    struct msghdr message = {.msg_iov = (void *)pieces, .msg_iovlen = PLUMTREE_PIECES};
+    ssize_t sent = place < peer_count ? 0 : -1;
+    if (sent == 0 && links[place] < 0)
+        links[place] = open_socket(ports[place], 0);
+    while (sent >= 0 && checked("transmit", plumtree_wire_transmit(&node, text, name->length, pieces)) == PLUMTREE_DONE)
+        if ((sent = sendmsg(links[place], &message, MSG_NOSIGNAL)) >= 0)
+            checked("transmitted", plumtree_wire_transmitted(&node, text, name->length, (size_t)sent));
+    if (sent < 0)
+        checked("unreachable", plumtree_wire_unreachable(&node, text, name->length, roll()));
 }
 
-/* Prints what was delivered, and sends what is to be sent, until the node has nothing left. */
+/* Prints what was delivered, writes what waits, and closes connections to names that were lost, until nothing waits. */
 static void give_out(void)
 {
-    static uint8_t room[PLUMTREE_FRAME_MAX];
-    plumtree_name to;
+    static uint8_t room[PLUMTREE_PAYLOAD_MAX];
+    plumtree_name names[PEERS];
     plumtree_id id;
-    size_t length;
-    while (checked("next_send", plumtree_next_send(&node, &to, room, sizeof room, &length)) == PLUMTREE_DONE)
-        send_to(to.text, room, length);
-    while (checked("next_delivery", plumtree_next_delivery(&node, &id, room, sizeof room, &length)) == PLUMTREE_DONE) {
+    size_t length = 1;
+    while (checked("next_delivery", plumtree_wire_next_delivery(&node, &id, room, sizeof room, &length)) == PLUMTREE_DONE)
         printf("%s: %.*s\n", id.name.text, (int)length, (const char *)room);
-        fflush(stdout);
+    fflush(stdout);
+    while (checked("receivers", plumtree_wire_receivers(&node, names, PEERS, &length)) == PLUMTREE_DONE && length > 0) {
+        for (size_t i = 0; i < length; i++)
+            send_to(&names[i]);
+        while (checked("next_lost", plumtree_wire_next_lost(&node, &names[0])) == PLUMTREE_DONE)
+            if (place_of(&names[0]) < peer_count) {
+                close(links[place_of(&names[0])]);
+                links[place_of(&names[0])] = -1;
+            }
     }
 }
 
-/* ---- Connections of others ---- */
-
-static int listen_at(uint16_t port)
+static void accept_one(void)
 {
-    struct sockaddr_in at = place(port);
-    int on = 1, made = socket(AF_INET, SOCK_STREAM, 0);
-    setsockopt(made, SOL_SOCKET, SO_REUSEADDR, &on, sizeof on);
-    if (made < 0 || bind(made, (struct sockaddr *)&at, sizeof at) < 0 || listen(made, CALLERS) < 0) {
-        perror("chat: listen");
-        exit(1);
-    }
-    return made;
-}
-
-static void accept_one(int listener)
-{
-    int made = accept(listener, NULL, NULL);
-    for (size_t i = 0; made >= 0 && i < CALLERS; i++)
-        if (callers[i].socket < 0) {
-            callers[i].length = 0;
-            callers[i].socket = made;
-            return;
-        }
-    if (made >= 0)
+    int made = accept(polled[LISTENER].fd, NULL, NULL), place = FIRST_CALLER;
+    while (place < ALL && polled[place].fd >= 0)
+        place++;
+    if (place == ALL) {
         close(made);
-}
-
-/* Reads what a connection brings, and hands the node each whole frame. */
-static void read_from(caller *it)
-{
-    ssize_t count = read(it->socket, it->in + it->length, sizeof it->in - it->length);
-    int32_t answer = PLUMTREE_DONE;
-    size_t taken;
-    it->length += count > 0 ? (size_t)count : 0;
-    while (count > 0 && answer == PLUMTREE_DONE) {
-        answer = plumtree_receive(&node, it->in, it->length, roll(), &taken);
-        it->length -= taken;
-        memmove(it->in, it->in + taken, it->length);
-    }
-    if (count <= 0 || answer <= PLUMTREE_FRAME_TOO_LONG) {
-        close(it->socket);
-        it->socket = -1;
-    } else {
-        checked("receive", answer);
+    } else if (made >= 0) {
+        checked("accept", plumtree_wire_accept(&node, &numbers[place]));
+        polled[place] = (struct pollfd){made, POLLIN, 0};
     }
 }
 
-/* ---- The program ---- */
-
-/* Broadcasts a line of standard input. Returns whether there may be another. */
-static int read_line(void)
+/* Reads a line of standard input, the timer, or what a connection brings. */
+static void read_from(int place)
 {
-    char line[1024];
+    static uint8_t bytes[PLUMTREE_PAYLOAD_MAX];
     uint64_t number;
-    ssize_t count = read(STDIN_FILENO, line, sizeof line);
-    if (count > 0)
-        checked("broadcast", plumtree_broadcast(&node, (uint8_t *)line, (size_t)count - (line[count - 1] == '\n'), &number));
-    return count > 0;
-}
-
-static void start(int count, char **words)
-{
-    plumtree_limits limits;
-    const char *contact = "";
-    for (int i = 3; i < count; i++) {
-        char *equals = strchr(words[i], '=');
-        if (strcmp(words[i], "--join") == 0 && i + 1 < count) {
-            contact = words[++i];
-        } else if (equals != NULL && peer_count < PEERS) {
-            *equals = 0;
-            peers[peer_count++] = (peer){words[i], (uint16_t)atoi(equals + 1), -1};
-        }
+    ssize_t count = read(polled[place].fd, bytes, sizeof bytes);
+    int32_t answer = PLUMTREE_DONE;
+    if (place == TIMER)
+        checked("tick", plumtree_wire_tick(&node, roll()));
+    else if (place == INPUT && count > 0)
+        checked("broadcast", plumtree_wire_broadcast(&node, bytes, (size_t)count - (bytes[count - 1]
+             == '\n'), &number));
+    else if (place != INPUT && count > 0)
+        answer = plumtree_wire_receive(&node, numbers[place], bytes, (size_t)count, roll());
+    else if (place != INPUT)
+        plumtree_wire_ended(&node, numbers[place], roll());
+    if (count <= 0 || answer < 0) {
+        close(polled[place].fd);
+        polled[place].fd = -1;
     }
-    plumtree_limits_default(&limits);
-    checked("start", plumtree_start(&node, (const uint8_t *)words[1], strlen(words[1]), (uint64_t)time(NULL), &limits,
-                                    NULL, 0, (const uint8_t *)contact, strlen(contact)));
-}
-
-/* Waits for what comes next, for some milliseconds at most. */
-static void turn(int listener, int *is_open, int most)
-{
-    struct pollfd all[2 + CALLERS] = {{listener, POLLIN, 0}, {*is_open ? STDIN_FILENO : -1, POLLIN, 0}};
-    for (size_t i = 0; i < CALLERS; i++)
-        all[2 + i] = (struct pollfd){callers[i].socket, POLLIN, 0};
-    if (poll(all, sizeof all / sizeof *all, most) < 0)
-        return;
-    if (all[0].revents)
-        accept_one(listener);
-    if (all[1].revents)
-        *is_open = read_line();
-    for (size_t i = 0; i < CALLERS; i++)
-        if (all[2 + i].revents)
-            read_from(&callers[i]);
-}
-
-static int64_t milliseconds(void)
-{
-    struct timespec now;
-    clock_gettime(CLOCK_MONOTONIC, &now);
-    return (int64_t)now.tv_sec * 1000 + now.tv_nsec / 1000000;
 }
 
 int main(int count, char **words)
 {
-    int is_open = 1, listener;
-    int64_t next = milliseconds();
+    struct itimerspec ticks = {{0, 100000000}, {0, 100000000}};
+    plumtree_limits limits;
+    const char *contact = "";
     if (count < 3) {
         fprintf(stderr, "usage: chat NAME PORT [--join NAME] [PEER=PORT]..\n");
         return 2;
     }
-    srandom((unsigned)time(NULL) ^ (unsigned)getpid());
-    for (size_t i = 0; i < CALLERS; i++)
-        callers[i].socket = -1;
-    listener = listen_at((uint16_t)atoi(words[2]));
-    start(count, words);
+    for (int i = 3; i < count; i++) {
+        size_t length = strcspn(words[i], "=");
+        if (strcmp(words[i], "--join") == 0 && i + 1 < count) {
+            contact = words[++i];
+        } else if (words[i][length] == '=' && peer_count < PEERS) {
+            checked(words[i], plumtree_name_of((const uint8_t *)words[i], length, &peers[peer_count]));
+            ports[peer_count] = atoi(words[i] + length + 1);
+            links[peer_count++] = -1;
+        }
+    }
+    for (int i = 0; i < ALL; i++)
+        polled[i] = (struct pollfd){-1, POLLIN, 0};
+    polled[LISTENER].fd = open_socket(atoi(words[2]), 1);
+    polled[INPUT].fd = STDIN_FILENO;
+    polled[TIMER].fd = timerfd_create(CLOCK_MONOTONIC, 0);
+    timerfd_settime(polled[TIMER].fd, 0, &ticks, NULL);
+    if (polled[LISTENER].fd < 0) {
+        perror("chat: listen");
+        return 1;
+    }
+    plumtree_limits_default(&limits);
+    checked("start", plumtree_wire_start(&node, (const uint8_t *)words[1], strlen(words[1]), (uint64_t)time(NULL), &limits,
+                                         PLUMTREE_WAITING, NULL, 0, (const uint8_t *)contact, strlen(contact)));
     for (;;) {
-        int64_t left = next - milliseconds();
         give_out();
-        turn(listener, &is_open, left > 0 ? (int)left : 0);
-        if (milliseconds() < next)
-            continue;
-        checked("tick", plumtree_tick(&node, roll()));
-        next = milliseconds() + TICK;
+        poll(polled, ALL, -1);
+        if (polled[LISTENER].revents)
+            accept_one();
+        for (int i = INPUT; i < ALL; i++)
+            if (polled[i].fd >= 0 && polled[i].revents)
+                read_from(i);
     }
 }

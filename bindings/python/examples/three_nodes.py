@@ -2,9 +2,8 @@
 from __future__ import annotations
 
 import asyncio
-import contextlib
 
-from plumtree import FRAME_MAX, Config, Deliver, Node, random_dice
+from plumtree import Config, WireNode, random_dice
 
 NAMES = ("a", "b", "c")
 TICK = 0.1
@@ -14,48 +13,33 @@ class Member:
     """A node with its connections to others."""
 
     def __init__(self, name: str, ports: dict[str, int]) -> None:
-        self.name, self.ports = name, ports
-        self.node = Node(Config(name, peers=[other for other in NAMES if other != name]))
+        self.name, self.ports, self.delivered = name, ports, 0
+        self.node = WireNode(Config(name, peers=[other for other in NAMES if other != name]))
         self.links: dict[str, asyncio.StreamWriter] = {}
-        self.delivered = 0
-        self.done = asyncio.Event()
-
-    async def send(self, to: str, frame: bytes) -> None:
-        """Writes a frame to the connection to its receiver, which is made where there is none."""
-        try:
-            if to not in self.links:
-                _, self.links[to] = await asyncio.open_connection("127.0.0.1", self.ports[to])
-            self.links[to].write(frame)
-            await self.links[to].drain()
-        except OSError:
-            self.links.pop(to, None)
-            self.node.link_down(to, random_dice())
 
     async def give_out(self) -> None:
-        """Sends and prints what the node gives."""
-        for output in self.node:
-            if isinstance(output, Deliver):
-                self.delivered += 1
-                print(f"{self.name} delivers {output.id}: {output.payload.decode()}")
-                if self.delivered == len(NAMES):
-                    self.done.set()
-            else:
-                await self.send(output.to, output.frame)
+        """Prints what the node delivers, and writes what waits for each name."""
+        for message in self.node.deliveries():
+            self.delivered += 1
+            print(f"{self.name} delivers {message.id}: {message.payload.decode()}")
+        for to in self.node.receivers():
+            try:
+                if to not in self.links:
+                    _, self.links[to] = await asyncio.open_connection("127.0.0.1", self.ports[to])
+                self.links[to].write(self.node.take(to))
+            except OSError:
+                self.node.unreachable(to, random_dice())
+        while lost := self.node.next_lost():
+            if link := self.links.pop(lost, None):
+                link.close()
 
     async def read_all(self, reader: asyncio.StreamReader, writer: asyncio.StreamWriter) -> None:
         """Hands the node what a connection brings."""
-        rest = b""
-        while data := await reader.read(FRAME_MAX):
-            rest += data
-            rest = rest[self.node.receive(rest, random_dice()) :]
-            await self.give_out()
+        connection = self.node.accept()
+        while data := await reader.read(65_536):
+            self.node.receive(connection, data, random_dice())
+        self.node.ended(connection, random_dice())
         writer.close()
-
-    async def tick_on(self) -> None:
-        while True:
-            await asyncio.sleep(TICK)
-            self.node.tick(random_dice())
-            await self.give_out()
 
 
 async def main() -> None:
@@ -63,16 +47,14 @@ async def main() -> None:
     members = [Member(name, ports) for name in NAMES]
     servers = [await asyncio.start_server(member.read_all, "127.0.0.1", 0) for member in members]
     ports.update((member.name, server.sockets[0].getsockname()[1]) for member, server in zip(members, servers))
-    ticks = [asyncio.create_task(member.tick_on()) for member in members]
     for member in members:
         member.node.broadcast(f"hello from {member.name}".encode())
-        await member.give_out()
-    await asyncio.wait_for(asyncio.gather(*(member.done.wait() for member in members)), 30)
-    for task in ticks:
-        task.cancel()
-        with contextlib.suppress(asyncio.CancelledError):
-            await task
+    while any(member.delivered < len(NAMES) for member in members):
+        for member in members:
+            member.node.tick(random_dice())
+            await member.give_out()
+        await asyncio.sleep(TICK)
 
 
 if __name__ == "__main__":
-    asyncio.run(main())
+    asyncio.run(asyncio.wait_for(main(), 30))

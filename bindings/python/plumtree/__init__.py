@@ -1,5 +1,6 @@
-"""Plumtree broadcast over HyParView membership, as a state machine: what connections bring goes in, and what is to be sent
-and what is delivered comes out. The library that does the work is proved; this module calls it.
+"""Plumtree broadcast over HyParView membership, as a node of bytes (WireNode), or as a state machine (Node): what connections
+bring goes in, and what is to be sent and what is delivered comes out. The library that does the work is proved; this module
+calls it.
 
     >>> from plumtree import Config, Deliver, Node, Send
     >>> a = Node(Config("a", peers=["b"]))
@@ -26,10 +27,12 @@ from ._node import (
     Send,
     random_dice,
 )
+from ._wire import WAITING, WireCounts, WireNode
 
 __all__ = [
     "FRAME_MAX",
     "PAYLOAD_MAX",
+    "WAITING",
     "Config",
     "Counts",
     "Deliver",
@@ -38,5 +41,7 @@ __all__ = [
     "Node",
     "PlumtreeError",
     "Send",
+    "WireCounts",
+    "WireNode",
     "random_dice",
 ]

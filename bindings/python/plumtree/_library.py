@@ -8,7 +8,7 @@ from pathlib import Path
 
 NAME_MAX = 32
 DICE = 16
-VERSION = 1
+VERSION = 2
 
 
 class Slot(ctypes.Structure):
@@ -37,6 +37,17 @@ class CountsOf(ctypes.Structure):
     _fields_ = [(name, c_uint64) for name in ("known", "held", "missing", "wants", "queued", "sends", "deliveries")]
 
 
+class WireCountsOf(ctypes.Structure):
+    _fields_ = [(name, c_uint64) for name in ("held", "missing", "wants", "queued", "ticks")]
+
+
+class Piece(ctypes.Structure):
+    """Bytes that a node lends."""
+
+    _fields_ = [("at", ctypes.c_void_p), ("length", c_size_t)]
+
+
+Pieces = Piece * 4
 Dice = c_uint64 * DICE
 _BYTES = (ctypes.c_char_p, c_size_t)
 _ROOM = (POINTER(c_char), c_size_t, POINTER(c_size_t))
@@ -61,6 +72,19 @@ _CALLS = {
     "plumtree_counts_of": (POINTER(Slot), POINTER(CountsOf)),
     "plumtree_knows": (POINTER(Slot), POINTER(Id)),
     "plumtree_timer": (POINTER(Slot), c_size_t, POINTER(Id)),
+    "plumtree_wire_start": (POINTER(Slot), *_BYTES, c_uint64, POINTER(Sizes), c_size_t, POINTER(Name), c_size_t, *_BYTES),
+    "plumtree_wire_broadcast": (POINTER(Slot), *_BYTES, POINTER(c_uint64)),
+    "plumtree_wire_tick": (POINTER(Slot), POINTER(Dice)),
+    "plumtree_wire_accept": (POINTER(Slot), POINTER(c_uint64)),
+    "plumtree_wire_receive": (POINTER(Slot), c_uint64, *_BYTES, POINTER(Dice)),
+    "plumtree_wire_ended": (POINTER(Slot), c_uint64, POINTER(Dice)),
+    "plumtree_wire_unreachable": (POINTER(Slot), *_BYTES, POINTER(Dice)),
+    "plumtree_wire_receivers": (POINTER(Slot), *_NAMES),
+    "plumtree_wire_transmit": (POINTER(Slot), *_BYTES, POINTER(Pieces)),
+    "plumtree_wire_transmitted": (POINTER(Slot), *_BYTES, c_size_t),
+    "plumtree_wire_next_delivery": (POINTER(Slot), POINTER(Id), *_ROOM),
+    "plumtree_wire_next_lost": (POINTER(Slot), POINTER(Name)),
+    "plumtree_wire_counts_of": (POINTER(Slot), POINTER(WireCountsOf)),
     "plumtree_words": (c_int32, *_ROOM),
 }
 

@@ -1,4 +1,4 @@
-"""A node."""
+"""A state machine, and what nodes of both kinds share."""
 from __future__ import annotations
 
 import ctypes
@@ -128,21 +128,12 @@ class Counts:
 Output = Union[Send, Deliver]
 
 
-class Node:
-    """One node of a group. To iterate over it takes what it gives: deliveries first, then frames. Calls of one node must not
-    overlap."""
+class Kept:
+    """What nodes of both kinds share: the room of a node, and what it can be asked."""
 
-    def __init__(self, config: Config) -> None:
+    def __init__(self) -> None:
         self._slot = Slot()
         self._room = ctypes.create_string_buffer(4096)
-        name, contact = config.name.encode(), (config.contact or "").encode()
-        sizes = Sizes(*(getattr(config.limits, it.name) for it in fields(Limits)))
-        peers = (Name * len(config.peers))(*map(_name, config.peers))
-        _is_done(
-            LIBRARY.plumtree_start(
-                self._slot, name, len(name), config.incarnation, byref(sizes), peers, len(peers), contact, len(contact)
-            )
-        )
 
     def close(self) -> None:
         """Frees the node. Its other calls are refused from then on; a second close does nothing."""
@@ -157,6 +148,84 @@ class Node:
     def __del__(self) -> None:
         if LIBRARY is not None:
             self.close()
+
+    def _in_room(self, call: "ctypes._NamedFuncPointer", what: ctypes.Structure) -> Optional[bytes]:
+        """Makes a call that writes into the room, once more with the size that it asks for."""
+        length = c_size_t()
+        answer = call(self._slot, byref(what), self._room, len(self._room), byref(length))
+        if answer == _ROOM_TOO_SMALL:
+            self._room = ctypes.create_string_buffer(length.value)
+            answer = call(self._slot, byref(what), self._room, len(self._room), byref(length))
+        return self._room.raw[: length.value] if _is_done(answer) else None
+
+    def _delivery(self, call: "ctypes._NamedFuncPointer") -> Optional[Deliver]:
+        message = Id()
+        payload = self._in_room(call, message)
+        if payload is None:
+            return None
+        return Deliver(MsgId(_text(message.name), message.incarnation, message.number), payload)
+
+    def _names(self, call: "ctypes._NamedFuncPointer") -> list[str]:
+        room, length = (Name * _VIEWS)(), c_size_t()
+        _is_done(call(self._slot, room, _VIEWS, byref(length)))
+        return [_text(name) for name in room[: length.value]]
+
+    @property
+    def active(self) -> list[str]:
+        """The names that the node keeps links to."""
+        return self._names(LIBRARY.plumtree_active)
+
+    @property
+    def passive(self) -> list[str]:
+        """The names that may take the place of active ones."""
+        return self._names(LIBRARY.plumtree_passive)
+
+    @property
+    def eager(self) -> list[str]:
+        """The peers to which messages go whole."""
+        return self._names(LIBRARY.plumtree_eager)
+
+    @property
+    def lazy(self) -> list[str]:
+        """The peers to which messages are announced."""
+        return self._names(LIBRARY.plumtree_lazy)
+
+    def knows(self, message: MsgId) -> bool:
+        """Returns whether the node has delivered this message."""
+        return _is_done(LIBRARY.plumtree_knows(self._slot, byref(self._id(message))))
+
+    @property
+    def missing(self) -> list[MsgId]:
+        """The messages that the node lacks and may ask for, in the order in which it heard of them."""
+        found, message = [], Id()
+        while _is_done(LIBRARY.plumtree_timer(self._slot, len(found), byref(message))):
+            found.append(MsgId(_text(message.name), message.incarnation, message.number))
+        return found
+
+    @staticmethod
+    def _id(message: MsgId) -> Id:
+        return Id(_name(message.name), message.incarnation, message.number)
+
+
+def _parts(config: Config) -> tuple[bytes, Sizes, "ctypes.Array[Name]", bytes]:
+    """The name, the limits, the peers and the contact, as the library takes them."""
+    sizes = Sizes(*(getattr(config.limits, it.name) for it in fields(Limits)))
+    peers = (Name * len(config.peers))(*map(_name, config.peers))
+    return config.name.encode(), sizes, peers, (config.contact or "").encode()
+
+
+class Node(Kept):
+    """One node of a group, as a state machine. To iterate over it takes what it gives: deliveries first, then frames. Calls of one node must not
+    overlap."""
+
+    def __init__(self, config: Config) -> None:
+        super().__init__()
+        name, sizes, peers, contact = _parts(config)
+        _is_done(
+            LIBRARY.plumtree_start(
+                self._slot, name, len(name), config.incarnation, byref(sizes), peers, len(peers), contact, len(contact)
+            )
+        )
 
     def broadcast(self, payload: bytes) -> int:
         """Broadcasts a message of at most PAYLOAD_MAX bytes, and returns its number."""
@@ -205,53 +274,12 @@ class Node:
 
     def poll(self) -> Optional[Output]:
         """Takes what the node gives next, deliveries first; None if nothing waits."""
-        return self._next_delivery() or self._next_send()
-
-    def _in_room(self, call: "ctypes._NamedFuncPointer", what: ctypes.Structure) -> Optional[bytes]:
-        """Makes a call that writes into the room, once more with the size that it asks for."""
-        length = c_size_t()
-        answer = call(self._slot, byref(what), self._room, len(self._room), byref(length))
-        if answer == _ROOM_TOO_SMALL:
-            self._room = ctypes.create_string_buffer(length.value)
-            answer = call(self._slot, byref(what), self._room, len(self._room), byref(length))
-        return self._room.raw[: length.value] if _is_done(answer) else None
+        return self._delivery(LIBRARY.plumtree_next_delivery) or self._next_send()
 
     def _next_send(self) -> Optional[Send]:
         to = Name()
         frame = self._in_room(LIBRARY.plumtree_next_send, to)
         return None if frame is None else Send(_text(to), frame)
-
-    def _next_delivery(self) -> Optional[Deliver]:
-        message = Id()
-        payload = self._in_room(LIBRARY.plumtree_next_delivery, message)
-        if payload is None:
-            return None
-        return Deliver(MsgId(_text(message.name), message.incarnation, message.number), payload)
-
-    def _names(self, call: "ctypes._NamedFuncPointer") -> list[str]:
-        room, length = (Name * _VIEWS)(), c_size_t()
-        _is_done(call(self._slot, room, _VIEWS, byref(length)))
-        return [_text(name) for name in room[: length.value]]
-
-    @property
-    def active(self) -> list[str]:
-        """The names that the node keeps links to."""
-        return self._names(LIBRARY.plumtree_active)
-
-    @property
-    def passive(self) -> list[str]:
-        """The names that may take the place of active ones."""
-        return self._names(LIBRARY.plumtree_passive)
-
-    @property
-    def eager(self) -> list[str]:
-        """The peers to which messages go whole."""
-        return self._names(LIBRARY.plumtree_eager)
-
-    @property
-    def lazy(self) -> list[str]:
-        """The peers to which messages are announced."""
-        return self._names(LIBRARY.plumtree_lazy)
 
     @property
     def counts(self) -> Counts:
@@ -259,19 +287,3 @@ class Node:
         counts = CountsOf()
         _is_done(LIBRARY.plumtree_counts_of(self._slot, byref(counts)))
         return Counts(*(getattr(counts, it.name) for it in fields(Counts)))
-
-    def knows(self, message: MsgId) -> bool:
-        """Returns whether the node has delivered this message."""
-        return _is_done(LIBRARY.plumtree_knows(self._slot, byref(self._id(message))))
-
-    @property
-    def missing(self) -> list[MsgId]:
-        """The messages that the node lacks and may ask for, in the order in which it heard of them."""
-        found, message = [], Id()
-        while _is_done(LIBRARY.plumtree_timer(self._slot, len(found), byref(message))):
-            found.append(MsgId(_text(message.name), message.incarnation, message.number))
-        return found
-
-    @staticmethod
-    def _id(message: MsgId) -> Id:
-        return Id(_name(message.name), message.incarnation, message.number)

@@ -112,4 +112,11 @@ impl Config {
         self.contact = Some(Name::new(name)?);
         Ok(self)
     }
+
+    /// The name, the limits, the peers and the contact, as the library takes them.
+    pub(crate) fn parts(&self) -> (&[u8], sys::Sizes, Vec<sys::Name>, &[u8]) {
+        let contact = self.contact.as_ref().map_or(&[][..], Name::as_bytes);
+        let peers = self.peers.iter().map(|name| name.0).collect();
+        (self.name.as_bytes(), self.limits.to_sys(), peers, contact)
+    }
 }

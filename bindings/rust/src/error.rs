@@ -2,8 +2,8 @@
 use crate::sys;
 use std::fmt;
 
-/// Why a call was refused. The node is then as it was, but for [`Node::tick`](crate::Node::tick), which may have made
-/// some of its steps.
+/// Why a call was refused. The node is then as it was, but for ticks, which may have made some of their steps, and
+/// [`WireNode::receive`](crate::WireNode::receive), which ends the connection.
 #[derive(Clone, Copy, Debug, PartialEq, Eq)]
 #[non_exhaustive]
 pub enum Error {
@@ -21,6 +21,8 @@ pub enum Error {
     BadPeers,
     /// The bytes are no frame. The connection that brought them is of no more use.
     BadFrame(BadFrame),
+    /// The node has no such connection: it has ended before.
+    NoConnection,
     /// An answer that this version of the crate does not know.
     Unknown(i32),
 }
@@ -51,6 +53,7 @@ impl Error {
             -10 => Error::BadLimits,
             -11 => Error::BadPeers,
             -18..=-12 => Error::BadFrame(BadFrame(answer)),
+            -19 => Error::NoConnection,
             other => Error::Unknown(other),
         }
     }
@@ -64,6 +67,7 @@ impl Error {
             Error::BadName => -9,
             Error::BadLimits => -10,
             Error::BadPeers => -11,
+            Error::NoConnection => -19,
             Error::BadFrame(BadFrame(answer)) | Error::Unknown(answer) => answer,
         }
     }

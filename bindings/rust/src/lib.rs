@@ -1,5 +1,8 @@
-//! Plumtree broadcast over HyParView membership, as a state machine: what connections bring goes in, and what is to be
-//! sent and what is delivered comes out. The library that does the work is proved; this crate makes it safe to call.
+//! Plumtree broadcast over HyParView membership: what connections bring goes in, and what is to be sent and what is
+//! delivered comes out. The library that does the work is proved; this crate makes it safe to call.
+//!
+//! A [`WireNode`] is a node of bytes: it takes what each connection brings, however that is cut, and keeps what is to go
+//! out by the name that it goes to. A [`Node`] is a state machine, which leaves both to its caller.
 //!
 //! A [`Node`] reads no clock and opens no socket. Its caller
 //!
@@ -28,14 +31,17 @@
 //! ```
 mod config;
 mod error;
+mod handle;
 mod name;
 mod node;
 mod sys;
+mod wire;
 
 pub use config::{Config, Limits};
 pub use error::Error;
 pub use name::{MsgId, Name};
 pub use node::{Counts, Dice, Input, Node, Output};
+pub use wire::{Connection, Delivery, WireCounts, WireNode, WAITING};
 
 /// The longest payload of a message, in bytes.
 pub const PAYLOAD_MAX: usize = 32_768;
@@ -43,7 +49,7 @@ pub const PAYLOAD_MAX: usize = 32_768;
 /// The longest frame, in bytes: a buffer of this size that is full has a whole frame.
 pub const FRAME_MAX: usize = 32_880;
 
-/// Returns the version of the linked library's interface, which is 1 for this crate.
+/// Returns the version of the linked library's interface, which is 2 for this crate.
 pub fn interface_version() -> u32 {
     // SAFETY: the call takes nothing.
     unsafe { sys::plumtree_version() }

@@ -1,8 +1,9 @@
-//! A node.
+//! A state machine.
 use crate::config::Config;
 use crate::error::Error;
+use crate::handle::{is_done, readers, Handle};
 use crate::name::{MsgId, Name};
-use crate::sys::{self, Slot};
+use crate::sys;
 
 /// The random words of a step, from any generator. All zeros are dice too, as for a test that is to be the same each
 /// time.
@@ -66,36 +67,22 @@ pub struct Counts {
     pub deliveries: u64,
 }
 
-/// One node of a group.
+/// One node of a group, as a state machine.
 pub struct Node {
-    slot: Slot,
-    /// Room for what comes out.
-    room: Vec<u8>,
+    handle: Handle,
 }
 
-// SAFETY: nothing that a node holds is bound to a thread: the library proves that its handle may be sent to another, and
-// a call takes the node by `&mut`, so two never overlap.
-unsafe impl Send for Node {}
-
-/// Returns what an answer says: whether the call was done, or why it was refused.
-fn is_done(answer: i32) -> Result<bool, Error> {
-    match answer {
-        0 | 1 => Ok(answer == 1),
-        _ => Err(Error::of(answer)),
-    }
-}
+readers!(Node);
 
 impl Node {
     /// Starts a node. [`Error::BadLimits`], [`Error::BadPeers`], [`Error::OutOfMemory`].
     pub fn start(config: &Config) -> Result<Node, Error> {
-        let peers: Vec<sys::Name> = config.peers.iter().map(|name| name.0).collect();
-        let (name, limits) = (config.name.as_bytes(), config.limits.to_sys());
-        let contact = config.contact.as_ref().map_or(&[][..], Name::as_bytes);
-        let mut slot = Slot::EMPTY;
+        let (name, limits, peers, contact) = config.parts();
+        let mut handle = Handle::empty();
         // SAFETY: the slot is empty, and each pointer has as many items as is said.
         is_done(unsafe {
             sys::plumtree_start(
-                &mut slot,
+                &mut handle.slot,
                 name.as_ptr(),
                 name.len(),
                 config.incarnation,
@@ -106,10 +93,7 @@ impl Node {
                 contact.len(),
             )
         })?;
-        Ok(Node {
-            slot,
-            room: Vec::new(),
-        })
+        Ok(Node { handle })
     }
 
     /// Takes an input. What it has to send and to deliver then waits for [`Node::poll`]. Returns how many of the bytes of
@@ -132,7 +116,12 @@ impl Node {
         let mut number = 0;
         // SAFETY: the payload has as many bytes as is said.
         is_done(unsafe {
-            sys::plumtree_broadcast(&mut self.slot, payload.as_ptr(), payload.len(), &mut number)
+            sys::plumtree_broadcast(
+                &mut self.handle.slot,
+                payload.as_ptr(),
+                payload.len(),
+                &mut number,
+            )
         })?;
         Ok(number)
     }
@@ -143,7 +132,7 @@ impl Node {
         // SAFETY: there are as many bytes as is said, and sixteen words.
         is_done(unsafe {
             sys::plumtree_receive(
-                &mut self.slot,
+                &mut self.handle.slot,
                 bytes.as_ptr(),
                 bytes.len(),
                 &dice.0,
@@ -172,25 +161,25 @@ impl Node {
     /// Makes a tick: sends queued announcements, lets each armed timer fire, and at every tenth tick shuffles.
     pub fn tick(&mut self, dice: &Dice) -> Result<(), Error> {
         // SAFETY: the slot is valid, and there are sixteen words.
-        is_done(unsafe { sys::plumtree_tick(&mut self.slot, &dice.0) }).map(drop)
+        is_done(unsafe { sys::plumtree_tick(&mut self.handle.slot, &dice.0) }).map(drop)
     }
 
     /// Sends the announcements that are queued.
     pub fn flush(&mut self) -> Result<(), Error> {
         // SAFETY: the slot is valid.
-        is_done(unsafe { sys::plumtree_flush(&mut self.slot) }).map(drop)
+        is_done(unsafe { sys::plumtree_flush(&mut self.handle.slot) }).map(drop)
     }
 
     /// Lets the timer of a missing message fire: the node asks the first who announced it. Returns whether it is armed.
     pub fn fire(&mut self, id: &MsgId) -> Result<bool, Error> {
         // SAFETY: the slot and the id are valid.
-        is_done(unsafe { sys::plumtree_fire(&mut self.slot, &id.to_sys()) })
+        is_done(unsafe { sys::plumtree_fire(&mut self.handle.slot, &id.to_sys()) })
     }
 
     /// Exchanges names of the passive view with some other node.
     pub fn shuffle(&mut self, dice: &Dice) -> Result<(), Error> {
         // SAFETY: the slot is valid, and there are sixteen words.
-        is_done(unsafe { sys::plumtree_shuffle(&mut self.slot, &dice.0) }).map(drop)
+        is_done(unsafe { sys::plumtree_shuffle(&mut self.handle.slot, &dice.0) }).map(drop)
     }
 
     /// Tells the node that its connection to this peer failed, or could not be made.
@@ -198,7 +187,7 @@ impl Node {
         let name = peer.as_bytes();
         // SAFETY: the name has as many bytes as is said, and there are sixteen words.
         is_done(unsafe {
-            sys::plumtree_link_down(&mut self.slot, name.as_ptr(), name.len(), &dice.0)
+            sys::plumtree_link_down(&mut self.handle.slot, name.as_ptr(), name.len(), &dice.0)
         })
         .map(drop)
     }
@@ -211,38 +200,11 @@ impl Node {
         self.next_send()
     }
 
-    /// Makes a call that writes into the room, once more with the size that it asks for. Returns how many bytes it wrote.
-    fn in_room<F>(&mut self, mut call: F) -> Result<Option<Vec<u8>>, Error>
-    where
-        F: FnMut(*mut Slot, *mut u8, usize, *mut usize) -> i32,
-    {
-        let mut length = 0;
-        let mut answer = call(
-            &mut self.slot,
-            self.room.as_mut_ptr(),
-            self.room.len(),
-            &mut length,
-        );
-        if answer == ROOM_TOO_SMALL {
-            self.room.resize(length, 0);
-            answer = call(
-                &mut self.slot,
-                self.room.as_mut_ptr(),
-                self.room.len(),
-                &mut length,
-            );
-        }
-        Ok(match is_done(answer)? {
-            true => Some(self.room.get(..length).unwrap_or(&[]).to_vec()),
-            false => None,
-        })
-    }
-
     /// Takes the first frame that waits.
     fn next_send(&mut self) -> Result<Option<Output>, Error> {
         let mut to = sys::Name::EMPTY;
         // SAFETY: `in_room` passes a room of as many bytes as it says.
-        let frame = self.in_room(|slot, room, size, length| unsafe {
+        let frame = self.handle.in_room(|slot, room, size, length| unsafe {
             sys::plumtree_next_send(slot, &mut to, room, size, length)
         })?;
         Ok(frame.map(|frame| Output::Send {
@@ -255,7 +217,7 @@ impl Node {
     fn next_delivery(&mut self) -> Result<Option<Output>, Error> {
         let mut id = sys::Id::EMPTY;
         // SAFETY: `in_room` passes a room of as many bytes as it says.
-        let payload = self.in_room(|slot, room, size, length| unsafe {
+        let payload = self.handle.in_room(|slot, room, size, length| unsafe {
             sys::plumtree_next_delivery(slot, &mut id, room, size, length)
         })?;
         Ok(payload.map(|payload| Output::Deliver {
@@ -264,40 +226,11 @@ impl Node {
         }))
     }
 
-    /// Reads names by a call that writes at most 80 of them.
-    fn names(&mut self, call: sys::ReadNames) -> Vec<Name> {
-        let (mut room, mut length) = ([sys::Name::EMPTY; 80], 0);
-        // SAFETY: the slot is valid, and the room has as many names as is said.
-        let answer = unsafe { call(&mut self.slot, room.as_mut_ptr(), room.len(), &mut length) };
-        debug_assert_eq!(answer, 1);
-        room.iter().take(length).map(|name| Name(*name)).collect()
-    }
-
-    /// Returns the names that the node keeps links to.
-    pub fn active(&mut self) -> Vec<Name> {
-        self.names(sys::plumtree_active)
-    }
-
-    /// Returns the names that may take the place of active ones.
-    pub fn passive(&mut self) -> Vec<Name> {
-        self.names(sys::plumtree_passive)
-    }
-
-    /// Returns the peers to which messages go whole.
-    pub fn eager(&mut self) -> Vec<Name> {
-        self.names(sys::plumtree_eager)
-    }
-
-    /// Returns the peers to which messages are announced.
-    pub fn lazy(&mut self) -> Vec<Name> {
-        self.names(sys::plumtree_lazy)
-    }
-
     /// Returns how much the node has.
     pub fn counts(&mut self) -> Counts {
         let mut counts = sys::Counts::default();
         // SAFETY: the slot and `counts` are valid.
-        let answer = unsafe { sys::plumtree_counts_of(&mut self.slot, &mut counts) };
+        let answer = unsafe { sys::plumtree_counts_of(&mut self.handle.slot, &mut counts) };
         debug_assert_eq!(answer, 1);
         Counts {
             known: counts.known,
@@ -308,33 +241,6 @@ impl Node {
             sends: counts.sends,
             deliveries: counts.deliveries,
         }
-    }
-
-    /// Returns whether the node has delivered this message.
-    pub fn knows(&mut self, id: &MsgId) -> bool {
-        // SAFETY: the slot and the id are valid.
-        unsafe { sys::plumtree_knows(&mut self.slot, &id.to_sys()) == 1 }
-    }
-
-    /// Returns the messages that the node lacks and may ask for, in the order in which it heard of them.
-    pub fn missing(&mut self) -> Vec<MsgId> {
-        let mut found = Vec::new();
-        let mut id = sys::Id::EMPTY;
-        // SAFETY: the slot and `id` are valid.
-        while unsafe { sys::plumtree_timer(&mut self.slot, found.len(), &mut id) } == 1 {
-            found.push(MsgId::of(&id));
-        }
-        found
-    }
-}
-
-/// The answer that asks for a larger room.
-const ROOM_TOO_SMALL: i32 = -6;
-
-impl Drop for Node {
-    fn drop(&mut self) {
-        // SAFETY: the slot is valid, and freed once.
-        unsafe { sys::plumtree_free(&mut self.slot) };
     }
 }
 

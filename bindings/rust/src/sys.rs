@@ -73,8 +73,27 @@ pub(crate) struct Counts {
     pub(crate) deliveries: u64,
 }
 
+#[repr(C)]
+#[derive(Clone, Copy, Default)]
+pub(crate) struct WireCounts {
+    pub(crate) held: u64,
+    pub(crate) missing: u64,
+    pub(crate) wants: u64,
+    pub(crate) queued: u64,
+    pub(crate) ticks: u64,
+}
+
+/// Bytes that a node lends.
+#[repr(C)]
+#[derive(Clone, Copy)]
+pub(crate) struct Piece {
+    pub(crate) at: *const u8,
+    pub(crate) length: usize,
+}
+
 // the layout that plumtree.h asserts
 const _: () = {
+    assert!(std::mem::size_of::<WireCounts>() == 40 && std::mem::size_of::<Piece>() == 16);
     assert!(std::mem::size_of::<Slot>() == 24);
     assert!(std::mem::size_of::<Name>() == 34);
     assert!(std::mem::size_of::<Id>() == 56 && std::mem::offset_of!(Id, number) == 48);
@@ -145,6 +164,67 @@ extern "C" {
     pub(crate) fn plumtree_counts_of(slot: *mut Slot, counts: *mut Counts) -> i32;
     pub(crate) fn plumtree_knows(slot: *mut Slot, id: *const Id) -> i32;
     pub(crate) fn plumtree_timer(slot: *mut Slot, place: usize, id: *mut Id) -> i32;
+    pub(crate) fn plumtree_wire_start(
+        slot: *mut Slot,
+        name: *const u8,
+        name_length: usize,
+        incarnation: u64,
+        limits: *const Sizes,
+        waiting: usize,
+        peers: *const Name,
+        peers_length: usize,
+        contact: *const u8,
+        contact_length: usize,
+    ) -> i32;
+    pub(crate) fn plumtree_wire_broadcast(
+        slot: *mut Slot,
+        payload: *const u8,
+        length: usize,
+        number: *mut u64,
+    ) -> i32;
+    pub(crate) fn plumtree_wire_tick(slot: *mut Slot, dice: *const Dice) -> i32;
+    pub(crate) fn plumtree_wire_accept(slot: *mut Slot, number: *mut u64) -> i32;
+    pub(crate) fn plumtree_wire_receive(
+        slot: *mut Slot,
+        number: u64,
+        bytes: *const u8,
+        length: usize,
+        dice: *const Dice,
+    ) -> i32;
+    pub(crate) fn plumtree_wire_ended(slot: *mut Slot, number: u64, dice: *const Dice) -> i32;
+    pub(crate) fn plumtree_wire_unreachable(
+        slot: *mut Slot,
+        name: *const u8,
+        length: usize,
+        dice: *const Dice,
+    ) -> i32;
+    pub(crate) fn plumtree_wire_receivers(
+        slot: *mut Slot,
+        room: *mut Name,
+        size: usize,
+        length: *mut usize,
+    ) -> i32;
+    pub(crate) fn plumtree_wire_transmit(
+        slot: *mut Slot,
+        name: *const u8,
+        length: usize,
+        pieces: *mut [Piece; 4],
+    ) -> i32;
+    pub(crate) fn plumtree_wire_transmitted(
+        slot: *mut Slot,
+        name: *const u8,
+        length: usize,
+        count: usize,
+    ) -> i32;
+    pub(crate) fn plumtree_wire_next_delivery(
+        slot: *mut Slot,
+        id: *mut Id,
+        room: *mut u8,
+        size: usize,
+        length: *mut usize,
+    ) -> i32;
+    pub(crate) fn plumtree_wire_next_lost(slot: *mut Slot, name: *mut Name) -> i32;
+    pub(crate) fn plumtree_wire_counts_of(slot: *mut Slot, counts: *mut WireCounts) -> i32;
     pub(crate) fn plumtree_words(
         answer: i32,
         room: *mut u8,

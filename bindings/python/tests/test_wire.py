@@ -1,0 +1,121 @@
+"""Groups of nodes of bytes in one process, and every error."""
+from __future__ import annotations
+
+import unittest
+
+from plumtree import PAYLOAD_MAX, Config, Deliver, Limits, MsgId, PlumtreeError, WireNode
+
+
+class Group:
+    """A group whose bytes go from node to node, a part at a time."""
+
+    def __init__(self, part: int, *configs: Config) -> None:
+        self.nodes = {config.name: WireNode(config) for config in configs}
+        self.links: dict[tuple[str, str], int] = {}
+        self.delivered: dict[tuple[str, MsgId], bytes] = {}
+        self.part = part
+
+    def carry(self, at: str, to: str) -> None:
+        data = self.nodes[at].transmit(to)[: self.part]
+        assert data
+        self.nodes[at].transmitted(to, len(data))
+        if (at, to) not in self.links:
+            self.links[at, to] = self.nodes[to].accept()
+        self.nodes[to].receive(self.links[at, to], data)
+
+    def settle(self) -> None:
+        while waiting := [(at, to) for at, node in self.nodes.items() for to in node.receivers()]:
+            for at, to in waiting:
+                self.carry(at, to)
+        for name, node in self.nodes.items():
+            for message in node.deliveries():
+                assert (name, message.id) not in self.delivered
+                self.delivered[name, message.id] = message.payload
+
+
+def two() -> tuple[WireNode, WireNode]:
+    return WireNode(Config("a", peers=["b"])), WireNode(Config("b", peers=["a"]))
+
+
+class Groups(unittest.TestCase):
+    def test_a_line_delivers_each_message_once_however_it_is_cut(self) -> None:
+        for part in (1, 7, 50, 100_000):
+            group = Group(part, Config("a", peers=["b"]), Config("b", peers=["a", "c"]), Config("c", peers=["b"]))
+            for number, name in ((1, "a"), (1, "b"), (2, "a")):
+                self.assertEqual(group.nodes[name].broadcast(name.encode()), number)
+                group.settle()
+            self.assertEqual(len(group.delivered), 9)
+            for (at, message), payload in group.delivered.items():
+                self.assertEqual(payload, message.name.encode())
+                self.assertTrue(group.nodes[at].knows(message))
+
+    def test_a_node_joins_by_a_contact(self) -> None:
+        group = Group(9, Config("a"), Config("b", contact="a"))
+        group.settle()
+        self.assertEqual(group.nodes["a"].active, ["b"])
+        b = group.nodes["b"]
+        self.assertEqual((b.active, b.eager, b.lazy, b.passive, b.missing), (["a"], ["a"], [], [], []))
+
+    def test_long_payloads_are_lent_whole(self) -> None:
+        a, b = two()
+        for byte in range(5):
+            a.broadcast(bytes([byte]) * PAYLOAD_MAX)
+        b.receive(b.accept(), a.take("b"))
+        wanted = [Deliver(MsgId("a", 1, byte + 1), bytes([byte]) * PAYLOAD_MAX) for byte in range(5)]
+        self.assertEqual(list(b.deliveries()), wanted)
+        self.assertEqual((b.counts.held, a.receivers()), (5, []))
+
+    def test_a_name_goes_down_with_what_waits_for_it(self) -> None:
+        a, b = two()
+        a.broadcast(b"x")
+        connection = b.accept()
+        b.receive(connection, a.take("b"))
+        b.ended(connection)
+        self.assertEqual((b.next_lost(), b.next_lost()), ("a", None))
+        a.broadcast(b"y")
+        a.unreachable("b")
+        self.assertEqual((a.receivers(), a.active, a.next_lost()), ([], [], "b"))
+        small = WireNode(Config("a", peers=["b"]), waiting=100)
+        small.broadcast(bytes(200))
+        self.assertEqual(small.next_lost(), "b")
+
+    def test_a_node_is_freed_once(self) -> None:
+        with WireNode(Config("a")) as node:
+            node.broadcast(b"")
+            node.tick()
+            self.assertEqual(node.counts.ticks, 1)
+        node.close()
+        with self.assertRaises(PlumtreeError):
+            node.broadcast(b"")
+
+
+class Errors(unittest.TestCase):
+    def refused(self, answer: int, call: object, *words: object) -> None:
+        with self.assertRaises(PlumtreeError) as caught:
+            call(*words)  # type: ignore[operator]
+        self.assertEqual(caught.exception.answer, answer)
+        self.assertTrue(str(caught.exception))
+
+    def test_each_says_why(self) -> None:
+        a, b = two()
+        self.refused(-9, WireNode, Config("A"))
+        self.refused(-11, WireNode, Config("a", peers=["b", "b"]))
+        self.refused(-10, WireNode, Config("a", limits=Limits(active=0)))
+        self.refused(-7, a.broadcast, bytes(PAYLOAD_MAX + 1))
+        self.refused(-9, a.unreachable, "A")
+        self.refused(-9, a.transmit, "A")
+        self.refused(-19, a.receive, 1, b"x")
+        self.refused(-19, a.ended, 1)
+
+    def test_bytes_that_are_no_frame_end_the_connection(self) -> None:
+        a, b = two()
+        a.broadcast(b"m")
+        connection = b.accept()
+        with self.assertRaises(PlumtreeError):
+            b.receive(connection, a.take("b") + b"\xff" * 64)
+        self.refused(-19, b.receive, connection, b"")
+        self.assertEqual([message.payload for message in b.deliveries()], [b"m"])
+
+
+if __name__ == "__main__":
+    unittest.main()
