@@ -7,6 +7,7 @@ mod hosts;
 mod one_loop;
 mod ports;
 mod resets;
+mod rows;
 mod stage;
 mod strangers;
 mod tested_node;

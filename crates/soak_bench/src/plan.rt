@@ -44,7 +44,7 @@ pub(crate) struct Plan {
     /// The tick at which the nodes begin to broadcast undisturbed.
     begin: u64,
     /// How many times they have begun.
-    rounds: u64,
+    pub(crate) rounds: u64,
     /// Whether it is told each second what the process uses.
     pub(crate) is_measured: bool,
 }

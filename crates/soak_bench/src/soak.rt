@@ -72,6 +72,9 @@ impl<'a, R: Net + Files + Print + AllocGlobal> Soak<'a, R> {
     pub(crate) fn end(self) -> Result<()> {
         let lacking = self.board.lacking(&self.views);
         self.result?;
+        if self.plan.is_measured {
+            println!(self.rt; "in peace in round {}", self.plan.rounds)?;
+        }
         tell_end(self.rt, &self.board, &self.trouble, lacking)
     }
 

@@ -1,5 +1,4 @@
 //! Strangers that dial nodes, and a peer that takes nothing.
-use crate::dice::Dice;
 use crate::group::any_port;
 use anyhow::Result;
 use mio::net::{TcpListener, TcpStream};
@@ -40,9 +39,9 @@ fn dial<R: Net>(rt: &R, at: SocketAddr, bytes: &[u8]) -> Option<TcpStream> {
     Some(stream)
 }
 
-/// What a stranger sends.
-fn any_bytes(dice: &mut Dice) -> &'static [u8] {
-    match dice.below(4) {
+/// What stranger number `count` sends.
+fn bytes_of(count: u64) -> &'static [u8] {
+    match count % 4 {
         0 => GARBAGE,
         1 => PART,
         2 => JOIN,
@@ -67,13 +66,8 @@ impl Strangers {
     }
 
     /// One more dials this address. Where there are many, another goes away.
-    pub(crate) fn dial<R: Net>(
-        &mut self,
-        rt: &R,
-        at: SocketAddr,
-        dice: &mut Dice,
-    ) -> Result<(), AllocError> {
-        let Some(stream) = dial(rt, at, any_bytes(dice)) else {
+    pub(crate) fn dial<R: Net>(&mut self, rt: &R, at: SocketAddr) -> Result<(), AllocError> {
+        let Some(stream) = dial(rt, at, bytes_of(self.dialled)) else {
             return Ok(());
         };
         self.dialled = self.dialled.saturating_add(1);

@@ -23,6 +23,9 @@ const STRANGER: u64 = 100;
 /// Of so many ticks of a node one has the peer that takes nothing reset a connection.
 const RESET: u64 = 100;
 
+/// At this tick each node is disturbed, so that a short run has all that a long one has.
+const FIRST: u64 = 10;
+
 /// What disturbs the nodes.
 #[derive(Drop)]
 pub(crate) struct Trouble {
@@ -35,6 +38,17 @@ pub(crate) struct Trouble {
     pub(crate) cuts: u64,
     /// How often a node was held.
     pub(crate) holds: u64,
+}
+
+/// The first of a node's peers from the name at this place on, round the group.
+fn peer_from<N: LoopNode<Global>>(names: &[NodeName], first: usize, node: &N) -> Option<NodeName> {
+    for step in 0..NODES {
+        match names.get(first.wrapping_add(step) % NODES) {
+            Some(name) if node.is_peer(name) => return Some(*name),
+            _ => {}
+        }
+    }
+    None
 }
 
 impl Trouble {
@@ -68,19 +82,16 @@ impl Trouble {
         }
     }
 
-    /// Cuts the link to a peer, if there is one to the name that is drawn.
+    /// Cuts the link to the first of a node's peers from a name on that is drawn.
     fn cut<N: LoopNode<Global>>(
         &mut self,
         dice: &mut Dice,
         names: &[NodeName],
         node: &mut N,
     ) -> Result<(), WireError> {
-        let drawn = usize::try_from(dice.below(NODES as u64)).unwrap_or(0);
-        let Some(name) = names.get(drawn) else {
-            return Ok(());
-        };
-        if node.is_peer(name) {
-            node.unreachable(*name, &dice.draw())?;
+        let first = usize::try_from(dice.below(NODES as u64)).unwrap_or(0);
+        if let Some(name) = peer_from(names, first, node) {
+            node.unreachable(name, &dice.draw())?;
             self.cuts = self.cuts.saturating_add(1);
         }
         Ok(())
@@ -95,9 +106,9 @@ impl Trouble {
     }
 
     /// Has a stranger dial the node at this place.
-    fn dial<R: Net>(&mut self, rt: &R, dice: &mut Dice, place: usize) -> Result<(), AllocError> {
+    fn dial<R: Net>(&mut self, rt: &R, place: usize) -> Result<(), AllocError> {
         match self.addresses.get(place) {
-            Some(at) => self.strangers.dial(rt, *at, dice),
+            Some(at) => self.strangers.dial(rt, *at),
             None => Ok(()),
         }
     }
@@ -112,14 +123,15 @@ impl Trouble {
         node: &mut N,
         now: u64,
     ) -> Result<(), WireError> {
-        if dice.once_in(CUT) {
+        let is_first = now == FIRST;
+        if is_first || dice.once_in(CUT) {
             self.cut(dice, names, node)?;
         }
-        if dice.once_in(HOLD) {
+        if (is_first && place == 0) || dice.once_in(HOLD) {
             self.hold(dice, place, now);
         }
-        if dice.once_in(STRANGER) {
-            self.dial(rt, dice, place)?;
+        if is_first || dice.once_in(STRANGER) {
+            self.dial(rt, place)?;
         }
         if dice.once_in(RESET) {
             self.strangers.reset_one();

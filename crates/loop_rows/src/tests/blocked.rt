@@ -8,7 +8,6 @@ use event_loop::{Next, Program, Situation};
 use std::net::{Net, SocketAddr};
 use std::sync::Wait;
 use std::time::{Clock, Duration};
-use wire_node::WireNode;
 
 /// How many bytes may wait for a name: more than are broadcast.
 const MANY: usize = 1 << 30;
@@ -59,15 +58,11 @@ fn speak<N: TestedNode, R: Wait + Clock + Net + AllocGlobal>(
     Ok(program.was_told && stage.has_peer(0, "deaf")?)
 }
 
-/// Starts a node, and lets it broadcast to a peer that takes nothing.
-fn start_and_speak<N: TestedNode, R: Wait + Clock + Net + AllocGlobal>(rt: &R) -> Result<bool> {
+/// Starts a node, and lets it broadcast to a peer that takes nothing. Returns whether its program was told so.
+pub(crate) fn start_and_speak<N: TestedNode, R: Wait + Clock + Net + AllocGlobal>(
+    rt: &R,
+) -> Result<bool> {
     let deaf = listen(rt)?;
     let mut stage: Stage<N> = Stage::new(rt)?;
     speak(rt, &mut stage, deaf.local_addr()?)
-}
-
-#[test]
-fn a_program_is_told_that_nothing_is_taken(rt: HostRuntime) -> Result<()> {
-    assert!(rt; start_and_speak::<WireNode, HostRuntime>(&rt)?);
-    Ok(())
 }

@@ -5,7 +5,7 @@ use crate::tests::tested_node::TestedNode;
 use anyhow::Result;
 use std::alloc::AllocError;
 use std::net::{Net, SocketAddr};
-use wire_node::{MAX_WAITING, WireNode};
+use wire_node::MAX_WAITING;
 
 /// How many bytes may wait for a name where too many are to wait.
 const FEW: usize = 262_144;
@@ -21,6 +21,12 @@ const MESSAGES: usize = 2_000;
 
 /// How many turns are made in the end.
 const TURNS: usize = 200;
+
+/// Who is a peer in the end of four of which three do not answer.
+pub(crate) const ANSWERING: &str = "stopped down, absent down, unknown down, b up, 0 lacking";
+
+/// Who is a peer at first, and once the patience is over.
+pub(crate) const PATIENT: &str = "deaf up, deaf down, b up, 0 lacking";
 
 /// For how many ticks a link may take nothing of what waits.
 const PATIENCE: u64 = 4;
@@ -99,8 +105,11 @@ fn speak_to_all<N: TestedNode, R: Net>(
     Ok(())
 }
 
-/// Starts the nodes, and lets one speak to all.
-fn start_and_speak<N: TestedNode, R: Net + AllocGlobal>(rt: &R, text: &mut String) -> Result<()> {
+/// Starts the nodes, and lets one speak to all. Appends who is a peer in the end.
+pub(crate) fn start_and_speak<N: TestedNode, R: Net + AllocGlobal>(
+    rt: &R,
+    text: &mut String,
+) -> Result<()> {
     let stopped = listen(rt)?;
     let mut stage: Stage<N> = Stage::new(rt)?;
     speak_to_all(
@@ -110,17 +119,6 @@ fn start_and_speak<N: TestedNode, R: Net + AllocGlobal>(rt: &R, text: &mut Strin
         closed_port(rt)?,
         text,
     )
-}
-
-#[test]
-fn peers_that_do_not_answer_are_given_up(rt: HostRuntime) -> Result<()> {
-    let mut text = String::new(rt.alloc());
-    start_and_speak::<WireNode, HostRuntime>(&rt, &mut text)?;
-    assert_eq!(rt;
-        text.as_str(),
-        "stopped down, absent down, unknown down, b up, 0 lacking"
-    );
-    Ok(())
 }
 
 /// Makes ticks, with turns between them.
@@ -154,17 +152,12 @@ fn speak_to_deaf<N: TestedNode, R: Net>(
     Ok(())
 }
 
-/// Starts the nodes, and lets one speak to a peer that takes nothing.
-fn start_and_lose<N: TestedNode, R: Net + AllocGlobal>(rt: &R, text: &mut String) -> Result<()> {
+/// Starts the nodes, and lets one speak to a peer that takes nothing. Appends who is a peer.
+pub(crate) fn start_and_lose<N: TestedNode, R: Net + AllocGlobal>(
+    rt: &R,
+    text: &mut String,
+) -> Result<()> {
     let deaf = listen(rt)?;
     let mut stage: Stage<N> = Stage::new(rt)?;
     speak_to_deaf(rt, &mut stage, deaf.local_addr()?, text)
-}
-
-#[test]
-fn a_peer_that_takes_nothing_goes_down(rt: HostRuntime) -> Result<()> {
-    let mut text = String::new(rt.alloc());
-    start_and_lose::<WireNode, HostRuntime>(&rt, &mut text)?;
-    assert_eq!(rt; text.as_str(), "deaf up, deaf down, b up, 0 lacking");
-    Ok(())
 }

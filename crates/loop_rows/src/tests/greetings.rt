@@ -3,7 +3,7 @@ use crate::tests::stage::Stage;
 use crate::tests::tested_node::TestedNode;
 use anyhow::Result;
 use std::net::Net;
-use wire_node::{MAX_WAITING, WireNode};
+use wire_node::MAX_WAITING;
 
 /// How many turns two nodes may take.
 const TURNS: usize = 2_000;
@@ -34,14 +34,8 @@ fn greet_twice<N: TestedNode, R: Net>(rt: &R, stage: &mut Stage<N>) -> Result<bo
     Ok(greet(rt, stage)? && greet(rt, stage)?)
 }
 
-/// Starts two nodes, and lets them greet each other.
-fn start_and_greet<N: TestedNode, R: Net + AllocGlobal>(rt: &R) -> Result<bool> {
+/// Starts two nodes, and lets them greet each other twice. Returns whether they do.
+pub(crate) fn start_and_greet<N: TestedNode, R: Net + AllocGlobal>(rt: &R) -> Result<bool> {
     let mut stage: Stage<N> = Stage::new(rt)?;
     greet_twice(rt, &mut stage)
-}
-
-#[test]
-fn two_nodes_greet_each_other(rt: HostRuntime) -> Result<()> {
-    assert!(rt; start_and_greet::<WireNode, HostRuntime>(&rt)?);
-    Ok(())
 }

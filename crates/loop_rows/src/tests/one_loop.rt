@@ -8,7 +8,7 @@ use std::alloc::{AllocError, Global};
 use std::net::Net;
 use std::sync::Wait;
 use std::time::{Clock, Duration};
-use wire_node::{MAX_WAITING, WireNode};
+use wire_node::MAX_WAITING;
 
 /// How many nodes there are. Each has the two before it and the two behind it as peers.
 const NODES: usize = 16;
@@ -107,14 +107,10 @@ fn run<N: TestedNode, R: Wait + Clock + Net + AllocGlobal>(
     Ok(program.is_right())
 }
 
-/// Starts the nodes, and lets one of them broadcast.
-fn start_and_run<N: TestedNode, R: Wait + Clock + Net + AllocGlobal>(rt: &R) -> Result<bool> {
+/// Starts the nodes, and lets one of them broadcast. Returns whether each delivers the message once.
+pub(crate) fn start_and_run<N: TestedNode, R: Wait + Clock + Net + AllocGlobal>(
+    rt: &R,
+) -> Result<bool> {
     let mut stage: Stage<N> = Stage::new(rt)?;
     run(rt, &mut stage)
-}
-
-#[test]
-fn a_broadcast_is_delivered_once_at_each_node_of_a_loop(rt: HostRuntime) -> Result<()> {
-    assert!(rt; start_and_run::<WireNode, HostRuntime>(&rt)?);
-    Ok(())
 }

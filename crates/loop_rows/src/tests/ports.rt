@@ -10,7 +10,7 @@ use std::sync::Wait;
 use std::thread;
 use std::thread::{JoinHandle, Threads};
 use std::time::{Clock, Duration};
-use wire_node::{MAX_WAITING, WireNode};
+use wire_node::MAX_WAITING;
 use world::MAX_PAYLOAD;
 
 /// How many messages are broadcast.
@@ -119,7 +119,7 @@ where
 }
 
 /// Starts two nodes, and has threads use them.
-fn start_and_exchange<N, R>(rt: R, tasks: &[Task; 2]) -> Result<bool>
+fn start_with<N, R>(rt: R, tasks: &[Task; 2]) -> Result<bool>
 where
     N: TestedNode,
     R: Threads + Wait + Clock + Net + AllocGlobal + Copy + Send + Drop + 'static,
@@ -130,10 +130,14 @@ where
     exchange(rt, &mut stage, &mut ports, tasks)
 }
 
-/// Both rings have room for few of the messages, and the second thread begins to take them late: the node is held, and
-/// no message is lost.
-#[test]
-fn messages_of_a_thread_reach_the_others(rt: HostRuntime) -> Result<()> {
+/// Has one thread broadcast by the port of a node, and another take all messages by that of its peer. Both rings have
+/// room for few of the messages, and the second thread begins to take them late: its node is held. Returns whether both
+/// take each message once.
+pub(crate) fn start_and_exchange<N, R>(rt: R) -> Result<bool>
+where
+    N: TestedNode,
+    R: Threads + Wait + Clock + Net + AllocGlobal + Copy + Send + Drop + 'static,
+{
     let speaker = Task {
         delay: 0,
         says: MESSAGES,
@@ -144,8 +148,7 @@ fn messages_of_a_thread_reach_the_others(rt: HostRuntime) -> Result<()> {
         says: 0,
         hears: MESSAGES,
     };
-    assert!(rt; start_and_exchange::<WireNode, HostRuntime>(rt, &[speaker, hearer])?);
-    Ok(())
+    start_with::<N, R>(rt, &[speaker, hearer])
 }
 
 /// Fills the ring of a port. Returns whether it takes as many messages as it has room for, and then says that it is full,
@@ -168,15 +171,9 @@ fn fill_and_end<N: TestedNode>(alloc: Global, stage: &mut Stage<N>) -> Result<bo
     Ok(is_filled && is_over && port.has_ended())
 }
 
-/// Starts two nodes, and fills and ends the port of one.
-fn start_and_fill<N: TestedNode, R: Net + AllocGlobal>(rt: &R) -> Result<bool> {
+/// Starts two nodes, and fills and ends the port of one. Returns whether it says why it takes nothing.
+pub(crate) fn start_and_fill<N: TestedNode, R: Net + AllocGlobal>(rt: &R) -> Result<bool> {
     let mut stage: Stage<N> = Stage::new(rt)?;
     add_two(rt, &mut stage)?;
     fill_and_end(rt.alloc(), &mut stage)
-}
-
-#[test]
-fn a_port_says_why_it_takes_nothing(rt: HostRuntime) -> Result<()> {
-    assert!(rt; start_and_fill::<WireNode, HostRuntime>(&rt)?);
-    Ok(())
 }

@@ -6,7 +6,7 @@ use crate::tests::tested_node::TestedNode;
 use anyhow::Result;
 use mio::net::{TcpListener, TcpStream};
 use std::net::Net;
-use wire_node::{MAX_WAITING, WireNode};
+use wire_node::MAX_WAITING;
 
 /// How many turns a node may take to dial, and to learn of the reset.
 const TURNS: usize = 2_000;
@@ -63,14 +63,8 @@ fn meet_and_lose<N: TestedNode, R: Net>(
     Ok(first && lost && greet(rt, stage)? && stage.has_peer(0, "b")?)
 }
 
-/// Starts two nodes and a peer of one that resets its connection.
-fn start_and_lose<N: TestedNode, R: Net + AllocGlobal>(rt: &R) -> Result<bool> {
+/// Starts two nodes and a peer of one that resets its connection. Returns whether that goes down, and nobody else.
+pub(crate) fn start_and_lose<N: TestedNode, R: Net + AllocGlobal>(rt: &R) -> Result<bool> {
     let mut stage: Stage<N> = Stage::new(rt)?;
     meet_and_lose(rt, &mut stage, &listen(rt)?)
-}
-
-#[test]
-fn a_peer_that_resets_goes_down_alone(rt: HostRuntime) -> Result<()> {
-    assert!(rt; start_and_lose::<WireNode, HostRuntime>(&rt)?);
-    Ok(())
 }

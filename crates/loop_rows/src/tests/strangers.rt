@@ -8,7 +8,6 @@ use mio::net::TcpStream;
 use std::alloc::{AllocError, Global};
 use std::io::Write;
 use std::net::{Net, SocketAddr};
-use wire_node::WireNode;
 
 /// For how many ticks a connection may keep a node waiting.
 const PATIENCE: u64 = 4;
@@ -18,7 +17,7 @@ const TURNS: usize = 20;
 
 /// What becomes of strangers that send what is no frame, a part of one, nothing, and a part of one whose length is too
 /// large: at once, and once they kept the node waiting too long.
-const WANTED: &str =
+pub(crate) const WANTED: &str =
     "greeted. at once: closed open open closed. later: closed closed closed closed. greeted";
 
 /// Connections of strangers.
@@ -130,15 +129,10 @@ fn be_dialled<N: TestedNode, R: Net + AllocGlobal>(
 }
 
 /// Starts two nodes, and has strangers dial one of them. Appends what becomes of them.
-fn start_and_endure<N: TestedNode, R: Net + AllocGlobal>(rt: &R, text: &mut String) -> Result<()> {
+pub(crate) fn start_and_endure<N: TestedNode, R: Net + AllocGlobal>(
+    rt: &R,
+    text: &mut String,
+) -> Result<()> {
     let mut stage: Stage<N> = Stage::new(rt)?;
     be_dialled(rt, &mut stage, text)
-}
-
-#[test]
-fn strangers_are_closed_and_peers_are_not(rt: HostRuntime) -> Result<()> {
-    let mut text = String::new(rt.alloc());
-    start_and_endure::<WireNode, HostRuntime>(&rt, &mut text)?;
-    assert_eq!(rt; text.as_str(), WANTED);
-    Ok(())
 }
