@@ -9,8 +9,8 @@ use wire_node::ConnectionId;
 /// What a read of a connection found.
 #[derive(Clone, Copy, Debug, PartialEq, Eq)]
 pub(crate) enum Found {
-    /// Bytes, which are in the buffer.
-    Bytes,
+    /// This many bytes, which are in the buffer.
+    Bytes(usize),
     /// None, but there may be some.
     Interruption,
     /// None, until the poll tells of a change.
@@ -104,9 +104,9 @@ impl Connection {
                 self.is_over = true;
                 Found::End
             }
-            Ok(_) => {
+            Ok(count) => {
                 self.follow(buffer.rest(), now);
-                Found::Bytes
+                Found::Bytes(count)
             }
             Err(error) => self.found(error.kind()),
         }

@@ -1,5 +1,6 @@
 //! A node in an event loop.
 use crate::link::Link;
+use crate::program::Situation;
 use indexmap::IndexMap;
 use node_names::NodeName;
 use slab::Slab;
@@ -14,8 +15,8 @@ pub(crate) struct HostedNode<N, A: Allocator + Copy> {
     links: IndexMap<NodeName, usize, BuildHasherDefault<FoldHasher>, A>,
     /// Whether one of them may be over that the node was not told of.
     pub(crate) may_have_ended: bool,
-    /// Whether bytes wait and no link to their names took any when that was tried last.
-    pub(crate) is_blocked: bool,
+    /// How many bytes waited for the name for whom most did, when it was tried to send them.
+    pub(crate) waiting: usize,
     /// Whether the program holds what comes.
     pub(crate) is_held: bool,
 }
@@ -27,8 +28,16 @@ impl<N: Drop, A: Allocator + Copy> HostedNode<N, A> {
             node,
             links: IndexMap::new(alloc),
             may_have_ended: false,
-            is_blocked: false,
+            waiting: 0,
             is_held: false,
+        }
+    }
+
+    /// How the node stands, which is at this place.
+    pub(crate) fn situation(&self, place: usize) -> Situation {
+        Situation {
+            place,
+            waiting: self.waiting,
         }
     }
 

@@ -32,6 +32,8 @@ pub trait LoopNode<A: Allocator + Copy>: Drop {
     /// The names for whom bytes wait.
     fn receivers(&self) -> Result<Vec<NodeName, A>, AllocError>;
 
+    /// How many bytes wait for the name.
+    fn waiting(&self, name: &NodeName) -> usize;
     /// The first of the bytes that wait for the name, in up to four slices. Where any wait, the first two are not both
     /// empty.
     fn transmit(&self, name: &NodeName) -> [&[u8]; 4];

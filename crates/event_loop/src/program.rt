@@ -19,9 +19,20 @@ pub enum Next {
 pub struct Situation {
     /// What `EventLoop::add` answered for the node.
     pub place: usize,
-    /// Whether bytes wait in the node and no link to their names took any when that was tried last. Who broadcasts all
-    /// the same soon has more wait than may.
-    pub is_blocked: bool,
+    /// How many bytes waited in the node for the name for whom most did, when it was tried last to send them. Who
+    /// broadcasts while this is much soon has more wait than may: the name goes down then.
+    pub waiting: usize,
+}
+
+/// From so many bytes on that wait for a name, a program should broadcast nothing more: 256 KiB.
+const BACKLOG: usize = 262_144;
+
+impl Situation {
+    /// Whether the program should broadcast: less than 256 KiB wait for each name. Until that is so again, the program
+    /// is called once the node took something, or a link took what waits.
+    pub fn may_broadcast(&self) -> bool {
+        self.waiting < BACKLOG
+    }
 }
 
 /// What uses the nodes that an event loop runs.

@@ -13,9 +13,9 @@ use wire_node::{ReceiveError, WireError};
 /// How many reads a turn makes of each connection at most.
 const READS: usize = 16;
 
-/// How many reads a turn makes at most. What they bring is four megabytes: half of what may wait for a name, so that
-/// the turn can send it before too much waits.
-const ALL_READS: usize = 64;
+/// How many bytes a turn reads before it sends what they bring: half of what may wait for a name. So where each message
+/// is short, a turn serves all connections that are ready, and no node hears of a message long after the others.
+const TURN: usize = 4_194_304;
 
 /// Whether the program holds what comes to the node at this place.
 fn is_held<N: Drop, A: Allocator + Copy>(
@@ -31,7 +31,7 @@ fn is_held<N: Drop, A: Allocator + Copy>(
 impl<N: LoopNode<A>, S: Resolve + Drop, A: Allocator + Copy> EventLoop<N, S, A> {
     /// Reads from the connections that are queued, each once at most, and closes those that are over.
     pub(crate) fn read_all(&mut self) -> Result<(), LoopError> {
-        let mut left = ALL_READS;
+        let mut left = TURN;
         for _ in 0..self.connections.queued() {
             if left == 0 {
                 return Ok(());
@@ -48,13 +48,16 @@ impl<N: LoopNode<A>, S: Resolve + Drop, A: Allocator + Copy> EventLoop<N, S, A> 
         Ok(())
     }
 
-    /// Reads from the connection at this place, as often as reads are left, and closes it if it is over. Returns
-    /// whether more may wait.
+    /// Reads from the connection at this place, as long as bytes are left to be read, and closes it if it is over.
+    /// Returns whether more may wait.
     fn serve_connection(&mut self, place: usize, left: &mut usize) -> Result<bool, LoopError> {
-        for _ in 0..READS.min(*left) {
-            *left = left.saturating_sub(1);
+        for _ in 0..READS {
+            if *left == 0 {
+                return Ok(true);
+            }
             match self.read_once(place)? {
-                Found::Bytes | Found::Interruption => {}
+                Found::Bytes(count) => *left = left.saturating_sub(count),
+                Found::Interruption => {}
                 Found::Nothing => return Ok(false),
                 Found::End => {
                     self.close(place)?;

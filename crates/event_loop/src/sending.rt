@@ -11,33 +11,18 @@ use std::net::Net;
 /// How many writes a turn makes to each link at most.
 const WRITES: usize = 16;
 
-/// What a turn sent of the bytes that wait for a name.
-#[derive(Clone, Copy, Debug, PartialEq, Eq)]
-enum Sent {
-    /// All that may be sent.
-    All,
-    /// A part: the next turn may go on.
-    Part,
-    /// What the link took. It takes no more.
-    Blocked,
-}
-
-/// Writes to the link what waits for its name.
+/// Writes to the link what waits for its name. Returns whether the next turn may go on.
 fn write_some<N: LoopNode<A>, A: Allocator + Copy>(
     link: &mut Link,
     node: &mut N,
     now: u64,
-) -> Sent {
+) -> bool {
     for _ in 0..WRITES {
         if !link.write(node, now) {
-            return if link.is_blocked() {
-                Sent::Blocked
-            } else {
-                Sent::All
-            };
+            return false;
         }
     }
-    Sent::Part
+    true
 }
 
 impl<N: LoopNode<A>, S: Resolve + Drop, A: Allocator + Copy> EventLoop<N, S, A> {
@@ -49,17 +34,24 @@ impl<N: LoopNode<A>, S: Resolve + Drop, A: Allocator + Copy> EventLoop<N, S, A> 
             Some(hosted) => hosted.node.receivers()?,
             None => return Ok(false),
         };
-        let mut is_blocked = !names.is_empty();
+        let mut waiting = 0;
         let mut is_behind = false;
         for name in names {
-            let sent = self.send_to(rt, place, name)?;
-            is_blocked = is_blocked && sent == Sent::Blocked;
-            is_behind = is_behind || sent == Sent::Part;
+            is_behind = self.send_to(rt, place, name)? || is_behind;
+            waiting = waiting.max(self.waiting_at(place, &name));
         }
         if let Some(hosted) = self.nodes.get_mut(place) {
-            hosted.is_blocked = is_blocked;
+            hosted.waiting = waiting;
         }
         Ok(is_behind)
+    }
+
+    /// How many bytes wait for the name in the node at this place.
+    fn waiting_at(&self, place: usize, name: &NodeName) -> usize {
+        match self.nodes.get(place) {
+            Some(hosted) => hosted.node.waiting(name),
+            None => 0,
+        }
     }
 
     /// Tells the node at this place of its links that are over, and closes them.
@@ -114,23 +106,24 @@ impl<N: LoopNode<A>, S: Resolve + Drop, A: Allocator + Copy> EventLoop<N, S, A> 
         }
     }
 
-    /// Sends what waits for the name. If it cannot be dialled, the node is told so.
-    fn send_to<R: Net>(&mut self, rt: &R, place: usize, name: NodeName) -> Result<Sent, LoopError> {
+    /// Sends what waits for the name. If it cannot be dialled, the node is told so. Returns whether the next turn may
+    /// go on.
+    fn send_to<R: Net>(&mut self, rt: &R, place: usize, name: NodeName) -> Result<bool, LoopError> {
         let Some(link_place) = self.reach(rt, place, name)? else {
             self.give_up(place, name)?;
-            return Ok(Sent::Part);
+            return Ok(true);
         };
         let Some(link) = self.links.get_mut(link_place) else {
-            return Ok(Sent::All);
+            return Ok(false);
         };
         let Some(hosted) = self.nodes.get_mut(place) else {
-            return Ok(Sent::All);
+            return Ok(false);
         };
-        let sent = write_some(link, &mut hosted.node, self.now);
+        let is_behind = write_some(link, &mut hosted.node, self.now);
         if link.is_over() {
             hosted.may_have_ended = true;
-            return Ok(Sent::Part);
+            return Ok(true);
         }
-        Ok(sent)
+        Ok(is_behind)
     }
 }

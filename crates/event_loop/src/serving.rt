@@ -2,7 +2,7 @@
 use crate::error::LoopError;
 use crate::event_loop::EventLoop;
 use crate::loop_node::LoopNode;
-use crate::program::{Next, Program, Silence, Situation};
+use crate::program::{Next, Program, Silence};
 use crate::resolve::Resolve;
 use std::alloc::Allocator;
 use std::net::Net;
@@ -34,8 +34,10 @@ impl<N: LoopNode<A>, S: Resolve + Drop, A: Allocator + Copy> EventLoop<N, S, A> 
                 Next::Wait
             };
             goes_on = goes_on && next != Next::End;
+            let was_full = self.is_full(place);
             let sent = self.send_of(rt, place);
-            if next == Next::Again || !matches!(sent, Ok(false)) {
+            let has_drained = was_full && !self.is_full(place);
+            if next == Next::Again || has_drained || !matches!(sent, Ok(false)) {
                 self.nodes.queue(place);
             }
             sent?;
@@ -43,16 +45,20 @@ impl<N: LoopNode<A>, S: Resolve + Drop, A: Allocator + Copy> EventLoop<N, S, A> 
         Ok(goes_on)
     }
 
+    /// Whether so much waits in the node at this place that its program should not broadcast.
+    fn is_full(&self, place: usize) -> bool {
+        match self.nodes.get(place) {
+            Some(hosted) => !hosted.situation(place).may_broadcast(),
+            None => false,
+        }
+    }
+
     /// Calls the program for the node at this place.
     fn call<P: Program<N>>(&mut self, place: usize, program: &mut P) -> Next {
         let Some(hosted) = self.nodes.get_mut(place) else {
             return Next::Wait;
         };
-        let at = Situation {
-            place,
-            is_blocked: hosted.is_blocked,
-        };
-        let next = program.turn(at, &mut hosted.node);
+        let next = program.turn(hosted.situation(place), &mut hosted.node);
         let was_held = hosted.is_held;
         hosted.is_held = next == Next::Hold;
         if was_held && next != Next::Hold {

@@ -3,14 +3,8 @@ use crate::error::LoopError;
 use crate::event_loop::EventLoop;
 use crate::loop_node::LoopNode;
 use crate::resolve::Resolve;
-use node_names::{Dice, NodeName};
+use node_names::Dice;
 use std::alloc::Allocator;
-
-/// Whether bytes wait for the name.
-fn has_mail<N: LoopNode<A>, A: Allocator + Copy>(node: &N, name: &NodeName) -> bool {
-    let [first, second, ..] = node.transmit(name);
-    !first.is_empty() || !second.is_empty()
-}
 
 impl<N: LoopNode<A>, S: Resolve + Drop, A: Allocator + Copy> EventLoop<N, S, A> {
     /// Makes a tick of each node, and looks for connections and links that kept a node waiting too long
@@ -69,7 +63,7 @@ impl<N: LoopNode<A>, S: Resolve + Drop, A: Allocator + Copy> EventLoop<N, S, A> 
         let Some(hosted) = self.nodes.get_mut(owner) else {
             return;
         };
-        if has_mail(&hosted.node, &name) {
+        if hosted.node.waiting(&name) > 0 {
             if link.is_blocked() {
                 link.end();
                 hosted.may_have_ended = true;

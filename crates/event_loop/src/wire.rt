@@ -48,6 +48,10 @@ impl<A: Allocator + Copy, R: Record<A> + Drop> LoopNode<A> for WireNode<A, R> {
         self.receivers()
     }
 
+    fn waiting(&self, name: &NodeName) -> usize {
+        self.waiting(name)
+    }
+
     fn transmit(&self, name: &NodeName) -> [&[u8]; 4] {
         self.transmit(name)
     }

@@ -4,8 +4,8 @@ ghost use Rattle.gossip_core.specs.Refusals.{CanTake};
 ghost use Rattle.gossip_core.specs.Table.{repeated, outcome, lent};
 
 use crate::announcements::announcements;
+use crate::answer::Answer;
 use crate::call::{Call, CallOf};
-use crate::effects::Effects;
 use crate::gossip::Gossip;
 use crate::spread::{gossip, spread};
 use bytes::Bytes;
@@ -18,9 +18,9 @@ fn to_broadcast<A: Allocator + Copy>(
     alloc: A,
     node: &Gossip<A>,
     payload: &Bytes<A>,
-) -> Result<Effects<A>, AllocError>
+) -> Result<Answer<A>, AllocError>
     requires { CanTake node.now (CallOf.Broadcast payload.now) }
-    ensures { IfOk result (λ effects. effects ≡ record { sends = (outcome node.now (CallOf.Broadcast payload.now)).sends; delivered = (outcome node.now (CallOf.Broadcast payload.now)).delivered }) }
+    ensures { IfOk result (λ answer. answer ≡ record { sends = (outcome node.now (CallOf.Broadcast payload.now)).sends; delivered = (outcome node.now (CallOf.Broadcast payload.now)).delivered }) }
 {
     let id = MsgId {
         origin: node.me(),
@@ -34,26 +34,26 @@ fn to_repeated<A: Allocator + Copy>(
     alloc: A,
     node: &Gossip<A>,
     sender: &NodeName,
-) -> Result<Effects<A>, AllocError>
-    ensures { IfOk result (λ effects. effects ≡ record { sends = (repeated sender.now node.now).sends; delivered = (repeated sender.now node.now).delivered }) }
+) -> Result<Answer<A>, AllocError>
+    ensures { IfOk result (λ answer. answer ≡ record { sends = (repeated sender.now node.now).sends; delivered = (repeated sender.now node.now).delivered }) }
 {
     if node.peers().is_member(sender) {
-        Effects::packet(alloc, sender, BodyOf::Prune)
+        Ok(Answer::packet(alloc, sender, BodyOf::Prune))
     } else {
-        Ok(Effects::new(alloc))
+        Ok(Answer::new(alloc))
     }
 }
 
 /// Appends what a node also sends when `announcer` takes the place of `sender` in the tree: a graft and a prune.
 fn send_swap<A: Allocator + Copy>(
-    effects: &mut Effects<A>,
+    answer: &mut Answer<A>,
     sender: &NodeName,
     announcer: &NodeName,
 ) -> Result<(), AllocError>
-    ensures { OnOk result (effects.new ≡ record effects.old { sends = effects.old.sends ++ (announcer.now, BodyOf.GraftPeer) ∷ (sender.now, BodyOf.Prune) ∷ [] }) }
+    ensures { OnOk result (answer.new ≡ record answer.old { sends = answer.old.sends ++ (announcer.now, BodyOf.GraftPeer) ∷ (sender.now, BodyOf.Prune) ∷ [] }) }
 {
-    effects.send(announcer, BodyOf::GraftPeer)?;
-    effects.send(sender, BodyOf::Prune)
+    answer.send(announcer, BodyOf::GraftPeer)?;
+    answer.send(sender, BodyOf::Prune)
 }
 
 /// Returns what a packet that carries a message will send and deliver.
@@ -64,22 +64,22 @@ fn to_gossip<A: Allocator + Copy>(
     id: &MsgId,
     round: u32,
     payload: &Bytes<A>,
-) -> Result<Effects<A>, AllocError>
-    ensures { IfOk result (λ effects. effects ≡ record { sends = (outcome node.now (CallOf.OnGossip sender.now id.now round payload.now)).sends; delivered = (outcome node.now (CallOf.OnGossip sender.now id.now round payload.now)).delivered }) }
+) -> Result<Answer<A>, AllocError>
+    ensures { IfOk result (λ answer. answer ≡ record { sends = (outcome node.now (CallOf.OnGossip sender.now id.now round payload.now)).sends; delivered = (outcome node.now (CallOf.OnGossip sender.now id.now round payload.now)).delivered }) }
 {
     if node.knows(id) {
         return to_repeated(alloc, node, sender);
     }
     if id.origin == node.me() {
-        return Ok(Effects::new(alloc));
+        return Ok(Answer::new(alloc));
     }
     let next = round.saturating_add(1);
     let left_out = Some(*sender);
-    let mut effects = spread(alloc, node.peers().members(), &left_out, id, next, payload)?;
+    let mut answer = spread(alloc, node.peers().members(), &left_out, id, next, payload)?;
     if let Some(announcer) = node.shortcut(sender, id, round) {
-        send_swap(&mut effects, sender, &announcer)?;
+        send_swap(&mut answer, sender, &announcer)?;
     }
-    Ok(effects)
+    Ok(answer)
 }
 
 /// Returns what the timer of `id` will send: a graft to the peer that announced `id` first, if there is one.
@@ -87,15 +87,15 @@ fn to_fire<A: Allocator + Copy>(
     alloc: A,
     node: &Gossip<A>,
     id: &MsgId,
-) -> Result<Effects<A>, AllocError>
-    ensures { IfOk result (λ effects. effects ≡ record { sends = (outcome node.now (CallOf.Fire id.now)).sends; delivered = (outcome node.now (CallOf.Fire id.now)).delivered }) }
+) -> Result<Answer<A>, AllocError>
+    ensures { IfOk result (λ answer. answer ≡ record { sends = (outcome node.now (CallOf.Fire id.now)).sends; delivered = (outcome node.now (CallOf.Fire id.now)).delivered }) }
 {
     if !node.missing().armed(id) {
-        return Ok(Effects::new(alloc));
+        return Ok(Answer::new(alloc));
     }
     match node.missing().first(id) {
-        Some((peer, round)) => Effects::packet(alloc, &peer, BodyOf::Graft { id: *id, round }),
-        None => Ok(Effects::new(alloc)),
+        Some((peer, round)) => Ok(Answer::packet(alloc, &peer, BodyOf::Graft { id: *id, round })),
+        None => Ok(Answer::new(alloc)),
     }
 }
 
@@ -106,24 +106,21 @@ fn to_graft<A: Allocator + Copy>(
     sender: &NodeName,
     id: &MsgId,
     round: u32,
-) -> Result<Effects<A>, AllocError>
-    ensures { IfOk result (λ effects. effects ≡ record { sends = (outcome node.now (CallOf.OnGraft sender.now id.now round)).sends; delivered = (outcome node.now (CallOf.OnGraft sender.now id.now round)).delivered }) }
+) -> Result<Answer<A>, AllocError>
+    ensures { IfOk result (λ answer. answer ≡ record { sends = (outcome node.now (CallOf.OnGraft sender.now id.now round)).sends; delivered = (outcome node.now (CallOf.OnGraft sender.now id.now round)).delivered }) }
 {
     match node.payload(id) {
-        Some(payload) => Effects::packet(alloc, sender, gossip(id, round, payload)?),
-        None => Ok(Effects::new(alloc)),
+        Some(payload) => Ok(Answer::packet(alloc, sender, gossip(id, round, payload)?)),
+        None => Ok(Answer::new(alloc)),
     }
 }
 
 /// Returns the packets that announce everything in the queue.
-fn to_flush<A: Allocator + Copy>(alloc: A, node: &Gossip<A>) -> Result<Effects<A>, AllocError>
-    ensures { IfOk result (λ effects. effects ≡ record { sends = (outcome node.now CallOf.Flush).sends; delivered = None }) }
+fn to_flush<A: Allocator + Copy>(alloc: A, node: &Gossip<A>) -> Result<Answer<A>, AllocError>
+    ensures { IfOk result (λ answer. answer ≡ record { sends = (outcome node.now CallOf.Flush).sends; delivered = None }) }
 {
     let packets = announcements(alloc, node.peers())?;
-    Ok(Effects {
-        sends: Listed::from_vec(packets),
-        delivered: None,
-    })
+    Ok(Answer::of_sends(Listed::from_vec(packets)))
 }
 
 /// Returns what the call will send and deliver.
@@ -131,9 +128,9 @@ pub(crate) fn answers<A: Allocator + Copy>(
     alloc: A,
     node: &Gossip<A>,
     call: &Call<'_, A>,
-) -> Result<Effects<A>, AllocError>
+) -> Result<Answer<A>, AllocError>
     requires { CanTake node.now (lent call.now) }
-    ensures { IfOk result (λ effects. effects ≡ record { sends = (outcome node.now (lent call.now)).sends; delivered = (outcome node.now (lent call.now)).delivered }) }
+    ensures { IfOk result (λ answer. answer ≡ record { sends = (outcome node.now (lent call.now)).sends; delivered = (outcome node.now (lent call.now)).delivered }) }
 {
     match call {
         CallOf::Broadcast { payload } => to_broadcast(alloc, node, payload),
@@ -150,6 +147,6 @@ pub(crate) fn answers<A: Allocator + Copy>(
         | CallOf::OnGraftPeer { .. }
         | CallOf::OnPrune { .. }
         | CallOf::Up { .. }
-        | CallOf::Down { .. } => Ok(Effects::new(alloc)),
+        | CallOf::Down { .. } => Ok(Answer::new(alloc)),
     }
 }

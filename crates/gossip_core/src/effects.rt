@@ -1,5 +1,6 @@
 //! What a node's gossip yields: packets to send, and a message to deliver.
-ghost use Rattle.std.specs.Prelude.{◌≡◌, [], ◌∷◌, ◌++◌, take, None, IfOk, OnOk, OnErr};
+ghost use Rattle.std.specs.Prelude.{◌≡◌, [], ◌++◌, take, None, OnOk, OnErr};
+ghost use Rattle.std.specs.Option.{option_to_list};
 
 use bytes::Bytes;
 use frames::Body;
@@ -43,36 +44,32 @@ impl<A: Allocator + Copy> Effects<A> {
         }
     }
 
-    /// Creates effects with one packet and nothing to deliver.
-    pub(crate) fn packet(alloc: A, to: &NodeName, body: Body<A>) -> Result<Self, AllocError>
-        ensures { IfOk result (λ effects. effects ≡ record { sends = (to.now, body) ∷ []; delivered = None }) }
-    {
-        let mut sends = Listed::new(alloc);
-        sends.push((*to, body))?;
-        Ok(Effects {
-            sends,
-            delivered: None,
-        })
-    }
-
-    /// Appends a packet.
-    pub(crate) fn send(&mut self, to: &NodeName, body: Body<A>) -> Result<(), AllocError>
-        ensures ok { OnOk result (self.new ≡ record self.old { sends = self.old.sends ++ (to.now, body) ∷ [] }) }
+    /// Appends a packet, if there is one.
+    fn send(&mut self, packet: Option<(NodeName, Body<A>)>) -> Result<(), AllocError>
+        ensures ok { OnOk result (self.new ≡ record self.old { sends = self.old.sends ++ option_to_list packet }) }
         ensures err { OnErr result (self.new ≡ self.old) }
     {
-        self.sends.push((*to, body))?;
+        if let Some(packet) = packet {
+            self.sends.push(packet)?;
+        }
         Ok(())
     }
 
-    /// Appends the packets.
+    /// Appends the packets of an answer, the first and the others.
     pub(crate) fn send_all(
         &mut self,
-        sends: Listed<(NodeName, Body<A>), A>,
+        first: Option<(NodeName, Body<A>)>,
+        others: Listed<(NodeName, Body<A>), A>,
     ) -> Result<(), AllocError>
-        ensures ok { OnOk result (self.new ≡ record self.old { sends = self.old.sends ++ sends }) }
+        ensures ok { OnOk result (self.new ≡ record self.old { sends = self.old.sends ++ (option_to_list first ++ others) }) }
         ensures err { OnErr result (self.new ≡ self.old) }
     {
-        self.sends.append(sends.into_vec())?;
+        let kept = self.sends.len();
+        self.send(first)?;
+        if self.sends.append(others.into_vec()).is_err() {
+            self.sends.truncate(kept);
+            return Err(AllocError);
+        }
         Ok(())
     }
 

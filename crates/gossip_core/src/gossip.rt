@@ -12,6 +12,7 @@ ghost use Rattle.gossip_core.specs.State.{GossipState, IsSound};
 ghost use Rattle.gossip_core.specs.Table.{lent, Does, outcome, is_news, next_id, repeated, first_copy, shortcut, with_peer, after_downs, after_ups};
 ghost use Rattle.gossip_core.specs.declared.call.CallOf.TheVariants.{Broadcast, OnGossip, OnIHave, Fire, OnGraft, OnGraftPeer, OnPrune, Flush, Up, Down};
 
+use crate::answer::Answer;
 use crate::answers::answers;
 use crate::call::{Call, CallOf};
 use crate::effects::Effects;
@@ -122,8 +123,8 @@ impl<A: Allocator + Copy> Gossip<A> {
     }
 
     /// Returns what the call will send and deliver; changes nothing. Errors are tested in the order of `GossipFault`.
-    pub fn answer(&self, call: &Call<'_, A>) -> Result<Effects<A>, GossipFault>
-        ensures ok { IfOk result (λ effects. effects ≡ record { sends = (outcome self.now (lent call.now)).sends; delivered = (outcome self.now (lent call.now)).delivered }) }
+    pub fn answer(&self, call: &Call<'_, A>) -> Result<Answer<A>, GossipFault>
+        ensures ok { IfOk result (λ answer. answer ≡ record { sends = (outcome self.now (lent call.now)).sends; delivered = (outcome self.now (lent call.now)).delivered }) }
         ensures taken { OnOk result (CanTake self.now (lent call.now)) }
         ensures too_long { IsErrOf result GossipFault.PayloadTooLong ↔ IsTooLong (lent call.now) }
         ensures spent { IsErrOf result GossipFault.SeqSpent ↔ IsSpent self.now (lent call.now) }
@@ -345,11 +346,16 @@ impl<A: Allocator + Copy> Gossip<A> {
         ensures err { OnErr result ((self.new ≡ self.old) × (out.new ≡ out.old)) }
     {
         let given = answers(*self.held.allocator(), self, call)?;
+        let Answer {
+            first,
+            others,
+            delivered,
+        } = given;
         let kept = out.sends.len();
-        out.send_all(given.sends)?;
+        out.send_all(first, others)?;
         match self.take(call) {
             Ok(()) => {
-                out.deliver(given.delivered);
+                out.deliver(delivered);
                 Ok(())
             }
             Err(e) => {

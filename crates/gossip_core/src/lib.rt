@@ -2,6 +2,7 @@
 #![tactic(auto)]
 
 mod announcements;
+mod answer;
 mod answers;
 mod call;
 mod effects;
@@ -10,6 +11,7 @@ mod gossip;
 mod spread;
 mod store;
 
+pub use answer::Answer;
 pub use call::{Call, CallOf};
 pub use effects::Effects;
 pub use fault::GossipFault;

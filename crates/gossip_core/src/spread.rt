@@ -3,7 +3,7 @@ ghost use Rattle.std.specs.Prelude.{◌≡◌, map, Some, IfOk};
 ghost use Rattle.peer_sets.specs.Members.{eager_but};
 ghost use Rattle.gossip_core.specs.Table.{gossip_to};
 
-use crate::effects::Effects;
+use crate::answer::Answer;
 use bytes::Bytes;
 use frames::{Body, BodyOf};
 use node_names::{Listed, MsgId, NodeName, is_left_out};
@@ -54,12 +54,13 @@ pub(crate) fn spread<A: Allocator + Copy>(
     id: &MsgId,
     round: u32,
     payload: &Bytes<A>,
-) -> Result<Effects<A>, AllocError>
-    ensures { IfOk result (λ effects. effects ≡ record { sends = map (gossip_to id.now round payload.now) (eager_but left_out.now members.now); delivered = Some (id.now, payload.now) }) }
+) -> Result<Answer<A>, AllocError>
+    ensures { IfOk result (λ answer. answer ≡ record { sends = map (gossip_to id.now round payload.now) (eager_but left_out.now members.now); delivered = Some (id.now, payload.now) }) }
 {
     let sends = pushes(alloc, members, left_out, id, round, payload)?;
-    Ok(Effects {
-        sends: Listed::from_vec(sends),
+    Ok(Answer {
+        first: None,
+        others: Listed::from_vec(sends),
         delivered: Some((*id, payload.clone()?)),
     })
 }

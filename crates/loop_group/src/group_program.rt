@@ -103,8 +103,8 @@ impl<R: Clock + Drop, V: Watch + Drop, N: GroupNode> Program<N> for GroupProgram
         let now = node.ticks();
         self.show(now);
         match self.allowed(at.place, now) {
-            // Where no link takes what waits, more of it would soon be more than may wait.
-            Some(_) if at.is_blocked => self.step(at.place, node, now, 0),
+            // Where links do not take what waits, more of it would soon be more than may wait.
+            Some(_) if !at.may_broadcast() => self.step(at.place, node, now, 0),
             Some(most) => self.step(at.place, node, now, most),
             None => Next::End,
         }

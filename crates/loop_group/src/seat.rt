@@ -7,6 +7,9 @@ use std::alloc::AllocError;
 use std::time::Clock;
 use wire_node::WireError;
 
+/// From so many bytes on a node broadcasts nothing more in one turn.
+const TURN: usize = 262_144;
+
 /// What a node of a group is to broadcast, and what it delivered.
 #[derive(Drop)]
 pub(crate) struct Seat {
@@ -21,17 +24,22 @@ pub(crate) struct Seat {
 }
 
 impl Seat {
-    /// Broadcasts at most `most` of the next texts, until one is refused.
+    /// Broadcasts at most `most` of the next texts, and some 256 KiB, until one is refused.
     pub(crate) fn speak<R: Clock, N: GroupNode>(
         &mut self,
         rt: &R,
         node: &mut N,
         most: usize,
     ) -> Result<(), Shortage> {
+        let mut left = TURN;
         for _ in 0..Speech::TEXTS.min(most) {
+            if left == 0 {
+                return Ok(());
+            }
             let Some(text) = self.speech.take_next() else {
                 return Ok(());
             };
+            left = left.saturating_sub(text.len());
             let at = self.speech.now(rt);
             match node.broadcast(text) {
                 Ok(id) => self.speech.note(id, at)?,

@@ -10,6 +10,8 @@ use world::Delivery;
 
 /// How many messages a turn broadcasts at most.
 const BROADCASTS: usize = 64;
+/// From so many bytes on a turn broadcasts nothing more.
+const TURN: usize = 262_144;
 
 /// The end of a port in the loop.
 #[derive(Drop)]
@@ -40,17 +42,17 @@ impl<A: Allocator + Copy> Lane<A> {
         }
     }
 
-    /// Broadcasts what was handed in, unless the node's links take nothing, and hands out what was delivered. As long
-    /// as not all can be handed out, nothing more is taken.
+    /// Broadcasts what was handed in, if the node may, and hands out what was delivered. As long as not all can be
+    /// handed out, nothing more is taken.
     pub(crate) fn turn<N: PortNode<A>>(
         &mut self,
-        is_blocked: bool,
+        may_broadcast: bool,
         node: &mut N,
     ) -> Result<Next, WireError> {
         if !self.hand_out() {
             return Ok(Next::Hold);
         }
-        let has_more = !is_blocked && self.broadcast_some(node)?;
+        let has_more = may_broadcast && self.broadcast_some(node)?;
         self.rest = node.take_deliveries().into_iter();
         if !self.hand_out() {
             return Ok(Next::Hold);
@@ -93,10 +95,15 @@ impl<A: Allocator + Copy> Lane<A> {
 
     /// Broadcasts messages that were handed in. Returns whether more may wait.
     fn broadcast_some<N: PortNode<A>>(&mut self, node: &mut N) -> Result<bool, WireError> {
+        let mut left = TURN;
         for _ in 0..BROADCASTS {
+            if left == 0 {
+                return Ok(true);
+            }
             let Some(payload) = self.next_payload() else {
                 return Ok(false);
             };
+            left = left.saturating_sub(payload.len());
             if !self.try_broadcast(node, payload)? {
                 return Ok(false);
             }

@@ -70,7 +70,7 @@ impl<A: Allocator + Copy> Ports<A> {
             node.take_deliveries();
             return Next::Wait;
         };
-        match lane.turn(at.is_blocked, node) {
+        match lane.turn(at.may_broadcast(), node) {
             Ok(next) => next,
             Err(error) => {
                 self.error = Some(error);

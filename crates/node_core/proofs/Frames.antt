@@ -1,6 +1,7 @@
--- One more body is numbered.
-use Rattle.std.specs.Prelude.{◌≡◌, ◌+◌, ℕ, suc, List, [], ◌∷◌, ◌++◌, length}
-use Rattle.std.proofs.Common.{sym, ◌∙◌, ap, subst, arith}
+-- One more body is numbered, or what was appended is taken back.
+use Rattle.std.specs.Prelude.{◌≡◌, ◌+◌, ℕ, suc, List, [], ◌∷◌, ◌++◌, length, take}
+use Rattle.std.proofs.Common.{◌≤◌, sym, ◌∙◌, ap, subst, arith, length-append}
+use Rattle.std.proofs.Math.Seq.{take-append_seam, take-take}
 use Rattle.node_names.specs.NodeName.{Name}
 use Rattle.node_names.specs.declared.ids.Origin.{Origin}
 use Rattle.frames.specs.Body.{Body}
@@ -22,3 +23,13 @@ numbered-push me framed (first ∷ sends) send number e = ap (λ rest. (first.0,
   where
     shift : (a b : ℕ) → a + suc b ≡ (a + 1) + b
     shift a b = omega arith
+
+-- what came before an item that was appended is still there, if the item is
+pub back_within : {X : Type 0} (old more mid new : List X) → mid ≡ old ++ more → take (length mid) new ≡ mid → take (length old) new ≡ old
+back_within old more mid new is_mid kept =
+    sym (take-take (length old) (length mid) new within)
+    ∙ ap (take (length old)) (kept ∙ is_mid)
+    ∙ take-append_seam old more
+  where
+    within : length old ≤ length mid
+    within = omega (arith, length-append old more, ap length is_mid)

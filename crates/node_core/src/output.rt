@@ -1,12 +1,13 @@
 //! What a step sends and delivers: its packets, numbered, and its delivery.
-ghost use Rattle.std.specs.Prelude.{◌≡◌, ◌<◌, ◌≤◌, ◌+◌, ◌++◌, IfOk, OnOk, OnErr, IsErrOf, length};
+ghost use Rattle.std.specs.Prelude.{◌≡◌, ◌<◌, ◌≤◌, ◌+◌, ◌++◌, IfOk, IfSome, IsNone, OnOk, OnErr, IsErrOf, length};
+ghost use Rattle.std.specs.Option.{option_to_list};
 ghost use Rattle.node_core.specs.Fits.{AreFit};
 ghost use Rattle.node_core.specs.Steps.{numbered, delivered_at};
 
-use crate::numbering::number_all;
+use crate::numbering::number_both;
 use bytes::Bytes;
 use frames::{Body, Frame};
-use gossip_core::Effects;
+use gossip_core::Answer;
 use node_names::{Listed, MsgId, NodeName, Origin};
 use std::alloc::{AllocError, Allocator};
 use world::{CoreError, Delivery, Out};
@@ -30,21 +31,38 @@ fn deliver<A: Allocator + Copy>(
     Ok(())
 }
 
+/// Returns the number of the last packet, or `None` if there are more packets than numbers left.
+fn last_number<A: Allocator>(
+    framed: u64,
+    first: &Option<(NodeName, Body<A>)>,
+    others: usize,
+) -> Option<u64>
+    ensures some { IfSome result (λ last. last ≡ framed + (length (option_to_list first.now) + others)) }
+    ensures none { IsNone result → u64.MAX < framed + (length (option_to_list first.now) + others) }
+{
+    let framed = match first {
+        Some(_) => framed.checked_add(1)?,
+        None => framed,
+    };
+    framed.checked_add(others as u64)
+}
+
 /// Appends the packets, numbered, and the delivery.
 fn append<A: Allocator + Copy>(
     me: &Origin,
     framed: u64,
-    sends: Listed<(NodeName, Body<A>), A>,
+    first: Option<(NodeName, Body<A>)>,
+    others: Listed<(NodeName, Body<A>), A>,
     delivered: Option<(MsgId, Bytes<A>)>,
     out: &mut Out<Frame<A>, A>,
 ) -> Result<(), AllocError>
-    requires fit { AreFit sends }
-    requires left { framed + length sends ≤ u64.MAX }
-    ensures ok { OnOk result (out.new ≡ record { sends = out.old.sends ++ numbered me.now framed sends; deliveries = out.old.deliveries ++ delivered_at me.now delivered }) }
+    requires fit { AreFit (option_to_list first ++ others) }
+    requires left { framed + length (option_to_list first ++ others) ≤ u64.MAX }
+    ensures ok { OnOk result (out.new ≡ record { sends = out.old.sends ++ numbered me.now framed (option_to_list first ++ others); deliveries = out.old.deliveries ++ delivered_at me.now delivered }) }
     ensures err { OnErr result (out.new ≡ out.old) }
 {
     let kept = out.sends.len();
-    if number_all(me, framed, sends, &mut out.sends).is_err() {
+    if number_both(me, framed, first, others, &mut out.sends).is_err() {
         out.sends.truncate(kept);
         return Err(AllocError);
     }
@@ -60,7 +78,7 @@ fn append<A: Allocator + Copy>(
 pub(crate) fn append_numbered<A: Allocator + Copy>(
     me: &Origin,
     framed: u64,
-    effects: Effects<A>,
+    effects: Answer<A>,
     out: &mut Out<Frame<A>, A>,
 ) -> Result<u64, CoreError>
     requires { AreFit effects.sends }
@@ -70,10 +88,14 @@ pub(crate) fn append_numbered<A: Allocator + Copy>(
     ensures spent { IsErrOf result CoreError.SeqSpent → u64.MAX < framed + length effects.sends }
     ensures err { OnErr result (out.new ≡ out.old) }
 {
-    let Effects { sends, delivered } = effects;
-    let Some(last) = framed.checked_add(sends.len() as u64) else {
+    let Answer {
+        first,
+        others,
+        delivered,
+    } = effects;
+    let Some(last) = last_number(framed, &first, others.len()) else {
         return Err(CoreError::SeqSpent);
     };
-    append(me, framed, sends, delivered, out)?;
+    append(me, framed, first, others, delivered, out)?;
     Ok(last)
 }

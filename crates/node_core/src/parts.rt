@@ -11,7 +11,7 @@ ghost use Rattle.node_core.specs.Parts.{IsSpentPart, IsTooLongPart, Takes, by_pa
 use crate::dispatch::{Part, PartOf};
 use crate::names::are_same;
 use crate::prepared_step::{BoxedViewChange, ViewChange};
-use gossip_core::{Call, Effects, Gossip, GossipFault};
+use gossip_core::{Answer, Call, Gossip, GossipFault};
 use membership::{Event, Membership, Moves};
 use node_names::Dice;
 use std::alloc::{AllocError, Allocator};
@@ -26,7 +26,7 @@ pub(crate) struct Worked<A: Allocator> {
     /// Whether the active view will be a different set.
     pub(crate) is_moved: bool,
     /// What it sends and delivers.
-    pub(crate) effects: Effects<A>,
+    pub(crate) effects: Answer<A>,
 }
 
 /// Boxes a view change.
@@ -58,10 +58,7 @@ fn work_out_event<A: Allocator + Copy>(
     Ok(Worked {
         moved: Some(boxed(alloc, moved)?),
         is_moved,
-        effects: Effects {
-            sends,
-            delivered: None,
-        },
+        effects: Answer::of_sends(sends),
     })
 }
 
@@ -107,7 +104,7 @@ pub(crate) fn work_out<A: Allocator + Copy>(
         PartOf::Nobody => Ok(Worked {
             moved: None,
             is_moved: false,
-            effects: Effects::new(alloc),
+            effects: Answer::new(alloc),
         }),
     }
 }

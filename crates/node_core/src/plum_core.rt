@@ -18,7 +18,7 @@ use crate::parts::{Worked, commit, work_out};
 use crate::prepared_step::PreparedStep;
 use bytes::Bytes;
 use frames::Frame;
-use gossip_core::{Effects, Gossip};
+use gossip_core::{Answer, Gossip};
 use membership::{Membership, Moves};
 use node_names::{Limits, MsgId, NameSet, NodeName, Origin};
 use peer_sets::PeerSets;
@@ -62,20 +62,17 @@ fn greet<A: Allocator + Copy>(
     alloc: A,
     membership: &mut Membership<A>,
     contact: Option<NodeName>,
-) -> Result<Effects<A>, AllocError>
+) -> Result<Answer<A>, AllocError>
     ensures same { OnOk result (membership.new ≡ membership.old) }
     ensures opening { IfOk result (λ effects. effects ≡ record { sends = opening contact; delivered = None }) }
 {
     let Some(contact) = contact else {
-        return Ok(Effects::new(alloc));
+        return Ok(Answer::new(alloc));
     };
     let mut moves = Moves::new(alloc);
     membership.join(contact, &mut moves)?;
     let Moves { sends, .. } = moves;
-    Ok(Effects {
-        sends,
-        delivered: None,
-    })
+    Ok(Answer::of_sends(sends))
 }
 
 impl<A: Allocator + Copy> PlumCore<A> {

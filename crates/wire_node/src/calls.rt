@@ -37,14 +37,15 @@ impl<A: Allocator + Copy, R: Record<A> + Drop> WireNode<A, R> {
         Ok(())
     }
 
-    /// Makes a tick: flushes, lets each timer fire that is armed, and at every tenth tick since the start shuffles. If
-    /// a step is refused, those before it are made, and the tick does not count: call again.
+    /// Makes a tick: flushes, at every fifth tick since the start asks for each message that was announced before the
+    /// fifth tick before and did not come, and at every tenth shuffles. If a step is refused, those before it are made,
+    /// and the tick does not count: call again.
     pub fn tick(&mut self, dice: &Dice) -> Result<(), WireError>
         ensures ok { OnOk result (Ticks self.old dice.now self.new) }
-        ensures err { OnErr result (self.new ≡ record self.old { engine = self.new.engine }) }
+        ensures err { OnErr result (self.new ≡ record self.old { engine = self.new.engine; waited = self.new.waited }) }
     {
         let ticks = self.ticks.wrapping_add(1);
-        if let Err(error) = make_tick(&mut self.engine, ticks, dice) {
+        if let Err(error) = make_tick(&mut self.engine, &mut self.waited, ticks, dice) {
             return Err(WireError::of_core(error));
         }
         self.ticks = ticks;

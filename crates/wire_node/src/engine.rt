@@ -1,7 +1,9 @@
 //! The core of a node, with what its steps leave to be taken.
-ghost use Rattle.std.specs.Prelude.{◌≡◌, List, ◌∷◌, [], ◌++◌, Some, IfOk, OnErr, OnOk};
+ghost use Rattle.std.specs.Prelude.{◌≡◌, List, ◌∷◌, [], ◌++◌, Some, IfOk, OnErr, OnOk, length};
+ghost use Rattle.node_names.specs.Same.{has_id};
 ghost use Rattle.world.specs.Delivery.{Delivery as Given};
 ghost use Rattle.wire_node.specs.Moving.{Broadcasts, GoesAway, Moves};
+ghost use Rattle.wire_node.specs.Waiting.{settled_for};
 ghost use Rattle.world.specs.declared.stimulus.StimulusOf.TheVariants as stimulus;
 
 use crate::downs::{relieve, take_down};
@@ -84,11 +86,25 @@ impl<A: Allocator + Copy, R: Record<A> + Drop> Engine<A, R> {
         &self.record
     }
 
+    /// Whether the timer of the id is armed.
+    pub(crate) fn is_armed(&self, id: &MsgId) -> bool
+        ensures { result ≡ has_id self.now.machine.core.gossip.missing.timers id.now }
+    {
+        self.core.is_armed(id)
+    }
+
     /// The ids whose timers are armed.
     pub(crate) fn armed(&self) -> Result<Vec<MsgId, A>, AllocError>
         ensures { IfOk result (λ ids. ids.items ≡ self.now.machine.core.gossip.missing.timers) }
     {
         armed_ids(self.alloc(), self.core.timers())
+    }
+
+    /// How many bytes wait for the name.
+    pub(crate) fn waiting(&self, name: &NodeName) -> usize
+        ensures { result ≡ length (settled_for self.now.machine.waiting name.now) }
+    {
+        waiting_for(&self.entries, name)
     }
 
     /// Whether the name is one that may go down: the core keeps a link to it, or bytes wait for it.

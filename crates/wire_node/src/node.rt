@@ -9,7 +9,7 @@ use crate::limits::WireLimits;
 use crate::opening::{first_entries, start_core};
 use crate::record::{Record, Unrecorded};
 use node_core::PlumCore;
-use node_names::{Listed, NodeName, Origin};
+use node_names::{Listed, MsgId, NodeName, Origin};
 use std::alloc::{Allocator, Global};
 use std::marker::Model;
 use world::{Out, are_peers};
@@ -28,6 +28,8 @@ pub struct WireNode<A: Allocator = Global, R: Record<A> + Drop = Unrecorded> {
     /// How many connections were numbered.
     pub(crate) numbered: u64,
     pub(crate) ticks: u64,
+    /// The ids whose timers were armed at the last fifth tick.
+    pub(crate) waited: Vec<MsgId, A>,
 }
 
 impl<A: Allocator, R: Record<A> + Drop> Model for WireNode<A, R> {
@@ -41,7 +43,7 @@ impl<A: Allocator, R: Record<A> + Drop> Model for WireNode<A, R> {
 
     ghost coded = { Prim.hlevel (codes, set.code {R = id_cmp} id.the_row.coded) };
 
-    ghost view = { λ n. record { engine = n.engine; connections = n.connections.items; ticks = n.ticks } };
+    ghost view = { λ n. record { engine = n.engine; connections = n.connections.items; ticks = n.ticks; waited = n.waited.items } };
 }
 
 impl<A: Allocator + Copy, R: Record<A> + Drop> WireNode<A, R> {
@@ -77,6 +79,7 @@ impl<A: Allocator + Copy, R: Record<A> + Drop> WireNode<A, R> {
             connections: Vec::new(alloc),
             numbered: 0,
             ticks: 0,
+            waited: Vec::new(alloc),
         })
     }
 

@@ -151,6 +151,13 @@ impl<A: Allocator + Copy, R: Record<A> + Drop> WireNode<A, R> {
         self.engine.receivers()
     }
 
+    /// How many bytes wait for the name. Who broadcasts while much waits soon has more wait than may.
+    pub fn waiting(&self, name: &NodeName) -> usize
+        ensures { result ≡ length (settled_for self.now.engine.machine.waiting name.now) }
+    {
+        self.engine.waiting(name)
+    }
+
     /// The first of the bytes that wait for the name, in up to four slices. Where any wait, the first two slices are
     /// not both empty. What of them went out is told by `transmitted`.
     pub fn transmit(&self, name: &NodeName) -> [&[u8]; 4]

@@ -15,7 +15,7 @@ returns-clause-ok g c =
     let link = c.index.result.now in
     let place = c.in-Some.place in
     let found = position-Some its links place link (ap (position its) (sym c.deref.ensures.value) ∙ sym c.place_of.ensures ∙ c.in-Some.is) in
-    let after : NodeState = record { engine = c.end_peer.new.engine; connections = c.forget_link.new.connections.items; ticks = c.self.inside.ticks } in
+    let after : NodeState = record { engine = c.end_peer.new.engine; connections = c.forget_link.new.connections.items; ticks = c.self.inside.ticks; waited = c.self.inside.waited.items } in
     subst (λ (n : NodeState). Closes n c.args.id.0 c.args.dice.now after) c.self.view_is
     (record {
       place = place;
@@ -25,4 +25,5 @@ returns-clause-ok g c =
       downs = subst (λ (p : Option Name). EndsPeer c.self.inside.engine p c.args.dice.now c.end_peer.new.engine) c.peer-peer.ensures c.in_ok-end_peer.ensures.ok;
       connections = c.forget_link.ensures;
       ticks = refl;
+      waited = refl;
     })

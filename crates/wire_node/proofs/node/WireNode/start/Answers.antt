@@ -19,4 +19,5 @@ returns g c =
       lost = c.new-2.ensures;
       connections = c.new-3.ensures.items;
       ticks = refl;
+      waited = c.new-4.ensures.items;
     }
