@@ -150,6 +150,7 @@ class Model:
         first, *fired = self.note_downs(steps, [])
         ensure(answer == "done" and first == "flush", "a tick flushes first")
         ensure((fired[-1:] == ["shuffle"]) == (self.ticks % 10 == 0), "every tenth tick shuffles")
+        ensure(len(fired) == (self.ticks % 10 == 0) or self.ticks % 5 == 0, "timers fire at every fifth tick alone")
         for it in fired[:-1] if self.ticks % 10 == 0 else fired:
             ensure(it.startswith("fire ") and it[5:] not in self.payloads, "a timer fires for what is known")
 

@@ -1,5 +1,5 @@
 //! The tests, grouped by what they test, and what they share.
-mod blocked;
+mod backlog;
 mod book;
 mod deaf_peers;
 mod greetings;

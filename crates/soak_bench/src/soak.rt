@@ -112,7 +112,7 @@ impl<'a, R: Net + Files + Print + AllocGlobal> Soak<'a, R> {
         place: usize,
         node: &mut N,
         now: u64,
-        is_blocked: bool,
+        may_speak: bool,
     ) -> Result<()> {
         self.trouble.disturb(
             self.rt,
@@ -122,7 +122,7 @@ impl<'a, R: Net + Files + Print + AllocGlobal> Soak<'a, R> {
             node,
             now,
         )?;
-        if !is_blocked && self.dice.once_in(SPEECH) {
+        if may_speak && self.dice.once_in(SPEECH) {
             self.speak(place, node)?;
         }
         Ok(())
@@ -134,11 +134,11 @@ impl<'a, R: Net + Files + Print + AllocGlobal> Soak<'a, R> {
         place: usize,
         node: &mut N,
         now: u64,
-        is_blocked: bool,
+        may_speak: bool,
     ) -> Result<()> {
         self.views.note(self.names.as_slice(), place, node, now);
         match self.plan.phase(now) {
-            Phase::Trouble => self.trouble(place, node, now, is_blocked),
+            Phase::Trouble => self.trouble(place, node, now, may_speak),
             Phase::Speech => self.speak(place, node),
             Phase::Calm | Phase::Rest | Phase::Late => Ok(()),
         }
@@ -174,7 +174,7 @@ impl<'a, R: Net + Files + Print + AllocGlobal> Soak<'a, R> {
         if !self.has_ticked(at.place, now) {
             return Ok(false);
         }
-        self.act(at.place, node, now, at.is_blocked)?;
+        self.act(at.place, node, now, at.may_broadcast())?;
         if at.place > 0 {
             return Ok(false);
         }

@@ -1,6 +1,6 @@
 //! The rows, which are played with nodes of bytes.
 use crate::tests::tested_node::TestedNode;
-use crate::tests::{blocked, deaf_peers, greetings, one_loop, ports, resets, strangers};
+use crate::tests::{backlog, deaf_peers, greetings, one_loop, ports, resets, strangers};
 use anyhow::Result;
 use std::alloc::AllocError;
 use std::net::Net;
@@ -35,8 +35,8 @@ fn play_speaking<N: TestedNode, R: Wait + Clock + Net + AllocGlobal>(
     ensure(text, "two nodes greet each other", greeted)?;
     let heard = one_loop::start_and_run::<N, R>(rt)?;
     ensure(text, "each of 16 nodes delivers a message once", heard)?;
-    let told = blocked::start_and_speak::<N, R>(rt)?;
-    ensure(text, "a program is told that nothing is taken", told)?;
+    let told = backlog::start_and_speak::<N, R>(rt)?;
+    ensure(text, "a program is told how much waits", told)?;
     Ok(())
 }
 

@@ -50,6 +50,9 @@ fn nodes_greet_each_other_whatever_allocation_is_refused(rt: HostRuntime) -> Res
     let swept = sweep::<WireNode<&RefusingAllocator>, HostRuntime, &RefusingAllocator>(
         &rt, &heap, &heap,
     )?;
-    assert!(rt; swept.is_some_and(|count| count > 20), "allocations: {swept:?}");
+    assert!(rt;
+        swept.is_some_and(|count| count > 20),
+        "allocations: {swept:?}"
+    );
     Ok(())
 }
