@@ -234,6 +234,11 @@ class Case:
         """The line that the program is to print."""
         return "; ".join([self.decoded(), self.cut(), self.pumped()])
 
+    def complaint(self, line):
+        """Why a line is the wrong answer, if it is."""
+        wanted = self.wanted()
+        return None if line == wanted else f"another answer than by docs/frames.md\nwanted: {wanted}\nfound:  {line}"
+
     def labels(self):
         """What is counted of it: what `decode` answers, and how `pump` ends."""
         decoded, end = self.decoded(), self.pumped().split(", ")[-1]

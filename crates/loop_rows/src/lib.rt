@@ -1,0 +1,5 @@
+//! Tests of event loops and their ports: what nodes deliver, and what strangers and peers that answer nothing do to them.
+#![tactic(auto)]
+
+#[cfg(test)]
+mod tests;
