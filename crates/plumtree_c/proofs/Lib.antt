@@ -2,3 +2,4 @@ pub mod Lasts
 pub mod Names
 pub mod Runs
 pub mod Values
+pub mod Waits

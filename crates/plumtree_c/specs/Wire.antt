@@ -104,11 +104,15 @@ pub record Delivers (id : MsgId) (payload : List ℕ) (old new : WireState) : Ty
   pub lost : lost_in new ≡ lost_in old
   pub beside : IsSameBeside old.node new.node
 
+-- The first of these names was taken.
+pub record Tells (old : List Name) (name : Name) (new : List Name) : Type 0 where
+  pub its_name : Name
+  pub first : old ≡ its_name ∷ new
+  pub same : its_name ≡ name
+
 -- The first lost name that waited was taken. Nothing else has changed.
 pub record Loses (name : Name) (old new : WireState) : Type 0 where
-  pub its_name : Name
-  pub first : lost_in old ≡ its_name ∷ lost_in new
-  pub same : its_name ≡ name
+  pub tells : Tells (lost_in old) name (lost_in new)
   pub deliveries : deliveries_in new ≡ deliveries_in old
   pub beside : IsSameBeside old.node new.node
 

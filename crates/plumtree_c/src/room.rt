@@ -3,6 +3,7 @@ ghost use Rattle.std.specs.Prelude.{◌≡◌, ◌+◌, ◌≤◌, IfNone, IfOk,
 ghost use Rattle.node_names.specs.Slots.{somes};
 ghost use Rattle.plumtree_c.specs.Plain.{id_of, name_of};
 ghost use Rattle.plumtree_c.specs.State.{Gives};
+ghost use Rattle.plumtree_c.specs.Wire.{Tells};
 
 use crate::plain::{Id, Name};
 use crate::refusal::Refusal;
@@ -82,6 +83,21 @@ pub(crate) fn give(
     }
     *given = forget(deliveries, *given + 1);
     Ok(Some(id))
+}
+
+/// Takes the first name that was not told yet. `told` of them were.
+pub(crate) fn tell(names: &mut Listed<NodeName>, told: &mut usize) -> Option<Name>
+    requires { told.old + told.old ≤ length names.old }
+    ensures some { IfSome result (λ name. Tells (drop told.old names.old) (name_of name) (drop told.new names.new)) }
+    ensures none { IfNone result ((names.new ≡ names.old) × (told.new ≡ told.old)) }
+    ensures few { told.new + told.new ≤ length names.new }
+{
+    let Some(first) = names.as_slice().get(*told) else {
+        return None;
+    };
+    let name = Name::of(first);
+    *told = forget(names, *told + 1);
+    Some(name)
 }
 
 /// Puts the names of as many members of this kind at the front of the room as it has places for. Returns the number of

@@ -8,7 +8,7 @@ ghost use Rattle.wire_node.specs.Waiting.{receivers_of};
 use crate::piece::Piece;
 use crate::plain::{Id, Name, WireCounts};
 use crate::refusal::Refusal;
-use crate::room::{forget, give, number_of};
+use crate::room::{give, number_of, tell};
 use crate::stirred::Stirred;
 use bytes::Bytes;
 use node_core::PlumCore;
@@ -54,6 +54,36 @@ impl Model for Wire {
 
     // At most half of each list went to the caller.
     ghost invariant = { λ w. (w.given + w.given ≤ length w.deliveries) × (w.told + w.told ≤ length w.lost) };
+}
+
+/// Ends the connection, unless the step of that is refused. Returns whether it has ended.
+fn close(node: &mut WireNode, number: u64, dice: &Dice) -> bool
+    ensures { (node.new ≡ node.old) ⊎ Closes node.old number dice.now node.new }
+{
+    node.ended(ConnectionId(number), dice).is_ok()
+}
+
+/// Takes all the bytes that came over the connection. Where that is refused, the connection ends.
+fn receive_all(
+    node: &mut WireNode,
+    number: u64,
+    bytes: &[u8],
+    dice: &Dice,
+) -> Result<(), WireError>
+    ensures ok { OnOk result (HearsAll number bytes.now node.old node.new) }
+    ensures err { OnErr result (HearsSome number bytes.now dice.now node.old node.new ⊎ (node.new ≡ node.old)) }
+{
+    let mut source = Stirred::new(dice);
+    match node.receive(ConnectionId(number), bytes, &mut source) {
+        Ok(()) => Ok(()),
+        Err(failed) => match failed.error {
+            WireError::NoConnection => Err(WireError::NoConnection),
+            error => {
+                close(node, number, dice);
+                Err(error)
+            }
+        },
+    }
 }
 
 impl Wire {
@@ -105,16 +135,9 @@ impl Wire {
         ensures ok { OnOk result (Does (HearsAll number bytes.now) self.old self.new) }
         ensures err { OnErr result (Does (HearsSome number bytes.now dice.now) self.old self.new ⊎ (self.new ≡ self.old)) }
     {
-        let id = ConnectionId(number);
-        let mut source = Stirred::new(dice);
-        match self.node.receive(id, bytes, &mut source) {
+        match receive_all(&mut self.node, number, bytes, dice) {
             Ok(()) => Ok(()),
-            Err(failed) => {
-                if failed.error != WireError::NoConnection {
-                    let _is_over = self.node.ended(id, dice);
-                }
-                Err(failed.error.into())
-            }
+            Err(error) => Err(error.into()),
         }
     }
 
@@ -171,10 +194,24 @@ impl Wire {
     fn refill_deliveries(&mut self)
         ensures { Stays self.old self.new }
     {
-        if self.deliveries.is_empty() {
-            self.deliveries = Listed::from_vec(self.node.take_deliveries());
-            self.given = 0;
+        if !self.deliveries.is_empty() {
+            return;
         }
+        self.deliveries = Listed::from_vec(self.node.take_deliveries());
+        self.given = 0;
+    }
+
+    /// Takes the first delivery that waits and was taken from the node, as `next_delivery` does.
+    fn give_first(
+        &mut self,
+        room: &mut [u8],
+        length: &mut usize,
+    ) -> Result<Option<Id>, Refusal>
+        ensures some { IfOk result (λ id. IfSome id (λ id. Delivers (id_of id) (take length.new room.new) self.old self.new)) }
+        ensures none { IfOk result (λ id. IfNone id (self.new ≡ self.old)) }
+        ensures err { OnErr result (self.new ≡ self.old) }
+    {
+        give(&mut self.deliveries, &mut self.given, room, length)
     }
 
     /// Takes the first delivery that waits: returns the message's id, and puts its payload at the front of the room.
@@ -189,17 +226,26 @@ impl Wire {
         ensures err { OnErr result (Stays self.old self.new) }
     {
         self.refill_deliveries();
-        give(&mut self.deliveries, &mut self.given, room, length)
+        self.give_first(room, length)
     }
 
     /// Takes the lost names of the node, if the caller has got all that were taken before.
     fn refill_lost(&mut self)
         ensures { Stays self.old self.new }
     {
-        if self.lost.is_empty() {
-            self.lost = Listed::from_vec(self.node.take_lost());
-            self.told = 0;
+        if !self.lost.is_empty() {
+            return;
         }
+        self.lost = Listed::from_vec(self.node.take_lost());
+        self.told = 0;
+    }
+
+    /// Takes the first lost name that waits and was taken from the node.
+    fn tell_first(&mut self) -> Option<Name>
+        ensures some { IfSome result (λ name. Loses (name_of name) self.old self.new) }
+        ensures none { IfNone result (self.new ≡ self.old) }
+    {
+        tell(&mut self.lost, &mut self.told)
     }
 
     /// Takes the first lost name that waits.
@@ -208,9 +254,7 @@ impl Wire {
         ensures none { IfNone result (Stays self.old self.new) }
     {
         self.refill_lost();
-        let name = Name::of(self.lost.as_slice().get(self.told)?);
-        self.told = forget(&mut self.lost, self.told + 1);
-        Some(name)
+        self.tell_first()
     }
 
     /// How much the node has.

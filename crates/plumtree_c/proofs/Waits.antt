@@ -1,0 +1,83 @@
+-- What waits for the caller of a node of bytes, when some of it is taken.
+use Rattle.std.proofs.Common.{◌≡◌, ◌∙◌, ◌++◌, ℕ, suc, List, [], ◌∷◌, ap, drop, refl, subst, sym}
+use Rattle.std.proofs.lemmas.List.{append-nil}
+use Rattle.std.specs.Prelude.{IfNone, None, Option, Some}
+use Rattle.node_names.specs.NodeName.{Name}
+use Rattle.node_names.specs.declared.ids.MsgId.{MsgId}
+use Rattle.world.specs.Delivery.{Delivery}
+use Rattle.wire_node.specs.Node.{NodeState}
+use Rattle.plumtree_c.specs.State.{Gives}
+use Rattle.plumtree_c.specs.Wire.{Delivers, IsSameBeside, Loses, Stays, Tells, WireState, deliveries_in, lost_in}
+
+-- Nothing of an empty list waits.
+pub none_left : {A : Type 0} (n : ℕ) (xs : List A) → xs ≡ [] → drop n xs ≡ []
+none_left 0 xs none = none
+none_left (suc n) [] none = refl
+none_left (suc n) (x ∷ xs) none = cc
+
+pub stays : (wire : WireState) → Stays wire wire
+stays wire = record { deliveries = refl; lost = refl; beside = refl }
+
+-- The deliveries of the node were taken, when the caller had got all that were taken before.
+pub stays_refilled : (old : WireState) (node : NodeState) (taken : List Delivery)
+    → old.deliveries ≡ [] → taken ≡ old.node.engine.machine.pending
+    → node ≡ record old.node { engine = record old.node.engine { machine = record old.node.engine.machine { pending = [] } } }
+    → Stays old (record { node = node; deliveries = taken; lost = old.lost })
+stays_refilled old node taken none its is = record {
+  deliveries = ap (λ (n : NodeState). taken ++ n.engine.machine.pending) is ∙ append-nil taken ∙ its ∙ sym (ap (λ (ds : List Delivery). ds ++ old.node.engine.machine.pending) none);
+  lost = ap (λ (n : NodeState). old.lost ++ n.engine.lost) is;
+  beside = subst (λ (n : NodeState). IsSameBeside old.node n) (sym is) refl;
+}
+
+-- The lost names of the node were taken, when the caller had got all that were taken before.
+pub stays_retold : (old : WireState) (node : NodeState) (taken : List Name)
+    → old.lost ≡ [] → taken ≡ old.node.engine.lost
+    → node ≡ record old.node { engine = record old.node.engine { lost = [] } }
+    → Stays old (record { node = node; deliveries = old.deliveries; lost = taken })
+stays_retold old node taken none its is = record {
+  deliveries = ap (λ (n : NodeState). old.deliveries ++ n.engine.machine.pending) is;
+  lost = ap (λ (n : NodeState). taken ++ n.engine.lost) is ∙ append-nil taken ∙ its ∙ sym (ap (λ (names : List Name). names ++ old.node.engine.lost) none);
+  beside = subst (λ (n : NodeState). IsSameBeside old.node n) (sym is) refl;
+}
+
+-- More waits behind those of which the first was taken.
+pub gives_on : (old : List Delivery) (id : MsgId) (payload : List ℕ) (new more : List Delivery) → Gives old id payload new → Gives (old ++ more) id payload (new ++ more)
+gives_on old id payload new more gives = record {
+  delivery = gives.delivery;
+  first = ap (λ (ds : List Delivery). ds ++ more) gives.first;
+  its_id = gives.its_id;
+  its_payload = gives.its_payload;
+}
+
+pub tells_on : (old : List Name) (name : Name) (new more : List Name) → Tells old name new → Tells (old ++ more) name (new ++ more)
+tells_on old name new more tells = record {
+  its_name = tells.its_name;
+  first = ap (λ (names : List Name). names ++ more) tells.first;
+  same = tells.same;
+}
+
+beside_on : (a b c : NodeState) → IsSameBeside a b → IsSameBeside b c → IsSameBeside a c
+beside_on a b c one two = two ∙ ap (λ (n : NodeState). record n { engine = record { machine = record n.engine.machine { pending = c.engine.machine.pending }; lost = c.engine.lost } }) one
+
+-- What is taken after nothing has changed that the caller can see is the first that waited before.
+pub delivers_on : (a b c : WireState) (id : MsgId) (payload : List ℕ) → Stays a b → Delivers id payload b c → Delivers id payload a c
+delivers_on a b c id payload stays delivers = record {
+  gives = subst (λ (ds : List Delivery). Gives ds id payload (deliveries_in c)) stays.deliveries delivers.gives;
+  lost = delivers.lost ∙ stays.lost;
+  beside = beside_on a.node b.node c.node stays.beside delivers.beside;
+}
+
+pub loses_on : (a b c : WireState) (name : Name) → Stays a b → Loses name b c → Loses name a c
+loses_on a b c name stays loses = record {
+  tells = subst (λ (names : List Name). Tells names name (lost_in c)) stays.lost loses.tells;
+  deliveries = loses.deliveries ∙ stays.deliveries;
+  beside = beside_on a.node b.node c.node stays.beside loses.beside;
+}
+
+pub stays_on : (a b c : WireState) → Stays a b → c ≡ b → Stays a c
+stays_on a b c stays same = subst (Stays a) (sym same) stays
+
+-- What follows where there is none.
+pub none_on : {A P Q : Type 0} (found : Option A) → (P → Q) → IfNone found P → IfNone found Q
+none_on None goes none = goes none
+none_on (Some x) goes none = tt
