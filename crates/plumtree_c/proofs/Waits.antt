@@ -1,5 +1,5 @@
 -- What waits for the caller of a node of bytes, when some of it is taken.
-use Rattle.std.proofs.Common.{◌≡◌, ◌∙◌, ◌++◌, ℕ, suc, List, [], ◌∷◌, ap, drop, refl, subst, sym}
+use Rattle.std.proofs.Common.{◌≡◌, ◌∙◌, ◌++◌, ℕ, zero, suc, List, [], ◌∷◌, ap, drop, refl, subst, sym}
 use Rattle.std.proofs.lemmas.List.{append-nil}
 use Rattle.std.specs.Prelude.{IfNone, None, Option, Some}
 use Rattle.node_names.specs.NodeName.{Name}
@@ -11,7 +11,7 @@ use Rattle.plumtree_c.specs.Wire.{Delivers, IsSameBeside, Loses, Stays, Tells, W
 
 -- Nothing of an empty list waits.
 pub none_left : {A : Type 0} (n : ℕ) (xs : List A) → xs ≡ [] → drop n xs ≡ []
-none_left 0 xs none = none
+none_left zero xs none = none
 none_left (suc n) [] none = refl
 none_left (suc n) (x ∷ xs) none = cc
 

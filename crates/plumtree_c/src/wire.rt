@@ -69,7 +69,7 @@ fn receive_all(
     number: u64,
     bytes: &[u8],
     dice: &Dice,
-) -> Result<(), WireError>
+) -> Result<(), Refusal>
     ensures ok { OnOk result (HearsAll number bytes.now node.old node.new) }
     ensures err { OnErr result (HearsSome number bytes.now dice.now node.old node.new ⊎ (node.new ≡ node.old)) }
 {
@@ -77,10 +77,10 @@ fn receive_all(
     match node.receive(ConnectionId(number), bytes, &mut source) {
         Ok(()) => Ok(()),
         Err(failed) => match failed.error {
-            WireError::NoConnection => Err(WireError::NoConnection),
+            WireError::NoConnection => Err(Refusal::NoConnection),
             error => {
                 close(node, number, dice);
-                Err(error)
+                Err(error.into())
             }
         },
     }
@@ -135,10 +135,7 @@ impl Wire {
         ensures ok { OnOk result (Does (HearsAll number bytes.now) self.old self.new) }
         ensures err { OnErr result (Does (HearsSome number bytes.now dice.now) self.old self.new ⊎ (self.new ≡ self.old)) }
     {
-        match receive_all(&mut self.node, number, bytes, dice) {
-            Ok(()) => Ok(()),
-            Err(error) => Err(error.into()),
-        }
+        receive_all(&mut self.node, number, bytes, dice)
     }
 
     /// Ends a connection.

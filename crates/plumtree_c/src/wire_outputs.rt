@@ -125,11 +125,13 @@ pub extern "C" fn plumtree_wire_next_delivery(
         Ok(found) => found,
         Err(refusal) => return refusal.code(),
     };
-    let Some(its) = found else {
-        return NONE;
-    };
-    *id = its;
-    DONE
+    match found {
+        Some(its) => {
+            *id = its;
+            DONE
+        }
+        None => NONE,
+    }
 }
 
 /// Takes the first lost name that waits: bytes for it were dropped, so a connection to it has to be closed before
@@ -145,11 +147,13 @@ pub extern "C" fn plumtree_wire_next_lost(slot: &mut Slot, alloc: Global, name: 
     };
     let found = wire.next_lost();
     slot.put(wire);
-    let Some(its) = found else {
-        return NONE;
-    };
-    *name = its;
-    DONE
+    match found {
+        Some(its) => {
+            *name = its;
+            DONE
+        }
+        None => NONE,
+    }
 }
 
 /// Counts what the node has.

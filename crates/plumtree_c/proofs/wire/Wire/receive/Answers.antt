@@ -1,6 +1,6 @@
-use Rattle.std.proofs.Common.{◌≡◌, ◌⊎◌, ap, drop, inl, inr, refl, subst}
+use Rattle.std.proofs.Common.{◌≡◌, ◌⊎◌, List, ℕ, ap, drop, inl, inr, refl, subst}
+use Rattle.std.proofs.lemmas.Result.{on_err_weaker, on_ok_weaker}
 use Rattle.node_names.specs.NodeName.{Name}
-use Rattle.std.proofs.Common.{List, ℕ}
 use Rattle.world.specs.Delivery.{Delivery}
 use Rattle.node_names.specs.declared.dice.Dice.{Dice}
 use Rattle.wire_node.specs.Node.{NodeState}
@@ -19,16 +19,16 @@ refused old new deliveries lost number bytes dice over = elim over [
   | inr same ↦ inr (ap (λ (node : NodeState). holding node deliveries lost) same)
   ]
 
-pub returns-in-Ok-clause-ok : goal.returns-in-Ok-clause-ok
-returns-in-Ok-clause-ok c =
+pub returns-clause-ok : goal.returns-clause-ok
+returns-clause-ok c =
     let held = c.self.inside in
     let after : WireState = holding c.receive_all.new.node (drop held.given held.deliveries) (drop held.told held.lost) in
-    subst (λ (old : WireState). Does (HearsAll c.args.number c.args.bytes.now) old after) c.self.view_is
-    (record { done = c.in-Ok.ensures.ok; deliveries = refl; lost = refl })
+    on_ok_weaker c.receive_all.result (λ hears. subst (λ (old : WireState). Does (HearsAll c.args.number c.args.bytes.now) old after) c.self.view_is
+    (record { done = hears; deliveries = refl; lost = refl })) c.receive_all.ensures.ok
 
-pub returns-in-Err-clause-err : goal.returns-in-Err-clause-err
-returns-in-Err-clause-err c =
+pub returns-clause-err : goal.returns-clause-err
+returns-clause-err c =
     let held = c.self.inside in
     let after : WireState = holding c.receive_all.new.node (drop held.given held.deliveries) (drop held.told held.lost) in
-    subst (λ (old : WireState). Does (HearsSome c.args.number c.args.bytes.now c.args.dice.now) old after ⊎ (after ≡ old)) c.self.view_is
-    (refused held.node c.receive_all.new.node (drop held.given held.deliveries) (drop held.told held.lost) c.args.number c.args.bytes.now c.args.dice.now c.in-Err.ensures.err)
+    on_err_weaker c.receive_all.result (λ over. subst (λ (old : WireState). Does (HearsSome c.args.number c.args.bytes.now c.args.dice.now) old after ⊎ (after ≡ old)) c.self.view_is
+    (refused held.node c.receive_all.new.node (drop held.given held.deliveries) (drop held.told held.lost) c.args.number c.args.bytes.now c.args.dice.now over)) c.receive_all.ensures.err

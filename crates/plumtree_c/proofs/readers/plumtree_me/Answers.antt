@@ -1,0 +1,9 @@
+use Rattle.std.proofs.Common.{arith, rules}
+use Rattle.std.proofs.lemmas.Grind.{common_steps}
+use Rattle.plumtree_c.proofs.readers.plumtree_me.Goals as goal
+
+pub returns-then-has_bytes-clause-done : goal.returns-then-has_bytes-clause-done
+returns-then-has_bytes-clause-done c done = c.me_of.ensures.done (first_of (search rules, grind (arith, common_steps)))
+
+pub returns-clause-done : goal.returns-clause-done
+returns-clause-done c done = c.me_of-2.ensures.done (first_of (search rules, grind (arith, common_steps)))
