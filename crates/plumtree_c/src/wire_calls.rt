@@ -73,7 +73,7 @@ pub extern "C" fn plumtree_wire_unreachable(
 /// If a step is refused, those before it are made, and the tick does not count: call again.
 #[unsafe(no_mangle)]
 pub extern "C" fn plumtree_wire_tick(slot: &mut Slot, alloc: Global, dice: &[u64; 16]) -> i32
-    ensures done { IsDone result → BothBytes slot.old.held.value slot.new.held.value (Does (λ old new. Ticks old (dice_of dice.now) new)) }
+    ensures { IsDone result → BothBytes slot.old.held.value slot.new.held.value (Does (λ old new. Ticks old (dice_of dice.now) new)) }
 {
     let mut wire = match slot.take::<Wire>(alloc) {
         Ok(wire) => wire,
