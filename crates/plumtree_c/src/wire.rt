@@ -64,12 +64,7 @@ fn close(node: &mut WireNode, number: u64, dice: &Dice) -> bool
 }
 
 /// Takes all the bytes that came over the connection. Where that is refused, the connection ends.
-fn receive_all(
-    node: &mut WireNode,
-    number: u64,
-    bytes: &[u8],
-    dice: &Dice,
-) -> Result<(), Refusal>
+fn receive_all(node: &mut WireNode, number: u64, bytes: &[u8], dice: &Dice) -> Result<(), Refusal>
     ensures ok { OnOk result (HearsAll number bytes.now node.old node.new) }
     ensures err { OnErr result (HearsSome number bytes.now dice.now node.old node.new ⊎ (node.new ≡ node.old)) }
 {
@@ -199,11 +194,7 @@ impl Wire {
     }
 
     /// Takes the first delivery that waits and was taken from the node, as `next_delivery` does.
-    fn give_first(
-        &mut self,
-        room: &mut [u8],
-        length: &mut usize,
-    ) -> Result<Option<Id>, Refusal>
+    fn give_first(&mut self, room: &mut [u8], length: &mut usize) -> Result<Option<Id>, Refusal>
         ensures some { IfOk result (λ id. IfSome id (λ id. Delivers (id_of id) (take length.new room.new) self.old self.new)) }
         ensures none { IfOk result (λ id. IfNone id (self.new ≡ self.old)) }
         ensures err { OnErr result (self.new ≡ self.old) }

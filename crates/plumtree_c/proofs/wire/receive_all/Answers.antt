@@ -9,10 +9,10 @@ pub returns-in-NoConnection-clause-err : goal.returns-in-NoConnection-clause-err
 returns-in-NoConnection-clause-err c = elim c.in-Err.ensures.err [
   | inl hears ↦ inl (record { taken = c.in-Err.failed.taken; heard = c.receive.new.self; hears = hears; ends = inl refl })
   | inr same ↦ inr same.0
-  ]
+]
 
 pub returns-in_default-clause-err : goal.returns-in_default-clause-err
 returns-in_default-clause-err c = elim c.in-Err.ensures.err [
   | inl hears ↦ inl (record { taken = c.in-Err.failed.taken; heard = c.receive.new.self; hears = hears; ends = c.close.ensures })
   | inr same ↦ absurd (c.in_default.not-NoConnection (ap (λ (failed : ReceiveError). failed.error) same.1))
-  ]
+]

@@ -17,7 +17,7 @@ refused : (old new : NodeState) (deliveries : List Delivery) (lost : List Name) 
 refused old new deliveries lost number bytes dice over = elim over [
   | inl some ↦ inl (record { done = some; deliveries = refl; lost = refl })
   | inr same ↦ inr (ap (λ (node : NodeState). holding node deliveries lost) same)
-  ]
+]
 
 pub returns-clause-ok : goal.returns-clause-ok
 returns-clause-ok c =
