@@ -1,23 +1,20 @@
 -- `at_of` returns the pointer of the slice.
-use Rattle.std.proofs.Common.{[], ◌∷◌, ℕ, List, length, refl}
+use Rattle.std.proofs.Common.{[], ◌∷◌, List, refl}
 use Rattle.std.proofs.raw_atomic.Walks.{proved}
 use base.Fml.{ftrue, flft}
 use mir.Syntax.{named}
 use mir.Val.{Val, vptr}
-use contract.Running.{tables}
-use types.Kit.{‵, raw, ◌⊛◌, ◌$◌, ◌∵◌, !, qed, done, move, keep, drop, split, join, fjoin, feq_i, suffices}
-use types.Run.{enter, of_opd, addr, stop, fld, from, hop, returns}
+use types.Kit.{‵, ◌⊛◌, ◌$◌, ◌∵◌, !, qed, done, keep, split, feq_i, suffices}
+use types.Run.{enter, addr, stop, fld, from, hop, returns}
 use types.Part.{whole, sub}
-use types.ByLocal.{alloc_all, pass_all, free_all, look_at, look_in_at, get, through, sets}
+use types.ByLocal.{alloc_all, pass_all, free_all, look_at, look_in_at, sets}
 use denote.Builtin.{u8}
 use denote.RattleType.{owns}
 use denote.Exit.{yes}
-use denote.RawPtr.{RawPtr, block_ptr}
+use denote.RawPtr.{block_ptr}
 use denote.Signature.{plain}
 use denote.Slice.{ShrSlice, slice_val, shr_slice_vals, shr_slice_Tells}
-use denote.Steps.{nothing}
-use denote.Triple.Entry.{on_entry, alive}
-use denote.Triple.Walked.{Stays, walk_of, says, stay_none_slice, Goes-none_slice, ends_at}
+use denote.Triple.Walked.{Stays, says, stay_none_slice, Goes-none_slice, ends_at}
 use Rattle.plumtree_c.specs.contracts.piece.at_of as f
 use Rattle.plumtree_c.proofs.piece.at_of.Statement.{statement}
 use Rattle.plumtree_c.proofs.piece.at_of.Code as code
