@@ -1,7 +1,7 @@
 //! What the nodes broadcast, and what they deliver.
 use crate::bits::{Bits, bit};
 use crate::group::NODES;
-use crate::views::Views;
+use crate::view_watch::Views;
 use bytes::Bytes;
 use node_names::NodeName;
 use std::alloc::{AllocError, Global};

@@ -15,7 +15,7 @@ mod soak_node;
 mod strangers;
 mod telling;
 mod trouble;
-mod views;
+mod view_watch;
 
 use crate::group::{Book, add_all, names_of};
 use crate::plan::{PATIENCE, Plan, TICK, TICKS_OF_A_SECOND};
