@@ -135,8 +135,8 @@ fn call_all<N: SteppingNode>(
 }
 
 /// Starts a node and makes calls, which are separated by blanks: `accept`, `give:1:DIGITS`, `end:1`, `say:LENGTH`,
-/// `lose:NAME`, `tick`, `send:MOST`, `hear` and `lost`. Before them stands how many bytes may wait for a name. Appends what
-/// each call answers and the steps that it makes.
+/// `lose:NAME`, `tick`, `send:MOST`, `hear` and `lost`. Before them stands how many bytes may wait for a name. Appends
+/// what each call answers and the steps that it makes.
 pub(crate) fn push_called<N: SteppingNode>(
     alloc: Global,
     text: &mut String,

@@ -1,6 +1,6 @@
 //! Answers cases of `bench/fuzz`: each line of standard input is a stream of bytes and how it arrives, or, behind the
-//! word `node`, calls of a node of bytes. The line that is printed for it says what `decode`, a cutter and `pump` return
-//! for the stream, or what the calls answer and which steps they make.
+//! word `node`, calls of a node of bytes. The line that is printed for it says what `decode`, a cutter and `pump`
+//! return for the stream, or what the calls answer and which steps they make.
 #![tactic(auto)]
 
 mod answers;

@@ -6,8 +6,8 @@ use std::alloc::{AllocError, Global};
 use wire_node::{ConnectionId, ReceiveError, Recorded, WireError, WireLimits, WireNode};
 use world::{Delivery, Segment};
 
-/// A node of bytes that notes its steps. Each call does what the one of the same name of a `WireNode` does, with dice of
-/// zeros.
+/// A node of bytes that notes its steps. Each call does what the one of the same name of a `WireNode` does, with dice
+/// of zeros.
 ///
 /// All else is generic in it: a function that owns a node takes the prover a minute if its type is named.
 pub(crate) trait SteppingNode: Drop {

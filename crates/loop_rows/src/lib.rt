@@ -1,4 +1,4 @@
-//! Tests of event loops and their ports: what nodes deliver, and what strangers and peers that answer nothing do to them.
+//! Tests of event loops and their ports: what nodes deliver, and what strangers and peers that do not answer do.
 #![tactic(auto)]
 
 #[cfg(test)]

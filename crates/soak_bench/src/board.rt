@@ -1,7 +1,7 @@
 //! What the nodes broadcast, and what they deliver.
 use crate::bits::{Bits, bit};
 use crate::group::NODES;
-use crate::views::Views;
+use crate::view_watch::Views;
 use bytes::Bytes;
 use node_names::NodeName;
 use std::alloc::{AllocError, Global};
@@ -140,7 +140,12 @@ impl Board {
 
     /// Notes that what is broadcast from now on is broadcast undisturbed.
     pub(crate) fn begin(&mut self) {
-        self.before.copy_from_slice(self.said.as_slice());
+        for origin in 0..NODES {
+            let said = self.said(origin);
+            if let Some(before) = self.before.get_mut(origin) {
+                *before = said;
+            }
+        }
     }
 
     /// How many messages of the node at place `origin` that were broadcast undisturbed the one at place `node` lacks.

@@ -1,7 +1,7 @@
-//! Sixteen nodes in one event loop, which are disturbed and then left in peace: connections are cut, nodes are held, and
-//! strangers and a peer that takes nothing join in. Without an argument it runs for a second and prints what is the same
-//! in each run. With a number of seconds, and a seed, it runs for as long, and prints each second what the process uses.
-//! `bench/soak` calls it.
+//! Sixteen nodes in one event loop, which are disturbed and then left in peace: connections are cut, nodes are held,
+//! and strangers and a peer that takes nothing join in. Without an argument it disturbs them for a second and prints
+//! what is the same in each run. With a number of seconds, and a seed, it does so for as long, and prints each second
+//! what the process uses. `bench/soak` calls it.
 #![tactic(auto)]
 
 mod bits;
@@ -15,7 +15,7 @@ mod soak_node;
 mod strangers;
 mod telling;
 mod trouble;
-mod views;
+mod view_watch;
 
 use crate::group::{Book, add_all, names_of};
 use crate::plan::{PATIENCE, Plan, TICK, TICKS_OF_A_SECOND};

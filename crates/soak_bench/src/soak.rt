@@ -7,7 +7,7 @@ use crate::soak_node::SoakNode;
 use crate::strangers::{DEAF, Strangers};
 use crate::telling::{tell_end, tell_second};
 use crate::trouble::Trouble;
-use crate::views::Views;
+use crate::view_watch::Views;
 use anyhow::Result;
 use event_loop::{EventLoop, Next, Program, Situation};
 use node_names::NodeName;

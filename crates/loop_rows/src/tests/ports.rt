@@ -151,8 +151,8 @@ where
     start_with::<N, R>(rt, &[speaker, hearer])
 }
 
-/// Fills the ring of a port. Returns whether it takes as many messages as it has room for, and then says that it is full,
-/// or, of a message that is too long, that.
+/// Fills the ring of a port. Returns whether it takes as many messages as it has room for, and then says that it is
+/// full, or, of a message that is too long, that.
 fn fill(alloc: Global, port: &mut Port) -> Result<bool> {
     let is_long = hand_in_one(alloc, port, MAX_PAYLOAD + 1)? == Some(PortFault::TooLong);
     let count = hand_in(alloc, port, MESSAGES)?;

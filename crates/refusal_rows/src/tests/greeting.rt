@@ -45,8 +45,8 @@ where
     Ok(heard)
 }
 
-/// Adds both nodes, and has them greet each other while allocation number `n` is refused. Returns how many messages they
-/// delivered.
+/// Adds both nodes, and has them greet each other while allocation number `n` is refused. Returns how many messages
+/// they delivered.
 fn greet_each_other<N, R, A>(
     rt: &R,
     heap: &RefusingAllocator,
