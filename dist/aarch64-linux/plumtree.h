@@ -1,12 +1,27 @@
-/* A node of Plumtree over HyParView, as a state machine: bytes of streams go in, frames and deliveries come out.
+/* A node of Plumtree over HyParView, of two kinds.
  *
- * A program brings its own connections, clock and random numbers:
+ * A node of bytes (plumtree_wire_start) keeps what is no whole frame yet, and what is to go out, by the name that it
+ * goes to. A program brings its own connections, clock and random numbers:
+ *
+ *   - it says when it accepts a connection (plumtree_wire_accept), what comes over it (plumtree_wire_receive), and when
+ *     it is over (plumtree_wire_ended);
+ *   - it connects to each name for which bytes wait (plumtree_wire_receivers), writes of them what the connection takes
+ *     (plumtree_wire_transmit), and says how many it took (plumtree_wire_transmitted), or that the name cannot be
+ *     reached (plumtree_wire_unreachable); it closes the connections to names that were lost (plumtree_wire_next_lost);
+ *   - it takes the deliveries that wait (plumtree_wire_next_delivery): these are the messages of the group;
+ *   - it calls plumtree_wire_tick now and then, a few times a second.
+ *
+ * A state machine (plumtree_start) leaves frames and what waits to the program too:
  *
  *   - whatever bytes a connection brings it hands to plumtree_receive, one frame at a time;
  *   - after each call that changes a node it takes the frames that wait (plumtree_next_send), and writes each to its
  *     connection to the receiver, whole and in order;
  *   - it takes the deliveries that wait (plumtree_next_delivery): these are the messages of the group;
  *   - it calls plumtree_tick now and then, a few times a second, and plumtree_link_down when a connection fails.
+ *
+ * A connection carries bytes from who made it to who accepted it, and none back. A node of either kind has one slot, a
+ * plumtree_node. Calls whose names begin with plumtree_wire_ are for nodes of bytes; plumtree_free and what reads a
+ * node ("What a node has") serve both kinds, but for plumtree_counts_of; all others are for state machines.
  *
  * Nothing here waits, reads a clock, opens a file or starts a thread. A refused allocation is an answer
  * (PLUMTREE_OUT_OF_MEMORY), and never ends the process.
@@ -35,7 +50,7 @@ extern "C" {
 #endif
 
 /* The version of this interface. plumtree_version answers that of the library: compare the two once. */
-#define PLUMTREE_VERSION 1
+#define PLUMTREE_VERSION 2
 
 /* The longest name, in bytes. */
 #define PLUMTREE_NAME_MAX 32
@@ -54,10 +69,16 @@ extern "C" {
 /* The random words of a call. */
 #define PLUMTREE_DICE 16
 
+/* The pieces in which bytes that wait are lent. */
+#define PLUMTREE_PIECES 4
+
+/* How many bytes may wait for a name, unless there is a reason for another limit: 8 MiB. */
+#define PLUMTREE_WAITING 8388608
+
 typedef enum plumtree_answer {
     PLUMTREE_DONE = 1,
     PLUMTREE_NONE = 0,
-    PLUMTREE_NOT_LIVE = -1,         /* the slot has no node: it was not started, or was freed */
+    PLUMTREE_NOT_LIVE = -1,         /* the slot has no node of this kind: it was not started, or was freed */
     PLUMTREE_LIVE = -2,             /* the slot has a node already */
     PLUMTREE_NOT_ZEROED = -3,       /* the slot was not zeroed before its first use */
     PLUMTREE_COPIED = -4,           /* the slot is a copy of one that was used since */
@@ -68,14 +89,16 @@ typedef enum plumtree_answer {
     PLUMTREE_BAD_NAME = -9,         /* a name is not 1 to 32 bytes of a to z, 0 to 9 and - */
     PLUMTREE_BAD_LIMITS = -10,      /* a limit is out of range, or two do not fit together */
     PLUMTREE_BAD_PEERS = -11,       /* more peers than the active view has places, a peer twice, or the node itself */
-    /* The bytes are no frame. The connection that brought them is of no more use: close it, and say link_down. */
+    /* The bytes are no frame. The connection that brought them is of no more use: close it, and tell a state machine
+     * by plumtree_link_down. */
     PLUMTREE_FRAME_TOO_LONG = -12,
     PLUMTREE_BAD_VERSION = -13,
     PLUMTREE_BAD_KIND = -14,
     PLUMTREE_BAD_FRAME_NAME = -15,
     PLUMTREE_BAD_FIELD = -16,
     PLUMTREE_BAD_COUNT = -17,
-    PLUMTREE_TRAILING = -18
+    PLUMTREE_TRAILING = -18,
+    PLUMTREE_NO_CONNECTION = -19    /* a node of bytes has no such connection */
 } plumtree_answer;
 
 /* Room for a node. The caller owns it, sets all of it to zero before its first use ("plumtree_node node = {0};"), and
@@ -124,12 +147,29 @@ typedef struct plumtree_counts {
     uint64_t deliveries; /* deliveries that wait for plumtree_next_delivery */
 } plumtree_counts;
 
+/* How much a node of bytes has. */
+typedef struct plumtree_wire_counts {
+    uint64_t held;    /* messages whose payloads it holds */
+    uint64_t missing; /* messages that it lacks and may ask for: armed timers */
+    uint64_t wants;   /* announcements of these that came */
+    uint64_t queued;  /* announcements that wait for a tick */
+    uint64_t ticks;   /* ticks that were made */
+} plumtree_wire_counts;
+
+/* Bytes that a node lends: `length` of them, from `at` on. A struct iovec of POSIX has the same layout. */
+typedef struct plumtree_piece {
+    const uint8_t *at;
+    size_t length;
+} plumtree_piece;
+
 PLUMTREE_ASSERT(sizeof(plumtree_node) == 24 && offsetof(plumtree_node, turn) == 8 && offsetof(plumtree_node, at) == 16);
 PLUMTREE_ASSERT(sizeof(plumtree_name) == 34 && offsetof(plumtree_name, length) == 33);
 PLUMTREE_ASSERT(sizeof(plumtree_id) == 56 && offsetof(plumtree_id, incarnation) == 40 && offsetof(plumtree_id, number) == 48);
 PLUMTREE_ASSERT(sizeof(plumtree_limits) == 16 && offsetof(plumtree_limits, kp) == 5 && offsetof(plumtree_limits, threshold) == 8);
 PLUMTREE_ASSERT(offsetof(plumtree_limits, keep) == 12);
 PLUMTREE_ASSERT(sizeof(plumtree_counts) == 56 && offsetof(plumtree_counts, deliveries) == 48);
+PLUMTREE_ASSERT(sizeof(plumtree_wire_counts) == 40 && offsetof(plumtree_wire_counts, ticks) == 32);
+PLUMTREE_ASSERT(sizeof(plumtree_piece) == 16 && offsetof(plumtree_piece, length) == 8);
 PLUMTREE_ASSERT(sizeof(size_t) == 8);
 
 /* ---- The beginning and the end ---- */
@@ -143,7 +183,7 @@ void plumtree_limits_default(plumtree_limits *limits);
 /* Makes a name of these bytes: BAD_NAME if they are not one. */
 int32_t plumtree_name_of(const uint8_t *bytes, size_t bytes_length, plumtree_name *name);
 
-/* Starts a node in the slot, which was zeroed, or whose node was freed.
+/* Starts a state machine in the slot, which was zeroed, or whose node was freed.
  *
  * name          the node's name, which no other node of the group has.
  * incarnation   greater than at each earlier start of a node of this name, as the seconds of a clock are; a number that
@@ -157,11 +197,83 @@ int32_t plumtree_start(plumtree_node *node, const uint8_t *name, size_t name_len
                        const plumtree_limits *limits, const plumtree_name *peers, size_t peers_length,
                        const uint8_t *contact, size_t contact_length);
 
-/* Frees the node and all that waits in it; the slot may then be used again. NONE: it has none, so twice is harmless.
- * COPIED. */
+/* Starts a node of bytes in the slot, likewise. `waiting` says how many bytes may wait for a name: one for which more
+ * wait is taken down, and is lost (plumtree_wire_next_lost). PLUMTREE_WAITING is a good limit. */
+int32_t plumtree_wire_start(plumtree_node *node, const uint8_t *name, size_t name_length, uint64_t incarnation,
+                            const plumtree_limits *limits, size_t waiting, const plumtree_name *peers,
+                            size_t peers_length, const uint8_t *contact, size_t contact_length);
+
+/* Frees the node, of either kind, and all that waits in it; the slot may then be used again. NONE: it has none, so
+ * twice is harmless. COPIED. */
 int32_t plumtree_free(plumtree_node *node);
 
-/* ---- What makes a node step ----
+/* ---- A node of bytes ----
+ *
+ * Each of these also answers, before all else but BAD_NAME, NOT_LIVE or COPIED, and at last, unless it says so,
+ * NUMBERS_SPENT if no numbers are left for the node's frames, or OUT_OF_MEMORY. */
+
+/* Broadcasts a message of 0 to PLUMTREE_PAYLOAD_MAX bytes, which are copied. The node delivers it to its own caller
+ * too. `number` is then its number, from 1 on: with the node's name and incarnation the message's id.
+ * PAYLOAD_TOO_LONG; NUMBERS_SPENT. */
+int32_t plumtree_wire_broadcast(plumtree_node *node, const uint8_t *payload, size_t payload_length, uint64_t *number);
+
+/* Makes a tick: sends the announcements that are queued, at every fifth tick since the start asks for each message that
+ * was announced before the fifth tick before and did not come, and at every tenth exchanges names of the passive view.
+ * So a message that was announced and does not come is asked for at the second fifth tick after that: at the sixth to
+ * the tenth tick from then on. How often this is called sets how soon that is; ten times a second is a good beginning.
+ * If a step is refused, those before it stay made, and this tick does not count: call again. */
+int32_t plumtree_wire_tick(plumtree_node *node, const uint64_t dice[PLUMTREE_DICE]);
+
+/* Accepts a connection that another node made. `number` is then the connection's, which no other of this node ever has.
+ * NO_CONNECTION: there are no more numbers. */
+int32_t plumtree_wire_accept(plumtree_node *node, uint64_t *number);
+
+/* Takes all the bytes that came over the connection. The frames of one call are given dice one after the other, which
+ * begin with these.
+ * NO_CONNECTION: nothing has changed. OUT_OF_MEMORY, NUMBERS_SPENT, FRAME_TOO_LONG to TRAILING: the frames before the
+ * fault were taken, and the connection has ended, as by plumtree_wire_ended: close it. Only where memory was refused
+ * for that too, the node still has it; plumtree_wire_ended may be called anyway. */
+int32_t plumtree_wire_receive(plumtree_node *node, uint64_t number, const uint8_t *bytes, size_t bytes_length,
+                              const uint64_t dice[PLUMTREE_DICE]);
+
+/* Ends the connection, with what came over it and is no whole frame. Its peer goes down, unless it is down already or
+ * has another connection. NO_CONNECTION: it has ended before. If it is refused, nothing has changed. */
+int32_t plumtree_wire_ended(plumtree_node *node, uint64_t number, const uint64_t dice[PLUMTREE_DICE]);
+
+/* Tells the node that this name cannot be reached: its peer goes down, and what waits for it is dropped, so that it is
+ * lost (plumtree_wire_next_lost). BAD_NAME, before all else. If it is refused, nothing has changed. */
+int32_t plumtree_wire_unreachable(plumtree_node *node, const uint8_t *name, size_t name_length,
+                                  const uint64_t dice[PLUMTREE_DICE]);
+
+/* The names for which bytes wait, each once. `length` is their number, and 0 if NOT_LIVE, COPIED or OUT_OF_MEMORY.
+ * ROOM_TOO_SMALL: the room has as many of the first as it has places for. */
+int32_t plumtree_wire_receivers(plumtree_node *node, plumtree_name *room, size_t room_size, size_t *length);
+
+/* Lends the first of the bytes that wait for the name, in order, in pieces of which some may be empty. They stay in the
+ * node, and may be read until the next call with it. NONE: no bytes wait for this name. BAD_NAME, before all else.
+ * Never NUMBERS_SPENT or OUT_OF_MEMORY. */
+int32_t plumtree_wire_transmit(plumtree_node *node, const uint8_t *name, size_t name_length,
+                               plumtree_piece pieces[PLUMTREE_PIECES]);
+
+/* Drops the first `count` of the bytes that wait for the name, or all, if fewer wait: a connection took them. BAD_NAME,
+ * before all else. Never NUMBERS_SPENT or OUT_OF_MEMORY. */
+int32_t plumtree_wire_transmitted(plumtree_node *node, const uint8_t *name, size_t name_length, size_t count);
+
+/* Takes the first delivery that waits: its id, and its payload at the front of the room. Each message is delivered once
+ * in a run of a node. NONE: no delivery waits. ROOM_TOO_SMALL: nothing is taken, and the delivery still is the first.
+ * `length` is the number of the payload's bytes for DONE and ROOM_TOO_SMALL, and else 0. Nothing is written to the room
+ * unless the delivery is taken. Never NUMBERS_SPENT or OUT_OF_MEMORY. */
+int32_t plumtree_wire_next_delivery(plumtree_node *node, plumtree_id *id, uint8_t *room, size_t room_size,
+                                    size_t *length);
+
+/* Takes the first lost name that waits: bytes for it were dropped, so close the connection to it before more is written
+ * there. NONE: no name was lost. Never NUMBERS_SPENT or OUT_OF_MEMORY. */
+int32_t plumtree_wire_next_lost(plumtree_node *node, plumtree_name *name);
+
+/* How much the node has. It changes nothing. Never NUMBERS_SPENT or OUT_OF_MEMORY. */
+int32_t plumtree_wire_counts_of(plumtree_node *node, plumtree_wire_counts *counts);
+
+/* ---- What makes a state machine step ----
  *
  * Each of these also answers, before all else, NOT_LIVE or COPIED, and at last NUMBERS_SPENT if no numbers are left for
  * its frames, or OUT_OF_MEMORY. All but plumtree_tick then leave the node as it was. */
@@ -202,7 +314,7 @@ int32_t plumtree_shuffle(plumtree_node *node, const uint64_t dice[PLUMTREE_DICE]
 int32_t plumtree_link_down(plumtree_node *node, const uint8_t *peer, size_t peer_length,
                            const uint64_t dice[PLUMTREE_DICE]);
 
-/* ---- What a node sends and delivers ---- */
+/* ---- What a state machine sends and delivers ---- */
 
 /* Takes the first frame that waits: its receiver's name, and its bytes as they stand on a connection, at the front of
  * the room. NONE: no frame waits. ROOM_TOO_SMALL: nothing is taken, and the frame still is the first. `length` is the
@@ -216,7 +328,7 @@ int32_t plumtree_next_delivery(plumtree_node *node, plumtree_id *id, uint8_t *ro
 
 /* ---- What a node has ----
  *
- * These change nothing. They answer NOT_LIVE and COPIED too. */
+ * These change nothing. They answer NOT_LIVE and COPIED too. All but plumtree_counts_of read nodes of both kinds. */
 
 /* The names that the node keeps links to, those that may take their place, and its peers by how they get messages: the
  * eager ones whole, the lazy ones as announcements. `length` is the number of all of them, and 0 if NOT_LIVE or COPIED.
@@ -229,7 +341,7 @@ int32_t plumtree_lazy(plumtree_node *node, plumtree_name *room, size_t room_size
 /* The node's own name and incarnation. */
 int32_t plumtree_me(plumtree_node *node, plumtree_name *name, uint64_t *incarnation);
 
-/* How much the node has. */
+/* How much a state machine has. */
 int32_t plumtree_counts_of(plumtree_node *node, plumtree_counts *counts);
 
 /* Whether the node has delivered this message. NONE: it has not. BAD_NAME, before all else. */
