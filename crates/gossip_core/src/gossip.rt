@@ -33,8 +33,8 @@ use world::MAX_PAYLOAD;
 /// A call has two halves: `answer` returns what it will send and deliver, and `take` changes the state. A caller that
 /// makes room for the answer in between has nothing left that can fail after `take`. The other calls do both halves at
 /// once. Looking up a held message takes constant time; a copy takes time proportional to the number of messages held.
-/// The memory for the known messages grows with their origins and with the numbers past a gap, not with the numbers
-/// known without a gap; the memory for the held messages grows with `keep`, or with all messages if that is 0.
+/// The memory for the known messages grows with their origins and with the gaps in their numbers, not with the numbers
+/// known; the memory for the held messages grows with `keep`, or with all messages if that is 0.
 #[derive(Drop)]
 pub struct Gossip<A: Allocator = Global> {
     me: Origin,

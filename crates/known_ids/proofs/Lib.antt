@@ -1,5 +1,6 @@
 pub mod NumberLemmas
 pub mod SpanLemmas
+pub mod PastLemmas
 pub mod IdOrder
 pub mod KnownLemmas
 pub mod CountLemmas

@@ -1,9 +1,8 @@
 -- Numbers from 1 on, and those past a gap.
-use Rattle.std.proofs.Common.{◌≡◌, ◌∙◌, ℕ, zero, suc, ◌+◌, ◌-◌, ◌^◌, ◌<◌, ◌≤◌, ◌||◌, Bool, true, false, List, [], ◌∷◌, ◌++◌, length, get_or, drop, sym, ap, subst, refl, arith, append_assoc}
+use Rattle.std.proofs.Common.{◌≡◌, ◌∙◌, ℕ, zero, suc, ◌+◌, ◌^◌, ◌<◌, ◌≤◌, ◌||◌, Bool, true, false, List, [], ◌∷◌, ◌++◌, length, get_or, ap, refl, arith, append_assoc}
 use Rattle.std.specs.Prelude.{nat_eq, insert}
 use Rattle.std.specs.Cmp.{unsigned_Decides}
 use Rattle.std.specs.List.{list_any, range_with_len}
-use Rattle.std.proofs.lemmas.List.Sorted.{IsPermutation-insert, list_any-IsPermutation}
 use Rattle.known_ids.specs.Span.{Ascends, counted}
 
 -- one number more
@@ -21,15 +20,6 @@ counted-next unbroken next rest is =
     ∙ append_assoc (range_with_len 1 unbroken) ((1 + unbroken) ∷ []) rest
     ∙ ap (λ n. range_with_len 1 unbroken ++ n ∷ rest) last
 
--- where the first number past the gap leaves no gap, it joins the unbroken ones and the others stay
-pub absorbed : (unbroken next : ℕ) (past rest : List ℕ) → 0 < length past → next ≡ get_or past 0 next → rest ≡ drop 1 past → next - 1 ≡ unbroken → Ascends unbroken past → Ascends next rest × (counted next rest ≡ counted unbroken past)
-absorbed unbroken next [] rest some is_next is_rest follows up = absurd (omega (arith, some))
-absorbed unbroken next (n ∷ ns) rest some is_next is_rest follows up =
-    let follows_now : next ≡ unbroken + 1 = omega (arith, follows, up.0, is_next) in (
-      subst (λ m. Ascends m rest) (sym is_next) (subst (Ascends n) (sym is_rest) up.2),
-      counted-next unbroken next rest follows_now ∙ ap (λ m. range_with_len 1 unbroken ++ m ∷ rest) is_next ∙ ap (λ ms. range_with_len 1 unbroken ++ n ∷ ms) is_rest,
-    )
-
 -- ---- numbers that ascend
 
 pub Ascends-weaker : (low lower : ℕ) (ns : List ℕ) → lower ≤ low → Ascends low ns → Ascends lower ns
@@ -37,7 +27,7 @@ Ascends-weaker low lower [] le up = tt
 Ascends-weaker low lower (n ∷ ns) le up = (omega (arith, le, up.0), up.1, up.2)
 
 -- each is greater than any number that the first is greater than
-above : (low : ℕ) (ns : List ℕ) (i : ℕ) → Ascends low ns → i < length ns → low < get_or ns i 0
+pub above : (low : ℕ) (ns : List ℕ) (i : ℕ) → Ascends low ns → i < length ns → low < get_or ns i 0
 above low [] i up within = absurd (omega (arith, within))
 above low (n ∷ ns) zero up within = up.0
 above low (n ∷ ns) (suc i) up within = omega (arith, up.0, above n ns i up.2 (omega (arith, within)))
@@ -58,9 +48,6 @@ Ascends-insert low n (m ∷ ms) (suc i) fits greater within before after up =
     (up.0, up.1, Ascends-insert m n ms i fits (before 0 (omega arith)) (omega (arith, within)) (λ k h. before (suc k) (omega (arith, h))) (λ k h j. after (suc k) (omega (arith, h)) (omega (arith, j))) up.2)
 
 -- ---- which numbers are there
-
-pub any-insert : (m n : ℕ) (ns : List ℕ) (i : ℕ) → list_any (nat_eq m) (insert ns i n) ≡ (nat_eq m n || list_any (nat_eq m) ns)
-any-insert m n ns i = sym (list_any-IsPermutation (nat_eq m) (n ∷ ns) (insert ns i n) (IsPermutation-insert ns i n))
 
 or_true : (b : Bool) → (b || true) ≡ true
 or_true true = refl

@@ -1,15 +1,15 @@
 -- Which numbers a span has.
-use Rattle.std.proofs.Common.{◌≡◌, ◌∙◌, ℕ, zero, suc, ◌+◌, ◌-◌, ◌^◌, ◌<◌, ◌≤◌, ◌||◌, Bool, true, false, List, [], ◌∷◌, length, get_or, Result, Ok, Err, MatchResult, sym, ap, subst, refl, arith}
-use Rattle.std.specs.Prelude.{nat_eq, is_ok}
+use Rattle.std.proofs.Common.{◌≡◌, ◌∙◌, ℕ, zero, suc, ◌+◌, ◌-◌, ◌^◌, ◌<◌, ◌≤◌, ◌||◌, Bool, true, false, List, [], ◌∷◌, sym, ap, refl, arith}
+use Rattle.std.specs.Prelude.{nat_eq}
 use Rattle.std.specs.Cmp.{unsigned_Decides}
 use Rattle.std.specs.List.{list_any, range_with_len}
 use Rattle.std.proofs.lemmas.Bool.{false≢true}
 use Rattle.std.proofs.lemmas.List.Folds.{list_any-append}
 use Rattle.known_ids.specs.Span.{Span, Ascends, counted, numbers, has_number}
-use Rattle.known_ids.proofs.NumberLemmas.{any_again, any_at, counted-next}
+use Rattle.known_ids.proofs.NumberLemmas.{any_again, counted-next}
 
 -- two numbers that differ
-differ : (m n : ℕ) → (m ≡ n → ⊥) → nat_eq m n ≡ false
+pub differ : (m n : ℕ) → (m ≡ n → ⊥) → nat_eq m n ≡ false
 differ m n apart = go (nat_eq m n) refl
   where
     go : (b : Bool) → nat_eq m n ≡ b → b ≡ false
@@ -18,13 +18,13 @@ differ m n apart = go (nat_eq m n) refl
 
 -- ---- the numbers of a range
 
-any_before : (m a n : ℕ) → m < a → list_any (nat_eq m) (range_with_len a n) ≡ false
+pub any_before : (m a n : ℕ) → m < a → list_any (nat_eq m) (range_with_len a n) ≡ false
 any_before m a zero before = refl
 any_before m a (suc n) before =
     ap (λ b. b || list_any (nat_eq m) (range_with_len (a + 1) n)) (differ m a (λ e. omega (arith, before, e)))
     ∙ any_before m (a + 1) n (omega (arith, before))
 
-any_within : (m a n : ℕ) → a ≤ m → m < a + n → list_any (nat_eq m) (range_with_len a n) ≡ true
+pub any_within : (m a n : ℕ) → a ≤ m → m < a + n → list_any (nat_eq m) (range_with_len a n) ≡ true
 any_within m a zero from to = absurd (omega (arith, from, to))
 any_within m a (suc n) from to = go (nat_eq m a) refl (any_within m (a + 1) n)
   where
@@ -35,7 +35,7 @@ any_within m a (suc n) from to = go (nat_eq m a) refl (any_within m (a + 1) n)
         beyond : (m ≡ a → ⊥) → a + 1 ≤ m
         beyond apart = omega (arith, from, apart)
 
-any_after : (m a n : ℕ) → a + n ≤ m → list_any (nat_eq m) (range_with_len a n) ≡ false
+pub any_after : (m a n : ℕ) → a + n ≤ m → list_any (nat_eq m) (range_with_len a n) ≡ false
 any_after m a zero after = refl
 any_after m a (suc n) after =
     ap (λ b. b || list_any (nat_eq m) (range_with_len (a + 1) n)) (differ m a (λ e. omega (arith, after, e)))
@@ -48,21 +48,6 @@ none_below m low [] le up = refl
 none_below m low (n ∷ ns) le up =
     ap (λ b. b || list_any (nat_eq m) ns) (differ m n (λ e. omega (arith, le, up.0, e)))
     ∙ none_below m n ns (omega (arith, le, up.0)) up.2
-
--- what stands neither before nor after a place is not there
-pub none_at : (m : ℕ) (ns : List ℕ) (i : ℕ) → ((k : ℕ) → k < i → get_or ns k 0 < m) → ((k : ℕ) → i ≤ k → k < length ns → m < get_or ns k 0) → list_any (nat_eq m) ns ≡ false
-none_at m [] i before after = refl
-none_at m (n ∷ ns) zero before after =
-    ap (λ b. b || list_any (nat_eq m) ns) (differ m n (λ e. omega (arith, after 0 (omega arith) (omega arith), e)))
-    ∙ none_at m ns 0 (λ k h. absurd (omega (arith, h))) (λ k h j. after (suc k) (omega arith) (omega (arith, j)))
-none_at m (n ∷ ns) (suc i) before after =
-    ap (λ b. b || list_any (nat_eq m) ns) (differ m n (λ e. omega (arith, before 0 (omega arith), e)))
-    ∙ none_at m ns i (λ k h. before (suc k) (omega (arith, h))) (λ k h j. after (suc k) (omega (arith, h)) (omega (arith, j)))
-
--- what a search finds is there, and what it does not find is not
-pub found : (r : Result ℕ ℕ) (m : ℕ) (ns : List ℕ) → MatchResult r (λ i. (i < length ns) × (get_or ns i 0 ≡ m)) (λ i. (i ≤ length ns) × ((k : ℕ) → k < i → get_or ns k 0 < m) × ((k : ℕ) → i ≤ k → k < length ns → m < get_or ns k 0)) → is_ok r ≡ list_any (nat_eq m) ns
-found (Ok i) m ns at = sym (subst (λ n. list_any (nat_eq n) ns ≡ true) at.1 (any_at ns i at.0))
-found (Err i) m ns at = sym (none_at m ns i at.1 at.2)
 
 -- ---- the numbers of a span
 

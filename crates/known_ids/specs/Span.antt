@@ -3,7 +3,7 @@ use Rattle.std.specs.Prelude.{ℕ, ◌+◌, ◌^◌, ◌<◌, Bool, List, [], �
 use Rattle.std.specs.List.{list_any, range_with_len}
 
 -- Whether 0 is known, how many numbers are known from 1 on without a gap, the known numbers past the gap in ascending
--- order, and for how many more of these there is room.
+-- order, and for how many more edges of their runs there is room.
 pub record Span : Type 0 where
   pub zero : Bool
   pub unbroken : ℕ
@@ -29,4 +29,4 @@ has_number span n = list_any (nat_eq n) (numbers span)
 
 -- The number can be inserted without allocating.
 abbrev pub HasRoomFor : Span → ℕ → Type 0
-HasRoomFor span n = span.unbroken + 1 < n → 0 < span.room
+HasRoomFor span n = span.unbroken + 1 < n → 1 < span.room

@@ -2,32 +2,30 @@
 ghost use Rattle.std.specs.Prelude.{◌≡◌, ℕ, ◌+◌, ◌<◌, ◌||◌, [], false, length, nat_eq, IfOk, OnOk, OnErr};
 ghost use Rattle.known_ids.specs.Span.{Ascends, has_number, HasRoomFor};
 
-use crate::past::{absorb, put};
+use crate::past::Past;
 use std::alloc::{AllocError, Allocator};
-use std::collections::VecDeque;
 use std::marker::Model;
 
 /// The known sequence numbers of one origin.
 ///
-/// Of the numbers that are known from 1 on without a gap, only the last is kept; the numbers past the first gap are all
-/// kept, in ascending order. Messages count from 1; 0 is kept apart, since a caller may name it.
+/// Of the numbers that are known from 1 on without a gap, only the last is kept, and of each run of numbers past the first
+/// gap its two edges. Messages count from 1; 0 is kept apart, since a caller may name it.
 #[derive(Drop)]
 pub(crate) struct Span<A: Allocator> {
     zero: bool,
     unbroken: u64,
-    past: VecDeque<u64, A>,
+    past: Past<A>,
 }
 
 impl<A: Allocator> Model for Span<A> {
-    ghost use Rattle.std.specs.Prelude.{◌+◌, ◌-◌};
-    ghost use Rattle.std.specs.VecDeque.{deque_len, deque_capacity};
+    ghost use Rattle.std.specs.Prelude.{◌+◌};
     ghost use Rattle.known_ids.specs.Span.{Span, Ascends};
 
     ghost Value = { Span };
 
-    ghost view = { λ s. record { zero = s.zero; unbroken = s.unbroken; past = s.past.items; room = deque_capacity s.past - deque_len s.past } };
+    ghost view = { λ s. record { zero = s.zero; unbroken = s.unbroken; past = s.past.numbers; room = s.past.room } };
 
-    ghost invariant = { λ s. Ascends (s.unbroken + 1) s.past.items };
+    ghost invariant = { λ s. Ascends (s.unbroken + 1) s.past.numbers };
 }
 
 impl<A: Allocator + Copy> Span<A> {
@@ -40,7 +38,7 @@ impl<A: Allocator + Copy> Span<A> {
         Span {
             zero: false,
             unbroken: 0,
-            past: VecDeque::new(alloc),
+            past: Past::new(alloc),
         }
     }
 }
@@ -53,7 +51,7 @@ impl<A: Allocator> Span<A> {
         if n == 0 {
             return self.zero;
         }
-        n <= self.unbroken || self.past.binary_search(&n).is_ok()
+        n <= self.unbroken || self.past.contains(n)
     }
 
     /// Returns how many numbers are known from 1 on without a gap, and how many past the gap.
@@ -63,7 +61,7 @@ impl<A: Allocator> Span<A> {
         ensures order { Ascends (self.now.unbroken + 1) self.now.past }
         ensures last { self.now.unbroken ≡ u64.MAX → self.now.past ≡ [] }
     {
-        (self.unbroken, self.past.len())
+        (self.unbroken, self.past.count())
     }
 
     /// Reserves the memory that `insert` needs for `n`. Changes no known number, even if memory is refused.
@@ -72,7 +70,7 @@ impl<A: Allocator> Span<A> {
         ensures same { self.new ≡ record self.old { room = self.new.room } }
     {
         if n > self.unbroken && n - 1 > self.unbroken {
-            self.past.reserve(1)?;
+            self.past.reserve()?;
         }
         Ok(())
     }
@@ -90,9 +88,9 @@ impl<A: Allocator> Span<A> {
             return;
         }
         if n - 1 == self.unbroken {
-            self.unbroken = absorb(n, &mut self.past);
+            self.unbroken = self.past.absorb(n);
         } else {
-            put(&mut self.past, n);
+            self.past.insert(n);
         }
     }
 }

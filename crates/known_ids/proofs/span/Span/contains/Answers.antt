@@ -3,10 +3,8 @@ use Rattle.std.proofs.Common.{◌∙◌, ◌+◌, ◌<◌, ◌≤◌, ap, sym, s
 use Rattle.std.specs.Prelude.{nat_eq}
 use Rattle.std.specs.List.{list_any}
 use Rattle.std.proofs.lemmas.Bool.{le-leb}
-use Rattle.std.proofs.lemmas.List.Sorted.{searched}
 use Rattle.known_ids.specs.Span.{Span, Ascends, has_number}
-use Rattle.known_ids.proofs.NumberLemmas.{rises}
-use Rattle.known_ids.proofs.SpanLemmas.{found, has-past, has-zero, has_unbroken}
+use Rattle.known_ids.proofs.SpanLemmas.{has-past, has-zero, has_unbroken}
 use Rattle.known_ids.proofs.span.Span.contains.Goals as goal
 
 pub returns-then-n-eq0 : goal.returns-then-n-eq0
@@ -22,8 +20,6 @@ returns-then-n-self g c =
 
 pub returns-else-n-self : goal.returns-else-n-self
 returns-else-n-self g c =
-    let rising = rises (c.self.inside.unbroken + 1) c.self.inside.past.items c.self.invariant in
-    c.is_ok.ensures.value
-    ∙ found c.binary_search.result c.args.n c.self.inside.past.items (searched c.self.inside.past.items c.args.n c.binary_search.result c.binary_search.ensures.position rising)
+    c.contains.ensures
     ∙ ap (λ (s : Span). list_any (nat_eq c.args.n) s.past) c.self.view_is
     ∙ sym (has-past c.args.self.now c.args.n (subst (λ (s : Span). s.unbroken < c.args.n) c.self.view_is c.if-n-self.false))
