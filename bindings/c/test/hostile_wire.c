@@ -32,6 +32,13 @@ static size_t lent(plumtree_node *node, const char *name, uint8_t *room)
     return count;
 }
 
+static size_t waiting(plumtree_node *node, const char *name)
+{
+    size_t count = 99;
+    LOOK(plumtree_wire_waiting(node, (const uint8_t *)name, strlen(name), &count) == PLUMTREE_DONE);
+    return count;
+}
+
 static int32_t transmitted(plumtree_node *node, const char *name, size_t count)
 {
     return plumtree_wire_transmitted(node, (const uint8_t *)name, strlen(name), count);
@@ -104,6 +111,8 @@ static void each_answers(plumtree_node *node, int32_t wanted)
     LOOK(plumtree_wire_unreachable(node, BYTES("b"), dice) == wanted);
     LOOK(plumtree_wire_tick(node, dice) == wanted);
     LOOK(plumtree_wire_receivers(node, names, 2, &length) == wanted && length == 0);
+    length = 99;
+    LOOK(plumtree_wire_waiting(node, BYTES("b"), &length) == wanted && length == 99);
     LOOK(plumtree_wire_transmit(node, BYTES("b"), pieces) == wanted);
     LOOK(plumtree_wire_transmitted(node, BYTES("b"), 1) == wanted);
     length = 99;
@@ -203,6 +212,7 @@ static void in_parts(void)
         start_two(&a, &b);
         LOOK(plumtree_wire_receivers(&a, names, 2, &length) == PLUMTREE_DONE && length == 0);
         LOOK(lent(&a, "b", room) == 0 && lent(&a, "z", room) == 0);
+        LOOK(waiting(&a, "b") == 0 && waiting(&a, "z") == 0);
         LOOK(plumtree_wire_broadcast(&a, BYTES("hello"), &number) == PLUMTREE_DONE && number == 1);
         LOOK(plumtree_wire_receivers(&a, names, 0, &length) == PLUMTREE_ROOM_TOO_SMALL && length == 1);
         LOOK(plumtree_wire_receivers(&a, names, 2, &length) == PLUMTREE_DONE && length == 1
@@ -210,10 +220,11 @@ static void in_parts(void)
         size_t all = lent(&a, "b", text), taken = 0;
         while ((length = lent(&a, "b", room)) > 0) {
             LOOK(length == all - taken && memcmp(room, text + taken, length) == 0);
+            LOOK(waiting(&a, "b") == length && waiting(&a, "z") == 0);
             taken += part < length ? part : length;
             LOOK(transmitted(&a, "b", part) == PLUMTREE_DONE);
         }
-        LOOK(taken == all && transmitted(&a, "b", 5) == PLUMTREE_DONE);
+        LOOK(taken == all && transmitted(&a, "b", 5) == PLUMTREE_DONE && waiting(&a, "b") == 0);
         LOOK(plumtree_wire_accept(&b, &link) == PLUMTREE_DONE && plumtree_wire_accept(&b, &other) == PLUMTREE_DONE
              && link != other);
         for (size_t at = 0; at < all; at += part) {
@@ -250,6 +261,9 @@ static void no_bytes(void)
     LOOK(plumtree_wire_ended(&a, number, dice) == PLUMTREE_DONE
          && plumtree_wire_ended(&a, number, dice) == PLUMTREE_NO_CONNECTION);
     LOOK(plumtree_wire_unreachable(&a, NULL, 0, dice) == PLUMTREE_BAD_NAME);
+    length = 99;
+    LOOK(plumtree_wire_waiting(&a, NULL, 0, &length) == PLUMTREE_BAD_NAME && length == 99);
+    LOOK(plumtree_wire_waiting(&a, BYTES("B"), &length) == PLUMTREE_BAD_NAME && length == 99);
     LOOK(plumtree_wire_transmit(&a, NULL, 0, pieces) == PLUMTREE_BAD_NAME);
     LOOK(plumtree_wire_transmit(&a, BYTES("B"), pieces) == PLUMTREE_BAD_NAME);
     LOOK(plumtree_wire_transmitted(&a, NULL, 0, 0) == PLUMTREE_BAD_NAME);

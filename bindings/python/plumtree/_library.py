@@ -80,6 +80,7 @@ _CALLS = {
     "plumtree_wire_ended": (POINTER(Slot), c_uint64, POINTER(Dice)),
     "plumtree_wire_unreachable": (POINTER(Slot), *_BYTES, POINTER(Dice)),
     "plumtree_wire_receivers": (POINTER(Slot), *_NAMES),
+    "plumtree_wire_waiting": (POINTER(Slot), *_BYTES, POINTER(c_size_t)),
     "plumtree_wire_transmit": (POINTER(Slot), *_BYTES, POINTER(Pieces)),
     "plumtree_wire_transmitted": (POINTER(Slot), *_BYTES, c_size_t),
     "plumtree_wire_next_delivery": (POINTER(Slot), POINTER(Id), *_ROOM),

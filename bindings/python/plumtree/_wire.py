@@ -90,6 +90,13 @@ class WireNode(Kept):
         _is_done(answer)
         return [_text(name) for name in room[: length.value]]
 
+    def waiting(self, name: str) -> int:
+        """Returns how many bytes wait for the name. Who broadcasts only while little waits for the fullest name is held up by a
+        slow peer, where its link would fail at the limit."""
+        count, encoded = c_size_t(), name.encode()
+        _is_done(LIBRARY.plumtree_wire_waiting(self._slot, encoded, len(encoded), byref(count)))
+        return count.value
+
     def transmit(self, name: str) -> bytes:
         """Returns a copy of the first of the bytes that wait for the name. No bytes: none wait."""
         pieces, encoded = Pieces(), name.encode()

@@ -60,10 +60,11 @@ class Groups(unittest.TestCase):
         a, b = two()
         for byte in range(5):
             a.broadcast(bytes([byte]) * PAYLOAD_MAX)
-        b.receive(b.accept(), a.take("b"))
+        self.assertEqual((a.waiting("b"), a.waiting("z")), (len(sent := a.take("b")), 0))
+        b.receive(b.accept(), sent)
         wanted = [Deliver(MsgId("a", 1, byte + 1), bytes([byte]) * PAYLOAD_MAX) for byte in range(5)]
         self.assertEqual(list(b.deliveries()), wanted)
-        self.assertEqual((b.counts.held, a.receivers()), (5, []))
+        self.assertEqual((b.counts.held, a.receivers(), a.waiting("b")), (5, [], 0))
 
     def test_a_name_goes_down_with_what_waits_for_it(self) -> None:
         a, b = two()
@@ -104,6 +105,7 @@ class Errors(unittest.TestCase):
         self.refused(-7, a.broadcast, bytes(PAYLOAD_MAX + 1))
         self.refused(-9, a.unreachable, "A")
         self.refused(-9, a.transmit, "A")
+        self.refused(-9, a.waiting, "A")
         self.refused(-19, a.receive, 1, b"x")
         self.refused(-19, a.ended, 1)
 

@@ -204,6 +204,12 @@ extern "C" {
         size: usize,
         length: *mut usize,
     ) -> i32;
+    pub(crate) fn plumtree_wire_waiting(
+        slot: *mut Slot,
+        name: *const u8,
+        length: usize,
+        count: *mut usize,
+    ) -> i32;
     pub(crate) fn plumtree_wire_transmit(
         slot: *mut Slot,
         name: *const u8,

@@ -168,6 +168,18 @@ impl WireNode {
         }
     }
 
+    /// Returns how many bytes wait for the name. Who broadcasts only while little waits for the fullest name is held up by
+    /// a slow peer, where its link would fail at the limit.
+    pub fn waiting(&mut self, name: &Name) -> usize {
+        let (text, mut count) = (name.as_bytes(), 0);
+        // SAFETY: the name has as many bytes as is said, and `count` is valid.
+        let answer = unsafe {
+            sys::plumtree_wire_waiting(&mut self.handle.slot, text.as_ptr(), text.len(), &mut count)
+        };
+        debug_assert_eq!(answer, 1);
+        count
+    }
+
     /// Returns the first of the bytes that wait for the name, in slices of which some may be empty. Where any wait, not
     /// all of them are.
     pub fn transmit(&mut self, name: &Name) -> [IoSlice<'_>; 4] {

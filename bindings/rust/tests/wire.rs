@@ -119,7 +119,8 @@ fn long_payloads_are_lent_whole() {
     for byte in 1..=5 {
         a.broadcast(&vec![byte; PAYLOAD_MAX]).unwrap();
     }
-    let bytes = written(&mut a, "b");
+    let (waiting, bytes) = (a.waiting(&name("b")), written(&mut a, "b"));
+    assert_eq!((waiting, a.waiting(&name("b"))), (bytes.len(), 0));
     b.receive(link, &bytes, &Dice::default()).unwrap();
     for byte in 1..=5 {
         let message = b.next_delivery().unwrap().expect("a message");

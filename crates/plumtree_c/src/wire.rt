@@ -1,7 +1,7 @@
 //! A node of bytes, with what it gave and its caller has not got yet.
 ghost use Rattle.std.specs.Prelude.{◌≡◌, ◌⊎◌, ◌++◌, [], length, map, take, IfErr, IfNone, IfOk, IfSome, OnErr, OnOk};
 ghost use Rattle.plumtree_c.specs.Plain.{id_of, name_of};
-ghost use Rattle.plumtree_c.specs.Wire.{Accepts, AreWireCounts, Delivers, Does, HearsAll, HearsSome, Leaves, Loses, Offers, Sends, Stays, Went, WireStarts};
+ghost use Rattle.plumtree_c.specs.Wire.{bytes_for, Accepts, AreWireCounts, Delivers, Does, HearsAll, HearsSome, Leaves, Loses, Offers, Sends, Stays, Went, WireStarts};
 ghost use Rattle.wire_node.specs.Node.{Closes, Ticks};
 ghost use Rattle.wire_node.specs.Waiting.{receivers_of};
 
@@ -164,6 +164,13 @@ impl Wire {
         ensures { IfOk result (λ names. names.items ≡ receivers_of self.now.node.engine.machine.waiting) }
     {
         Ok(self.node.receivers()?)
+    }
+
+    /// How many bytes wait for the name.
+    pub(crate) fn waiting(&self, name: &NodeName) -> usize
+        ensures { result ≡ length (bytes_for self.now name.now) }
+    {
+        self.node.waiting(name)
     }
 
     /// Lends the first of the bytes that wait for the name. Returns whether any do.

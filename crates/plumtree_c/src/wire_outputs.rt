@@ -1,9 +1,9 @@
 //! The calls that take what a node of bytes gives: bytes by the name that they go to, deliveries, and lost names.
-ghost use Rattle.std.specs.Prelude.{◌≡◌, ◌⊎◌, map, take};
+ghost use Rattle.std.specs.Prelude.{◌≡◌, ◌⊎◌, length, map, take};
 ghost use Rattle.plumtree_c.specs.Answers.{IsDone};
 ghost use Rattle.plumtree_c.specs.Plain.{id_of, name_of};
 ghost use Rattle.plumtree_c.specs.Slots.{BothBytes, HasBytes};
-ghost use Rattle.plumtree_c.specs.Wire.{AreWireCounts, Delivers, Does, Loses, Offers, Stays, Went};
+ghost use Rattle.plumtree_c.specs.Wire.{bytes_for, AreWireCounts, Delivers, Does, Loses, Offers, Stays, Went};
 ghost use Rattle.wire_node.specs.Waiting.{receivers_of};
 
 use crate::piece::Piece;
@@ -43,6 +43,33 @@ pub extern "C" fn plumtree_wire_receivers(
     if *length > room.len() {
         return Refusal::RoomTooSmall.code();
     }
+    DONE
+}
+
+/// Counts the bytes that wait for the name.
+///
+/// `count` is their number, and is unchanged where this is not answered with 1. Who broadcasts only while little waits for
+/// the fullest name never has more wait than the node's limits let.
+#[unsafe(no_mangle)]
+pub extern "C" fn plumtree_wire_waiting(
+    slot: &mut Slot,
+    alloc: Global,
+    name: &[u8],
+    count: &mut usize,
+) -> i32
+    ensures kept { slot.new.held.value ≡ slot.old.held.value }
+    ensures done { IsDone result → HasBytes slot.old.held.value (λ wire. count.new ≡ length (bytes_for wire name.now)) }
+{
+    let name = match NodeName::parse(name) {
+        Ok(name) => name,
+        Err(_) => return Refusal::BadName.code(),
+    };
+    let wire = match slot.take::<Wire>(alloc) {
+        Ok(wire) => wire,
+        Err(refusal) => return refusal.code(),
+    };
+    *count = wire.waiting(&name);
+    slot.put_back(wire);
     DONE
 }
 
