@@ -34,7 +34,7 @@ fn start(
     messages: usize,
     bytes: usize,
 ) -> Outcome<Receiver<Delivery>> {
-    let (told, events) = channel(1_024);
+    let (told, events) = channel(16);
     let (say, said) = channel(16);
     let (delivered, deliveries) = channel(1_024);
     let others = NAMES.iter().filter(|other| **other != name);

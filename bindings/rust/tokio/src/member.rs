@@ -67,7 +67,7 @@ impl Member {
     fn link(&mut self, to: &Name) -> Option<&Sender<Vec<u8>>> {
         let place = *self.places.get(to)?;
         Some(self.links.entry(*to).or_insert_with(|| {
-            let (sender, bytes) = channel(1);
+            let (sender, bytes) = channel(16);
             let (peer, told) = (*to, self.told.clone());
             tokio::spawn(async move {
                 if write_all(place, bytes, &told).await.is_err() {
@@ -78,14 +78,16 @@ impl Member {
         }))
     }
 
-    /// Gives a peer's task the first of what waits for it, unless it has not written what it was given before.
+    /// Gives a peer's task what waits for it, as far as it has room.
     fn send(&mut self, to: &Name) -> Result<(), Error> {
-        let bytes = self.node.transmit(to).map(|part| part.to_vec()).concat();
-        let count = bytes.len();
-        match self.link(to).map(|link| link.try_send(bytes)) {
-            Some(Ok(())) => self.node.transmitted(to, count),
-            Some(Err(TrySendError::Full(_))) => {}
-            _ => self.node.unreachable(to, &(self.roll)())?,
+        while self.node.waiting(to) > 0 {
+            let bytes = self.node.transmit(to).map(|part| part.to_vec()).concat();
+            let count = bytes.len();
+            match self.link(to).map(|link| link.try_send(bytes)) {
+                Some(Ok(())) => self.node.transmitted(to, count),
+                Some(Err(TrySendError::Full(_))) => break,
+                _ => self.node.unreachable(to, &(self.roll)())?,
+            }
         }
         Ok(())
     }
