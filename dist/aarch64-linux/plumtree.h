@@ -249,6 +249,11 @@ int32_t plumtree_wire_unreachable(plumtree_node *node, const uint8_t *name, size
  * ROOM_TOO_SMALL: the room has as many of the first as it has places for. */
 int32_t plumtree_wire_receivers(plumtree_node *node, plumtree_name *room, size_t room_size, size_t *length);
 
+/* How many bytes wait for the name. Broadcast only while little waits for the fullest one, say less than a quarter of a
+ * megabyte, and a slow peer holds you up instead of being hung up at the limit. BAD_NAME, before all else. `count` is
+ * unchanged unless DONE. Never NUMBERS_SPENT or OUT_OF_MEMORY. */
+int32_t plumtree_wire_waiting(plumtree_node *node, const uint8_t *name, size_t name_length, size_t *count);
+
 /* Lends the first of the bytes that wait for the name, in order, in pieces of which some may be empty. They stay in the
  * node, and may be read until the next call with it. NONE: no bytes wait for this name. BAD_NAME, before all else.
  * Never NUMBERS_SPENT or OUT_OF_MEMORY. */
