@@ -49,7 +49,7 @@ pub extern "C" fn plumtree_wire_receivers(
 /// Counts the bytes that wait for the name.
 ///
 /// `count` is their number, and is unchanged where this is not answered with 1. Who broadcasts only while little waits for
-/// the fullest name never has more wait than the node's limits let.
+/// the fullest name is held up by a slow peer, where its link would fail at the limit.
 #[unsafe(no_mangle)]
 pub extern "C" fn plumtree_wire_waiting(
     slot: &mut Slot,
