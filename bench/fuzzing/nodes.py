@@ -8,6 +8,8 @@ ME, RUN = "c", "c/1"
 NO_CONNECTION = "there is no such connection"
 # A name goes down before much more waits for it than may: by this many bytes, which the step sends that takes another down.
 SLACK = 4_096
+# How many messages that it asked for may be on their way.
+MOST_ASKED = 128
 
 
 class Speaker(Writer):
@@ -151,6 +153,7 @@ class Model:
         ensure(answer == "done" and first == "flush", "a tick flushes first")
         ensure((fired[-1:] == ["shuffle"]) == (self.ticks % 10 == 0), "every tenth tick shuffles")
         ensure(len(fired) == (self.ticks % 10 == 0) or self.ticks % 5 == 0, "timers fire at every fifth tick alone")
+        ensure(len(fired) <= MOST_ASKED + 1, "it asks for no more messages than may be on their way")
         for it in fired[:-1] if self.ticks % 10 == 0 else fired:
             ensure(it.startswith("fire ") and it[5:] not in self.payloads, "a timer fires for what is known")
 

@@ -57,8 +57,8 @@ class WireNode(Kept):
         return number.value
 
     def tick(self, dice: Sequence[int] = _ZEROS) -> None:
-        """Makes a tick: sends queued announcements, at every fifth tick asks for what is missing since the fifth before, and
-        at every tenth shuffles."""
+        """Makes a tick: sends queued announcements, at every fifth tick asks for what is missing since the fifth before, for
+        128 messages at once at most and for others as these come, and at every tenth shuffles."""
         _is_done(LIBRARY.plumtree_wire_tick(self._slot, Dice(*dice)))
 
     def accept(self) -> int:

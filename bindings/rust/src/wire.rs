@@ -112,8 +112,8 @@ impl WireNode {
         Ok(number)
     }
 
-    /// Makes a tick: sends queued announcements, at every fifth tick asks for what is missing since the fifth before, and
-    /// at every tenth shuffles.
+    /// Makes a tick: sends queued announcements, at every fifth tick asks for what is missing since the fifth before, for
+    /// 128 messages at once at most and for others as these come, and at every tenth shuffles.
     pub fn tick(&mut self, dice: &Dice) -> Result<(), Error> {
         // SAFETY: the slot is valid, and there are sixteen words.
         is_done(unsafe { sys::plumtree_wire_tick(&mut self.handle.slot, &dice.0) }).map(drop)

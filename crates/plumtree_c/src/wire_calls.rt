@@ -68,7 +68,7 @@ pub extern "C" fn plumtree_wire_unreachable(
 }
 
 /// Makes a tick: flushes, at every fifth tick since the start asks for each message that was announced before the fifth
-/// tick before and did not come, and at every tenth shuffles.
+/// tick before and did not come, for 128 at once at most and for others as these come, and at every tenth shuffles.
 ///
 /// If a step is refused, those before it are made, and the tick does not count: call again.
 #[unsafe(no_mangle)]

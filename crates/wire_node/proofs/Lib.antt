@@ -9,4 +9,5 @@ pub mod Leading
 pub mod Sending
 pub mod Stepping
 pub mod Taking
+pub mod Turns
 pub mod Weaving

@@ -1,5 +1,5 @@
 -- A step, put together.
-use Rattle.std.specs.Prelude.{◌≡◌, Bool, true, false, List, [], ◌∷◌, ◌++◌, Option, Result, Ok, Err, OnOk, get_or, is_err, map, not, drop, refl, if◌then◌else◌}
+use Rattle.std.specs.Prelude.{◌≡◌, Bool, true, false, List, [], ◌∷◌, ◌++◌, Option, Result, Ok, Err, OnErr, OnOk, get_or, is_err, map, not, drop, refl, if◌then◌else◌}
 use Rattle.std.proofs.Common.{◌∙◌, ap, subst, sym}
 use Rattle.node_names.specs.NodeName.{Name}
 use Rattle.node_names.specs.Same.{same_name}
@@ -16,6 +16,10 @@ use Rattle.wire_node.proofs.Drafting.{waits_more}
 
 abbrev pub machine : Plum → List Waiting → List Delivery → Option Noted → Machine
 machine core waiting pending noted = record { core = core; waiting = waiting; pending = pending; noted = noted }
+
+pub on_err : {X E : Type 0} (P : Type 0) (r : Result X E) → P → OnErr r P
+on_err P (Ok x) h = tt
+on_err P (Err x) h = h
 
 pub on_ok : {X E : Type 0} (P : Type 0) (r : Result X E) → is_err r ≡ false → OnOk r P → P
 on_ok P (Ok x) e h = h

@@ -3,5 +3,7 @@ pub mod Moving
 pub mod Node
 pub mod Receiving
 pub mod Recording
+pub mod Refusing
+pub mod Ticking
 pub mod Waiting
 pub mod Weave

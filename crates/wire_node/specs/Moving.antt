@@ -1,13 +1,12 @@
 -- What a node of bytes does at a step: the step itself, and then names go down for whom too much waits.
-use Rattle.std.specs.Prelude.{◌≡◌, ◌≢◌, ◌%◌, ◌++◌, ℕ, List, [], ◌∷◌, filter, map, replicate}
+use Rattle.std.specs.Prelude.{◌≡◌, ◌++◌, ℕ, List, [], ◌∷◌, replicate}
 use Rattle.node_names.specs.NodeName.{Name}
-use Rattle.node_names.specs.Same.{has_id}
 use Rattle.node_names.specs.declared.dice.Dice.{Dice}
 use Rattle.node_names.specs.declared.ids.MsgId.{MsgId}
 use Rattle.world.specs.DeliveryLaw.{ids}
 use Rattle.world.specs.PayloadLaw.{next_id}
 use Rattle.world.specs.Stimulus.{Stimulus}
-use Rattle.world.specs.declared.stimulus.StimulusOf.TheVariants.{Arrive, Broadcast, Fire, Flush, Shuffle}
+use Rattle.world.specs.declared.stimulus.StimulusOf.TheVariants.{Arrive, Broadcast, Fire}
 use Rattle.frames.specs.Frame.{Frame}
 use Rattle.node_core.specs.Plum.{plum_state}
 use Rattle.wire_node.specs.Acting.{Acts, GoDown, GoesDown, Machine}
@@ -58,20 +57,3 @@ firing dice id = (Fire id, dice)
 pub record GoesAway (old : Engine) (name : Name) (dice : Dice) (new : Engine) : Type 0 where
   pub down : GoesDown old.machine name dice new.machine
   pub noted : new.lost ≡ old.lost ++ name ∷ []
-
--- At a fifth tick each timer fired that was armed at the fifth tick before and still is, and those were noted that are
--- armed then. At another nothing changed.
-pub record Asks (old : Engine) (waited : List MsgId) (ticks : ℕ) (dice : Dice) (new : Engine) (waited' : List MsgId) : Type 0 where
-  pub fires : ticks % 5 ≡ 0 → MovesAll old (map (firing dice) (filter (has_id old.machine.core.gossip.missing.timers) waited)) new
-  pub notes : ticks % 5 ≡ 0 → waited' ≡ new.machine.core.gossip.missing.timers
-  pub stays : ticks % 5 ≢ 0 → (new ≡ old) × (waited' ≡ waited)
-
--- The steps of a tick: all that was queued was sent, at a fifth tick it was asked for what did not come since the fifth
--- before, and at a tenth tick the passive view was shuffled.
-pub record TickSteps (old : Engine) (waited : List MsgId) (ticks : ℕ) (dice : Dice) (new : Engine) (waited' : List MsgId) : Type 0 where
-  pub flushed : Engine
-  pub asked : Engine
-  pub flushes : Moves old Flush dice flushed
-  pub asks : Asks flushed waited ticks dice asked waited'
-  pub shuffles : ticks % 10 ≡ 0 → Moves asked (Shuffle dice) dice new
-  pub stays : ticks % 10 ≢ 0 → new ≡ asked

@@ -1,25 +1,27 @@
 -- A node of bytes, and what its calls do to it.
-use Rattle.std.specs.Prelude.{◌≡◌, ◌++◌, ◌⊎◌, ℕ, List, [], ◌∷◌, Option, Some, filter, nat_eq, not, slice_get, slice_set}
+use Rattle.std.specs.Prelude.{◌≡◌, ◌&&◌, ◌||◌, ℕ, Bool, false, List, [], Option, None, Some, MatchBool, filter, length, nat_eq, nat_lt, not, slice_get, slice_set}
+use Rattle.std.specs.List.{list_any}
 use Rattle.node_names.specs.NodeName.{Name}
 use Rattle.node_names.specs.Limits.{Limits}
+use Rattle.node_names.specs.Same.{has_name, same_name}
 use Rattle.node_names.specs.declared.dice.Dice.{Dice}
-use Rattle.node_names.specs.declared.ids.MsgId.{MsgId}
 use Rattle.node_names.specs.declared.ids.Origin.{Origin}
 use Rattle.world.specs.Output.{Output}
 use Rattle.frames.specs.Frame.{Frame}
+use Rattle.node_core.specs.Plum.{plum_state}
 use Rattle.node_core.specs.Steps.{PlumStarts}
-use Rattle.wire_node.specs.Moving.{Engine, GoesAway, TickSteps}
+use Rattle.wire_node.specs.Moving.{Engine, GoesAway}
 use Rattle.wire_node.specs.Receiving.{Connection, Receives}
 use Rattle.wire_node.specs.Recording.{Noted, opened}
+use Rattle.wire_node.specs.Ticking.{Asking, TickSteps}
 use Rattle.wire_node.specs.Waiting.{mail_for, settled_for}
 
--- The core with what its steps left; the connections; how many ticks were made; and the ids whose timers were armed at
--- the last fifth tick.
+-- The core with what its steps left; the connections; how many ticks were made; and what it is to ask for.
 pub record NodeState : Type 0 where
   pub engine : Engine
   pub connections : List Connection
   pub ticks : ℕ
-  pub waited : List MsgId
+  pub asking : Asking
 
 -- The node started, what its start sends waits for its receivers, and its opening is noted.
 pub record Starts (me : Origin) (limits : Limits) (peers : List Name) (contact : Option Name) (noted : Option Noted) (node : NodeState) : Type 0 where
@@ -32,7 +34,7 @@ pub record Starts (me : Origin) (limits : Limits) (peers : List Name) (contact :
   pub lost : node.engine.lost ≡ []
   pub connections : node.connections ≡ []
   pub ticks : node.ticks ≡ 0
-  pub waited : node.waited ≡ []
+  pub asking : node.asking ≡ record { waited = []; due = []; asked = [] }
 
 -- The bytes came over the connection of this number: the whole frames of the first `count` were taken, and what was no
 -- whole frame yet is kept. The others were not looked at, and nothing else changed.
@@ -45,24 +47,39 @@ pub record Hears (old : NodeState) (number : ℕ) (bytes : List ℕ) (count : �
   pub receives : Receives old.engine link bytes count new.engine link'
   pub connections : new.connections ≡ slice_set old.connections place link'
   pub ticks : new.ticks ≡ old.ticks
-  pub waited : new.waited ≡ old.waited
+  pub asking : new.asking ≡ old.asking
 
 -- A tick was made.
 pub record Ticks (old : NodeState) (dice : Dice) (new : NodeState) : Type 0 where
-  pub steps : TickSteps old.engine old.waited new.ticks dice new.engine new.waited
+  pub steps : TickSteps old.engine old.asking new.ticks dice new.engine new.asking
   pub connections : new.connections ≡ old.connections
 
--- The peer, if there is one, went down, or nothing changed.
-abbrev pub EndsPeer : Engine → Option Name → Dice → Engine → Type 0
-EndsPeer old peer dice new = (new ≡ old) ⊎ ((name : Name) × (peer ≡ Some name) × GoesAway old name dice new)
+-- whether the name may go down: the core keeps a link to it, or bytes wait for it
+abbrev pub is_up : Engine → Name → Bool
+is_up engine name = has_name (plum_state engine.machine.core).active name || nat_lt 0 (length (settled_for engine.machine.waiting name))
 
--- The connection of this number is gone, with what was no whole frame. Its peer went down, or nothing else changed.
+-- whether a connection has this peer
+abbrev pub has_peer : Option Name → Name → Bool
+has_peer None name = false
+has_peer (Some peer) name = same_name peer name
+
+-- whether a connection of another number has this peer
+abbrev pub has_other : List Connection → ℕ → Name → Bool
+has_other links number name = list_any (λ (link : Connection). not (nat_eq link.number number) && has_peer link.peer name) links
+
+-- The peer of the connection of this number, if it has one, went down where it was up and has no other connection. Else
+-- nothing changed.
+abbrev pub EndsPeer : Engine → List Connection → ℕ → Option Name → Dice → Engine → Type 0
+EndsPeer old links number None dice new = new ≡ old
+EndsPeer old links number (Some name) dice new = MatchBool (is_up old name && not (has_other links number name)) (GoesAway old name dice new) (new ≡ old)
+
+-- The connection of this number is gone, with what was no whole frame, and its peer may have gone down.
 pub record Closes (old : NodeState) (number : ℕ) (dice : Dice) (new : NodeState) : Type 0 where
   pub place : ℕ
   pub link : Connection
   pub at : slice_get old.connections place ≡ Some link
   pub its_number : link.number ≡ number
-  pub downs : EndsPeer old.engine link.peer dice new.engine
+  pub downs : EndsPeer old.engine old.connections number link.peer dice new.engine
   pub connections : new.connections ≡ filter (λ (other : Connection). not (nat_eq other.number number)) old.connections
   pub ticks : new.ticks ≡ old.ticks
-  pub waited : new.waited ≡ old.waited
+  pub asking : new.asking ≡ old.asking

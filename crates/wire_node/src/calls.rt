@@ -1,7 +1,9 @@
 //! The calls that make a node of bytes step.
-ghost use Rattle.std.specs.Prelude.{◌≡◌, IfOk, OnErr, OnOk};
+ghost use Rattle.std.specs.Prelude.{◌≡◌, IfErr, IfOk, OnErr, OnOk};
 ghost use Rattle.wire_node.specs.Moving.{Broadcasts, GoesAway};
 ghost use Rattle.wire_node.specs.Node.{Ticks};
+ghost use Rattle.wire_node.specs.Refusing.{IsRefusal};
+ghost use Rattle.wire_node.specs.Ticking.{IsCutShort};
 
 use crate::error::WireError;
 use crate::node::WireNode;
@@ -10,6 +12,7 @@ use crate::ticking::make_tick;
 use bytes::Bytes;
 use node_names::{Dice, MsgId, NodeName};
 use std::alloc::Allocator;
+use world::StimulusOf;
 
 impl<A: Allocator + Copy, R: Record<A> + Drop> WireNode<A, R> {
     /// Broadcasts a message, and delivers it to its own caller too. The payload is shared with whoever else has it.
@@ -18,6 +21,7 @@ impl<A: Allocator + Copy, R: Record<A> + Drop> WireNode<A, R> {
         ensures ok { IfOk result (λ id. Broadcasts self.old.engine payload id self.new.engine) }
         ensures rest { self.new ≡ record self.old { engine = self.new.engine } }
         ensures err { OnErr result (self.new ≡ self.old) }
+        ensures why { IfErr result (IsRefusal self.old.engine.machine.core (StimulusOf.Broadcast payload)) }
     {
         match self.engine.broadcast(payload) {
             Ok(id) => Ok(id),
@@ -30,6 +34,7 @@ impl<A: Allocator + Copy, R: Record<A> + Drop> WireNode<A, R> {
         ensures ok { OnOk result (GoesAway self.old.engine name dice.now self.new.engine) }
         ensures rest { self.new ≡ record self.old { engine = self.new.engine } }
         ensures err { OnErr result (self.new ≡ self.old) }
+        ensures why { IfErr result (IsRefusal self.old.engine.machine.core (StimulusOf.Down name dice.now)) }
     {
         if let Err(error) = self.engine.take_down(name, dice) {
             return Err(WireError::of_core(error));
@@ -37,15 +42,20 @@ impl<A: Allocator + Copy, R: Record<A> + Drop> WireNode<A, R> {
         Ok(())
     }
 
-    /// Makes a tick: flushes, at every fifth tick since the start asks for each message that was announced before the
-    /// fifth tick before and did not come, and at every tenth shuffles. If a step is refused, those before it are made,
-    /// and the tick does not count: call again.
+    /// Makes a tick: sends what is queued, asks for messages that did not come, and at every tenth tick shuffles.
+    ///
+    /// A turn of asking begins at a fifth tick, for what was announced before the turn before ended and did not come.
+    /// At most 128 messages that were asked for may be on their way, so that the answers fit into what may wait for a
+    /// name; the others follow at the next ticks, as these come. At every 25th tick what did not come is taken for lost.
+    ///
+    /// If a step is refused, those before it are made, and the tick does not count: call again.
     pub fn tick(&mut self, dice: &Dice) -> Result<(), WireError>
         ensures ok { OnOk result (Ticks self.old dice.now self.new) }
-        ensures err { OnErr result (self.new ≡ record self.old { engine = self.new.engine; waited = self.new.waited }) }
+        ensures err { OnErr result (self.new ≡ record self.old { engine = self.new.engine; asking = self.new.asking }) }
+        ensures made { OnErr result (IsCutShort self.old.engine dice.now self.new.engine) }
     {
         let ticks = self.ticks.wrapping_add(1);
-        if let Err(error) = make_tick(&mut self.engine, &mut self.waited, ticks, dice) {
+        if let Err(error) = make_tick(&mut self.engine, &mut self.asking, ticks, dice) {
             return Err(WireError::of_core(error));
         }
         self.ticks = ticks;

@@ -1,5 +1,6 @@
 //! What came over a connection and is no whole frame yet.
 ghost use Rattle.std.specs.Prelude.{◌≡◌, ◌<◌, ◌≤◌, ◌++◌, [], ℕ, None, drop, length, take, IfOk, OnErr};
+ghost use Rattle.wire_node.specs.Node.{has_peer};
 
 use frames::{MAX_BODY, MAX_FRAME};
 use node_names::NodeName;
@@ -53,6 +54,16 @@ impl<A: Allocator> Connection<A> {
     {
         self.peer
     }
+
+    /// Whether its first frame came from the name.
+    pub(crate) fn has_peer(&self, name: &NodeName) -> bool
+        ensures { result ≡ has_peer self.now.peer name.now }
+    {
+        match self.peer {
+            Some(peer) => peer == *name,
+            None => false,
+        }
+    }
 }
 
 /// The number of bytes at the front of a frame that say how many follow.
@@ -66,12 +77,12 @@ pub(crate) fn after(bytes: &[u8], at: usize) -> &[u8]
     &bytes[at..]
 }
 
-/// Drops the first bytes.
-pub(crate) fn drop_front<A: Allocator>(left: &mut Vec<u8, A>, count: usize)
-    requires { count ≤ length left.old.items }
-    ensures { left.new.items ≡ drop count left.old.items }
+/// Drops the first items.
+pub(crate) fn drop_front<T: Copy, A: Allocator>(items: &mut Vec<T, A>, count: usize)
+    requires { count ≤ length items.old.items }
+    ensures { items.new.items ≡ drop count items.old.items }
 {
-    left.drain(..count);
+    items.drain(..count);
 }
 
 /// How many bytes the frame has that begins so, as far as that is known.

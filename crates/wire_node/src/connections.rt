@@ -1,6 +1,6 @@
 //! The connections of a node of bytes.
 ghost use Rattle.std.specs.Prelude.{◌≡◌, ◌⊎◌, ◌∷◌, ◌++◌, [], None, filter, length, nat_eq, not, position, IfErr, IfOk, OnErr, OnOk};
-ghost use Rattle.wire_node.specs.Node.{Closes, EndsPeer, Hears};
+ghost use Rattle.wire_node.specs.Node.{Closes, EndsPeer, Hears, has_other};
 ghost use Rattle.wire_node.specs.Receiving.{IsPartial, Receives};
 
 use crate::connection::Connection;
@@ -48,14 +48,12 @@ fn receive_at<A: Allocator + Copy, R: Record<A> + Drop, D: DiceSource>(
 }
 
 /// Whether another of the connections has this peer.
-fn has_other<A: Allocator>(
-    connections: &[Connection<A>],
-    id: ConnectionId,
-    peer: &NodeName,
-) -> bool {
+fn has_other<A: Allocator>(connections: &[Connection<A>], id: ConnectionId, peer: &NodeName) -> bool
+    ensures { result ≡ has_other connections.now id.0 peer.now }
+{
     connections
         .iter()
-        .any(|link| link.number() != id.0 && link.peer() == Some(*peer))
+        .any(|link| link.number() != id.0 && link.has_peer(peer))
 }
 
 /// Takes the peer of a connection that has ended down, unless it is down already or has another connection.
@@ -66,7 +64,7 @@ fn end_peer<A: Allocator + Copy, R: Record<A> + Drop>(
     peer: Option<NodeName>,
     dice: &Dice,
 ) -> Result<(), CoreError>
-    ensures ok { OnOk result (EndsPeer engine.old peer dice.now engine.new) }
+    ensures ok { OnOk result (EndsPeer engine.old connections.now id.0 peer dice.now engine.new) }
     ensures err { OnErr result (engine.new ≡ engine.old) }
 {
     let Some(name) = peer else {

@@ -1,6 +1,9 @@
 //! Names that are down: the core is told, and what waited for them is dropped.
-ghost use Rattle.std.specs.Prelude.{◌≡◌, ◌≤◌, ◌∷◌, ◌++◌, [], All, IsNone, OnErr, OnOk, length, not};
+ghost use Rattle.std.specs.Prelude.{◌≡◌, ◌≤◌, ◌∷◌, ◌++◌, [], All, IsErrOf, IsNone, OnErr, OnOk, length, not};
 ghost use Rattle.node_names.specs.Same.{same_name};
+ghost use Rattle.world.specs.IdentityLaw.{IsTooLong};
+ghost use Rattle.frames.specs.Frame.{Frame as Sent};
+ghost use Rattle.node_core.specs.Steps.{PlumIsSpent};
 ghost use Rattle.wire_node.specs.Acting.{AreSettled, GoesDown, without};
 ghost use Rattle.wire_node.specs.Moving.{Relieves};
 
@@ -39,6 +42,8 @@ pub(crate) fn take_down<A: Allocator + Copy, R: Record<A>>(
     ensures lost { OnOk result (lost.new ≡ lost.old ++ name ∷ []) }
     ensures settled { AreSettled entries.new.items }
     ensures err { OnErr result ((core.new ≡ core.old) × (entries.new.items ≡ entries.old.items) × (pending.new ≡ pending.old) × (R.noted notes.new ≡ R.noted notes.old) × (lost.new ≡ lost.old)) }
+    ensures too_long { IsErrOf result CoreError.PayloadTooLong → IsTooLong {N = Sent} (StimulusOf.Down name dice.now) }
+    ensures spent { IsErrOf result CoreError.SeqSpent → PlumIsSpent core.old (StimulusOf.Down name dice.now) }
 {
     let before = lost.len();
     lost.push(name)?;

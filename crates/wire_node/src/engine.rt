@@ -1,10 +1,14 @@
 //! The core of a node, with what its steps leave to be taken.
-ghost use Rattle.std.specs.Prelude.{◌≡◌, List, ◌∷◌, [], ◌++◌, Some, IfOk, OnErr, OnOk, length};
+ghost use Rattle.std.specs.Prelude.{◌≡◌, List, ◌∷◌, [], ◌++◌, Some, IfOk, IsErrOf, OnErr, OnOk, length};
 ghost use Rattle.node_names.specs.Same.{has_id};
+ghost use Rattle.world.specs.IdentityLaw.{IsTooLong};
 ghost use Rattle.world.specs.Delivery.{Delivery as Given};
+ghost use Rattle.frames.specs.Frame.{Frame as Sent};
+ghost use Rattle.node_core.specs.Plum.{plum_state};
+ghost use Rattle.node_core.specs.Steps.{PlumIsSpent};
 ghost use Rattle.wire_node.specs.Moving.{Broadcasts, GoesAway, Moves};
+ghost use Rattle.wire_node.specs.Node.{is_up};
 ghost use Rattle.wire_node.specs.Waiting.{settled_for};
-ghost use Rattle.world.specs.declared.stimulus.StimulusOf.TheVariants as stimulus;
 
 use crate::downs::{relieve, take_down};
 use crate::entry::Entry;
@@ -93,6 +97,13 @@ impl<A: Allocator + Copy, R: Record<A> + Drop> Engine<A, R> {
         self.core.is_armed(id)
     }
 
+    /// Whether the message came.
+    pub(crate) fn has(&self, id: &MsgId) -> bool
+        ensures { result ≡ (plum_state self.now.machine.core).has id.now }
+    {
+        self.core.has(id)
+    }
+
     /// The ids whose timers are armed.
     pub(crate) fn armed(&self) -> Result<Vec<MsgId, A>, AllocError>
         ensures { IfOk result (λ ids. ids.items ≡ self.now.machine.core.gossip.missing.timers) }
@@ -108,7 +119,9 @@ impl<A: Allocator + Copy, R: Record<A> + Drop> Engine<A, R> {
     }
 
     /// Whether the name is one that may go down: the core keeps a link to it, or bytes wait for it.
-    pub(crate) fn is_up(&self, name: &NodeName) -> bool {
+    pub(crate) fn is_up(&self, name: &NodeName) -> bool
+        ensures { result ≡ is_up self.now name.now }
+    {
         self.core.active().contains(name) || waiting_for(&self.entries, name) > 0
     }
 
@@ -120,6 +133,8 @@ impl<A: Allocator + Copy, R: Record<A> + Drop> Engine<A, R> {
     ) -> Result<(), CoreError>
         ensures ok { OnOk result (Moves self.old stimulus.now dice.now self.new) }
         ensures err { OnErr result (self.new ≡ self.old) }
+        ensures too_long { IsErrOf result CoreError.PayloadTooLong → IsTooLong stimulus.now }
+        ensures spent { IsErrOf result CoreError.SeqSpent → PlumIsSpent self.old.machine.core stimulus.now }
     {
         make_step(
             &mut self.core,
@@ -145,6 +160,8 @@ impl<A: Allocator + Copy, R: Record<A> + Drop> Engine<A, R> {
     pub(crate) fn broadcast(&mut self, payload: Bytes<A>) -> Result<MsgId, CoreError>
         ensures ok { IfOk result (λ id. Broadcasts self.old payload id self.new) }
         ensures err { OnErr result (self.new ≡ self.old) }
+        ensures too_long { IsErrOf result CoreError.PayloadTooLong → IsTooLong {N = Sent} (StimulusOf.Broadcast payload) }
+        ensures spent { IsErrOf result CoreError.SeqSpent → PlumIsSpent self.old.machine.core (StimulusOf.Broadcast payload) }
     {
         make_step(
             &mut self.core,
@@ -172,6 +189,8 @@ impl<A: Allocator + Copy, R: Record<A> + Drop> Engine<A, R> {
     pub(crate) fn take_down(&mut self, name: NodeName, dice: &Dice) -> Result<(), CoreError>
         ensures ok { OnOk result (GoesAway self.old name dice.now self.new) }
         ensures err { OnErr result (self.new ≡ self.old) }
+        ensures too_long { IsErrOf result CoreError.PayloadTooLong → IsTooLong {N = Sent} (StimulusOf.Down name dice.now) }
+        ensures spent { IsErrOf result CoreError.SeqSpent → PlumIsSpent self.old.machine.core (StimulusOf.Down name dice.now) }
     {
         take_down(
             &mut self.core,

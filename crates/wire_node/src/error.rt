@@ -1,4 +1,7 @@
 //! Why a node of bytes refuses a call.
+ghost use Rattle.std.specs.Prelude.{◌≡◌};
+ghost use Rattle.wire_node.specs.Refusing.{refusal_of};
+
 use frames::FrameFault;
 use std::alloc::AllocError;
 use thiserror::Error;
@@ -26,7 +29,9 @@ pub enum WireError {
 
 impl WireError {
     /// The refusal of a step.
-    pub(crate) fn of_core(error: CoreError) -> WireError {
+    pub(crate) fn of_core(error: CoreError) -> WireError
+        ensures { result ≡ refusal_of error }
+    {
         match error {
             CoreError::OutOfMemory => WireError::OutOfMemory,
             CoreError::PayloadTooLong | CoreError::SeqSpent => WireError::Refused(error),

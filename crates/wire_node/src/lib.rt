@@ -3,6 +3,7 @@
 #![tactic(auto)]
 
 mod arriving;
+mod asking;
 mod calls;
 mod connection;
 mod connections;

@@ -2,14 +2,15 @@
 ghost use Rattle.std.specs.Prelude.{◌≡◌, [], IfOk};
 ghost use Rattle.wire_node.specs.Node.{Starts};
 
+use crate::asking::Asking;
 use crate::connection::Connection;
 use crate::engine::Engine;
 use crate::error::WireError;
 use crate::limits::WireLimits;
-use crate::opening::{first_entries, start_core};
+use crate::opening::{beside, first_mail, start_core};
 use crate::record::{Record, Unrecorded};
 use node_core::PlumCore;
-use node_names::{Listed, MsgId, NodeName, Origin};
+use node_names::{Listed, NodeName, Origin};
 use std::alloc::{Allocator, Global};
 use std::marker::Model;
 use world::{Out, are_peers};
@@ -28,8 +29,7 @@ pub struct WireNode<A: Allocator = Global, R: Record<A> + Drop = Unrecorded> {
     /// How many connections were numbered.
     pub(crate) numbered: u64,
     pub(crate) ticks: u64,
-    /// The ids whose timers were armed at the last fifth tick.
-    pub(crate) waited: Vec<MsgId, A>,
+    pub(crate) asking: Asking<A>,
 }
 
 impl<A: Allocator, R: Record<A> + Drop> Model for WireNode<A, R> {
@@ -43,7 +43,7 @@ impl<A: Allocator, R: Record<A> + Drop> Model for WireNode<A, R> {
 
     ghost coded = { Prim.hlevel (codes, set.code {R = id_cmp} id.the_row.coded) };
 
-    ghost view = { λ n. record { engine = n.engine; connections = n.connections.items; ticks = n.ticks; waited = n.waited.items } };
+    ghost view = { λ n. record { engine = n.engine; connections = n.connections.items; ticks = n.ticks; asking = n.asking } };
 }
 
 impl<A: Allocator + Copy, R: Record<A> + Drop> WireNode<A, R> {
@@ -64,8 +64,8 @@ impl<A: Allocator + Copy, R: Record<A> + Drop> WireNode<A, R> {
         }
         let mut out = Out::new(alloc);
         let core = start_core(alloc, me, &limits, peers, contact, &mut out)?;
-        let entries = first_entries(alloc, out.sends.as_slice())?;
-        notes.open(&out)?;
+        let mail = first_mail(alloc, &out, &mut notes);
+        let (core, entries) = beside(core, mail)?;
         Ok(WireNode {
             engine: Engine {
                 core,
@@ -79,7 +79,7 @@ impl<A: Allocator + Copy, R: Record<A> + Drop> WireNode<A, R> {
             connections: Vec::new(alloc),
             numbered: 0,
             ticks: 0,
-            waited: Vec::new(alloc),
+            asking: Asking::new(alloc),
         })
     }
 

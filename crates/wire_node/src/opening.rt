@@ -1,16 +1,18 @@
 //! The start of a node: its core, and what its first frames have wait.
-ghost use Rattle.std.specs.Prelude.{◌≡◌, [], List, IfOk, IsTrue, OnOk};
+ghost use Rattle.std.specs.Prelude.{◌≡◌, [], List, Result, IfOk, IsTrue, OnOk};
 ghost use Rattle.node_names.specs.NodeName.{Name};
 ghost use Rattle.frames.specs.Frame.{Frame as Sent};
 ghost use Rattle.world.specs.Peers.{are_peers};
 ghost use Rattle.node_core.specs.Steps.{PlumStarts};
 ghost use Rattle.wire_node.specs.Acting.{AreSettled};
+ghost use Rattle.wire_node.specs.Recording.{opened};
 ghost use Rattle.wire_node.specs.Waiting.{mail_for, settled_for};
 
 use crate::drafts::{draft_all, settle_all};
 use crate::entry::Entry;
 use crate::error::WireError;
 use crate::limits::WireLimits;
+use crate::record::Record;
 use frames::Frame;
 use node_core::PlumCore;
 use node_names::{NodeName, Origin};
@@ -38,7 +40,7 @@ pub(crate) fn start_core<A: Allocator + Copy>(
 }
 
 /// What waits if these frames are the first.
-pub(crate) fn first_entries<A: Allocator + Copy>(
+fn first_entries<A: Allocator + Copy>(
     alloc: A,
     sends: &[(NodeName, Frame<A>)],
 ) -> Result<Vec<Entry<A>, A>, AllocError>
@@ -49,4 +51,30 @@ pub(crate) fn first_entries<A: Allocator + Copy>(
     draft_all(&mut entries, sends)?;
     settle_all(&mut entries);
     Ok(entries)
+}
+
+/// Notes what the start sends, and returns what waits then.
+pub(crate) fn first_mail<A: Allocator + Copy, R: Record<A>>(
+    alloc: A,
+    out: &Out<Frame<A>, A>,
+    notes: &mut R,
+) -> Result<Vec<Entry<A>, A>, WireError>
+    ensures waits { IfOk result (λ entries. (name : Name) → settled_for entries.items name ≡ mail_for out.now.sends name) }
+    ensures settled { IfOk result (λ entries. AreSettled entries.items) }
+    ensures notes { OnOk result (R.noted notes.new ≡ opened (R.noted notes.old) out.now) }
+{
+    let entries = first_entries(alloc, out.sends.as_slice())?;
+    notes.open(out)?;
+    Ok(entries)
+}
+
+/// The core beside the rest of the node, if there is one. It names no core's type, so that the prover follows the drop
+/// of the core by its trait alone.
+pub(crate) fn beside<C: Drop, T: Drop, E: Drop>(core: C, rest: Result<T, E>) -> Result<(C, T), E>
+    ensures { IfOk result (λ both. (both.0 ≡ core) × (rest ≡ Result.Ok both.1)) }
+{
+    match rest {
+        Ok(rest) => Ok((core, rest)),
+        Err(error) => Err(error),
+    }
 }

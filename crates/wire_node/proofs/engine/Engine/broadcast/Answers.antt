@@ -1,7 +1,9 @@
-use Rattle.std.proofs.Common.{◌≡◌, ◌∙◌, [], ◌∷◌, ap, subst, sym}
+use Rattle.std.proofs.Common.{◌≡◌, ◌∙◌, [], ◌∷◌, ap, rules, subst, sym}
 use Rattle.node_names.specs.declared.ids.MsgId.{MsgId}
 use Rattle.world.specs.PayloadLaw.{next_id}
+use Rattle.world.specs.declared.stimulus.StimulusOf.TheVariants.{Broadcast}
 use Rattle.node_core.specs.Plum.{plum_state}
+use Rattle.node_core.specs.Steps.{PlumIsSpent}
 use Rattle.node_core.specs.lawful.PlumDelivers.{plum_delivers_one}
 use Rattle.wire_node.specs.Moving.{Broadcasts, Engine}
 use Rattle.wire_node.proofs.Lasts.{last_id_is}
@@ -27,3 +29,6 @@ returns-clause-ok g c =
       its_id = one ∙ ap (λ (i : MsgId). i ∷ []) (sym its);
       next = its;
     })
+
+pub returns-in_err-make_step-clause-spent : goal.returns-in_err-make_step-clause-spent
+returns-in_err-make_step-clause-spent g c = λ e. subst (λ (n : Engine). PlumIsSpent n.machine.core (Broadcast c.args.payload)) c.self.view_is (c.in_err-make_step.ensures.spent (search rules))

@@ -1,5 +1,5 @@
 use Rattle.wire_node.proofs.GoingDown.{fires_more}
-use Rattle.wire_node.proofs.ticking.fire_each.Goals as goal
+use Rattle.wire_node.proofs.asking.fire_each.Goals as goal
 
 pub loop-id-preserved : goal.loop-id-preserved
 loop-id-preserved g c =
