@@ -24,11 +24,12 @@ pub struct Situation {
     pub waiting: usize,
 }
 
-/// From so many bytes on that wait for a name, a program should broadcast nothing more: 256 KiB.
-const BACKLOG: usize = 262_144;
+/// From so many bytes on that wait for a name, a program should broadcast nothing more: 32 KiB. Behind them lies what
+/// the system keeps of a connection, so more would make no link faster, and each message wait longer.
+const BACKLOG: usize = 32_768;
 
 impl Situation {
-    /// Whether the program should broadcast: less than 256 KiB wait for each name. Until that is so again, the program
+    /// Whether the program should broadcast: less than 32 KiB wait for each name. Until that is so again, the program
     /// is called once the node took something, or a link took what waits.
     pub fn may_broadcast(&self) -> bool {
         self.waiting < BACKLOG

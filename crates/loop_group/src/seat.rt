@@ -7,8 +7,12 @@ use std::alloc::AllocError;
 use std::time::Clock;
 use wire_node::WireError;
 
+/// How many texts a node broadcasts in one turn at most: the more these are, the longer each waits on its way for those
+/// that were broadcast with it.
+const TEXTS: usize = 16;
+
 /// From so many bytes on a node broadcasts nothing more in one turn.
-const TURN: usize = 262_144;
+const TURN: usize = 32_768;
 
 /// What a node of a group is to broadcast, and what it delivered.
 #[derive(Drop)]
@@ -24,7 +28,7 @@ pub(crate) struct Seat {
 }
 
 impl Seat {
-    /// Broadcasts at most `most` of the next texts, and some 256 KiB, until one is refused.
+    /// Broadcasts at most `most` of the next texts, and some 32 KiB, until one is refused.
     pub(crate) fn speak<R: Clock, N: GroupNode>(
         &mut self,
         rt: &R,
@@ -32,7 +36,7 @@ impl Seat {
         most: usize,
     ) -> Result<(), Shortage> {
         let mut left = TURN;
-        for _ in 0..Speech::TEXTS.min(most) {
+        for _ in 0..TEXTS.min(most) {
             if left == 0 {
                 return Ok(());
             }

@@ -8,10 +8,11 @@ use std::vec::IntoIter;
 use wire_node::WireError;
 use world::Delivery;
 
-/// How many messages a turn broadcasts at most.
-const BROADCASTS: usize = 64;
+/// How many messages a turn broadcasts at most: the more these are, the longer each waits on its way for those that were
+/// broadcast with it.
+const BROADCASTS: usize = 16;
 /// From so many bytes on a turn broadcasts nothing more.
-const TURN: usize = 262_144;
+const TURN: usize = 32_768;
 
 /// The end of a port in the loop.
 #[derive(Drop)]

@@ -125,7 +125,7 @@ impl Member {
     /// Whether little enough waits for the slowest peer.
     fn may_broadcast(&mut self) -> Result<bool, Error> {
         let names = self.node.receivers()?;
-        Ok(names.iter().all(|to| self.node.waiting(to) < 262_144))
+        Ok(names.iter().all(|to| self.node.waiting(to) < 32_768))
     }
 
     /// Runs the node until a call is refused, as for want of memory.
