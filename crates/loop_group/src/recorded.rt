@@ -52,6 +52,8 @@ impl GroupNode for WireNode<Global, Recorded> {
     ) -> Result<Option<Trace<Frame>>, AllocError> {
         let opening = self.take_opening();
         let steps = self.take_steps();
+        // The node goes before the first `?`, so that the prover follows its drop on one path alone.
+        drop(self);
         let alloc = *peers.allocator();
         let mut trace = Trace::new(alloc, me, Listed::from_vec(peers), contact, opening);
         append(&mut trace, steps)?;

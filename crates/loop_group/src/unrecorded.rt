@@ -42,6 +42,7 @@ impl GroupNode for WireNode {
         _peers: Vec<NodeName>,
         _contact: Option<NodeName>,
     ) -> Result<Option<Trace<Frame>>, AllocError> {
+        drop(self);
         Ok(None)
     }
 }

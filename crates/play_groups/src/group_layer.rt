@@ -184,7 +184,10 @@ impl<C: Played<A>, A: Allocator + Copy> GroupLayer<C, A> {
 
 impl<C: Played<A>, A: Allocator + Copy> GroupLayer<C, A> {
     /// Takes a copy of a node's core out of the group: `take b`.
-    fn take(&mut self, node: &str, turn: &mut Turn<'_>) -> Outcome {
+    fn take(&mut self, words: &[&str], turn: &mut Turn<'_>) -> Outcome {
+        let [node] = words else {
+            return Outcome::Unknown;
+        };
         let Some(node) = name(node) else {
             return Outcome::Unknown;
         };
@@ -200,11 +203,13 @@ impl<C: Played<A>, A: Allocator + Copy> GroupLayer<C, A> {
     /// Starts a core alone, whose run has used up some numbers: `alone a/1 spent 0 framed 0 with peers b contact c`.
     fn start(
         &mut self,
-        me: &str,
         words: &[&str],
         turn: &mut Turn<'_>,
         said: &mut String,
     ) -> Result<Outcome, AllocError> {
+        let Some((me, words)) = words.split_first() else {
+            return Ok(Outcome::Unknown);
+        };
         let counts = words.split(|word| *word == "with").next().unwrap_or(&[]);
         let (Some(me), Some(spent), Some(framed), Some((peers, contact))) = (
             origin(me),
@@ -278,6 +283,19 @@ impl<C: Played<A>, A: Allocator + Copy> GroupLayer<C, A> {
         Ok(Outcome::Done)
     }
 
+    /// Brings the group to rest: `settle`.
+    fn settle(
+        &mut self,
+        words: &[&str],
+        turn: &mut Turn<'_>,
+        said: &mut String,
+    ) -> Result<Outcome, AllocError> {
+        if !words.is_empty() {
+            return Ok(Outcome::Unknown);
+        }
+        settle_group(self.alloc, &mut self.group, turn, said)
+    }
+
     /// Makes a call that changes the group or the core alone, and is no event.
     fn change(
         &mut self,
@@ -285,17 +303,20 @@ impl<C: Played<A>, A: Allocator + Copy> GroupLayer<C, A> {
         turn: &mut Turn<'_>,
         said: &mut String,
     ) -> Result<Outcome, AllocError> {
-        match words {
-            ["limits", words @ ..] => self.limit(words, said),
-            ["play", words @ ..] => self.play(words, turn, said),
-            ["run", words @ ..] => self.run(words, turn, said),
-            ["settle"] => settle_group(self.alloc, &mut self.group, turn, said),
-            ["take", node] => Ok(self.take(node, turn)),
-            ["alone", me, words @ ..] => self.start(me, words, turn, said),
-            ["about", words @ ..] => self.note(words),
-            ["prepare", words @ ..] => self.step(Part::Preparing, words, turn, said),
-            ["advance", words @ ..] => self.step(Part::Advancing, words, turn, said),
-            ["step", words @ ..] => self.step(Part::Whole, words, turn, said),
+        let Some((first, words)) = words.split_first() else {
+            return Ok(Outcome::Unknown);
+        };
+        match *first {
+            "limits" => self.limit(words, said),
+            "play" => self.play(words, turn, said),
+            "run" => self.run(words, turn, said),
+            "settle" => self.settle(words, turn, said),
+            "take" => Ok(self.take(words, turn)),
+            "alone" => self.start(words, turn, said),
+            "about" => self.note(words),
+            "prepare" => self.step(Part::Preparing, words, turn, said),
+            "advance" => self.step(Part::Advancing, words, turn, said),
+            "step" => self.step(Part::Whole, words, turn, said),
             _ => Ok(Outcome::Unknown),
         }
     }

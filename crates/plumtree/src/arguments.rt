@@ -226,35 +226,56 @@ fn subcommand<'a>(
     about: &'a str,
     example: &'a str,
 ) -> Result<Command<'a>, AllocError> {
-    let file = Arg::new(alloc, "FILE").help("The scenario, in TOML [default: standard input]");
-    let trace = flag(
-        alloc,
-        "trace",
-        "Prints each step and the group's last state instead of deliveries and trees",
-    );
-    let dot = flag(
-        alloc,
-        "dot",
-        "Prints the links and each message's tree as a Graphviz graph",
-    );
-    let message = Arg::new(alloc, "message")
-        .long("message")
-        .value_name("ID")
-        .requires_arg("dot")?
-        .help("With --dot, draws only this message, for instance a/1/2");
-    let strict = flag(
-        alloc,
-        "strict",
-        "Rejects unknown keys, unarmed timers and links that do not exist",
-    );
     Command::new(alloc, name)
         .about(about)
         .after_help(example)
-        .arg(trace.conflicts_with("dot")?)?
-        .arg(dot)?
-        .arg(message)?
-        .arg(strict)?
-        .arg(file)
+        .arg(trace(alloc)?)?
+        .arg(dot(alloc))?
+        .arg(message(alloc)?)?
+        .arg(strict(alloc))?
+        .arg(file(alloc))
+}
+
+/// The argument for a scenario's file.
+fn file<'a>(alloc: Global) -> Arg<'a> {
+    Arg::new(alloc, "FILE").help("The scenario, in TOML [default: standard input]")
+}
+
+/// The argument for a trace.
+fn trace<'a>(alloc: Global) -> Result<Arg<'a>, AllocError> {
+    flag(
+        alloc,
+        "trace",
+        "Prints each step and the group's last state instead of deliveries and trees",
+    )
+    .conflicts_with("dot")
+}
+
+/// The argument for a drawing.
+fn dot<'a>(alloc: Global) -> Arg<'a> {
+    flag(
+        alloc,
+        "dot",
+        "Prints the links and each message's tree as a Graphviz graph",
+    )
+}
+
+/// The argument for the message that is drawn alone.
+fn message<'a>(alloc: Global) -> Result<Arg<'a>, AllocError> {
+    let message = Arg::new(alloc, "message")
+        .long("message")
+        .value_name("ID")
+        .help("With --dot, draws only this message, for instance a/1/2");
+    message.requires_arg("dot")
+}
+
+/// The argument for strict reading.
+fn strict<'a>(alloc: Global) -> Arg<'a> {
+    flag(
+        alloc,
+        "strict",
+        "Rejects unknown keys, unarmed timers and links that do not exist",
+    )
 }
 
 /// An argument without a value, which is given or not.

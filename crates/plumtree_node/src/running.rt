@@ -193,10 +193,17 @@ fn trace_of<C: NodeCore<Global> + Drop>(
     ensures { IfOk result (IsHistory C.starts C.steps) }
 {
     match closed {
-        Ok(Closed { trace, .. }) => Ok(trace),
-        Err(CloseError::PortMissing { .. }) => Err(StopError::WorkerMissing),
-        Err(CloseError::Unlike { .. }) => Err(StopError::Unlike),
-        Err(CloseError::Torn { .. }) => Err(StopError::Torn),
-        Err(CloseError::OutOfMemory { .. }) => Err(StopError::Short(Shortage::Memory)),
+        Ok(closed) => Ok(closed.trace),
+        Err(error) => Err(stop_of(&error)),
+    }
+}
+
+/// Why a node that was closed is not as it should be.
+fn stop_of<C: NodeCore<Global> + Drop>(error: &CloseError<C>) -> StopError {
+    match error {
+        CloseError::PortMissing { .. } => StopError::WorkerMissing,
+        CloseError::Unlike { .. } => StopError::Unlike,
+        CloseError::Torn { .. } => StopError::Torn,
+        CloseError::OutOfMemory { .. } => StopError::Short(Shortage::Memory),
     }
 }
