@@ -24,6 +24,8 @@ const SMALL: Group = Group {
     messages: 3,
     bytes: 100,
     ticks: 100,
+    keep: 0,
+    pace: 0,
 };
 
 /// Prints how many messages were delivered, and how many of these were repeated.

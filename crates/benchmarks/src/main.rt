@@ -33,7 +33,8 @@ use std::thread::Threads;
 use std::time::Clock;
 
 /// The group that the arguments describe: the number of nodes, of messages besides the one that makes the tree, and of
-/// bytes, and the number of ticks after which the nodes are stopped if not all is delivered before.
+/// bytes, the number of ticks after which the nodes are stopped if not all is delivered before, the number of messages
+/// that a node keeps, 0 for all, and how many the first node broadcasts in a tick, 0 for as many as it can.
 fn group(words: &[String], host: Host) -> Result<Group> {
     Ok(Group {
         host,
@@ -41,6 +42,8 @@ fn group(words: &[String], host: Host) -> Result<Group> {
         messages: size(words, 3, 1_000)?.saturating_add(1),
         bytes: size(words, 4, 100)?,
         ticks: small(words, 5, 1_000)?,
+        keep: small(words, 6, 0)?,
+        pace: size(words, 7, 0)?,
     })
 }
 

@@ -25,6 +25,10 @@ pub(crate) struct Group {
     pub(crate) bytes: usize,
     /// The number of ticks after which the nodes are stopped.
     pub(crate) ticks: u32,
+    /// How many messages each node keeps, or 0 for all.
+    pub(crate) keep: u32,
+    /// How many messages it broadcasts in a tick, or 0 for as many as it can.
+    pub(crate) pace: usize,
 }
 
 /// Makes `count` messages of `bytes` bytes.

@@ -13,6 +13,9 @@ const PAUSE: u32 = 4;
 /// How long a tick takes, in milliseconds.
 const TICK: u64 = 20;
 
+/// How many messages are broadcast in a turn at most where they are paced.
+const BATCH: usize = 16;
+
 /// How far a run is.
 #[derive(Clone, Copy, Debug)]
 enum Stage {
@@ -40,6 +43,10 @@ pub(crate) struct Phase<R: Drop> {
     /// When it began, if the clock can be read, and how long it may take.
     start: Option<Instant>,
     limit: Duration,
+    /// How many messages may be broadcast in a tick, or 0 for as many as can be.
+    pace: usize,
+    /// How many of them are left in this tick.
+    left: usize,
     stage: Stage,
     /// For how many more turns nothing is done.
     pause: u32,
@@ -59,11 +66,23 @@ impl<R: Clock + Drop> Phase<R> {
             wanted: group.nodes.saturating_mul(group.messages),
             start,
             limit: Duration::from_millis(u64::from(group.ticks).saturating_mul(TICK)),
+            pace: group.pace,
+            left: 0,
             stage: Stage::Cold,
             pause: PAUSE,
             begin: None,
             end: None,
         }
+    }
+
+    /// How many messages may be broadcast in the next turn.
+    fn paced(&mut self) -> usize {
+        if self.pace == 0 {
+            return usize::MAX;
+        }
+        let most = self.left.min(BATCH);
+        self.left = self.left.saturating_sub(most);
+        most
     }
 
     /// Whether its ticks are over.
@@ -97,6 +116,7 @@ impl<R: AllocGlobal + Print + Files + Drop> Phase<R> {
 
 impl<R: AllocGlobal + Print + Files + Clock + Drop> Watch for Phase<R> {
     fn look(&mut self, _ticks: u64, _of: u32, deliveries: usize) {
+        self.left = self.pace;
         match self.stage {
             Stage::Warming if deliveries >= self.nodes => self.enter(Stage::Warm, "warm"),
             Stage::Begun if deliveries >= self.wanted => {
@@ -117,7 +137,7 @@ impl<R: AllocGlobal + Print + Files + Clock + Drop> Watch for Phase<R> {
                 Some(1)
             }
             Stage::Warming => Some(0),
-            Stage::Begun => Some(usize::MAX),
+            Stage::Begun => Some(self.paced()),
             Stage::Warm | Stage::Over if self.pause > 0 => {
                 self.pause = self.pause.saturating_sub(1);
                 Some(0)

@@ -47,7 +47,7 @@ where
     V: Watch + Drop,
 {
     let plan = Plan {
-        limits: Limits::STANDARD,
+        limits: Limits::STANDARD.keeping(group.keep),
         seed: 1,
         ticks: group.ticks,
     };
