@@ -220,7 +220,8 @@ int32_t plumtree_wire_broadcast(plumtree_node *node, const uint8_t *payload, siz
 /* Makes a tick: sends the announcements that are queued, at every fifth tick since the start asks for each message that
  * was announced before the fifth tick before and did not come, and at every tenth exchanges names of the passive view.
  * So a message that was announced and does not come is asked for at the second fifth tick after that: at the sixth to
- * the tenth tick from then on. How often this is called sets how soon that is; ten times a second is a good beginning.
+ * the tenth tick from then on, or later where more than 128 are missing: the others are asked for at each tick, as these
+ * come. How often this is called sets how soon that is; ten times a second is a good beginning.
  * If a step is refused, those before it stay made, and this tick does not count: call again. */
 int32_t plumtree_wire_tick(plumtree_node *node, const uint64_t dice[PLUMTREE_DICE]);
 
