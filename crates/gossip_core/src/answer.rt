@@ -51,7 +51,7 @@ impl<A: Allocator + Copy> Answer<A> {
     }
 
     /// Creates an answer that sends one packet and delivers nothing. Does not allocate.
-    pub(crate) fn packet(alloc: A, to: &NodeName, body: Body<A>) -> Self
+    pub fn packet(alloc: A, to: &NodeName, body: Body<A>) -> Self
         ensures { result ≡ record { sends = (to.now, body) ∷ []; delivered = None } }
     {
         Answer {

@@ -40,7 +40,8 @@ use Rattle.gossip_core.specs.declared.call.CallOf.TheVariants as call
 use Rattle.node_core.specs.Fits.{FitsFrames, IsFit, AreFit, ComesFit}
 use Rattle.node_core.specs.lawful.Members.{of_each, each_one, each-append, one_of_filter, one_of_map}
 use Rattle.node_core.specs.Plum.{Plum}
-use Rattle.node_core.specs.Steps.{Turned, turned, heard, idle, by_membership}
+use Rattle.node_core.specs.Steps.{Turned, turned, heard, idle, is_joined, greeting, by_membership}
+use Rattle.node_core.proofs.Openings.{opening_fits}
 use Rattle.node_core.specs.lawful.Wanting.{stood}
 
 either : {X : Type 0} (P : X → Type 0) (b : Bool) (x y : X) → (b ≡ true → P x) → (b ≡ false → P y) → P (if b then x else y)
@@ -313,3 +314,4 @@ module _ (core : Plum) (fits : FitsFrames core.gossip) (sound : AreSound core.me
   turned_fits on.Flush fit = call_fits core.gossip fits call.Flush tt
   turned_fits (on.Down peer dice) fit = moves_fit (heard_of.Down peer) dice (table_fits_frames core.membership (heard_of.Down peer) dice sound tt)
   turned_fits (on.Shuffle dice) fit = moves_fit heard_of.Tick dice (table_fits_frames core.membership heard_of.Tick dice sound tt)
+  turned_fits (on.Join contact) fit = either Turns (is_joined core.me core.membership contact) (idle core.membership core.gossip) (greeting core.membership core.gossip contact) (λ joined. (fits, tt)) (λ apart. (fits, opening_fits (Some contact)))

@@ -11,7 +11,7 @@ use Rattle.world.specs.IdentityLaw.{IsOutOfNumbers, IsTooLong}
 use Rattle.world.specs.Stimulus.{Stimulus}
 use Rattle.world.specs.declared.protocol.CoreError.{CoreError}
 use Rattle.world.specs.declared.protocol.CoreError.TheVariants.{PayloadTooLong}
-use Rattle.world.specs.declared.stimulus.StimulusOf.TheVariants.{Broadcast, Arrive, Fire, Flush, Down, Shuffle}
+use Rattle.world.specs.declared.stimulus.StimulusOf.TheVariants.{Broadcast, Arrive, Fire, Flush, Down, Shuffle, Join}
 use Rattle.frames.specs.Body.{Body}
 use Rattle.frames.specs.Frame.{Frame}
 use Rattle.frames.specs.declared.body.BodyOf.TheVariants as body
@@ -19,8 +19,8 @@ use Rattle.membership.specs.Membership.{Membership}
 use Rattle.gossip_core.specs.State.{GossipState}
 use Rattle.node_core.specs.Parts.{IsSpentPart, IsTooLongPart, by_part, part_heard, part_of}
 use Rattle.node_core.specs.Plum.{Plum, plum_state}
-use Rattle.node_core.specs.Steps.{IsAllowed, heard, idle, turned}
-use Rattle.node_core.specs.declared.dispatch.PartOf.TheVariants.{Nobody}
+use Rattle.node_core.specs.Steps.{IsAllowed, greeting, heard, idle, is_joined, turned}
+use Rattle.node_core.specs.declared.dispatch.PartOf.TheVariants.{Greeting, Nobody}
 use Rattle.node_core.proofs.Told.{no_error}
 
 module _ (m : Membership) (g : GossipState) (sender : Name) where
@@ -68,7 +68,7 @@ not_spent g sender body.Prune dice h = h
 not_spent g sender body.GraftPeer dice h = h
 
 -- what a stimulus does, its part does
-pub turned_by : (me : Origin) (m : Membership) (g : GossipState) (stimulus : Stimulus Frame) → turned me m g stimulus ≡ by_part m g (part_of me stimulus)
+pub turned_by : (me : Origin) (m : Membership) (g : GossipState) (stimulus : Stimulus Frame) → turned me m g stimulus ≡ by_part m g (part_of me m stimulus)
 turned_by me m g (Broadcast payload) = refl
 turned_by me m g (Arrive sender frame dice) = go (same_name sender.name me.name)
   where
@@ -79,22 +79,32 @@ turned_by me m g (Fire id) = refl
 turned_by me m g Flush = refl
 turned_by me m g (Down peer dice) = refl
 turned_by me m g (Shuffle dice) = refl
+turned_by me m g (Join contact) = go (is_joined me m contact)
+  where
+    go : (b : Bool) → (if b then idle m g else greeting m g contact) ≡ by_part m g (if b then Nobody else Greeting contact)
+    go true = refl
+    go false = refl
 
 -- a part is too long where its stimulus is
-pub too_long_by : (me : Origin) (stimulus : Stimulus Frame) → IsTooLongPart (part_of me stimulus) ↔ IsTooLong stimulus
-too_long_by me (Broadcast payload) = ((λ h. h), (λ h. h))
-too_long_by me (Arrive sender frame dice) = (go (same_name sender.name me.name), (λ h. absurd h))
+pub too_long_by : (me : Origin) (m : Membership) (stimulus : Stimulus Frame) → IsTooLongPart (part_of me m stimulus) ↔ IsTooLong stimulus
+too_long_by me m (Broadcast payload) = ((λ h. h), (λ h. h))
+too_long_by me m (Arrive sender frame dice) = (go (same_name sender.name me.name), (λ h. absurd h))
   where
     go : (b : Bool) → IsTooLongPart (if b then Nobody else part_heard sender.name frame.body dice) → ⊥
     go true h = h
     go false h = not_too_long sender.name frame.body dice h
-too_long_by me (Fire id) = ((λ h. h), (λ h. h))
-too_long_by me Flush = ((λ h. h), (λ h. h))
-too_long_by me (Down peer dice) = ((λ h. h), (λ h. h))
-too_long_by me (Shuffle dice) = ((λ h. h), (λ h. h))
+too_long_by me m (Fire id) = ((λ h. h), (λ h. h))
+too_long_by me m Flush = ((λ h. h), (λ h. h))
+too_long_by me m (Down peer dice) = ((λ h. h), (λ h. h))
+too_long_by me m (Shuffle dice) = ((λ h. h), (λ h. h))
+too_long_by me m (Join contact) = (go (is_joined me m contact), (λ h. absurd h))
+  where
+    go : (b : Bool) → IsTooLongPart (if b then Nobody else Greeting contact) → ⊥
+    go true h = h
+    go false h = h
 
 -- and finds no number where its stimulus finds none
-pub spent_by : (core : Plum) (stimulus : Stimulus Frame) → IsSpentPart core.gossip (part_of core.me stimulus) ↔ IsOutOfNumbers (plum_state core) stimulus
+pub spent_by : (core : Plum) (stimulus : Stimulus Frame) → IsSpentPart core.gossip (part_of core.me core.membership stimulus) ↔ IsOutOfNumbers (plum_state core) stimulus
 spent_by core (Broadcast payload) = ((λ h. h), (λ h. h))
 spent_by core (Arrive sender frame dice) = (go (same_name sender.name core.me.name), (λ h. absurd h))
   where
@@ -105,6 +115,11 @@ spent_by core (Fire id) = ((λ h. h), (λ h. h))
 spent_by core Flush = ((λ h. h), (λ h. h))
 spent_by core (Down peer dice) = ((λ h. h), (λ h. h))
 spent_by core (Shuffle dice) = ((λ h. h), (λ h. h))
+spent_by core (Join contact) = (go (is_joined core.me core.membership contact), (λ h. absurd h))
+  where
+    go : (b : Bool) → IsSpentPart core.gossip (if b then Nobody else Greeting contact) → ⊥
+    go true h = h
+    go false h = h
 
 -- what is not too long may be taken
 pub allowed_by : (stimulus : Stimulus Frame) → (IsTooLong stimulus → ⊥) → IsAllowed stimulus
@@ -114,6 +129,7 @@ allowed_by (Fire id) short = tt
 allowed_by Flush short = tt
 allowed_by (Down peer dice) short = tt
 allowed_by (Shuffle dice) short = tt
+allowed_by (Join contact) short = tt
 
 -- what did not refuse as too long may be taken
 pub ok_allowed : {T : Type 0} (result : Result T CoreError) (stimulus : Stimulus Frame) → IsErrOf result PayloadTooLong ↔ IsTooLong stimulus → OnOk result (IsAllowed stimulus)

@@ -4,7 +4,7 @@ use Rattle.std.specs.List.{AllByRecursion as Each}
 use Rattle.node_names.specs.NodeName.{Name}
 use Rattle.world.specs.Stimulus.{Stimulus}
 use Rattle.world.specs.declared.TheConstants.{MAX_PAYLOAD}
-use Rattle.world.specs.declared.stimulus.StimulusOf.TheVariants.{Broadcast, Arrive, Fire, Flush, Down, Shuffle}
+use Rattle.world.specs.declared.stimulus.StimulusOf.TheVariants.{Broadcast, Arrive, Fire, Flush, Down, Shuffle, Join}
 use Rattle.frames.specs.Body.{Body}
 use Rattle.frames.specs.Frame.{Frame, has_good_fields, has_good_counts}
 use Rattle.gossip_core.specs.State.{GossipState}
@@ -31,3 +31,4 @@ ComesFit (Fire id) = Unit {0}
 ComesFit Flush = Unit {0}
 ComesFit (Down peer dice) = Unit {0}
 ComesFit (Shuffle dice) = Unit {0}
+ComesFit (Join contact) = Unit {0}

@@ -1,4 +1,5 @@
--- Which part of a node handles a stimulus: the membership, the gossip or neither.
+-- Which part of a node handles a stimulus: the membership, the gossip or neither, which a contact that is sent JOIN
+-- needs.
 use denote.Ref.{Bor}
 use Rattle.std.specs.Prelude.{◌≡◌, ◌+◌, ℕ, List, Option, None, Some, length, if◌then◌else◌}
 use Rattle.std.specs.declared.boxed.Box.{Box}
@@ -8,7 +9,7 @@ use Rattle.node_names.specs.declared.dice.Dice.{Dice}
 use Rattle.node_names.specs.declared.ids.MsgId.{MsgId}
 use Rattle.node_names.specs.declared.ids.Origin.{Origin}
 use Rattle.world.specs.Stimulus.{Stimulus}
-use Rattle.world.specs.declared.stimulus.StimulusOf.TheVariants.{Broadcast, Arrive, Fire, Flush, Down, Shuffle}
+use Rattle.world.specs.declared.stimulus.StimulusOf.TheVariants.{Broadcast, Arrive, Fire, Flush, Down, Shuffle, Join}
 use Rattle.frames.specs.Body.{Body}
 use Rattle.frames.specs.Frame.{Frame}
 use Rattle.frames.specs.declared.body.BodyOf.TheVariants as body
@@ -23,9 +24,9 @@ use Rattle.gossip_core.specs.Table.{Call, lent as lent_call}
 use Rattle.gossip_core.specs.declared.call.CallOf.{CallOf}
 use Rattle.gossip_core.specs.declared.call.CallOf.TheVariants as call
 use Rattle.node_core.specs.Plum.{Plum}
-use Rattle.node_core.specs.Steps.{IsAllowed, Turned, by_gossip, by_membership, idle, turned}
+use Rattle.node_core.specs.Steps.{IsAllowed, Turned, by_gossip, by_membership, greeting, idle, is_joined, turned}
 use Rattle.node_core.specs.declared.dispatch.PartOf.{PartOf}
-use Rattle.node_core.specs.declared.dispatch.PartOf.TheVariants.{Membership, Gossip, Nobody}
+use Rattle.node_core.specs.declared.dispatch.PartOf.TheVariants.{Membership, Gossip, Greeting, Nobody}
 
 -- the part that handles a stimulus, with the event or the call that the stimulus is to it
 abbrev pub Part : Type 0
@@ -35,6 +36,7 @@ Part = PartOf Event Call Dice
 abbrev pub lent : PartOf (EventOf (Bor (List Name))) (CallOf (Bor (List ℕ)) (Bor (List (MsgId × ℕ)))) (Bor Dice) → Part
 lent (Membership event dice) = Membership (lent_event event) dice.now
 lent (Gossip called) = Gossip (lent_call called)
+lent (Greeting contact) = Greeting contact
 lent Nobody = Nobody
 
 -- the part that handles a packet with this body
@@ -52,14 +54,16 @@ part_heard sender (body.Graft id round) dice = Gossip (call.OnGraft sender id ro
 part_heard sender body.Prune dice = Gossip (call.OnPrune sender)
 part_heard sender body.GraftPeer dice = Gossip (call.OnGraftPeer sender)
 
--- the part that handles each stimulus; no part handles a packet whose sender has the node's own name
-abbrev pub part_of : Origin → Stimulus Frame → Part
-part_of me (Broadcast payload) = Gossip (call.Broadcast payload)
-part_of me (Arrive sender frame dice) = if same_name sender.name me.name then Nobody else part_heard sender.name frame.body dice
-part_of me (Fire id) = Gossip (call.Fire id)
-part_of me Flush = Gossip call.Flush
-part_of me (Down peer dice) = Membership (on.Down peer) dice
-part_of me (Shuffle dice) = Membership on.Tick dice
+-- the part that handles each stimulus; no part handles a packet whose sender has the node's own name, or a contact by
+-- which there is nothing to join
+abbrev pub part_of : Origin → Member → Stimulus Frame → Part
+part_of me m (Broadcast payload) = Gossip (call.Broadcast payload)
+part_of me m (Arrive sender frame dice) = if same_name sender.name me.name then Nobody else part_heard sender.name frame.body dice
+part_of me m (Fire id) = Gossip (call.Fire id)
+part_of me m Flush = Gossip call.Flush
+part_of me m (Down peer dice) = Membership (on.Down peer) dice
+part_of me m (Shuffle dice) = Membership on.Tick dice
+part_of me m (Join contact) = if is_joined me m contact then Nobody else Greeting contact
 
 -- What the membership will be, and which links went down and came up.
 pub record ViewChange : Type 0 where
@@ -86,28 +90,32 @@ pub record PreparedStep : Type 0 where
 abbrev pub by_part : Member → GossipState → Part → Turned
 by_part m g (Membership event dice) = by_membership m g event dice
 by_part m g (Gossip called) = by_gossip m g called
+by_part m g (Greeting contact) = greeting m g contact
 by_part m g Nobody = idle m g
 
 -- If the part is an event, the view change is the one that it makes; if the part is a call, the gossip can take it.
 abbrev pub Takes : Member → GossipState → Part → Option ViewChange → Type 0
 Takes m g (Membership event dice) moved = moved ≡ Some (moved_by (table event dice (still m)))
 Takes m g (Gossip called) moved = CanTake g called
+Takes m g (Greeting contact) moved = Unit {0}
 Takes m g Nobody moved = Unit {0}
 
 -- The part broadcasts a payload that is too long.
 abbrev pub IsTooLongPart : Part → Type 0
 IsTooLongPart (Membership event dice) = ⊥
 IsTooLongPart (Gossip called) = IsTooLong called
+IsTooLongPart (Greeting contact) = ⊥
 IsTooLongPart Nobody = ⊥
 
 -- The part broadcasts although the numbers of the messages are used up.
 abbrev pub IsSpentPart : GossipState → Part → Type 0
 IsSpentPart g (Membership event dice) = ⊥
 IsSpentPart g (Gossip called) = IsSpent g called
+IsSpentPart g (Greeting contact) = ⊥
 IsSpentPart g Nobody = ⊥
 
 -- The turn is what the core keeps between the halves of the step for a stimulus that it does not refuse.
 pub record IsTurn (core : Plum) (stimulus : Stimulus Frame) (turn : PreparedStep) : Type 0 where
   pub allowed : IsAllowed stimulus
-  pub takes : Takes core.membership core.gossip (part_of core.me stimulus) turn.moved
+  pub takes : Takes core.membership core.gossip (part_of core.me core.membership stimulus) turn.moved
   pub framed : turn.framed ≡ core.framed + length (turned core.me core.membership core.gossip stimulus).sends

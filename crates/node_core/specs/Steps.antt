@@ -1,10 +1,10 @@
 -- How a node's core starts and steps: a packet or a tick of the membership changes the views, and the gossip is told
 -- which links went down and came up; the gossip handles everything else.
-use Rattle.std.specs.Prelude.{◌≡◌, ◌+◌, ◌-◌, ◌^◌, ◌<◌, ◌≤◌, ◌⊎◌, ℕ, List, [], ◌∷◌, Option, None, Some, length, if◌then◌else◌}
+use Rattle.std.specs.Prelude.{◌≡◌, ◌+◌, ◌-◌, ◌^◌, ◌<◌, ◌≤◌, ◌⊎◌, ◌||◌, ℕ, Bool, List, [], ◌∷◌, Option, None, Some, length, if◌then◌else◌}
 use Rattle.std.specs.FinSet as set
 use Rattle.node_names.specs.NodeName.{Name}
 use Rattle.node_names.specs.Limits.{Limits, IsAllowed as AreAllowed}
-use Rattle.node_names.specs.Same.{same_name}
+use Rattle.node_names.specs.Same.{same_name, has_name}
 use Rattle.node_names.specs.declared.dice.Dice.{Dice}
 use Rattle.node_names.specs.declared.ids.MsgId.{MsgId}
 use Rattle.node_names.specs.declared.ids.Origin.{Origin}
@@ -12,7 +12,7 @@ use Rattle.world.specs.Delivery.{Delivery}
 use Rattle.world.specs.IdentityLaw.{IsOutOfNumbers}
 use Rattle.world.specs.Stimulus.{Stimulus}
 use Rattle.world.specs.declared.TheConstants.{MAX_PAYLOAD}
-use Rattle.world.specs.declared.stimulus.StimulusOf.TheVariants.{Broadcast, Arrive, Fire, Flush, Down, Shuffle}
+use Rattle.world.specs.declared.stimulus.StimulusOf.TheVariants.{Broadcast, Arrive, Fire, Flush, Down, Shuffle, Join}
 use Rattle.frames.specs.Body.{Body}
 use Rattle.frames.specs.Frame.{Frame}
 use Rattle.frames.specs.declared.body.BodyOf.TheVariants as body
@@ -67,6 +67,19 @@ heard m g sender (body.Graft id round) dice = by_gossip m g (call.OnGraft sender
 heard m g sender body.Prune dice = by_gossip m g (call.OnPrune sender)
 heard m g sender body.GraftPeer dice = by_gossip m g (call.OnGraftPeer sender)
 
+-- the packets of a start: JOIN to the contact, if there is one
+abbrev pub opening : Option Name → List (Name × Body)
+opening None = []
+opening (Some contact) = (contact, body.Join) ∷ []
+
+-- whether there is nothing to join by the contact: it is the node itself, or active
+abbrev pub is_joined : Origin → Membership → Name → Bool
+is_joined me m contact = same_name contact me.name || has_name m.views.active contact
+
+-- the contact is sent JOIN, as at a start, and nothing else happens
+abbrev pub greeting : Membership → GossipState → Name → Turned
+greeting m g contact = record { membership = m; gossip = g; sends = opening (Some contact); delivered = None }
+
 -- What each stimulus does. A packet whose sender has the node's own name does nothing.
 abbrev pub turned : Origin → Membership → GossipState → Stimulus Frame → Turned
 turned me m g (Broadcast payload) = by_gossip m g (call.Broadcast payload)
@@ -75,6 +88,7 @@ turned me m g (Fire id) = by_gossip m g (call.Fire id)
 turned me m g Flush = by_gossip m g call.Flush
 turned me m g (Down peer dice) = by_membership m g (on.Down peer) dice
 turned me m g (Shuffle dice) = by_membership m g on.Tick dice
+turned me m g (Join contact) = if is_joined me m contact then idle m g else greeting m g contact
 
 -- the bodies as frames of this origin, numbered in their order from the next number on
 abbrev pub numbered : Origin → ℕ → List (Name × Body) → List (Name × Frame)
@@ -98,6 +112,7 @@ IsAllowed (Fire id) = Unit {0}
 IsAllowed Flush = Unit {0}
 IsAllowed (Down peer dice) = Unit {0}
 IsAllowed (Shuffle dice) = Unit {0}
+IsAllowed (Join contact) = Unit {0}
 
 -- The step does what the stimulus does, and numbers its packets.
 pub record PlumSteps (old : Plum) (stimulus : Stimulus Frame) (sends : List (Name × Frame)) (given : List Delivery) (new : Plum) : Type 0 where
@@ -105,11 +120,6 @@ pub record PlumSteps (old : Plum) (stimulus : Stimulus Frame) (sends : List (Nam
   pub leaves : new ≡ gone_on old (turned old.me old.membership old.gossip stimulus)
   pub sent : sends ≡ numbered old.me old.framed (turned old.me old.membership old.gossip stimulus).sends
   pub delivers : given ≡ delivered_at old.me (turned old.me old.membership old.gossip stimulus).delivered
-
--- the packets of a start: JOIN to the contact, if there is one
-abbrev pub opening : Option Name → List (Name × Body)
-opening None = []
-opening (Some contact) = (contact, body.Join) ∷ []
 
 -- a core that has these peers and nothing else, and has spent `spent` message numbers and `framed` frame numbers
 abbrev pub newcomer : Origin → Limits → List Name → ℕ → ℕ → Plum

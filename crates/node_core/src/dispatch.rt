@@ -1,12 +1,13 @@
-//! Which part of a node handles a stimulus: the membership, the gossip or neither.
+//! Which part of a node handles a stimulus: the membership, the gossip or neither, for a JOIN to a contact.
 ghost use Rattle.std.specs.Prelude.{◌≡◌};
 ghost use Rattle.world.specs.Stimulus.{lent as told};
 ghost use Rattle.node_core.specs.Parts.{lent, part_heard, part_of};
+ghost use Rattle.node_core.specs.Steps.{is_joined};
 
 use frames::{Body, BodyOf, Frame};
 use gossip_core::{Call, CallOf};
-use membership::{Event, EventOf};
-use node_names::{Dice, NodeName, Origin};
+use membership::{Event, EventOf, Membership};
+use node_names::{Dice, NodeName, Origin, has_name};
 use std::alloc::Allocator;
 use world::{StimulusOf, StimulusRef};
 
@@ -18,6 +19,8 @@ pub(crate) enum PartOf<E, C, D> {
     Membership { event: E, dice: D },
     /// The gossip handles the call.
     Gossip { call: C },
+    /// The contact is sent JOIN, and nothing else happens.
+    Greeting { contact: NodeName },
     /// Nothing happens.
     Nobody,
 }
@@ -96,12 +99,20 @@ fn part_heard<'a, A: Allocator>(sender: NodeName, body: &'a Body<A>, dice: &'a D
     PartOf::Membership { event, dice }
 }
 
-/// Maps a stimulus to the part of the node `me` that handles it.
+/// Returns whether there is nothing to join by the contact: it is the node itself, or active.
+fn is_joined<A: Allocator>(me: &Origin, membership: &Membership<A>, contact: &NodeName) -> bool
+    ensures { result ≡ is_joined me.now membership.now contact.now }
+{
+    *contact == me.name || has_name(membership.views().active().as_slice(), contact)
+}
+
+/// Maps a stimulus to the part of the node `me` that handles it, whose membership is this one.
 pub(crate) fn part_of<'a, A: Allocator>(
     me: &Origin,
+    membership: &Membership<A>,
     stimulus: &'a StimulusRef<'a, Frame<A>, A>,
 ) -> Part<'a, A>
-    ensures { lent result ≡ part_of me.now (told stimulus.now) }
+    ensures { lent result ≡ part_of me.now membership.now (told stimulus.now) }
 {
     match stimulus {
         StimulusOf::Broadcast(payload) => PartOf::Gossip {
@@ -127,5 +138,11 @@ pub(crate) fn part_of<'a, A: Allocator>(
             event: EventOf::Tick,
             dice,
         },
+        StimulusOf::Join(contact) => {
+            if is_joined(me, membership, contact) {
+                return PartOf::Nobody;
+            }
+            PartOf::Greeting { contact: *contact }
+        }
     }
 }

@@ -11,6 +11,7 @@ ghost use Rattle.node_core.specs.Parts.{IsSpentPart, IsTooLongPart, Takes, by_pa
 use crate::dispatch::{Part, PartOf};
 use crate::names::are_same;
 use crate::prepared_step::{BoxedViewChange, ViewChange};
+use frames::BodyOf;
 use gossip_core::{Answer, Call, Gossip, GossipFault};
 use membership::{Event, Membership, Moves};
 use node_names::Dice;
@@ -85,6 +86,17 @@ fn work_out_call<A: Allocator + Copy>(
     }
 }
 
+/// Works out what leaves the membership as it is.
+fn unmoved<A: Allocator>(effects: Answer<A>) -> Worked<A>
+    ensures { result ≡ record { moved = None; is_moved = false; effects = effects } }
+{
+    Worked {
+        moved: None,
+        is_moved: false,
+        effects,
+    }
+}
+
 /// Works out what the part does. Nothing changes.
 pub(crate) fn work_out<A: Allocator + Copy>(
     alloc: A,
@@ -101,11 +113,8 @@ pub(crate) fn work_out<A: Allocator + Copy>(
     match part {
         PartOf::Membership { event, dice } => Ok(work_out_event(alloc, membership, event, dice)?),
         PartOf::Gossip { call } => work_out_call(gossip, call),
-        PartOf::Nobody => Ok(Worked {
-            moved: None,
-            is_moved: false,
-            effects: Answer::new(alloc),
-        }),
+        PartOf::Greeting { contact } => Ok(unmoved(Answer::packet(alloc, contact, BodyOf::Join))),
+        PartOf::Nobody => Ok(unmoved(Answer::new(alloc))),
     }
 }
 
@@ -131,6 +140,6 @@ pub(crate) fn commit<A: Allocator + Copy>(
             Ok(())
         }
         PartOf::Gossip { call } => gossip.take(call),
-        PartOf::Nobody => Ok(()),
+        PartOf::Greeting { .. } | PartOf::Nobody => Ok(()),
     }
 }

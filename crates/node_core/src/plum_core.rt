@@ -122,7 +122,7 @@ impl<A: Allocator + Copy> PlumCore<A> {
         stimulus: &StimulusRef<'_, Frame<A>, A>,
     ) -> Result<Worked<A>, CoreError>
         ensures allowed { OnOk result (IsAllowed (lent stimulus.now)) }
-        ensures takes { IfOk result (λ worked. Takes self.now.membership self.now.gossip (part_of self.now.me (lent stimulus.now)) (unboxed worked.moved)) }
+        ensures takes { IfOk result (λ worked. Takes self.now.membership self.now.gossip (part_of self.now.me self.now.membership (lent stimulus.now)) (unboxed worked.moved)) }
         ensures effects { IfOk result (λ worked. worked.effects ≡ record { sends = (turned self.now.me self.now.membership self.now.gossip (lent stimulus.now)).sends; delivered = (turned self.now.me self.now.membership self.now.gossip (lent stimulus.now)).delivered }) }
         ensures fit { OnOk result (AreFit (turned self.now.me self.now.membership self.now.gossip (lent stimulus.now)).sends) }
         ensures moved { IfOk result (λ worked. (worked.is_moved ≡ false) ↔ SameNames self.now.membership.views.active (turned self.now.me self.now.membership self.now.gossip (lent stimulus.now)).membership.views.active) }
@@ -131,7 +131,7 @@ impl<A: Allocator + Copy> PlumCore<A> {
     {
         let _sound = self.membership.views().limits();
         heed(stimulus);
-        let part = part_of(&self.me, stimulus);
+        let part = part_of(&self.me, &self.membership, stimulus);
         work_out(alloc, &self.membership, &self.gossip, &part)
     }
 }
@@ -208,7 +208,7 @@ impl<A: Allocator + Copy> Core<A> for PlumCore<A> {
     ) -> Result<(), AllocError> {
         let _sound = self.membership.views().limits();
         heed(stimulus);
-        let part = part_of(&self.me, stimulus);
+        let part = part_of(&self.me, &self.membership, stimulus);
         let PreparedStep { moved, framed } = turn;
         commit(&mut self.membership, &mut self.gossip, &part, moved)?;
         self.framed = framed;

@@ -29,7 +29,7 @@ use Rattle.world.specs.UnderWay.{AnnouncesIt, AsksForIt, CarriesIt, IsCarriedOn,
 use Rattle.world.specs.WantLaw.{Announces, IsWanted}
 use Rattle.world.specs.declared.node_state.NodeState.{NodeState}
 use Rattle.world.specs.declared.packet.Packet.{Packet}
-use Rattle.world.specs.declared.stimulus.StimulusOf.TheVariants.{Broadcast, Arrive, Fire, Flush, Down, Shuffle}
+use Rattle.world.specs.declared.stimulus.StimulusOf.TheVariants.{Broadcast, Arrive, Fire, Flush, Down, Shuffle, Join}
 use Rattle.world.proofs.FindLemmas.{found_name, name_is, names_differ, put_cases, put_other, put_same, tells_apart}
 use Rattle.world.proofs.Flying.{IsSent, counts_one, each_one, get-append, is_sent, one-left, one-right, one_counted, sent_or_new}
 use Rattle.world.proofs.Steps.{IsStep}
@@ -272,6 +272,7 @@ module _
         go (Fire fired) leaves = keeps_queue leaves.1
         go (Down gone dice) leaves = keeps_queue leaves.1
         go (Shuffle dice) leaves = keeps_queue leaves.1
+        go (Join contact) leaves = keeps_queue leaves.1
 
     -- who asks for it gets it, where it is held
     answered : (peer : Name) → IsSome (old.payload id) → Comes (AsksForIt id) peer name → (note : N) × IsOneOf (peer, note) step.acts.sends × CarriesIt id (content note)
@@ -327,6 +328,7 @@ module _
         from_sender Flush e delivers same = false≢true same
         from_sender (Down gone dice) e delivers same = false≢true same
         from_sender (Shuffle dice) e delivers same = false≢true same
+        from_sender (Join contact) e delivers same = false≢true same
 
         go : (b : Bool) → is_from peer by ≡ b → IsUnderWay content after.sent after.flight id name peer new (state other)
         go true from = absurd (from_sender by refl step.lawful.deliveries.exact from)

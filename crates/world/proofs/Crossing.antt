@@ -25,7 +25,7 @@ use Rattle.world.specs.Stimulus.{Stimulus}
 use Rattle.world.specs.Traffic.{entries_announced, goes, is_asked}
 use Rattle.world.specs.WantLaw.{Announces, IsWanted, entries_wanted}
 use Rattle.world.specs.declared.packet.Packet.{Packet}
-use Rattle.world.specs.declared.stimulus.StimulusOf.TheVariants.{Broadcast, Arrive, Fire, Flush, Down, Shuffle}
+use Rattle.world.specs.declared.stimulus.StimulusOf.TheVariants.{Broadcast, Arrive, Fire, Flush, Down, Shuffle, Join}
 use Rattle.world.proofs.Carrying.{carrying_one, each_id, queued_one}
 use Rattle.world.proofs.FindLemmas.{name_is}
 use Rattle.world.proofs.Flying.{counts_one, each_one, one_counted}
@@ -211,6 +211,7 @@ module _
     asks_arrive Flush asked = absurd asked
     asks_arrive (Down other dice) asked = absurd asked
     asks_arrive (Shuffle dice) asked = absurd asked
+    asks_arrive (Join contact) asked = absurd asked
 
     -- a step that does not deliver the message sends it to who asks for it, once
     pub answered : (IsOneOf id (ids given) → ⊥) → packets_carrying content id peer sends ≤ arriving (request_weight content id peer name) name by
@@ -266,6 +267,7 @@ module _
         go (Fire fired) leaves = quiet leaves.0
         go (Down other dice) leaves = quiet leaves.0
         go (Shuffle dice) leaves = quiet leaves.0
+        go (Join contact) leaves = quiet leaves.0
 
     -- a step that delivers it announces nothing
     pub announced_now : IsOneOf id (ids given) → announced_to content id peer sends ≡ 0
@@ -278,6 +280,7 @@ module _
         go (Fire fired) leaves exact = announces_none content id peer sends leaves.0
         go (Down other dice) leaves exact = announces_none content id peer sends leaves.0
         go (Shuffle dice) leaves exact = announces_none content id peer sends leaves.0
+        go (Join contact) leaves exact = announces_none content id peer sends leaves.0
 
     -- an announcement of the message arrives
     announces_arrive : (round : ℕ) (s : Stimulus N) → Announces content s peer id round → 1 ≤ arriving (announcement_weight content id peer name) name s
@@ -290,6 +293,7 @@ module _
     announces_arrive round Flush announced = absurd announced
     announces_arrive round (Down other dice) announced = absurd announced
     announces_arrive round (Shuffle dice) announced = absurd announced
+    announces_arrive round (Join contact) announced = absurd announced
 
     -- a core wants no more than it wanted and what is announced to it
     wants_less : entries_wanted id peer new.wants ≤ entries_wanted id peer old.wants + arriving (announcement_weight content id peer name) name by
@@ -346,3 +350,4 @@ module _
         go Flush nothing = quiet nothing
         go (Down other dice) nothing = quiet nothing
         go (Shuffle dice) nothing = quiet nothing
+        go (Join contact) nothing = quiet nothing

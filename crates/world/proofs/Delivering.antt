@@ -20,13 +20,13 @@ use Rattle.world.specs.Laws.{Laws}
 use Rattle.world.specs.Lists.{IsOneOf}
 use Rattle.world.specs.Run.{Effect, Run}
 use Rattle.world.specs.Stimulus.{Stimulus}
-use Rattle.world.specs.declared.event.EventOf.TheVariants.{Start, Broadcast, Arrive, Lose, Again, Fire, Flush, Down, Shuffle, Stop}
+use Rattle.world.specs.declared.event.EventOf.TheVariants.{Start, Broadcast, Arrive, Lose, Again, Fire, Flush, Down, Shuffle, Join, Stop}
 use Rattle.world.specs.declared.node_state.NodeState.{NodeState}
 use Rattle.world.proofs.FindLemmas.{put_cases}
 use Rattle.world.proofs.GivenLemmas.{given_either}
 use Rattle.world.proofs.Kept.{Keeps}
 use Rattle.world.proofs.Runs.{run_keeps}
-use Rattle.world.proofs.Steps.{IsStep, arrive_step, broadcast_step, down_step, fire_step, flush_step, shuffle_step}
+use Rattle.world.proofs.Steps.{IsStep, arrive_step, broadcast_step, down_step, fire_step, flush_step, shuffle_step, join_step}
 
 -- what one of two lists has, both together have
 given-left : (xs ys : List Delivery) (node : Origin) (id : MsgId) → HasDelivery xs node id → HasDelivery (xs ++ ys) node id
@@ -119,6 +119,7 @@ module _
       event_has (Flush name) effect = step_has _ _ (flush_step state content is_sound starts steps laws limits past entry before after kept name effect.1)
       event_has (Down name peer dice) effect = step_has _ _ (down_step state content is_sound starts steps laws limits past entry before after kept name peer dice effect.1)
       event_has (Shuffle name dice) effect = step_has _ _ (shuffle_step state content is_sound starts steps laws limits past entry before after kept name dice effect.1)
+      event_has (Join name contact) effect = step_has _ _ (join_step state content is_sound starts steps laws limits past entry before after kept name contact effect.1)
       event_has (Stop name) effect = put_has (record effect.1.node { core = None }) (λ core runs id had. let no : None ≡ Some core = runs in cc) effect.1.nodes
 
     -- so in every run each running core has only what its run has delivered

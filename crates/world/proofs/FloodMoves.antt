@@ -19,7 +19,7 @@ use Rattle.world.specs.Output.{Output, Stepped}
 use Rattle.world.specs.Run.{SameNames}
 use Rattle.world.specs.Stimulus.{Stimulus, lent}
 use Rattle.world.specs.declared.stimulus.StimulusOf.{StimulusOf}
-use Rattle.world.specs.declared.stimulus.StimulusOf.TheVariants.{Arrive, Fire, Flush, Down, Shuffle}
+use Rattle.world.specs.declared.stimulus.StimulusOf.TheVariants.{Arrive, Fire, Flush, Down, Shuffle, Join}
 
 -- a step that may give nothing appends nothing
 pub gives_nothing : (old : Flooding) (stimulus : Stimulus Message) (new : Flooding) (out : Output Message) → FloodSteps old stimulus [] [] new → Stepped FloodSteps old stimulus out new out
@@ -48,11 +48,12 @@ removed_is_gone name (other ∷ names) distinct = go (same_name name other) refl
     go true is later = lacks_from_each name names (subst (λ n. Each (λ x. same_name n x ≡ false) names) (sym ((same_name-Decides name other).0 is)) distinct.0)
     go false is later = ap (λ b. b || has_name (remove_key (same_name name) names) name) is ∙ later
 
--- firings, flushes and ticks do nothing
-pub stays_idle : (core : Flooding) (stimulus : StimulusOf (Bor (List ℕ)) (Bor Message)) (out : Output Message) → ((id : MsgId) × (stimulus ≡ Fire id)) ⊎ ((stimulus ≡ Flush) ⊎ ((dice : Dice) × (stimulus ≡ Shuffle dice))) → Stepped FloodSteps core (lent stimulus) out (flood_after core (lent stimulus)) out
+-- firings, flushes, ticks and joinings do nothing
+pub stays_idle : (core : Flooding) (stimulus : StimulusOf (Bor (List ℕ)) (Bor Message)) (out : Output Message) → ((id : MsgId) × (stimulus ≡ Fire id)) ⊎ ((stimulus ≡ Flush) ⊎ (((dice : Dice) × (stimulus ≡ Shuffle dice)) ⊎ ((contact : Name) × (stimulus ≡ Join contact)))) → Stepped FloodSteps core (lent stimulus) out (flood_after core (lent stimulus)) out
 stays_idle core stimulus out (inl fire) = subst (λ s. Stepped FloodSteps core (lent s) out (flood_after core (lent s)) out) (sym fire.1) (gives_nothing core (Fire fire.0) core out (is_idle core))
 stays_idle core stimulus out (inr (inl flush)) = subst (λ s. Stepped FloodSteps core (lent s) out (flood_after core (lent s)) out) (sym flush) (gives_nothing core Flush core out (is_idle core))
-stays_idle core stimulus out (inr (inr shuffle)) = subst (λ s. Stepped FloodSteps core (lent s) out (flood_after core (lent s)) out) (sym shuffle.1) (gives_nothing core (Shuffle shuffle.0) core out (is_idle core))
+stays_idle core stimulus out (inr (inr (inl shuffle))) = subst (λ s. Stepped FloodSteps core (lent s) out (flood_after core (lent s)) out) (sym shuffle.1) (gives_nothing core (Shuffle shuffle.0) core out (is_idle core))
+stays_idle core stimulus out (inr (inr (inr join))) = subst (λ s. Stepped FloodSteps core (lent s) out (flood_after core (lent s)) out) (sym join.1) (gives_nothing core (Join join.0) core out (is_idle core))
 
 -- a failed link takes its peer out
 pub loses_peer : (core : Flooding) (peer : Name) (dice : Dice) (stimulus : Stimulus Message) (out : Output Message) → stimulus ≡ Down peer dice → Stepped FloodSteps core stimulus out (flood_after core stimulus) out

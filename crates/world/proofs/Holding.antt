@@ -23,13 +23,13 @@ use Rattle.world.specs.Lists.{IsOneOf}
 use Rattle.world.specs.Rest.{AreFewSince}
 use Rattle.world.specs.Run.{Effect, Run, Starts}
 use Rattle.world.specs.Stimulus.{Stimulus}
-use Rattle.world.specs.declared.event.EventOf.TheVariants.{Start, Broadcast, Arrive, Lose, Again, Fire, Flush, Down, Shuffle, Stop}
+use Rattle.world.specs.declared.event.EventOf.TheVariants.{Start, Broadcast, Arrive, Lose, Again, Fire, Flush, Down, Shuffle, Join, Stop}
 use Rattle.world.specs.declared.node_state.NodeState.{NodeState}
 use Rattle.world.proofs.FindLemmas.{found_name, put_cases}
 use Rattle.world.proofs.GivenLemmas.{given_here}
 use Rattle.world.proofs.Kept.{IsStarted, Keeps, greater_than-last}
 use Rattle.world.proofs.Runs.{run_keeps}
-use Rattle.world.proofs.Steps.{IsStep, arrive_step, broadcast_step, down_step, fire_step, flush_step, shuffle_step}
+use Rattle.world.proofs.Steps.{IsStep, arrive_step, broadcast_step, down_step, fire_step, flush_step, shuffle_step, join_step}
 
 -- ---- lists of ids
 
@@ -215,6 +215,7 @@ module _
       event_lists (Flush name) effect = step_lists _ _ (flush_step state content is_sound starts steps laws limits past entry before after kept name effect.1)
       event_lists (Down name peer dice) effect = step_lists _ _ (down_step state content is_sound starts steps laws limits past entry before after kept name peer dice effect.1)
       event_lists (Shuffle name dice) effect = step_lists _ _ (shuffle_step state content is_sound starts steps laws limits past entry before after kept name dice effect.1)
+      event_lists (Join name contact) effect = step_lists _ _ (join_step state content is_sound starts steps laws limits past entry before after kept name contact effect.1)
       event_lists (Stop name) effect = put_lists (record effect.1.node { core = None }) (λ core runs. let no : None ≡ Some core = runs in cc) (λ found differs. nothing_by effect.1.nothing_given (origin_of found)) effect.1.nodes
 
     -- so in every run each running core lists the last of what its run has delivered

@@ -22,7 +22,7 @@ use Rattle.world.specs.Rest.{GaveFrom}
 use Rattle.world.specs.Run.{Effect, Run}
 use Rattle.world.specs.Stimulus.{Stimulus}
 use Rattle.world.specs.UnderWay.{CarriesIt}
-use Rattle.world.specs.declared.event.EventOf.TheVariants.{Start, Broadcast, Arrive, Lose, Again, Fire, Flush, Down, Shuffle, Stop}
+use Rattle.world.specs.declared.event.EventOf.TheVariants.{Start, Broadcast, Arrive, Lose, Again, Fire, Flush, Down, Shuffle, Join, Stop}
 use Rattle.world.specs.declared.packet.Packet.{Packet}
 use Rattle.world.specs.declared.stimulus.StimulusOf.TheVariants as stimulus
 use Rattle.world.proofs.Carrying.{found_new}
@@ -30,7 +30,7 @@ use Rattle.world.proofs.Delivering.{HasDelivered, run_has, stays_delivered}
 use Rattle.world.proofs.Flying.{each_one, get-append, sent_or_new}
 use Rattle.world.proofs.Kept.{Keeps, each-weaken}
 use Rattle.world.proofs.Runs.{run_keeps}
-use Rattle.world.proofs.Steps.{IsStep, arrive_step, broadcast_step, down_step, fire_step, flush_step, shuffle_step}
+use Rattle.world.proofs.Steps.{IsStep, arrive_step, broadcast_step, down_step, fire_step, flush_step, shuffle_step, join_step}
 
 -- Whoever sent a message has delivered it.
 abbrev pub SentByDeliverers : {N : Type 0} → (N → Content) → List Entry → List (Packet N) → Type 0
@@ -49,6 +49,7 @@ gave_longer sent more (Fire name id) entry parent gave = absurd gave
 gave_longer sent more (Flush name) entry parent gave = absurd gave
 gave_longer sent more (Down name peer dice) entry parent gave = absurd gave
 gave_longer sent more (Shuffle name dice) entry parent gave = absurd gave
+gave_longer sent more (Join name contact) entry parent gave = absurd gave
 gave_longer sent more (Stop name) entry parent gave = absurd gave
 
 parents_longer : {N : Type 0} (sent more : List (Packet N)) (history : List Entry) → HaveParents sent history → HaveParents (sent ++ more) history
@@ -128,6 +129,7 @@ module _
       event_senders (Flush name) effect = step_senders _ _ (flush_step state content is_sound starts steps laws limits past entry before after kept name effect.1)
       event_senders (Down name peer dice) effect = step_senders _ _ (down_step state content is_sound starts steps laws limits past entry before after kept name peer dice effect.1)
       event_senders (Shuffle name dice) effect = step_senders _ _ (shuffle_step state content is_sound starts steps laws limits past entry before after kept name dice effect.1)
+      event_senders (Join name contact) effect = step_senders _ _ (join_step state content is_sound starts steps laws limits past entry before after kept name contact effect.1)
       event_senders (Stop name) effect = same_senders effect.1.sent
 
       -- a step that delivers nothing
@@ -180,6 +182,7 @@ module _
       event_parents (Flush name) is effect parents = (let step = flush_step state content is_sound starts steps laws limits past entry before after kept name effect.1 in (nothing_parents after.sent _ _ step step.lawful.deliveries.exact, subst (λ ps. HaveParents ps past) (sym effect.1.sending.sent) (parents_longer before.sent _ past parents)))
       event_parents (Down name peer dice) is effect parents = (let step = down_step state content is_sound starts steps laws limits past entry before after kept name peer dice effect.1 in (nothing_parents after.sent _ _ step step.lawful.deliveries.exact, subst (λ ps. HaveParents ps past) (sym effect.1.sending.sent) (parents_longer before.sent _ past parents)))
       event_parents (Shuffle name dice) is effect parents = (let step = shuffle_step state content is_sound starts steps laws limits past entry before after kept name dice effect.1 in (nothing_parents after.sent _ _ step step.lawful.deliveries.exact, subst (λ ps. HaveParents ps past) (sym effect.1.sending.sent) (parents_longer before.sent _ past parents)))
+      event_parents (Join name contact) is effect parents = (let step = join_step state content is_sound starts steps laws limits past entry before after kept name contact effect.1 in (nothing_parents after.sent _ _ step step.lawful.deliveries.exact, subst (λ ps. HaveParents ps past) (sym effect.1.sending.sent) (parents_longer before.sent _ past parents)))
       event_parents (Stop name) is effect parents = (none_given after.sent past entry effect.1.nothing_given, subst (λ ps. HaveParents ps past) (sym effect.1.sent) parents)
 
     -- in every run whoever sent a message has delivered it

@@ -22,7 +22,7 @@ use Rattle.world.specs.Rest.{AreFewSince, IsAtRest, IsCalm, IsDeliveredInReach, 
 use Rattle.world.specs.Run.{Effect, Run}
 use Rattle.world.specs.Stimulus.{Stimulus}
 use Rattle.world.specs.UnderWay.{IsCarriedOn, IsUnderWay, Carried, Queued, Announced, Wanted, Asked}
-use Rattle.world.specs.declared.event.EventOf.TheVariants.{Start, Broadcast, Arrive, Lose, Again, Fire, Flush, Down, Shuffle, Stop}
+use Rattle.world.specs.declared.event.EventOf.TheVariants.{Start, Broadcast, Arrive, Lose, Again, Fire, Flush, Down, Shuffle, Join, Stop}
 use Rattle.world.specs.declared.node_state.NodeState.{NodeState}
 use Rattle.world.specs.declared.packet.Packet.{Packet}
 use Rattle.world.specs.declared.stimulus.StimulusOf.TheVariants as stimulus
@@ -33,7 +33,7 @@ use Rattle.world.proofs.Holding.{few_then, held_last, is_by, run_lists}
 use Rattle.world.proofs.Kept.{Keeps, KeepsPacket, each-at, highest_of-found}
 use Rattle.world.proofs.Runs.{are_fresh, run_keeps}
 use Rattle.world.proofs.Sayings.{not_again, said_counted}
-use Rattle.world.proofs.Steps.{IsStep, arrive_step, broadcast_step, fire_step, flush_step, shuffle_step}
+use Rattle.world.proofs.Steps.{IsStep, arrive_step, broadcast_step, fire_step, flush_step, shuffle_step, join_step}
 
 -- one core runs under a name
 runs_same : {C N : Type 0} (group : Group C N) (name : Name) (one other : C) → Runs group name one → Runs group name other → one ≡ other
@@ -70,6 +70,7 @@ module _
       event_carries held (Fire name fired) calm still effect = step_goes_on _ _ (fire_step state content is_sound starts steps laws limits past entry before after kept name fired effect.1) held still
       event_carries held (Flush name) calm still effect = step_goes_on _ _ (flush_step state content is_sound starts steps laws limits past entry before after kept name effect.1) held still
       event_carries held (Shuffle name dice) calm still effect = step_goes_on _ _ (shuffle_step state content is_sound starts steps laws limits past entry before after kept name dice effect.1) held still
+      event_carries held (Join name contact) calm still effect = step_goes_on _ _ (join_step state content is_sound starts steps laws limits past entry before after kept name contact effect.1) held still
       event_carries held (Start name incarnation peers contact) calm still effect = absurd calm
       event_carries held (Lose place) calm still effect = absurd calm
       event_carries held (Down name peer dice) calm still effect = absurd calm
@@ -106,6 +107,7 @@ module _
       saying_carries (Flush name) unsaid none_has p says effect = absurd says
       saying_carries (Down name peer dice) unsaid none_has p says effect = absurd says
       saying_carries (Shuffle name dice) unsaid none_has p says effect = absurd says
+      saying_carries (Join name contact) unsaid none_has p says effect = absurd says
       saying_carries (Stop name) unsaid none_has p says effect = absurd says
 
     -- before a message is said nobody has it

@@ -21,7 +21,7 @@ use Rattle.world.specs.PayloadLaw.{Brings}
 use Rattle.world.specs.Run.{Acts, Effect, OnlyFlies, Run, Starts, Stops}
 use Rattle.world.specs.SoundViews.{SoundViews}
 use Rattle.world.specs.Stimulus.{Stimulus, IsNotFrom}
-use Rattle.world.specs.declared.event.EventOf.TheVariants.{Start, Broadcast, Arrive, Lose, Again, Fire, Flush, Down, Shuffle, Stop}
+use Rattle.world.specs.declared.event.EventOf.TheVariants.{Start, Broadcast, Arrive, Lose, Again, Fire, Flush, Down, Shuffle, Join, Stop}
 use Rattle.world.specs.declared.node_state.NodeState.{NodeState}
 use Rattle.world.specs.declared.stimulus.StimulusOf.TheVariants as stimulus
 use Rattle.world.proofs.FindLemmas.{found_name, name_is, tells_apart}
@@ -152,6 +152,7 @@ module _
     event_keeps (Flush name) is effect = other_keeps before.flight name stimulus.Flush effect.1 (λ other last. ap (λ (e : Event). started_by other e last) is) (λ other n. ap (λ (e : Event). counted_by other e n) is) (λ n. refl) tt (λ core id p brings. absurd brings)
     event_keeps (Down name peer dice) is effect = other_keeps before.flight name (stimulus.Down peer dice) effect.1 (λ other last. ap (λ (e : Event). started_by other e last) is) (λ other n. ap (λ (e : Event). counted_by other e n) is) (λ n. refl) tt (λ core id p brings. absurd brings)
     event_keeps (Shuffle name dice) is effect = other_keeps before.flight name (stimulus.Shuffle dice) effect.1 (λ other last. ap (λ (e : Event). started_by other e last) is) (λ other n. ap (λ (e : Event). counted_by other e n) is) (λ n. refl) tt (λ core id p brings. absurd brings)
+    event_keeps (Join name contact) is effect = other_keeps before.flight name (stimulus.Join contact) effect.1 (λ other last. ap (λ (e : Event). started_by other e last) is) (λ other n. ap (λ (e : Event). counted_by other e n) is) (λ n. refl) tt (λ core id p brings. absurd brings)
     event_keeps (Stop name) is effect = stops_keeps name effect.1 (λ other last. ap (λ (e : Event). started_by other e last) is) (λ other n. ap (λ (e : Event). counted_by other e n) is)
 
 -- what was said with its payload was said with some payload
@@ -196,6 +197,7 @@ module _
     fresh_after (Flush name) past entry before after effect kept = tt
     fresh_after (Down name peer dice) past entry before after effect kept = tt
     fresh_after (Shuffle name dice) past entry before after effect kept = tt
+    fresh_after (Join name contact) past entry before after effect kept = tt
     fresh_after (Stop name) past entry before after effect kept = tt
 
     -- every start is

@@ -8,7 +8,7 @@ use Rattle.world.specs.Entry.{Entry}
 use Rattle.world.specs.Event.{Event}
 use Rattle.world.specs.History.{Said, Says, broadcasts_of, counted_by, incarnation_of, started_by}
 use Rattle.world.specs.Honest.{HasOnePayload}
-use Rattle.world.specs.declared.event.EventOf.TheVariants.{Start, Broadcast, Arrive, Lose, Again, Fire, Flush, Down, Shuffle, Stop}
+use Rattle.world.specs.declared.event.EventOf.TheVariants.{Start, Broadcast, Arrive, Lose, Again, Fire, Flush, Down, Shuffle, Join, Stop}
 
 -- A start is under a greater incarnation than the name's last one.
 abbrev pub IsFreshAfter : List Entry → Event → Type 0
@@ -21,6 +21,7 @@ IsFreshAfter past (Fire name id) = Unit {0}
 IsFreshAfter past (Flush name) = Unit {0}
 IsFreshAfter past (Down name peer dice) = Unit {0}
 IsFreshAfter past (Shuffle name dice) = Unit {0}
+IsFreshAfter past (Join name contact) = Unit {0}
 IsFreshAfter past (Stop name) = Unit {0}
 
 -- Every start of the history is.
@@ -77,6 +78,7 @@ still id past (Fire name fired) fresh is = is
 still id past (Flush name) fresh is = is
 still id past (Down name peer dice) fresh is = is
 still id past (Shuffle name dice) fresh is = is
+still id past (Join name contact) fresh is = is
 still id past (Stop name) fresh is = is
 
 -- what an event says is counted after it
@@ -98,6 +100,7 @@ now id p past (Fire name fired) says = absurd says
 now id p past (Flush name) says = absurd says
 now id p past (Down name peer dice) says = absurd says
 now id p past (Shuffle name dice) says = absurd says
+now id p past (Join name contact) says = absurd says
 now id p past (Stop name) says = absurd says
 
 -- so whatever was said is counted
@@ -129,6 +132,7 @@ not_again id p past (Fire name fired) says is = absurd says
 not_again id p past (Flush name) says is = absurd says
 not_again id p past (Down name peer dice) says is = absurd says
 not_again id p past (Shuffle name dice) says is = absurd says
+not_again id p past (Join name contact) says is = absurd says
 not_again id p past (Stop name) says is = absurd says
 
 -- one event says one payload
@@ -142,6 +146,7 @@ one_event id p q past (Fire name fired) one other = absurd one
 one_event id p q past (Flush name) one other = absurd one
 one_event id p q past (Down name peer dice) one other = absurd one
 one_event id p q past (Shuffle name dice) one other = absurd one
+one_event id p q past (Join name contact) one other = absurd one
 one_event id p q past (Stop name) one other = absurd one
 
 -- so a message has one payload in every history whose starts are fresh

@@ -23,7 +23,7 @@ use Rattle.world.specs.PayloadLaw.{Brings, IsKnownPayload}
 use Rattle.world.specs.Stimulus.{Stimulus, IsNotFrom}
 use Rattle.world.specs.declared.node_state.NodeState.{NodeState}
 use Rattle.world.specs.declared.packet.Packet.{Packet}
-use Rattle.world.specs.declared.stimulus.StimulusOf.TheVariants.{Broadcast, Arrive, Fire, Flush, Down, Shuffle}
+use Rattle.world.specs.declared.stimulus.StimulusOf.TheVariants.{Broadcast, Arrive, Fire, Flush, Down, Shuffle, Join}
 use Rattle.world.proofs.FindLemmas.{each-put_node, found_name, put_cases}
 use Rattle.world.proofs.GivenLemmas.{given_either, given_fresh, given_here, given_id, once-append, once_few}
 use Rattle.world.proofs.Kept.{IsStarted, Keeps, KeepsCore, KeepsPacket, each-append, each-both, each-weaken, highest_of, highest_of-found, highest_of-put}
@@ -49,6 +49,7 @@ few content before (Fire id) xs e = inl e
 few content before Flush xs e = inl e
 few content before (Down peer dice) xs e = inl e
 few content before (Shuffle dice) xs e = inl e
+few content before (Join contact) xs e = inl e
 
 -- a node in the place of one of the same name and incarnation leaves the last incarnations
 pub highest_stays : {C : Type 0} (other : Name) (node found : NodeState C) (nodes : List (NodeState C)) → node_of node.name nodes ≡ Some found → found.highest ≡ node.highest → highest_of other (put_node node nodes) ≡ highest_of other nodes

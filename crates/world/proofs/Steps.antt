@@ -114,6 +114,10 @@ module _
       pub shuffle_step : (name : Name) (dice : Dice) → Acts state steps before before.flight name (stimulus.Shuffle dice) entry after → IsStep name (stimulus.Shuffle dice)
       shuffle_step name dice acts = step_by before.flight name (stimulus.Shuffle dice) acts tt (λ number flies. inl flies) (λ w. passed_by w) (λ number stays. stays) (λ sender note other e. let no : stimulus.Shuffle dice ≡ stimulus.Arrive sender note other = e in cc)
 
+      -- a joining
+      pub join_step : (name contact : Name) → Acts state steps before before.flight name (stimulus.Join contact) entry after → IsStep name (stimulus.Join contact)
+      join_step name contact acts = step_by before.flight name (stimulus.Join contact) acts tt (λ number flies. inl flies) (λ w. passed_by w) (λ number stays. stays) (λ sender note dice e. let no : stimulus.Join contact ≡ stimulus.Arrive sender note dice = e in cc)
+
       -- an arrival
       pub arrive_step : (place : ℕ) (dice : Dice) (effect : Arrives state steps before place (λ packet. stimulus.Arrive packet.sender packet.note dice) entry after) → IsStep effect.packet.to (stimulus.Arrive effect.packet.sender effect.packet.note dice)
       arrive_step place dice effect =

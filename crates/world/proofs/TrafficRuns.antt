@@ -24,7 +24,7 @@ use Rattle.world.specs.SpreadLaw.{entries_queued}
 use Rattle.world.specs.Stimulus.{Stimulus}
 use Rattle.world.specs.Traffic.{CrossesOnce, IsNoRepeat, IsUnrepeated}
 use Rattle.world.specs.WantLaw.{entries_wanted}
-use Rattle.world.specs.declared.event.EventOf.TheVariants.{Start, Broadcast, Arrive, Lose, Again, Fire, Flush, Down, Shuffle, Stop}
+use Rattle.world.specs.declared.event.EventOf.TheVariants.{Start, Broadcast, Arrive, Lose, Again, Fire, Flush, Down, Shuffle, Join, Stop}
 use Rattle.world.specs.declared.node_state.NodeState.{NodeState}
 use Rattle.world.specs.declared.packet.Packet.{Packet}
 use Rattle.world.proofs.Crossing.{announcement_weight, copy_weight, request_weight, silent_announcements, silent_copies, silent_requests}
@@ -33,7 +33,7 @@ use Rattle.world.proofs.Kept.{Keeps, each-append}
 use Rattle.world.proofs.Resting.{none_has}
 use Rattle.world.proofs.Runs.{are_fresh, run_keeps}
 use Rattle.world.proofs.Sayings.{not_again, said_counted}
-use Rattle.world.proofs.Steps.{IsStep, arrive_step, broadcast_step, down_step, fire_step, flush_step, shuffle_step}
+use Rattle.world.proofs.Steps.{IsStep, arrive_step, broadcast_step, down_step, fire_step, flush_step, shuffle_step, join_step}
 use Rattle.world.proofs.Traffic.{GoesOnce, IsUnheard, queued_at, runs_after_step, step_once, step_sent, step_unheard, unheard_once, wanted_at}
 use Rattle.world.proofs.Weights.{AreSent, each_staying, flying_weight, one_removed, sent_more}
 
@@ -70,6 +70,7 @@ module _
       event_sent (Flush name) effect = step_sent state content is_sound starts steps laws limits past entry before after _ _ (flush_step state content is_sound starts steps laws limits past entry before after kept name effect.1) are_sent
       event_sent (Down name peer dice) effect = step_sent state content is_sound starts steps laws limits past entry before after _ _ (down_step state content is_sound starts steps laws limits past entry before after kept name peer dice effect.1) are_sent
       event_sent (Shuffle name dice) effect = step_sent state content is_sound starts steps laws limits past entry before after _ _ (shuffle_step state content is_sound starts steps laws limits past entry before after kept name dice effect.1) are_sent
+      event_sent (Join name contact) effect = step_sent state content is_sound starts steps laws limits past entry before after _ _ (join_step state content is_sound starts steps laws limits past entry before after kept name contact effect.1) are_sent
       event_sent (Stop name) effect = subst (λ ps. AreSent ps after.flight) (sym effect.1.sent) (subst (λ ks. AreSent before.sent ks) (sym effect.1.flight) are_sent)
 
       module _ (id : MsgId) (lack : (other : Name) (core : C) → Runs after other core → (state core).has id ≡ false) (one two : Name) (apart : one ≡ two → ⊥) (u : IsUnheard state content before id one two) where
@@ -134,6 +135,7 @@ module _
         event_unheard (Flush name) effect = unheard_step _ _ (flush_step state content is_sound starts steps laws limits past entry before after kept name effect.1)
         event_unheard (Down name peer dice) effect = unheard_step _ _ (down_step state content is_sound starts steps laws limits past entry before after kept name peer dice effect.1)
         event_unheard (Shuffle name dice) effect = unheard_step _ _ (shuffle_step state content is_sound starts steps laws limits past entry before after kept name dice effect.1)
+        event_unheard (Join name contact) effect = unheard_step _ _ (join_step state content is_sound starts steps laws limits past entry before after kept name contact effect.1)
         event_unheard (Stop name) effect =
             record {
               no_copies = ap (λ ps. sum_by (copy_weight content id one two) ps) effect.1.sent ∙ u.no_copies;
@@ -155,6 +157,7 @@ module _
         event_once (Fire name fired) calm new effect = once_step _ _ (fire_step state content is_sound starts steps laws limits past entry before after kept name fired effect.1)
         event_once (Flush name) calm new effect = once_step _ _ (flush_step state content is_sound starts steps laws limits past entry before after kept name effect.1)
         event_once (Shuffle name dice) calm new effect = once_step _ _ (shuffle_step state content is_sound starts steps laws limits past entry before after kept name dice effect.1)
+        event_once (Join name contact) calm new effect = once_step _ _ (join_step state content is_sound starts steps laws limits past entry before after kept name contact effect.1)
         event_once (Again number) calm new effect = absurd new
         event_once (Start name incarnation peers contact) calm new effect = absurd calm
         event_once (Lose place) calm new effect = absurd calm
@@ -172,6 +175,7 @@ module _
         saying_once (Flush name) says effect = absurd says.1
         saying_once (Down name peer dice) says effect = absurd says.1
         saying_once (Shuffle name dice) says effect = absurd says.1
+        saying_once (Join name contact) says effect = absurd says.1
         saying_once (Stop name) says effect = absurd says.1
 
     -- in every run each packet in flight was sent

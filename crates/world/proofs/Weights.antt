@@ -10,7 +10,7 @@ use Rattle.world.specs.Group.{packets}
 use Rattle.world.specs.Lists.{IsOneOf, places}
 use Rattle.world.specs.Stimulus.{Stimulus}
 use Rattle.world.specs.declared.packet.Packet.{Packet}
-use Rattle.world.specs.declared.stimulus.StimulusOf.TheVariants.{Broadcast, Arrive, Fire, Flush, Down, Shuffle}
+use Rattle.world.specs.declared.stimulus.StimulusOf.TheVariants.{Broadcast, Arrive, Fire, Flush, Down, Shuffle, Join}
 use Rattle.world.proofs.Flying.{get_appended}
 use Rattle.world.proofs.Kept.{each-append, each-weaken}
 use Rattle.world.proofs.Segments.{get_left}
@@ -32,6 +32,7 @@ arriving w name (Fire id) = 0
 arriving w name Flush = 0
 arriving w name (Down peer dice) = 0
 arriving w name (Shuffle dice) = 0
+arriving w name (Join contact) = 0
 
 -- Each packet in flight was sent.
 abbrev pub AreSent : {N : Type 0} → List (Packet N) → List ℕ → Type 0

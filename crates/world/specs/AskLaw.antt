@@ -10,7 +10,7 @@ use Rattle.world.specs.DeliveryLaw.{ids}
 use Rattle.world.specs.Lists.{IsOneOf}
 use Rattle.node_names.specs.Same.{has_name}
 use Rattle.world.specs.Stimulus.{Stimulus}
-use Rattle.world.specs.declared.stimulus.StimulusOf.TheVariants.{Broadcast, Arrive, Fire, Flush, Down, Shuffle}
+use Rattle.world.specs.declared.stimulus.StimulusOf.TheVariants.{Broadcast, Arrive, Fire, Flush, Down, Shuffle, Join}
 
 -- No entry is about the id.
 abbrev pub HasNoEntry : MsgId → List (MsgId × Name × ℕ) → Type 0
@@ -58,6 +58,7 @@ Fires content before (Arrive sender note dice) sends after = AsksNothing content
 Fires content before Flush sends after = AsksNothing content sends
 Fires content before (Down peer dice) sends after = AsksNothing content sends
 Fires content before (Shuffle dice) sends after = AsksNothing content sends
+Fires content before (Join contact) sends after = AsksNothing content sends
 
 -- The stimulus is the firing of the id's timer.
 abbrev pub IsFiringOf : {N : Type 0} → MsgId → Stimulus N → Type 0
@@ -67,6 +68,7 @@ IsFiringOf id (Arrive sender note dice) = ⊥
 IsFiringOf id Flush = ⊥
 IsFiringOf id (Down peer dice) = ⊥
 IsFiringOf id (Shuffle dice) = ⊥
+IsFiringOf id (Join contact) = ⊥
 
 -- The step is a firing that asks the name for the id.
 abbrev pub AsksFor : {N : Type 0} → (N → Content) → Stimulus N → List (Name × N) → MsgId → Name → Type 0

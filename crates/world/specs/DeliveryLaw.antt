@@ -8,7 +8,7 @@ use Rattle.world.specs.Delivery.{Delivery}
 use Rattle.world.specs.Lists.{IsOneOf}
 use Rattle.world.specs.PayloadLaw.{next_id}
 use Rattle.world.specs.Stimulus.{Stimulus}
-use Rattle.world.specs.declared.stimulus.StimulusOf.TheVariants.{Broadcast, Arrive, Fire, Flush, Down, Shuffle}
+use Rattle.world.specs.declared.stimulus.StimulusOf.TheVariants.{Broadcast, Arrive, Fire, Flush, Down, Shuffle, Join}
 
 -- the ids of the deliveries, in their order
 abbrev pub ids : List Delivery → List MsgId
@@ -32,6 +32,7 @@ Delivers content before (Fire id) delivered = delivered ≡ []
 Delivers content before Flush delivered = delivered ≡ []
 Delivers content before (Down peer dice) delivered = delivered ≡ []
 Delivers content before (Shuffle dice) delivered = delivered ≡ []
+Delivers content before (Join contact) delivered = delivered ≡ []
 
 -- the sequence numbers spent after the stimulus: a broadcast spends one
 abbrev pub count_after : {N : Type 0} → ℕ → Stimulus N → ℕ
@@ -41,6 +42,7 @@ count_after count (Fire id) = count
 count_after count Flush = count
 count_after count (Down peer dice) = count
 count_after count (Shuffle dice) = count
+count_after count (Join contact) = count
 
 -- The deliveries are those that the stimulus demands, at this node, of what it had not; what it has grows by them
 -- alone, and the count by a broadcast alone.

@@ -14,7 +14,7 @@ use Rattle.world.specs.CoreState.{CoreState}
 use Rattle.world.specs.Delivery.{Delivery}
 use Rattle.world.specs.Stimulus.{Stimulus}
 use Rattle.world.specs.declared.TheConstants.{MAX_PAYLOAD}
-use Rattle.world.specs.declared.stimulus.StimulusOf.TheVariants.{Broadcast, Arrive, Fire, Flush, Down, Shuffle}
+use Rattle.world.specs.declared.stimulus.StimulusOf.TheVariants.{Broadcast, Arrive, Fire, Flush, Down, Shuffle, Join}
 
 -- A message, which is what a packet of the flooding core is.
 pub record Message : Type 0 where
@@ -100,6 +100,7 @@ FloodSteps old (Fire id) sends given new = IsIdle old sends given new
 FloodSteps old Flush sends given new = IsIdle old sends given new
 FloodSteps old (Down peer dice) sends given new = DropsPeer old peer sends given new
 FloodSteps old (Shuffle dice) sends given new = IsIdle old sends given new
+FloodSteps old (Join contact) sends given new = IsIdle old sends given new
 
 -- the core that holds the message, if it is news
 abbrev pub with_news : Flooding → Message → Flooding
@@ -113,6 +114,7 @@ flood_after core (Fire id) = core
 flood_after core Flush = core
 flood_after core (Down peer dice) = record core { peers = remove_key (same_name peer) core.peers }
 flood_after core (Shuffle dice) = core
+flood_after core (Join contact) = core
 
 -- The core keeps nothing between the two halves of a step; for a broadcast, a sequence number is left.
 abbrev pub IsFloodTurn : Flooding → Stimulus Message → Unit {0} → Type 0
@@ -122,6 +124,7 @@ IsFloodTurn core (Fire id) turn = Unit {0}
 IsFloodTurn core Flush turn = Unit {0}
 IsFloodTurn core (Down peer dice) turn = Unit {0}
 IsFloodTurn core (Shuffle dice) turn = Unit {0}
+IsFloodTurn core (Join contact) turn = Unit {0}
 
 -- The stimulus is a broadcast, and the core has spent all its sequence numbers.
 abbrev pub FloodIsSpent : Flooding → Stimulus Message → Type 0
@@ -131,6 +134,7 @@ FloodIsSpent core (Fire id) = ⊥
 FloodIsSpent core Flush = ⊥
 FloodIsSpent core (Down peer dice) = ⊥
 FloodIsSpent core (Shuffle dice) = ⊥
+FloodIsSpent core (Join contact) = ⊥
 
 -- Of the messages of this origin only the counted ones are held.
 abbrev pub HoldsCounted : Origin → List (MsgId × List ℕ) → ℕ → Type 0

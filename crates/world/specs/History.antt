@@ -9,7 +9,7 @@ use Rattle.world.specs.Delivery.{Delivery}
 use Rattle.world.specs.DeliveryLaw.{ids}
 use Rattle.world.specs.Entry.{Entry}
 use Rattle.world.specs.Event.{Event}
-use Rattle.world.specs.declared.event.EventOf.TheVariants.{Start, Broadcast, Arrive, Lose, Again, Fire, Flush, Down, Shuffle, Stop}
+use Rattle.world.specs.declared.event.EventOf.TheVariants.{Start, Broadcast, Arrive, Lose, Again, Fire, Flush, Down, Shuffle, Join, Stop}
 
 -- the incarnation in the last start of the name after this event, given what it was before
 abbrev pub started_by : Name → Event → Option Incarnation → Option Incarnation
@@ -22,6 +22,7 @@ started_by name (Fire node id) before = before
 started_by name (Flush node) before = before
 started_by name (Down node peer dice) before = before
 started_by name (Shuffle node dice) before = before
+started_by name (Join node contact) before = before
 started_by name (Stop node) before = before
 
 -- the incarnation in the last start of the name
@@ -40,6 +41,7 @@ counted_by name (Fire node id) before = before
 counted_by name (Flush node) before = before
 counted_by name (Down node peer dice) before = before
 counted_by name (Shuffle node dice) before = before
+counted_by name (Join node contact) before = before
 counted_by name (Stop node) before = before
 
 -- how many broadcasts of the name there were since its last start
@@ -59,6 +61,7 @@ Says (Fire name fired) past id p = ⊥
 Says (Flush name) past id p = ⊥
 Says (Down name peer dice) past id p = ⊥
 Says (Shuffle name dice) past id p = ⊥
+Says (Join name contact) past id p = ⊥
 Says (Stop name) past id p = ⊥
 
 -- The history said the message with this payload.

@@ -10,7 +10,7 @@ use Rattle.world.specs.DeliveryLaw.{ids}
 use Rattle.world.specs.Lists.{IsOneOf}
 use Rattle.world.specs.SpreadLaw.{is_carried, packets_carrying}
 use Rattle.world.specs.Stimulus.{Stimulus}
-use Rattle.world.specs.declared.stimulus.StimulusOf.TheVariants.{Broadcast, Arrive, Fire, Flush, Down, Shuffle}
+use Rattle.world.specs.declared.stimulus.StimulusOf.TheVariants.{Broadcast, Arrive, Fire, Flush, Down, Shuffle, Join}
 
 -- What a core has, it holds.
 abbrev pub HoldsWhatItHas : CoreState → Type 0
@@ -41,6 +41,7 @@ IsAskedBy content (Fire wanted) id name = ⊥
 IsAskedBy content Flush id name = ⊥
 IsAskedBy content (Down peer dice) id name = ⊥
 IsAskedBy content (Shuffle dice) id name = ⊥
+IsAskedBy content (Join contact) id name = ⊥
 
 -- how many packets carry the message, whoever they go to
 abbrev pub packets_with : {N : Type 0} → (N → Content) → MsgId → List (Name × N) → ℕ

@@ -3,7 +3,7 @@ use Rattle.std.specs.Prelude.{◌≡◌, ◌<◌, ◌≤◌, ◌^◌, ◌-◌, l
 use Rattle.world.specs.CoreState.{CoreState}
 use Rattle.world.specs.Stimulus.{Stimulus}
 use Rattle.world.specs.declared.TheConstants.{MAX_PAYLOAD}
-use Rattle.world.specs.declared.stimulus.StimulusOf.TheVariants.{Broadcast, Arrive, Fire, Flush, Down, Shuffle}
+use Rattle.world.specs.declared.stimulus.StimulusOf.TheVariants.{Broadcast, Arrive, Fire, Flush, Down, Shuffle, Join}
 
 -- The core has the name and the incarnation that it had.
 abbrev pub IdentityLaw : CoreState → CoreState → Type 0
@@ -17,6 +17,7 @@ IsTooLong (Fire id) = ⊥
 IsTooLong Flush = ⊥
 IsTooLong (Down peer dice) = ⊥
 IsTooLong (Shuffle dice) = ⊥
+IsTooLong (Join contact) = ⊥
 
 -- The stimulus is a broadcast of an allowed payload, and the core has spent all its sequence numbers: this is refused
 -- as such before anything is allocated.
@@ -27,3 +28,4 @@ IsOutOfNumbers core (Fire id) = ⊥
 IsOutOfNumbers core Flush = ⊥
 IsOutOfNumbers core (Down peer dice) = ⊥
 IsOutOfNumbers core (Shuffle dice) = ⊥
+IsOutOfNumbers core (Join contact) = ⊥

@@ -7,7 +7,7 @@ use Rattle.world.specs.Content.{Content}
 use Rattle.world.specs.CoreState.{CoreState}
 use Rattle.world.specs.Delivery.{Delivery}
 use Rattle.world.specs.Stimulus.{Stimulus}
-use Rattle.world.specs.declared.stimulus.StimulusOf.TheVariants.{Broadcast, Arrive, Fire, Flush, Down, Shuffle}
+use Rattle.world.specs.declared.stimulus.StimulusOf.TheVariants.{Broadcast, Arrive, Fire, Flush, Down, Shuffle, Join}
 
 -- the id of the message that the core would broadcast next
 abbrev pub next_id : CoreState → MsgId
@@ -21,6 +21,7 @@ Brings content before (Fire wanted) id p = ⊥
 Brings content before Flush id p = ⊥
 Brings content before (Down peer dice) id p = ⊥
 Brings content before (Shuffle dice) id p = ⊥
+Brings content before (Join contact) id p = ⊥
 
 -- The core held this payload under this id before the step, or the step brought it.
 abbrev pub IsKnownPayload : {N : Type 0} → (N → Content) → CoreState → Stimulus N → MsgId → List ℕ → Type 0

@@ -10,7 +10,7 @@ use Rattle.world.specs.Group.{Group, node_of, put_node}
 use Rattle.world.specs.Lists.{places}
 use Rattle.world.specs.Refusals.{sent_under}
 use Rattle.world.specs.Stimulus.{Stimulus}
-use Rattle.world.specs.declared.event.EventOf.TheVariants.{Start, Broadcast, Arrive, Lose, Again, Fire, Flush, Down, Shuffle, Stop}
+use Rattle.world.specs.declared.event.EventOf.TheVariants.{Start, Broadcast, Arrive, Lose, Again, Fire, Flush, Down, Shuffle, Join, Stop}
 use Rattle.world.specs.declared.node_state.NodeState.{NodeState}
 use Rattle.world.specs.declared.packet.Packet.{Packet}
 use Rattle.world.specs.declared.plan.Change.{Change}
@@ -61,6 +61,7 @@ stimulus_by sent (Fire name id) number = Some (stimulus.Fire id)
 stimulus_by sent (Flush name) number = Some stimulus.Flush
 stimulus_by sent (Down name peer dice) number = Some (stimulus.Down peer dice)
 stimulus_by sent (Shuffle name dice) number = Some (stimulus.Shuffle dice)
+stimulus_by sent (Join name contact) number = Some (stimulus.Join contact)
 stimulus_by sent (Start name incarnation peers contact) number = None
 stimulus_by sent (Lose place) number = None
 stimulus_by sent (Again other) number = None

@@ -11,7 +11,7 @@ use Rattle.world.specs.Lists.{IsOneOf}
 use Rattle.node_names.specs.Same.{has_name, same_name, same_id}
 use Rattle.world.specs.SpreadLaw.{entries_queued}
 use Rattle.world.specs.Stimulus.{Stimulus}
-use Rattle.world.specs.declared.stimulus.StimulusOf.TheVariants.{Broadcast, Arrive, Fire, Flush, Down, Shuffle}
+use Rattle.world.specs.declared.stimulus.StimulusOf.TheVariants.{Broadcast, Arrive, Fire, Flush, Down, Shuffle, Join}
 
 -- Queued announcements are for active members and of ids that the core has, one per member and id.
 pub record SoundQueue (core : CoreState) : Type 0 where
@@ -49,6 +49,7 @@ FlushesQueue content before (Arrive sender note dice) sends after = AnnouncesNot
 FlushesQueue content before (Fire id) sends after = AnnouncesNothing content sends × KeepsQueue before after
 FlushesQueue content before (Down peer dice) sends after = AnnouncesNothing content sends × KeepsQueue before after
 FlushesQueue content before (Shuffle dice) sends after = AnnouncesNothing content sends × KeepsQueue before after
+FlushesQueue content before (Join contact) sends after = AnnouncesNothing content sends × KeepsQueue before after
 
 -- An entry appears only for a message that the step delivers, and it leaves only by a flush that announces it or with
 -- its member.

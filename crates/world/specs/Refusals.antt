@@ -11,7 +11,7 @@ use Rattle.world.specs.Stimulus.{Stimulus}
 use Rattle.world.specs.declared.TheConstants.{MAX_PAYLOAD}
 use Rattle.world.specs.declared.error.WorldError.{WorldError}
 use Rattle.world.specs.declared.error.WorldError.TheVariants.{UnknownNode, NotRunning, StaleIncarnation, BadPeers, NoPacket, PayloadTooLong, SeqSpent, OutOfMemory}
-use Rattle.world.specs.declared.event.EventOf.TheVariants.{Start, Broadcast, Arrive, Lose, Again, Fire, Flush, Down, Shuffle, Stop}
+use Rattle.world.specs.declared.event.EventOf.TheVariants.{Start, Broadcast, Arrive, Lose, Again, Fire, Flush, Down, Shuffle, Join, Stop}
 use Rattle.world.specs.declared.node_state.NodeState.{NodeState}
 use Rattle.world.specs.declared.packet.Packet.{Packet}
 use Rattle.world.specs.declared.protocol.CoreError.{CoreError}
@@ -72,6 +72,7 @@ refusal limits group (Fire name id) = absent (node_of name group.nodes)
 refusal limits group (Flush name) = absent (node_of name group.nodes)
 refusal limits group (Down name peer dice) = absent (node_of name group.nodes)
 refusal limits group (Shuffle name dice) = absent (node_of name group.nodes)
+refusal limits group (Join name contact) = absent (node_of name group.nodes)
 refusal limits group (Stop name) = absent (node_of name group.nodes)
 
 module _ {C N : Type 0} (is_spent : C → Stimulus N → Type 0) (group : Group C N) where
@@ -94,6 +95,7 @@ module _ {C N : Type 0} (is_spent : C → Stimulus N → Type 0) (group : Group 
   IsSpentBy (Flush name) = IsSpentAt name stimulus.Flush
   IsSpentBy (Down name peer dice) = IsSpentAt name (stimulus.Down peer dice)
   IsSpentBy (Shuffle name dice) = IsSpentAt name (stimulus.Shuffle dice)
+  IsSpentBy (Join name contact) = IsSpentAt name (stimulus.Join contact)
   IsSpentBy (Stop name) = ⊥
 
 -- The event may be refused for this reason: it is the first refusal that applies, or, where none applies, a core's

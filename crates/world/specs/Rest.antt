@@ -14,7 +14,7 @@ use Rattle.world.specs.Group.{Group, node_of, origin_of}
 use Rattle.world.specs.History.{Delivered, HasDelivery, Says, deliveries, delivered_by}
 use Rattle.world.specs.Links.{IsSymmetric, Reaches, Runs}
 use Rattle.world.specs.Lists.{IsOneOf}
-use Rattle.world.specs.declared.event.EventOf.TheVariants.{Start, Broadcast, Arrive, Lose, Again, Fire, Flush, Down, Shuffle, Stop}
+use Rattle.world.specs.declared.event.EventOf.TheVariants.{Start, Broadcast, Arrive, Lose, Again, Fire, Flush, Down, Shuffle, Join, Stop}
 use Rattle.world.specs.declared.node_state.NodeState.{NodeState}
 use Rattle.world.specs.declared.packet.Packet.{Packet}
 
@@ -34,6 +34,7 @@ IsCalm (Again number) = Unit {0}
 IsCalm (Fire name id) = Unit {0}
 IsCalm (Flush name) = Unit {0}
 IsCalm (Shuffle name dice) = Unit {0}
+IsCalm (Join name contact) = Unit {0}
 
 -- One event says the message, and each later one is calm and moves no active view.
 abbrev pub SaidAndCalm : List Entry → MsgId → Type 0

@@ -12,7 +12,7 @@ use Rattle.world.specs.Lists.{places}
 use Rattle.node_names.specs.Same.{has_name}
 use Rattle.world.specs.Peers.{are_peers}
 use Rattle.world.specs.Stimulus.{Stimulus}
-use Rattle.world.specs.declared.event.EventOf.TheVariants.{Start, Broadcast, Arrive, Lose, Again, Fire, Flush, Down, Shuffle, Stop}
+use Rattle.world.specs.declared.event.EventOf.TheVariants.{Start, Broadcast, Arrive, Lose, Again, Fire, Flush, Down, Shuffle, Join, Stop}
 use Rattle.world.specs.declared.node_state.NodeState.{NodeState}
 use Rattle.world.specs.declared.packet.Packet.{Packet}
 use Rattle.world.specs.declared.stimulus.StimulusOf.TheVariants as stimulus
@@ -141,6 +141,7 @@ module _
     Effect before entry after (Flush name) = (entry.packet ≡ None) × Acts state steps before before.flight name stimulus.Flush entry after
     Effect before entry after (Down name peer dice) = (entry.packet ≡ None) × Acts state steps before before.flight name (stimulus.Down peer dice) entry after
     Effect before entry after (Shuffle name dice) = (entry.packet ≡ None) × Acts state steps before before.flight name (stimulus.Shuffle dice) entry after
+    Effect before entry after (Join name contact) = (entry.packet ≡ None) × Acts state steps before before.flight name (stimulus.Join contact) entry after
     Effect before entry after (Stop name) = (entry.packet ≡ None) × Stops before name entry after
 
     -- The entry's event takes the group from before to after, and the entry says what came of it.

@@ -8,7 +8,7 @@ use Rattle.world.specs.CoreState.{CoreState}
 use Rattle.world.specs.Delivery.{Delivery}
 use Rattle.node_names.specs.Same.{has_name, same_name, same_id}
 use Rattle.world.specs.Stimulus.{Stimulus}
-use Rattle.world.specs.declared.stimulus.StimulusOf.TheVariants.{Broadcast, Arrive, Fire, Flush, Down, Shuffle}
+use Rattle.world.specs.declared.stimulus.StimulusOf.TheVariants.{Broadcast, Arrive, Fire, Flush, Down, Shuffle, Join}
 
 -- whether a packet that carries this, if anything, carries the message
 abbrev pub is_carried : MsgId → Option (MsgId × List ℕ) → Bool
@@ -31,6 +31,7 @@ is_from name (Fire id) = false
 is_from name Flush = false
 is_from name (Down peer dice) = false
 is_from name (Shuffle dice) = false
+is_from name (Join contact) = false
 
 -- A name gets one packet that carries the message or one queued announcement of it, and not both, where it is an
 -- active member and not the sender of the packet that came; every other name gets neither.

@@ -3,7 +3,7 @@ use denote.Ref.{Bor}
 use Rattle.std.specs.Prelude.{◌≢◌, ℕ, List}
 use Rattle.node_names.specs.NodeName.{Name}
 use Rattle.world.specs.declared.stimulus.StimulusOf.{StimulusOf}
-use Rattle.world.specs.declared.stimulus.StimulusOf.TheVariants.{Broadcast, Arrive, Fire, Flush, Down, Shuffle}
+use Rattle.world.specs.declared.stimulus.StimulusOf.TheVariants.{Broadcast, Arrive, Fire, Flush, Down, Shuffle, Join}
 
 -- A stimulus whose packet is of the type N.
 abbrev pub Stimulus : Type 0 → Type 0
@@ -17,6 +17,7 @@ lent (Fire id) = Fire id
 lent Flush = Flush
 lent (Down peer dice) = Down peer dice
 lent (Shuffle dice) = Shuffle dice
+lent (Join contact) = Join contact
 
 -- The stimulus is no packet from a sender of this name.
 abbrev pub IsNotFrom : {N : Type 0} → Name → Stimulus N → Type 0
@@ -26,3 +27,4 @@ IsNotFrom name (Fire id) = Unit {0}
 IsNotFrom name Flush = Unit {0}
 IsNotFrom name (Down peer dice) = Unit {0}
 IsNotFrom name (Shuffle dice) = Unit {0}
+IsNotFrom name (Join contact) = Unit {0}

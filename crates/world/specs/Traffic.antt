@@ -9,7 +9,7 @@ use Rattle.world.specs.Entry.{Entry}
 use Rattle.world.specs.Event.{Event}
 use Rattle.world.specs.Rest.{IsSaying}
 use Rattle.world.specs.SpreadLaw.{is_carried}
-use Rattle.world.specs.declared.event.EventOf.TheVariants.{Start, Broadcast, Arrive, Lose, Again, Fire, Flush, Down, Shuffle, Stop}
+use Rattle.world.specs.declared.event.EventOf.TheVariants.{Start, Broadcast, Arrive, Lose, Again, Fire, Flush, Down, Shuffle, Join, Stop}
 use Rattle.world.specs.declared.packet.Packet.{Packet}
 
 -- whether the packet went from the one name to the other
@@ -55,6 +55,7 @@ IsNoRepeat (Fire name id) = Unit {0}
 IsNoRepeat (Flush name) = Unit {0}
 IsNoRepeat (Down name peer dice) = Unit {0}
 IsNoRepeat (Shuffle name dice) = Unit {0}
+IsNoRepeat (Join name contact) = Unit {0}
 IsNoRepeat (Stop name) = Unit {0}
 
 -- One event says the message, and no later one repeats a packet.

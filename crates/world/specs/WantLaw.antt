@@ -8,7 +8,7 @@ use Rattle.world.specs.CoreState.{CoreState}
 use Rattle.world.specs.Lists.{IsOneOf}
 use Rattle.node_names.specs.Same.{has_name, same_name, same_id}
 use Rattle.world.specs.Stimulus.{Stimulus}
-use Rattle.world.specs.declared.stimulus.StimulusOf.TheVariants.{Broadcast, Arrive, Fire, Flush, Down, Shuffle}
+use Rattle.world.specs.declared.stimulus.StimulusOf.TheVariants.{Broadcast, Arrive, Fire, Flush, Down, Shuffle, Join}
 
 -- how many entries say that the name announced the id
 abbrev pub entries_wanted : MsgId → Name → List (MsgId × Name × ℕ) → ℕ
@@ -35,6 +35,7 @@ Announces content (Fire wanted) name id round = ⊥
 Announces content Flush name id round = ⊥
 Announces content (Down peer dice) name id round = ⊥
 Announces content (Shuffle dice) name id round = ⊥
+Announces content (Join contact) name id round = ⊥
 
 -- What an active member announces is wanted from it afterwards, unless the core has it or is its origin. Entries appear
 -- in no other way and only for ids of other runs, and a timer only for a wanted id.

@@ -59,6 +59,11 @@ pub enum EventOf<P, L, D = Dice> {
         name: NodeName,
         dice: D,
     },
+    /// A running node is told to join by `contact`, as at a start.
+    Join {
+        name: NodeName,
+        contact: NodeName,
+    },
     /// A node stops, and its state is gone.
     Stop {
         name: NodeName,

@@ -282,7 +282,10 @@ impl<A: Allocator + Copy> Core<A> for FloodCore<A> {
                 turn: (),
                 moved: has_name(self.peers.as_slice(), peer),
             }),
-            StimulusOf::Fire(_) | StimulusOf::Flush | StimulusOf::Shuffle(_) => Ok(still()),
+            StimulusOf::Fire(_)
+            | StimulusOf::Flush
+            | StimulusOf::Shuffle(_)
+            | StimulusOf::Join(_) => Ok(still()),
         }
     }
 
@@ -298,7 +301,10 @@ impl<A: Allocator + Copy> Core<A> for FloodCore<A> {
                 self.peers.shift_remove(peer);
                 Ok(())
             }
-            StimulusOf::Fire(_) | StimulusOf::Flush | StimulusOf::Shuffle(_) => Ok(()),
+            StimulusOf::Fire(_)
+            | StimulusOf::Flush
+            | StimulusOf::Shuffle(_)
+            | StimulusOf::Join(_) => Ok(()),
         }
     }
 

@@ -153,6 +153,7 @@ pub(crate) fn stimulus_by<'a, N, A: Allocator>(
             dice: dice.get(),
         }),
         EventOf::Shuffle { dice, .. } => Some(StimulusOf::Shuffle(dice.get())),
+        EventOf::Join { contact, .. } => Some(StimulusOf::Join(*contact)),
         EventOf::Start { .. }
         | EventOf::Lose { .. }
         | EventOf::Again { .. }
@@ -221,6 +222,10 @@ pub(crate) fn keep_event<A: Allocator + Copy>(
         EventOf::Shuffle { name, dice } => EventOf::Shuffle {
             name: *name,
             dice: KeptDice::new(alloc, dice)?,
+        },
+        EventOf::Join { name, contact } => EventOf::Join {
+            name: *name,
+            contact: *contact,
         },
         EventOf::Stop { name } => EventOf::Stop { name: *name },
     })

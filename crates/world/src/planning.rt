@@ -47,6 +47,7 @@ impl<C: Core<A>, A: Allocator + Copy> World<C, A> {
             EventOf::Flush { name } => self.plan_flush(name, event),
             EventOf::Down { name, peer, dice } => self.plan_down(name, peer, dice, event),
             EventOf::Shuffle { name, dice } => self.plan_shuffle(name, dice, event),
+            EventOf::Join { name, contact } => self.plan_join(name, contact, event),
             EventOf::Stop { name } => self.plan_stop(name, event),
         }
     }
@@ -348,6 +349,26 @@ impl<C: Core<A>, A: Allocator + Copy> World<C, A> {
     {
         let found = self.find_running(name)?;
         let stimulus = StimulusOf::Shuffle(*dice);
+        let plan = self.plan_step(name, &found, &stimulus, event, None, None)?;
+        Ok(plan)
+    }
+
+    /// Plans to join by a contact.
+    fn plan_join(
+        &self,
+        name: &NodeName,
+        contact: &NodeName,
+        event: &Event<A>,
+    ) -> Result<Plan<C, A>, WorldError>
+        requires { event.now ≡ EventOf.Join name.now contact.now }
+        ensures tells { IfOk result (λ plan. Tells C.state C.starts C.steps self.now.limits event.now self.now.group plan.entry (planned C.after self.now.group plan.entry plan.change plan.packets.items plan.leaving plan.again)) }
+        ensures leaving { IfOk result (λ plan. ForSome plan.leaving (λ place. place < length self.now.group.flight)) }
+        ensures ready { IfOk result (λ plan. IsReady C.is_turn self.now.group.nodes self.now.group.sent plan.entry plan.change) }
+        ensures refused { IfErr result (IsRefusal C.is_spent self.now.limits self.now.group event.now) }
+        ensures accepted { OnOk result (refusal self.now.limits self.now.group event.now ≡ None) }
+    {
+        let found = self.find_running(name)?;
+        let stimulus = StimulusOf::Join(*contact);
         let plan = self.plan_step(name, &found, &stimulus, event, None, None)?;
         Ok(plan)
     }

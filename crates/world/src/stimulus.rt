@@ -27,6 +27,8 @@ pub enum StimulusOf<P, N> {
     Down { peer: NodeName, dice: Dice },
     /// The membership tick comes.
     Shuffle(Dice),
+    /// The node is to join by this contact, as at a start: for example since all its links failed.
+    Join(NodeName),
 }
 
 impl<P, N> StimulusOf<P, N> {
@@ -48,6 +50,7 @@ impl<P, N> StimulusOf<P, N> {
                 dice: *dice,
             },
             StimulusOf::Shuffle(dice) => StimulusOf::Shuffle(*dice),
+            StimulusOf::Join(contact) => StimulusOf::Join(*contact),
         }
     }
 }

@@ -61,7 +61,7 @@ use Rattle.gossip_core.specs.Table.{Call}
 use Rattle.node_core.specs.lawful.Members.{each_one, of_each, one_of_filter, one_of_passing, one_of_names, one_of_ids, counts_none, differs}
 use Rattle.node_core.specs.lawful.Numbered.{each-numbered, carrying-numbered, with-numbered}
 use Rattle.node_core.specs.Plum.{Plum, IsSoundPlum, IsWhole, IsLacked, plum_state, state_with}
-use Rattle.node_core.specs.Steps.{Turned, PlumSteps, PlumStarts, turned, heard, idle, by_gossip, by_membership, gone_on, numbered, delivered_at}
+use Rattle.node_core.specs.Steps.{Turned, PlumSteps, PlumStarts, turned, heard, idle, is_joined, greeting, by_gossip, by_membership, gone_on, numbered, delivered_at}
 use Rattle.node_core.specs.lawful.Starting as starting
 use Rattle.node_core.specs.lawful.Firing.{fires_lawfully}
 use Rattle.node_core.specs.lawful.Flushing.{flushes_lawfully}
@@ -571,6 +571,26 @@ module _ (limits : Limits) (core : Plum) (sound : IsSoundPlum limits core) where
   other_owner : (name : Name) → name ≢ core.gossip.me.name → name ≢ core.membership.views.owner
   other_owner name apart same = apart (same ∙ sym (own_is_owner limits core sound))
 
+  -- of two tests that do not hold together the first does not hold
+  or_left : (b other : Bool) → (b || other) ≡ false → b ≡ false
+  or_left true other is = is
+  or_left false other is = refl
+
+  -- a name that is not the node's own is not the gossip's own
+  not_own : (name : Name) → same_name name core.me.name ≡ false → name ≢ core.gossip.me.name
+  not_own name apart same = false≢true (sym apart ∙ (same_name-Decides name core.me.name).1 (same ∙ ap (λ (o : Origin). o.name) sound.its_gossip))
+
+  -- a core that only sends stays sound
+  same_sound : (framed : ℕ) → IsSoundPlum limits (record core { framed = framed })
+  same_sound framed = record { views = sound.views; its_limits = sound.its_limits; its_keep = sound.its_keep; owner = sound.owner; its_gossip = sound.its_gossip; members = sound.members; whole = sound.whole }
+
+  -- JOIN to another node
+  greets : (contact : Name) → contact ≢ core.gossip.me.name → StepLaws frame_content (plum_state core) (on.Join contact) (numbered core.me core.framed ((contact, body.Join) ∷ [])) [] (plum_state core)
+  greets contact another =
+      leaves_all (plum_state core) (on.Join contact) (numbered core.me core.framed ((contact, body.Join) ∷ [])) refl refl
+      ((λ id p e. absurd (false≢true (ap is_some e))), tt) (another, tt) ((refl, tt), keeps_all (plum_state core)) (λ name j r a is. a) (refl, tt)
+      (record { answers = λ j name a. absurd a; only = ((λ id p e. absurd (false≢true (ap is_some e))), tt) })
+
   module _ (sender : Origin) (another : sender.name ≢ core.gossip.me.name) (by : Origin) (number : ℕ) (dice : Dice) where
     abbrev Heard : Body → Type 0
     Heard said = Step (on.Arrive sender (record { sender = by; number = number; body = said }) dice) (heard core.membership core.gossip sender.name said dice)
@@ -602,6 +622,10 @@ module _ (limits : Limits) (core : Plum) (sound : IsSoundPlum limits core) where
   step_is_lawful on.Flush from = flushes limits core sound
   step_is_lawful (on.Down peer dice) from = (moves_lawfully limits core sound (heard_of.Down peer) dice tt (on.Down peer dice) refl refl (λ s a h. h) (λ s a h. h) (λ name j r a. a) (λ j name a. a), moved_soundly limits core sound (heard_of.Down peer) dice tt)
   step_is_lawful (on.Shuffle dice) from = (moves_lawfully limits core sound heard_of.Tick dice tt (on.Shuffle dice) refl refl (λ s a h. h) (λ s a h. h) (λ name j r a. a) (λ j name a. a), moved_soundly limits core sound heard_of.Tick dice tt)
+  step_is_lawful (on.Join contact) from =
+      either (Step (on.Join contact)) (is_joined core.me core.membership contact) (idle core.membership core.gossip) (greeting core.membership core.gossip contact)
+      (λ joined. (leaves_all (plum_state core) (on.Join contact) [] refl refl tt tt (tt, keeps_all (plum_state core)) (λ name j r a is. a) tt (record { answers = λ j name a. absurd a; only = tt }), same_sound _))
+      (λ apart. (greets contact (not_own contact (or_left (same_name contact core.me.name) (has_name core.membership.views.active contact) apart)), same_sound _))
 
   -- what a sound core shows is as the laws require
   always : StateLaws limits (plum_state core)
@@ -706,6 +730,7 @@ module _ (me : Origin) (m : Membership) (g : GossipState) where
   turn_lists on.Flush = call_lists me g call.Flush
   turn_lists (on.Down peer dice) = moves_list (heard_of.Down peer) dice
   turn_lists (on.Shuffle dice) = moves_list heard_of.Tick dice
+  turn_lists (on.Join contact) = either TurnLists (is_joined me m contact) (idle m g) (greeting m g contact) (λ joined. keeps_all_listed g.keep (keys_of g.held)) (λ apart. keeps_all_listed g.keep (keys_of g.held))
 
 keeps_last : (limits : Limits) (old : Plum) → IsSoundPlum limits old → (stimulus : Stimulus Frame) (sends : List (Name × Frame)) (given : List Delivery) (new : Plum) → PlumSteps old stimulus sends given new → KeepsLast limits.keep (plum_state old).held (ids given) (plum_state new).held
 keeps_last limits old sound stimulus packets given new steps =

@@ -8,7 +8,7 @@ use Rattle.world.specs.DeliveryLaw.{ids}
 use Rattle.world.specs.FloodCore.{Flooding, Message, FloodSteps, Takes, IsIdle, flood_state, is_news, others}
 use Rattle.world.specs.OneDelivery.{OneDelivery}
 use Rattle.world.specs.Stimulus.{Stimulus}
-use Rattle.world.specs.declared.stimulus.StimulusOf.TheVariants.{Broadcast, Arrive, Fire, Flush, Down, Shuffle}
+use Rattle.world.specs.declared.stimulus.StimulusOf.TheVariants.{Broadcast, Arrive, Fire, Flush, Down, Shuffle, Join}
 
 none : (given : List Delivery) → given ≡ [] → length given ≤ 1
 none given is = let e : length given ≡ 0 = ap length is in omega arith
@@ -27,6 +27,7 @@ one_at_most old (Fire id) sends given new s = none given s.delivers_nothing
 one_at_most old Flush sends given new s = none given s.delivers_nothing
 one_at_most old (Down peer dice) sends given new s = none given s.delivers_nothing
 one_at_most old (Shuffle dice) sends given new s = none given s.delivers_nothing
+one_at_most old (Join contact) sends given new s = none given s.delivers_nothing
 
 pub flood_delivers_one : OneDelivery flood_state FloodSteps
 flood_delivers_one = record { at_most_one = one_at_most; of_broadcast = λ old payload sends given new s. ap ids s.1.delivers }

@@ -31,7 +31,7 @@ use Rattle.world.specs.QueueLaw.{FlushesQueue}
 use Rattle.world.specs.SpreadLaw.{is_from}
 use Rattle.world.specs.Stimulus.{Stimulus}
 use Rattle.world.specs.WantLaw.{Announces}
-use Rattle.world.specs.declared.stimulus.StimulusOf.TheVariants.{Broadcast, Arrive, Fire, Flush, Down, Shuffle}
+use Rattle.world.specs.declared.stimulus.StimulusOf.TheVariants.{Broadcast, Arrive, Fire, Flush, Down, Shuffle, Join}
 
 -- ---- the start
 
@@ -210,6 +210,9 @@ module _ (limits : Limits) (old : Flooding) (sound : IsSoundFlooding limits old)
   shuffles_nothing : (dice : Dice) → Lawful limits old (Shuffle dice) [] [] old
   shuffles_nothing dice = (rests_lawfully old old.peers (Shuffle dice) refl refl (tt, tt) tt (λ name j round a. a) (λ j name a. a), sound)
 
+  joins_nothing : (contact : Name) → Lawful limits old (Join contact) [] [] old
+  joins_nothing contact = (rests_lawfully old old.peers (Join contact) refl refl (tt, tt) tt (λ name j round a. a) (λ j name a. a), sound)
+
   drops_peer : (peer : Name) (dice : Dice) → Lawful limits old (Down peer dice) [] [] (record old { peers = remove_key (same_name peer) old.peers })
   drops_peer peer dice = (
     rests_lawfully old (remove_key (same_name peer) old.peers) (Down peer dice) refl refl (tt, tt) tt (λ name j round a. a) (λ j name a. a),
@@ -232,6 +235,7 @@ module _ (limits : Limits) (old : Flooding) (sound : IsSoundFlooding limits old)
   steps_lawfully Flush sends given new h = by_idle old (Lawful limits old Flush) h flushes_nothing
   steps_lawfully (Down peer dice) sends given new h = by_drops old peer (Lawful limits old (Down peer dice)) h (drops_peer peer dice)
   steps_lawfully (Shuffle dice) sends given new h = by_idle old (Lawful limits old (Shuffle dice)) h (shuffles_nothing dice)
+  steps_lawfully (Join contact) sends given new h = by_idle old (Lawful limits old (Join contact)) h (joins_nothing contact)
 
 -- ---- what is held
 
@@ -260,6 +264,7 @@ steps_listed keep old (Fire id) sends given new h = idle_listed keep old sends g
 steps_listed keep old Flush sends given new h = idle_listed keep old sends given new h
 steps_listed keep old (Down peer dice) sends given new h = by_drops old peer (λ _ g n. KeepsLast keep (flood_state old).held (ids g) (flood_state n).held) h (keeps_all keep (flood_state old).held [] (flood_state old).held (sym (append-nil (flood_state old).held)))
 steps_listed keep old (Shuffle dice) sends given new h = idle_listed keep old sends given new h
+steps_listed keep old (Join contact) sends given new h = idle_listed keep old sends given new h
 
 -- ---- all together
 

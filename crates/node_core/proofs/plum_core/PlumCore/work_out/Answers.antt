@@ -15,14 +15,14 @@ use Rattle.node_core.proofs.Parting.{both_ways, ok_allowed, ok_then, spent_by, t
 use Rattle.node_core.proofs.plum_core.PlumCore.work_out.Goals as goal
 
 pub returns-clause-too_long : goal.returns-clause-too_long
-returns-clause-too_long g c = both_ways c.work_out.ensures.too_long (subst (λ (p : Part). IsTooLongPart p ↔ IsTooLong (lent c.args.stimulus.now)) (sym c.part_of-part.ensures) (too_long_by c.self.inside.me (lent c.args.stimulus.now)))
+returns-clause-too_long g c = both_ways c.work_out.ensures.too_long (subst (λ (p : Part). IsTooLongPart p ↔ IsTooLong (lent c.args.stimulus.now)) (sym c.part_of-part.ensures) (too_long_by c.self.inside.me c.self.inside.membership (lent c.args.stimulus.now)))
 
 pub returns-clause-allowed : goal.returns-clause-allowed
 returns-clause-allowed g c = ok_allowed c.work_out.result (lent c.args.stimulus.now) (returns-clause-too_long g c)
 
 pub returns-clause-takes : goal.returns-clause-takes
 returns-clause-takes g c =
-    subst (λ (core : Plum). IfOk c.work_out.result (λ worked. Takes core.membership core.gossip (part_of core.me (lent c.args.stimulus.now)) (unboxed worked.moved))) c.self.view_is
+    subst (λ (core : Plum). IfOk c.work_out.result (λ worked. Takes core.membership core.gossip (part_of core.me core.membership (lent c.args.stimulus.now)) (unboxed worked.moved))) c.self.view_is
     (subst (λ (p : Part). IfOk c.work_out.result (λ worked. Takes c.self.inside.membership c.self.inside.gossip p (unboxed worked.moved))) c.part_of-part.ensures c.work_out.ensures.takes)
 
 pub returns-clause-effects : goal.returns-clause-effects
