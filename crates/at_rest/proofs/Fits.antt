@@ -13,14 +13,14 @@ use Rattle.world.specs.Laws.{Laws}
 use Rattle.world.specs.Links.{Runs}
 use Rattle.world.specs.Run.{Effect, Run, Starts}
 use Rattle.world.specs.Stimulus.{Stimulus}
-use Rattle.world.specs.declared.event.EventOf.TheVariants.{Start, Broadcast, Arrive, Lose, Again, Fire, Flush, Down, Shuffle, Stop}
+use Rattle.world.specs.declared.event.EventOf.TheVariants.{Start, Broadcast, Arrive, Lose, Again, Fire, Flush, Down, Shuffle, Join, Stop}
 use Rattle.world.specs.declared.node_state.NodeState.{NodeState}
 use Rattle.world.specs.declared.packet.Packet.{Packet}
 use Rattle.world.specs.declared.stimulus.StimulusOf.TheVariants as stimulus
 use Rattle.world.proofs.FindLemmas.{put_cases}
 use Rattle.world.proofs.Kept.{Keeps, each-append, each-at}
 use Rattle.world.proofs.Runs.{run_keeps}
-use Rattle.world.proofs.Steps.{IsStep, arrive_step, broadcast_step, down_step, fire_step, flush_step, shuffle_step}
+use Rattle.world.proofs.Steps.{IsStep, arrive_step, broadcast_step, down_step, fire_step, flush_step, shuffle_step, join_step}
 use Rattle.frames.specs.Body.{Body}
 use Rattle.frames.specs.Content.{frame_content}
 use Rattle.frames.specs.Frame.{Frame}
@@ -127,6 +127,7 @@ module _
       event_fits (Flush name) effect = step_fits _ _ (flush_step plum_state frame_content IsSoundPlum PlumStarts PlumSteps laws limits past entry before after kept name effect.1) tt
       event_fits (Down name peer dice) effect = step_fits _ _ (down_step plum_state frame_content IsSoundPlum PlumStarts PlumSteps laws limits past entry before after kept name peer dice effect.1) tt
       event_fits (Shuffle name dice) effect = step_fits _ _ (shuffle_step plum_state frame_content IsSoundPlum PlumStarts PlumSteps laws limits past entry before after kept name dice effect.1) tt
+      event_fits (Join name contact) effect = step_fits _ _ (join_step plum_state frame_content IsSoundPlum PlumStarts PlumSteps laws limits past entry before after kept name contact effect.1) tt
       event_fits (Stop name) effect =
           record {
             sent = subst (λ ps. Each (λ (packet : Packet Frame). IsFit packet.note.body) ps) (sym effect.1.sent) fits.sent;

@@ -15,7 +15,7 @@ use Rattle.world.specs.History.{Delivered, HasDelivery, deliveries}
 use Rattle.world.specs.Lists.{IsOneOf}
 use Rattle.world.specs.Parents.{HasParent, HaveParents}
 use Rattle.world.specs.Rest.{GaveFrom, IsParent}
-use Rattle.world.specs.declared.event.EventOf.TheVariants.{Start, Broadcast, Arrive, Lose, Again, Fire, Flush, Down, Shuffle, Stop}
+use Rattle.world.specs.declared.event.EventOf.TheVariants.{Start, Broadcast, Arrive, Lose, Again, Fire, Flush, Down, Shuffle, Join, Stop}
 use Rattle.world.specs.declared.packet.Packet.{Packet}
 use Rattle.at_rest.specs.Tree.{HasBranch, LeadToOrigin, LeadsOn, branches_from, branches_of, parent_by, tree_of}
 use Rattle.at_rest.specs.declared.branch.Branch.{Branch}
@@ -104,6 +104,7 @@ parent_is sent (Fire name id) entry parent gave = absurd gave
 parent_is sent (Flush name) entry parent gave = absurd gave
 parent_is sent (Down name peer dice) entry parent gave = absurd gave
 parent_is sent (Shuffle name dice) entry parent gave = absurd gave
+parent_is sent (Join name contact) entry parent gave = absurd gave
 parent_is sent (Stop name) entry parent gave = absurd gave
 
 -- an event gave each of its deliveries from their parent

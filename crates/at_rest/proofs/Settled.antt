@@ -19,7 +19,7 @@ use Rattle.world.specs.Laws.{Laws}
 use Rattle.world.specs.Links.{IsRunning}
 use Rattle.world.specs.Lists.{IsOneOf}
 use Rattle.world.specs.Run.{Acts, Arrives, Effect, Run}
-use Rattle.world.specs.declared.event.EventOf.TheVariants.{Start, Broadcast, Arrive, Lose, Again, Fire, Flush, Down, Shuffle, Stop}
+use Rattle.world.specs.declared.event.EventOf.TheVariants.{Start, Broadcast, Arrive, Lose, Again, Fire, Flush, Down, Shuffle, Join, Stop}
 use Rattle.world.specs.declared.node_state.NodeState.{NodeState}
 use Rattle.world.specs.declared.packet.Packet.{Packet}
 use Rattle.world.specs.declared.stimulus.StimulusOf.TheVariants as stimulus
@@ -158,4 +158,5 @@ module _
     event_settles (Again number) is next effect = absurd next
     event_settles (Down name peer dice) is next effect = absurd next
     event_settles (Shuffle name dice) is next effect = absurd next
+    event_settles (Join name contact) is next effect = absurd next
     event_settles (Stop name) is next effect = absurd next

@@ -14,7 +14,7 @@ use Rattle.world.specs.Event.{Event}
 use Rattle.world.specs.Group.{node_of, packets, put_node}
 use Rattle.world.specs.History.{Said, Says, broadcasts_of}
 use Rattle.world.specs.Lists.{IsOneOf}
-use Rattle.world.specs.declared.event.EventOf.TheVariants.{Start, Broadcast, Arrive, Lose, Again, Fire, Flush, Down, Shuffle, Stop}
+use Rattle.world.specs.declared.event.EventOf.TheVariants.{Start, Broadcast, Arrive, Lose, Again, Fire, Flush, Down, Shuffle, Join, Stop}
 use Rattle.world.specs.declared.node_state.NodeState.{NodeState}
 use Rattle.world.specs.declared.packet.Packet.{Packet}
 use Rattle.world.proofs.Weights.{flying_weight, sum_packets, weight_of}
@@ -155,6 +155,7 @@ says_by (Fire name fired) past id p says = absurd says
 says_by (Flush name) past id p says = absurd says
 says_by (Down name peer dice) past id p says = absurd says
 says_by (Shuffle name dice) past id p says = absurd says
+says_by (Join name contact) past id p says = absurd says
 says_by (Stop name) past id p says = absurd says
 
 -- so what was said is one of the list

@@ -16,7 +16,7 @@ use Rattle.world.specs.Plan.{names_of}
 use Rattle.world.specs.Refusals.{sent_under}
 use Rattle.world.specs.Rest.{SaidAndCalm, IsCalm as IsCalmEvent}
 use Rattle.world.specs.Run.{Applied, Effect, Run}
-use Rattle.world.specs.declared.event.EventOf.TheVariants.{Start, Broadcast, Arrive, Lose, Again, Fire, Flush, Down, Shuffle, Stop}
+use Rattle.world.specs.declared.event.EventOf.TheVariants.{Start, Broadcast, Arrive, Lose, Again, Fire, Flush, Down, Shuffle, Join, Stop}
 use Rattle.world.specs.declared.node_state.NodeState.{NodeState}
 use Rattle.world.specs.declared.packet.Packet.{Packet}
 use Rattle.world.proofs.FindLemmas.{found_name, put_same}
@@ -82,6 +82,7 @@ module _
         harmless (Again number) is = absurd is
         harmless (Down other peer dice) is = absurd is
         harmless (Shuffle other dice) is = absurd is
+        harmless (Join other contact) is = absurd is
         harmless (Stop other) is = absurd is
 
     -- the node that it steps
@@ -102,6 +103,7 @@ module _
         go (Again number) does at = absurd at
         go (Down other peer dice) does at = absurd at
         go (Shuffle other dice) does at = absurd at
+        go (Join other contact) does at = absurd at
         go (Stop other) does at = absurd at
 
 -- a node that is put has its name among the names

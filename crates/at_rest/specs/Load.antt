@@ -9,7 +9,7 @@ use Rattle.world.specs.Entry.{Entry}
 use Rattle.world.specs.Event.{Event}
 use Rattle.world.specs.Group.{Group, Logged, core_of}
 use Rattle.world.specs.History.{broadcasts_of, incarnation_of}
-use Rattle.world.specs.declared.event.EventOf.TheVariants.{Start, Broadcast, Arrive, Lose, Again, Fire, Flush, Down, Shuffle, Stop}
+use Rattle.world.specs.declared.event.EventOf.TheVariants.{Start, Broadcast, Arrive, Lose, Again, Fire, Flush, Down, Shuffle, Join, Stop}
 use Rattle.world.specs.declared.packet.Packet.{Packet}
 use Rattle.frames.specs.Body.{Body}
 use Rattle.frames.specs.Frame.{Frame}
@@ -52,6 +52,7 @@ said_by (Fire name id) past = []
 said_by (Flush name) past = []
 said_by (Down name peer dice) past = []
 said_by (Shuffle name dice) past = []
+said_by (Join name contact) past = []
 said_by (Stop name) past = []
 
 -- all messages that were broadcast in a history; a history is a log's entries, the newest first

@@ -10,7 +10,7 @@ use Rattle.world.specs.Group.{Group, Logged}
 use Rattle.world.specs.Refusals.{IsSpentBy, packet_at}
 use Rattle.world.specs.Run.{Applied}
 use Rattle.world.specs.Stimulus.{Stimulus}
-use Rattle.world.specs.declared.event.EventOf.TheVariants.{Start, Broadcast, Arrive, Lose, Again, Fire, Flush, Down, Shuffle, Stop}
+use Rattle.world.specs.declared.event.EventOf.TheVariants.{Start, Broadcast, Arrive, Lose, Again, Fire, Flush, Down, Shuffle, Join, Stop}
 use Rattle.world.specs.declared.packet.Packet.{Packet}
 use Rattle.at_rest.specs.Settling.{IsNext}
 use Rattle.at_rest.specs.declared.error.SettleError.{SettleError}
@@ -27,6 +27,7 @@ StepsNode group (Lose place) name = ⊥
 StepsNode group (Again number) name = ⊥
 StepsNode group (Down other peer dice) name = ⊥
 StepsNode group (Shuffle other dice) name = ⊥
+StepsNode group (Join other contact) name = ⊥
 StepsNode group (Stop other) name = ⊥
 
 module _

@@ -15,7 +15,7 @@ use Rattle.world.specs.Links.{Reaches}
 use Rattle.world.specs.Rest.{AreFewSince, DeliveredAt, SaidAndCalm}
 use Rattle.world.specs.Run.{Applied}
 use Rattle.world.specs.Stimulus.{Stimulus}
-use Rattle.world.specs.declared.event.EventOf.TheVariants.{Start, Broadcast, Arrive, Lose, Again, Fire, Flush, Down, Shuffle, Stop}
+use Rattle.world.specs.declared.event.EventOf.TheVariants.{Start, Broadcast, Arrive, Lose, Again, Fire, Flush, Down, Shuffle, Join, Stop}
 use Rattle.world.specs.declared.node_state.NodeState.{NodeState}
 
 -- what is queued at the core, if one runs
@@ -60,6 +60,7 @@ module _ {C N : Type 0} (state : C → CoreState) where
   IsNext group (Again number) = ⊥
   IsNext group (Down name peer dice) = ⊥
   IsNext group (Shuffle name dice) = ⊥
+  IsNext group (Join name contact) = ⊥
   IsNext group (Stop name) = ⊥
 
   -- No packet is in flight, and nothing is queued or armed at any node.

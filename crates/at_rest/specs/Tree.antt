@@ -8,7 +8,7 @@ use Rattle.world.specs.Delivery.{Delivery}
 use Rattle.world.specs.Entry.{Entry}
 use Rattle.world.specs.Event.{Event}
 use Rattle.world.specs.Lists.{IsOneOf}
-use Rattle.world.specs.declared.event.EventOf.TheVariants.{Start, Broadcast, Arrive, Lose, Again, Fire, Flush, Down, Shuffle, Stop}
+use Rattle.world.specs.declared.event.EventOf.TheVariants.{Start, Broadcast, Arrive, Lose, Again, Fire, Flush, Down, Shuffle, Join, Stop}
 use Rattle.world.specs.declared.packet.Packet.{Packet}
 use Rattle.at_rest.specs.declared.branch.Branch.{Branch}
 
@@ -27,6 +27,7 @@ parent_by sent number (Fire name id) = None
 parent_by sent number (Flush name) = None
 parent_by sent number (Down name peer dice) = None
 parent_by sent number (Shuffle name dice) = None
+parent_by sent number (Join name contact) = None
 parent_by sent number (Stop name) = None
 
 -- the branches of the message among deliveries that came from this parent

@@ -10,7 +10,7 @@ use Rattle.world.specs.OneDelivery.{OneDelivery}
 use Rattle.world.specs.Output.{Output}
 use Rattle.world.specs.Stimulus.{Stimulus}
 use Rattle.world.specs.Trace.{Trace}
-use Rattle.world.specs.declared.stimulus.StimulusOf.TheVariants.{Broadcast, Arrive, Fire, Flush, Down, Shuffle}
+use Rattle.world.specs.declared.stimulus.StimulusOf.TheVariants.{Broadcast, Arrive, Fire, Flush, Down, Shuffle, Join}
 use Rattle.frames.specs.Frame.{Frame}
 use Rattle.node_threads.specs.Applying.{Applies, Puts, broadcast_id, id_given, mail_to, unlinked}
 use Rattle.node_threads.specs.Cell.{Cell, Link}
@@ -27,6 +27,7 @@ id_is state steps one old (Fire id) sends given new made = refl
 id_is state steps one old Flush sends given new made = refl
 id_is state steps one old (Down peer dice) sends given new made = refl
 id_is state steps one old (Shuffle dice) sends given new made = refl
+id_is state steps one old (Join contact) sends given new made = refl
 
 module _
     {C : Type 0}

@@ -8,7 +8,7 @@ use Rattle.world.specs.Delivery.{Delivery}
 use Rattle.world.specs.Output.{Output}
 use Rattle.world.specs.PayloadLaw.{next_id}
 use Rattle.world.specs.Stimulus.{Stimulus}
-use Rattle.world.specs.declared.stimulus.StimulusOf.TheVariants.{Broadcast, Arrive, Fire, Flush, Down, Shuffle}
+use Rattle.world.specs.declared.stimulus.StimulusOf.TheVariants.{Broadcast, Arrive, Fire, Flush, Down, Shuffle, Join}
 use Rattle.frames.specs.Frame.{Frame}
 use Rattle.node_threads.specs.Cell.{Cell, Link, is_linked}
 use Rattle.node_threads.specs.LinkText.{sent_to, spelling}
@@ -21,6 +21,7 @@ broadcast_id core (Fire id) = None
 broadcast_id core Flush = None
 broadcast_id core (Down peer dice) = None
 broadcast_id core (Shuffle dice) = None
+broadcast_id core (Join contact) = None
 
 -- the id of the message that a broadcast delivered
 abbrev pub id_given : Stimulus Frame → List Delivery → Option MsgId
@@ -30,6 +31,7 @@ id_given (Fire id) given = None
 id_given Flush given = None
 id_given (Down peer dice) given = None
 id_given (Shuffle dice) given = None
+id_given (Join contact) given = None
 
 -- what these sends put into the link to this name, each frame as its bytes
 abbrev pub mail_for : List (Name × Frame) → Name → List (List ℕ)

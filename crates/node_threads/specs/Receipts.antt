@@ -4,7 +4,7 @@ use Rattle.std.specs.List.{flat_map}
 use Rattle.node_names.specs.declared.ids.MsgId.{MsgId}
 use Rattle.world.specs.Stimulus.{Stimulus}
 use Rattle.world.specs.Trace.{Step}
-use Rattle.world.specs.declared.stimulus.StimulusOf.TheVariants.{Broadcast, Arrive, Fire, Flush, Down, Shuffle}
+use Rattle.world.specs.declared.stimulus.StimulusOf.TheVariants.{Broadcast, Arrive, Fire, Flush, Down, Shuffle, Join}
 use Rattle.frames.specs.Frame.{Frame}
 use Rattle.node_threads.specs.Applying.{id_given}
 use Rattle.node_threads.specs.declared.receipt.Receipt.{Receipt}
@@ -53,6 +53,7 @@ broadcasts_of (Fire id) = 0
 broadcasts_of Flush = 0
 broadcasts_of (Down peer dice) = 0
 broadcasts_of (Shuffle dice) = 0
+broadcasts_of (Join contact) = 0
 
 -- 1 if a step was found and is a broadcast, and 0 otherwise
 abbrev pub broadcasts_in : Option (Step Frame) → ℕ

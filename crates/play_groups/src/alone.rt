@@ -111,6 +111,7 @@ fn plain<N, A: Allocator>(words: &[&str]) -> Option<Stimulus<N, A>> {
             dice: thrown(words)?,
         },
         ["shuffle", words @ ..] => StimulusOf::Shuffle(thrown(words)?),
+        ["join", contact] => StimulusOf::Join(name(contact)?),
         _ => return None,
     })
 }

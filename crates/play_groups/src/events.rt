@@ -99,6 +99,10 @@ fn plain<A: Allocator + Copy>(words: &[&str]) -> Option<Event<A>> {
             name: name(me)?,
             dice: thrown(words)?,
         },
+        ["join", me, contact] => EventOf::Join {
+            name: name(me)?,
+            contact: name(contact)?,
+        },
         ["stop", me] => EventOf::Stop { name: name(me)? },
         _ => return None,
     })
@@ -183,6 +187,7 @@ fn push_plain<A: Allocator>(text: &mut String, event: &KeptEvent<A>) -> Result<(
             write!(text, "shuffle {name}")?;
             push_dice(text, &dice.get())
         }
+        EventOf::Join { name, contact } => write!(text, "join {name} {contact}"),
         EventOf::Stop { name } => write!(text, "stop {name}"),
         EventOf::Start { .. } | EventOf::Broadcast { .. } => Ok(()),
     }

@@ -45,6 +45,7 @@ fn copy_stimulus<A: Allocator + Copy>(
             dice: *dice,
         },
         StimulusOf::Shuffle(dice) => StimulusOf::Shuffle(*dice),
+        StimulusOf::Join(contact) => StimulusOf::Join(*contact),
     })
 }
 

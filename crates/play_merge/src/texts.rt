@@ -53,6 +53,7 @@ fn push_stimulus<A: Allocator>(
             text.push_str("shuffle")?;
             push_dice(text, dice)
         }
+        StimulusOf::Join(contact) => write!(text, "join {contact}"),
     }
 }
 

@@ -117,8 +117,8 @@ fn arrival<A: Allocator + Copy>(
     )
 }
 
-/// Parses what steps a node: `broadcast m`, `arrive b/1 3 PRUNE`, `fire a/1/1`, `flush`, `down b` or `shuffle`, the last
-/// two with words of dice behind.
+/// Parses what steps a node: `broadcast m`, `arrive b/1 3 PRUNE`, `fire a/1/1`, `flush`, `join b`, `down b` or
+/// `shuffle`, the last two with words of dice behind.
 pub fn stimulus<A: Allocator + Copy>(
     alloc: A,
     words: &[&str],
@@ -135,6 +135,7 @@ pub fn stimulus<A: Allocator + Copy>(
             _ => None,
         },
         ["shuffle", words @ ..] => dice(words).map(|dice| StimulusOf::Shuffle(dice)),
+        ["join", contact] => name(contact).map(|contact| StimulusOf::Join(contact)),
         _ => None,
     })
 }

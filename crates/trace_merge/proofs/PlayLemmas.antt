@@ -20,7 +20,7 @@ use Rattle.world.specs.Refusals.{sent_under}
 use Rattle.world.specs.Run.{Acts, Applied, Effect, Happens, Run}
 use Rattle.world.specs.Stimulus.{Stimulus}
 use Rattle.world.specs.Trace.{Trace}
-use Rattle.world.specs.declared.event.EventOf.TheVariants.{Start, Broadcast, Arrive, Lose, Again, Fire, Flush, Down, Shuffle, Stop}
+use Rattle.world.specs.declared.event.EventOf.TheVariants.{Start, Broadcast, Arrive, Lose, Again, Fire, Flush, Down, Shuffle, Join, Stop}
 use Rattle.world.specs.declared.packet.Packet.{Packet}
 use Rattle.world.specs.declared.stimulus.StimulusOf.TheVariants as stimulus
 use Rattle.trace_merge.specs.Projection.{is_last, projection, projection_in, receiver, started_on, stepped_name, traced_on}
@@ -75,6 +75,7 @@ starts_none o sent (Fire n id) number name out trace is = refl
 starts_none o sent (Flush n) number name out trace is = refl
 starts_none o sent (Down n peer dice) number name out trace is = refl
 starts_none o sent (Shuffle n dice) number name out trace is = refl
+starts_none o sent (Join n contact) number name out trace is = refl
 starts_none o sent (Stop n) number name out trace is = refl
 
 module _
@@ -112,6 +113,7 @@ module _
     acts_of before entry after (Flush n) name told effect is by = acts_as before entry after n name stimulus.Flush told effect.1 is by
     acts_of before entry after (Down n peer dice) name told effect is by = acts_as before entry after n name (stimulus.Down peer dice) told effect.1 is by
     acts_of before entry after (Shuffle n dice) name told effect is by = acts_as before entry after n name (stimulus.Shuffle dice) told effect.1 is by
+    acts_of before entry after (Join n contact) name told effect is by = acts_as before entry after n name (stimulus.Join contact) told effect.1 is by
     acts_of before entry after (Stop n) name told effect is by = let none : None ≡ Some name = is in cc
 
     -- the history goes on

@@ -14,7 +14,7 @@ use Rattle.world.specs.PayloadLaw.{next_id}
 use Rattle.world.specs.Replay.{Leads, Replays}
 use Rattle.world.specs.Stimulus.{Stimulus}
 use Rattle.world.specs.Trace.{Step, Trace}
-use Rattle.world.specs.declared.stimulus.StimulusOf.TheVariants.{Broadcast, Arrive, Fire, Flush, Down, Shuffle}
+use Rattle.world.specs.declared.stimulus.StimulusOf.TheVariants.{Broadcast, Arrive, Fire, Flush, Down, Shuffle, Join}
 use Rattle.frames.specs.Body.{Body}
 use Rattle.frames.specs.Frame.{Frame}
 use Rattle.node_core.specs.Plum.{Plum, plum_state}
@@ -120,3 +120,4 @@ never_spent limits t k s core last at r step short few spent =
     out_of Flush is out = out
     out_of (Down peer dice) is out = out
     out_of (Shuffle dice) is out = out
+    out_of (Join contact) is out = out

@@ -20,7 +20,7 @@ use Rattle.world.specs.Refusals.{sent_under}
 use Rattle.world.specs.Run.{Effect, Run}
 use Rattle.world.specs.Stimulus.{Stimulus}
 use Rattle.world.specs.Trace.{Trace}
-use Rattle.world.specs.declared.event.EventOf.TheVariants.{Start, Broadcast, Arrive, Lose, Again, Fire, Flush, Down, Shuffle, Stop}
+use Rattle.world.specs.declared.event.EventOf.TheVariants.{Start, Broadcast, Arrive, Lose, Again, Fire, Flush, Down, Shuffle, Join, Stop}
 use Rattle.world.specs.declared.packet.Packet.{Packet}
 use Rattle.trace_merge.specs.Projection.{is_last, is_name, projection, receiver, said, sends_between, started_on, stepped_name, stepped_on, traced_on}
 
@@ -89,6 +89,7 @@ module _
     sent_grows before entry after (Flush name) effect = (_, effect.1.sending.sent)
     sent_grows before entry after (Down name peer dice) effect = (_, effect.1.sending.sent)
     sent_grows before entry after (Shuffle name dice) effect = (_, effect.1.sending.sent)
+    sent_grows before entry after (Join name contact) effect = (_, effect.1.sending.sent)
     sent_grows before entry after (Stop name) effect = ([], effect.1.sent ∙ sym (append-nil before.sent))
 
     -- an event names a packet that was sent before it, if it names one
@@ -105,6 +106,7 @@ module _
     names_before before entry after (Flush name) effect more = (refl, refl)
     names_before before entry after (Down name peer dice) effect more = (refl, refl)
     names_before before entry after (Shuffle name dice) effect more = (refl, refl)
+    names_before before entry after (Join name contact) effect more = (refl, refl)
     names_before before entry after (Stop name) effect more = (refl, refl)
 
     -- what was projected stays so when more is sent

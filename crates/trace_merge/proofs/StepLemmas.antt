@@ -19,7 +19,7 @@ use Rattle.world.specs.Lists.{IsOneOf}
 use Rattle.world.specs.Plan.{stimulus_by}
 use Rattle.world.specs.Run.{Acts, Applied, Happens}
 use Rattle.world.specs.Trace.{Step, Trace}
-use Rattle.world.specs.declared.event.EventOf.TheVariants.{Start, Broadcast, Arrive, Lose, Again, Fire, Flush, Down, Shuffle, Stop}
+use Rattle.world.specs.declared.event.EventOf.TheVariants.{Start, Broadcast, Arrive, Lose, Again, Fire, Flush, Down, Shuffle, Join, Stop}
 use Rattle.world.specs.declared.node_state.NodeState.{NodeState}
 use Rattle.world.specs.declared.packet.Packet.{Packet}
 use Rattle.frames.specs.Frame.{Frame}
@@ -46,6 +46,7 @@ starts_no sent (Fire n id) number name other last is = refl
 starts_no sent (Flush n) number name other last is = refl
 starts_no sent (Down n peer dice) number name other last is = refl
 starts_no sent (Shuffle n dice) number name other last is = refl
+starts_no sent (Join n contact) number name other last is = refl
 starts_no sent (Stop n) number name other last is = refl
 
 -- nor is it the start of one
@@ -59,6 +60,7 @@ is_no_start sent (Fire n id) number name o is started = started
 is_no_start sent (Flush n) number name o is started = started
 is_no_start sent (Down n peer dice) number name o is started = started
 is_no_start sent (Shuffle n dice) number name o is started = started
+is_no_start sent (Join n contact) number name o is started = started
 is_no_start sent (Stop n) number name o is started = started
 
 module _

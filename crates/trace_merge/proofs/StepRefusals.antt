@@ -19,7 +19,7 @@ use Rattle.world.specs.Trace.{Step, Trace}
 use Rattle.world.specs.declared.TheConstants.{MAX_PAYLOAD}
 use Rattle.world.specs.declared.error.WorldError.{WorldError}
 use Rattle.world.specs.declared.error.WorldError.TheVariants.{NotRunning, OutOfMemory, PayloadTooLong}
-use Rattle.world.specs.declared.event.EventOf.TheVariants.{Start, Broadcast, Arrive, Lose, Again, Fire, Flush, Down, Shuffle, Stop}
+use Rattle.world.specs.declared.event.EventOf.TheVariants.{Start, Broadcast, Arrive, Lose, Again, Fire, Flush, Down, Shuffle, Join, Stop}
 use Rattle.world.specs.declared.node_state.NodeState.{NodeState}
 use Rattle.world.specs.declared.packet.Packet.{Packet}
 use Rattle.world.specs.declared.stimulus.StimulusOf.TheVariants as stimulus
@@ -48,6 +48,7 @@ named_in limits before entry after (Fire name id) effect = (refl, refl)
 named_in limits before entry after (Flush name) effect = (refl, refl)
 named_in limits before entry after (Down name peer dice) effect = (refl, refl)
 named_in limits before entry after (Shuffle name dice) effect = (refl, refl)
+named_in limits before entry after (Join name contact) effect = (refl, refl)
 named_in limits before entry after (Stop name) effect = (refl, refl)
 
 -- What an applied event tells a core.
@@ -140,6 +141,7 @@ module _
     not_refused (Flush name) tells allowed = present name tells.named
     not_refused (Down name peer dice) tells allowed = present name tells.named
     not_refused (Shuffle name dice) tells allowed = present name tells.named
+    not_refused (Join name contact) tells allowed = present name tells.named
     not_refused (Stop name) tells allowed = let none : None ≡ Some t.origin.name = tells.named in cc
 
     -- a core that is out of numbers at the name is the trace's
@@ -164,6 +166,7 @@ module _
     spent_by (Flush name) tells spent = spent_here name stimulus.Flush spent tells.named tells.tells
     spent_by (Down name peer dice) tells spent = spent_here name (stimulus.Down peer dice) spent tells.named tells.tells
     spent_by (Shuffle name dice) tells spent = spent_here name (stimulus.Shuffle dice) spent tells.named tells.tells
+    spent_by (Join name contact) tells spent = spent_here name (stimulus.Join contact) spent tells.named tells.tells
     spent_by (Stop name) tells spent = absurd spent
 
     -- one that is refused

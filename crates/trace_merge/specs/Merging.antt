@@ -20,7 +20,7 @@ use Rattle.world.specs.declared.node_state.NodeState.{NodeState}
 use Rattle.world.specs.declared.packet.Packet.{Packet}
 use Rattle.world.specs.declared.error.WorldError.{WorldError}
 use Rattle.world.specs.declared.error.WorldError.TheVariants.{UnknownNode, NotRunning, StaleIncarnation, BadPeers, NoPacket, PayloadTooLong, SeqSpent, OutOfMemory as NoMemory}
-use Rattle.world.specs.declared.event.EventOf.TheVariants.{Start, Broadcast, Arrive, Lose, Again, Fire, Flush, Down, Shuffle, Stop}
+use Rattle.world.specs.declared.event.EventOf.TheVariants.{Start, Broadcast, Arrive, Lose, Again, Fire, Flush, Down, Shuffle, Join, Stop}
 use Rattle.world.specs.declared.stimulus.StimulusOf.TheVariants as stimulus
 use Rattle.frames.specs.Content.{frame_content}
 use Rattle.frames.specs.Frame.{Frame}
@@ -51,6 +51,7 @@ IsKept (Fire name id) = Unit {0}
 IsKept (Flush name) = Unit {0}
 IsKept (Down name peer dice) = Unit {0}
 IsKept (Shuffle name dice) = Unit {0}
+IsKept (Join name contact) = Unit {0}
 IsKept (Stop name) = ⊥
 
 -- The event starts this run.
@@ -64,6 +65,7 @@ IsStartOf o (Fire name id) = ⊥
 IsStartOf o (Flush name) = ⊥
 IsStartOf o (Down name peer dice) = ⊥
 IsStartOf o (Shuffle name dice) = ⊥
+IsStartOf o (Join name contact) = ⊥
 IsStartOf o (Stop name) = ⊥
 
 -- Some trace is of this run.
@@ -185,6 +187,7 @@ number_in group (Fire name id) = None
 number_in group (Flush name) = None
 number_in group (Down name peer dice) = None
 number_in group (Shuffle name dice) = None
+number_in group (Join name contact) = None
 number_in group (Stop name) = None
 
 -- The event lets the core of this name take this stimulus.
@@ -230,6 +233,7 @@ AwaitsBy traces places (stimulus.Fire id) = ⊥
 AwaitsBy traces places stimulus.Flush = ⊥
 AwaitsBy traces places (stimulus.Down peer dice) = ⊥
 AwaitsBy traces places (stimulus.Shuffle dice) = ⊥
+AwaitsBy traces places (stimulus.Join contact) = ⊥
 
 -- An earlier run of the name is not played out.
 pub record AwaitsRun (traces : List (Trace Frame)) (places : List (Option ℕ)) (o : Origin) : Type 0 where
@@ -265,6 +269,7 @@ IsArrivalOf from note (stimulus.Fire id) = ⊥
 IsArrivalOf from note stimulus.Flush = ⊥
 IsArrivalOf from note (stimulus.Down peer dice) = ⊥
 IsArrivalOf from note (stimulus.Shuffle dice) = ⊥
+IsArrivalOf from note (stimulus.Join contact) = ⊥
 
 -- The trace's step here is the arrival of a frame that its sender's trace sent otherwise, or to another name.
 pub record IsUnlike (traces : List (Trace Frame)) (o : Origin) (place : ℕ) : Type 0 where

@@ -13,7 +13,7 @@ use Rattle.world.specs.Plan.{stimulus_by}
 use Rattle.world.specs.Refusals.{sent_under}
 use Rattle.world.specs.Stimulus.{Stimulus}
 use Rattle.world.specs.Trace.{Trace}
-use Rattle.world.specs.declared.event.EventOf.TheVariants.{Start, Broadcast, Arrive, Lose, Again, Fire, Flush, Down, Shuffle, Stop}
+use Rattle.world.specs.declared.event.EventOf.TheVariants.{Start, Broadcast, Arrive, Lose, Again, Fire, Flush, Down, Shuffle, Join, Stop}
 use Rattle.world.specs.declared.packet.Packet.{Packet}
 
 -- the receiver and the contents of a packet
@@ -45,6 +45,7 @@ stepped_name sent (Fire name id) number = Some name
 stepped_name sent (Flush name) number = Some name
 stepped_name sent (Down name peer dice) number = Some name
 stepped_name sent (Shuffle name dice) number = Some name
+stepped_name sent (Join name contact) number = Some name
 stepped_name sent (Start name incarnation peers contact) number = None
 stepped_name sent (Lose place) number = None
 stepped_name sent (Again other) number = None
@@ -76,6 +77,7 @@ started_on o (Fire name id) out trace = trace
 started_on o (Flush name) out trace = trace
 started_on o (Down name peer dice) out trace = trace
 started_on o (Shuffle name dice) out trace = trace
+started_on o (Join name contact) out trace = trace
 started_on o (Stop name) out trace = trace
 
 -- the trace after the entry; `last` is the incarnation that the name had started last before, and `end` is the number

@@ -2,7 +2,7 @@
 use Rattle.std.specs.Prelude.{◌≡◌, ◌<◌, ℕ, Bool, true, false, List, Some, set, slice_get}
 use Rattle.world.specs.Stimulus.{Stimulus}
 use Rattle.world.specs.Trace.{Trace}
-use Rattle.world.specs.declared.stimulus.StimulusOf.TheVariants.{Broadcast, Arrive, Fire, Flush, Down, Shuffle}
+use Rattle.world.specs.declared.stimulus.StimulusOf.TheVariants.{Broadcast, Arrive, Fire, Flush, Down, Shuffle, Join}
 use Rattle.frames.specs.Frame.{Frame}
 use Rattle.trace_merge.specs.Merging.{IsHeld, IsMerging, Merge, place_at, remaining}
 
@@ -14,6 +14,7 @@ IsNoArrival (Fire id) = Unit {0}
 IsNoArrival Flush = Unit {0}
 IsNoArrival (Down peer dice) = Unit {0}
 IsNoArrival (Shuffle dice) = Unit {0}
+IsNoArrival (Join contact) = Unit {0}
 
 -- The trace at index `at` was played on, up to `place`.
 pub record GoesOn (traces : List (Trace Frame)) (at place : ℕ) (old new : Merge) : Type 0 where

@@ -40,6 +40,10 @@ fn event_of<A: Allocator + Copy>(
             dice: *dice,
         },
         StimulusOf::Shuffle(dice) => EventOf::Shuffle { name, dice: *dice },
+        StimulusOf::Join(contact) => EventOf::Join {
+            name,
+            contact: *contact,
+        },
         StimulusOf::Arrive { .. } => unreachable!(),
     })
 }

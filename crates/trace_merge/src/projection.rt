@@ -29,7 +29,8 @@ fn stepped_name<N, A: Allocator>(sent: &[Packet<N>], entry: &Entry<A>) -> Option
         | EventOf::Fire { name, .. }
         | EventOf::Flush { name }
         | EventOf::Down { name, .. }
-        | EventOf::Shuffle { name, .. } => Some(*name),
+        | EventOf::Shuffle { name, .. }
+        | EventOf::Join { name, .. } => Some(*name),
         EventOf::Arrive { .. } => Some(sent_under(sent, entry.packet)?.to),
         _ => None,
     }
@@ -70,6 +71,7 @@ fn stimulus_of<A: Allocator + Copy>(
             dice: dice.get(),
         }),
         EventOf::Shuffle { dice, .. } => Some(StimulusOf::Shuffle(dice.get())),
+        EventOf::Join { contact, .. } => Some(StimulusOf::Join(*contact)),
         _ => None,
     })
 }

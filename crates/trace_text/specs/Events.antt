@@ -10,7 +10,7 @@ use Rattle.world.specs.Entry.{Entry}
 use Rattle.world.specs.Event.{Event}
 use Rattle.world.specs.Group.{Logged, core_of}
 use Rattle.world.specs.declared.event.EventOf.{EventOf}
-use Rattle.world.specs.declared.event.EventOf.TheVariants.{Start, Broadcast, Arrive, Lose, Again, Fire, Flush, Down, Shuffle, Stop}
+use Rattle.world.specs.declared.event.EventOf.TheVariants.{Start, Broadcast, Arrive, Lose, Again, Fire, Flush, Down, Shuffle, Join, Stop}
 use Rattle.world.specs.declared.node_state.NodeState.{NodeState}
 use Rattle.world.specs.declared.packet.Packet.{Packet}
 use Rattle.frames.specs.Frame.{Frame}
@@ -44,6 +44,7 @@ event_words sent number (Again again) = naming_words (codes "again number ") aga
 event_words sent number (Fire name id) = fire_words name id
 event_words sent number (Flush name) = codes "flush " ++ name
 event_words sent number (Shuffle name dice) = codes "shuffle " ++ name
+event_words sent number (Join name contact) = codes "join " ++ (name ++ (codes " " ++ contact))
 event_words sent number (Down name peer dice) = codes "down " ++ (name ++ (codes " " ++ peer))
 event_words sent number (Stop name) = codes "stop " ++ name
 
@@ -68,6 +69,7 @@ touched_by sent number (Again again) = None
 touched_by sent number (Fire name id) = Some name
 touched_by sent number (Flush name) = Some name
 touched_by sent number (Shuffle name dice) = Some name
+touched_by sent number (Join name contact) = Some name
 touched_by sent number (Down name peer dice) = Some name
 touched_by sent number (Stop name) = Some name
 
@@ -81,6 +83,7 @@ number_by flight (Again again) = None
 number_by flight (Fire name id) = None
 number_by flight (Flush name) = None
 number_by flight (Shuffle name dice) = None
+number_by flight (Join name contact) = None
 number_by flight (Down name peer dice) = None
 number_by flight (Stop name) = None
 

@@ -49,6 +49,7 @@ fn push_words<A: Allocator>(
         EventOf::Fire { name, id } => push_fire(text, name, id),
         EventOf::Flush { name } => write!(text, "flush {name}"),
         EventOf::Shuffle { name, .. } => write!(text, "shuffle {name}"),
+        EventOf::Join { name, contact } => write!(text, "join {name} {contact}"),
         EventOf::Down { name, peer, .. } => write!(text, "down {name} {peer}"),
         EventOf::Stop { name } => write!(text, "stop {name}"),
     }

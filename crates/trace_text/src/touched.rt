@@ -186,6 +186,7 @@ pub fn touched_by<P, L, D, A: Allocator>(
         | EventOf::Flush { name }
         | EventOf::Down { name, .. }
         | EventOf::Shuffle { name, .. }
+        | EventOf::Join { name, .. }
         | EventOf::Stop { name } => Some(*name),
     }
 }
