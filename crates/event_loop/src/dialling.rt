@@ -12,6 +12,10 @@ use std::alloc::{AllocError, Allocator};
 use std::io;
 use std::net::{Net, SocketAddr};
 
+/// How many links a node has at most: to the 80 names that its views may have, and to others that it answers. Beyond that
+/// a link is closed that is of no use any more; if there is none, the name counts as one that cannot be reached.
+pub const LINKS: usize = 128;
+
 /// Begins to connect to an address, for a writer that gathers bytes itself, so that each write is sent at once. Has the
 /// poll watch the connection as the link at this place.
 fn dial_at<R: Net>(
@@ -31,7 +35,8 @@ fn dial_at<R: Net>(
 
 impl<N: LoopNode<A>, S: Resolve + Drop, A: Allocator + Copy> EventLoop<N, S, A> {
     /// Dials the name for the node at this place, unless there is a link to it. Returns the place of the link, unless
-    /// the name has no address or the system refuses. Where an allocation is refused, nothing is dialled.
+    /// the name has no address, there are too many links, or the system refuses. Where an allocation is refused, nothing
+    /// is dialled.
     pub(crate) fn reach<R: Net>(
         &mut self,
         rt: &R,
@@ -47,11 +52,30 @@ impl<N: LoopNode<A>, S: Resolve + Drop, A: Allocator + Copy> EventLoop<N, S, A> 
         let Some(at) = self.resolver.resolve(&name) else {
             return Ok(None);
         };
+        if !self.may_dial(place) {
+            return Ok(None);
+        }
         self.make_room(place)?;
         let Ok(stream) = dial_at(rt, self.poll.registry(), at, self.links.vacant_key()) else {
             return Ok(None);
         };
         Ok(Some(self.keep_link(place, name, stream)?))
+    }
+
+    /// Whether the node at this place may have one more link. If it has as many as it may, one that is of no use now is
+    /// closed for it.
+    fn may_dial(&mut self, place: usize) -> bool {
+        let Some(hosted) = self.nodes.get(place) else {
+            return false;
+        };
+        if hosted.link_count() < LINKS {
+            return true;
+        }
+        let Some(name) = hosted.unused_name() else {
+            return false;
+        };
+        self.close_link(place, &name);
+        true
     }
 
     /// Makes room for a link of the node at this place.

@@ -11,6 +11,7 @@ use crate::resolve::Resolve;
 use crate::source::Source;
 use mio::net::TcpListener;
 use mio::{Events, Interest, Poll, Waker};
+use node_names::NodeName;
 use rand_core::SeedableRng;
 use rand_pcg::Lcg128Xsl64;
 use slab::Slab;
@@ -83,6 +84,16 @@ impl<N: LoopNode<A>, S: Resolve + Drop, A: Allocator + Copy> EventLoop<N, S, A> 
     /// sooner is a node that asked to become a neighbour told that it cannot be answered.
     pub fn set_patience(&mut self, ticks: u64) {
         self.patience = ticks;
+    }
+
+    /// Sets by whom the node at this place joins again: none, if nothing is set. While its active view is empty, it joins
+    /// at ticks by one of these after the other, whose addresses the resolver tells. The first pause takes 2 to 4
+    /// ticks; each is drawn at random, and they grow up to 256 ticks. Once the node had a neighbour, they begin anew.
+    pub fn set_contacts(&mut self, place: usize, contacts: &[NodeName]) -> Result<(), LoopError> {
+        match self.nodes.get_mut(place) {
+            Some(hosted) => Ok(hosted.rejoining.set_contacts(contacts)?),
+            None => Err(LoopError::System(io::Error::from(io::ErrorKind::NotFound))),
+        }
     }
 
     /// Adds a node that takes connections at this address, and returns its place: 0, 1, 2 and so on. With port 0, the

@@ -1,13 +1,17 @@
 //! A node in an event loop.
 use crate::link::Link;
+use crate::loop_node::LoopNode;
 use crate::program::Situation;
+use crate::rejoining::Rejoining;
 use indexmap::IndexMap;
-use node_names::NodeName;
+use node_names::{Dice, NodeName};
+use rand_core::Rng;
 use slab::Slab;
 use std::alloc::{AllocError, Allocator};
 use std::hash::{BuildHasherDefault, FoldHasher};
+use wire_node::WireError;
 
-/// A node, and the links that it dialled.
+/// A node, the links that it dialled, and by whom it joins again.
 #[derive(Drop)]
 pub(crate) struct HostedNode<N, A: Allocator + Copy> {
     pub(crate) node: N,
@@ -19,6 +23,7 @@ pub(crate) struct HostedNode<N, A: Allocator + Copy> {
     pub(crate) waiting: usize,
     /// Whether the program holds what comes.
     pub(crate) is_held: bool,
+    pub(crate) rejoining: Rejoining<A>,
 }
 
 impl<N: Drop, A: Allocator + Copy> HostedNode<N, A> {
@@ -30,6 +35,7 @@ impl<N: Drop, A: Allocator + Copy> HostedNode<N, A> {
             may_have_ended: false,
             waiting: 0,
             is_held: false,
+            rejoining: Rejoining::new(alloc),
         }
     }
 
@@ -50,6 +56,11 @@ impl<N: Drop, A: Allocator + Copy> HostedNode<N, A> {
     /// The place of the link to the name, if there is one.
     pub(crate) fn link_to(&self, name: &NodeName) -> Option<usize> {
         self.links.get(name).copied()
+    }
+
+    /// How many links there are.
+    pub(crate) fn link_count(&self) -> usize {
+        self.links.len()
     }
 
     /// Makes room for a link.
@@ -77,5 +88,27 @@ impl<N: Drop, A: Allocator + Copy> HostedNode<N, A> {
             }
         }
         None
+    }
+}
+
+impl<N: LoopNode<A>, A: Allocator + Copy> HostedNode<N, A> {
+    /// The name of a link that is of no use now: it leads to no neighbour, and nothing waits for it.
+    pub(crate) fn unused_name(&self) -> Option<NodeName> {
+        for (name, _) in &self.links {
+            if !self.node.is_peer(name) && self.node.waiting(name) == 0 {
+                return Some(*name);
+            }
+        }
+        None
+    }
+
+    /// Has the node join by a contact, if it is alone and one is due.
+    pub(crate) fn rejoin<G: Rng>(&mut self, now: u64, generator: &mut G) -> Result<(), WireError> {
+        let is_alone = self.node.is_alone();
+        if let Some(contact) = self.rejoining.due(now, is_alone, generator) {
+            let dice = Dice::draw(generator);
+            self.node.join(contact, &dice)?;
+        }
+        Ok(())
     }
 }

@@ -1,7 +1,8 @@
 //! Nodes that run on one thread, without a lock: an event loop that takes and makes TCP connections for nodes of bytes.
 //!
 //! A program starts a `WireNode` or several, adds them to an `EventLoop` that was given what tells the addresses of
-//! names, and runs it with a `Program`, which is called for each node that took something.
+//! names, and runs it with a `Program`, which is called for each node that took something. A node that lost all its
+//! neighbours joins again by the contacts that it was given.
 #![tactic(auto)]
 
 mod accepting;
@@ -19,6 +20,7 @@ mod pace;
 mod program;
 mod reading;
 mod ready_table;
+mod rejoining;
 mod resolve;
 mod running;
 mod sending;
@@ -28,6 +30,7 @@ mod taking;
 mod ticking;
 mod wire;
 
+pub use dialling::LINKS;
 pub use error::LoopError;
 pub use event_loop::EventLoop;
 pub use listener::CONNECTIONS;

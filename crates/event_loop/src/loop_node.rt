@@ -26,6 +26,9 @@ pub trait LoopNode<A: Allocator + Copy>: Drop {
     /// Tells the node that the name cannot be reached.
     fn unreachable(&mut self, name: NodeName, dice: &Dice) -> Result<(), WireError>;
 
+    /// Has the node join by the contact.
+    fn join(&mut self, contact: NodeName, dice: &Dice) -> Result<(), WireError>;
+
     /// Makes a tick.
     fn tick(&mut self, dice: &Dice) -> Result<(), WireError>;
 
@@ -34,6 +37,7 @@ pub trait LoopNode<A: Allocator + Copy>: Drop {
 
     /// How many bytes wait for the name.
     fn waiting(&self, name: &NodeName) -> usize;
+
     /// The first of the bytes that wait for the name, in up to four slices. Where any wait, the first two are not both
     /// empty.
     fn transmit(&self, name: &NodeName) -> [&[u8]; 4];
@@ -46,4 +50,7 @@ pub trait LoopNode<A: Allocator + Copy>: Drop {
 
     /// Whether the name is in the active view.
     fn is_peer(&self, name: &NodeName) -> bool;
+
+    /// Whether the active view is empty.
+    fn is_alone(&self) -> bool;
 }

@@ -8,7 +8,8 @@ use std::alloc::Allocator;
 
 impl<N: LoopNode<A>, S: Resolve + Drop, A: Allocator + Copy> EventLoop<N, S, A> {
     /// Makes a tick of each node, and looks for connections and links that kept a node waiting too long
-    /// (`set_patience`). If a tick is refused, the next call goes on with the node that refused it.
+    /// (`set_patience`). A node whose active view is empty joins by one of its contacts, where one is due
+    /// (`set_contacts`). If a tick is refused, the next call goes on with the node that refused it.
     pub fn tick(&mut self) -> Result<(), LoopError> {
         for place in self.ticking..self.nodes.places() {
             self.ticking = place;
@@ -25,11 +26,13 @@ impl<N: LoopNode<A>, S: Resolve + Drop, A: Allocator + Copy> EventLoop<N, S, A> 
         Ok(())
     }
 
-    /// Makes a tick of the node at this place, and has connections be taken where the system refused one.
+    /// Makes a tick of the node at this place, before which it may join again, and has connections be taken where the
+    /// system refused one.
     fn tick_node(&mut self, place: usize) -> Result<(), LoopError> {
         let Some(hosted) = self.nodes.get_mut(place) else {
             return Ok(());
         };
+        hosted.rejoin(self.now, &mut self.generator)?;
         let dice = Dice::draw(&mut self.generator);
         hosted.node.tick(&dice)?;
         self.nodes.queue(place);

@@ -40,6 +40,10 @@ impl<A: Allocator + Copy, R: Record<A> + Drop> LoopNode<A> for WireNode<A, R> {
         self.unreachable(name, dice)
     }
 
+    fn join(&mut self, contact: NodeName, dice: &Dice) -> Result<(), WireError> {
+        self.join(contact, dice)
+    }
+
     fn tick(&mut self, dice: &Dice) -> Result<(), WireError> {
         self.tick(dice)
     }
@@ -66,5 +70,9 @@ impl<A: Allocator + Copy, R: Record<A> + Drop> LoopNode<A> for WireNode<A, R> {
 
     fn is_peer(&self, name: &NodeName) -> bool {
         self.core().active().contains(name)
+    }
+
+    fn is_alone(&self) -> bool {
+        self.core().active().is_empty()
     }
 }

@@ -4,7 +4,7 @@ use Rattle.std.specs.Prelude.{if◌then◌else◌}
 use Rattle.node_names.specs.declared.dice.Dice.{Dice}
 use Rattle.node_names.specs.declared.ids.MsgId.{MsgId}
 use Rattle.wire_node.specs.Moving.{Engine}
-use Rattle.wire_node.specs.Ticking.{Asking, Asks, AsksAt, awaited_at, due_at, is_turn, waits_at}
+use Rattle.wire_node.specs.Ticking.{Asking, Asks, AsksAt, awaited_at, is_turn}
 
 -- what waited is due
 abbrev begun : Asking → Asking

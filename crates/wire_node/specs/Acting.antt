@@ -1,5 +1,5 @@
 -- The steps of a node of bytes: what each does to the core, to what waits, and to the deliveries.
-use Rattle.std.specs.Prelude.{◌≡◌, ◌++◌, List, [], ◌∷◌, Option, map, not, filter}
+use Rattle.std.specs.Prelude.{◌≡◌, ◌++◌, Bool, List, [], ◌∷◌, Option, map, not, filter, if◌then◌else◌}
 use Rattle.node_names.specs.NodeName.{Name}
 use Rattle.node_names.specs.Same.{same_name}
 use Rattle.node_names.specs.declared.dice.Dice.{Dice}
@@ -9,30 +9,43 @@ use Rattle.world.specs.Stimulus.{Stimulus}
 use Rattle.world.specs.Trace.{Step}
 use Rattle.world.specs.declared.stimulus.StimulusOf.TheVariants.{Down}
 use Rattle.frames.specs.Frame.{Frame}
-use Rattle.node_core.specs.Plum.{Plum}
+use Rattle.node_core.specs.Plum.{Plum, plum_state}
 use Rattle.node_core.specs.Steps.{PlumSteps}
+use Rattle.wire_node.specs.News.{Telling, all_news, news_of}
 use Rattle.wire_node.specs.Recording.{Leads, Noted, with_step, with_steps}
 use Rattle.wire_node.specs.Waiting.{Waiting, mail_for, settled_for, undrafted}
+use Rattle.wire_node.specs.declared.news.News.{News}
 
--- A core, what waits to go out, the deliveries that were not taken yet, and what is noted, if anything is.
+-- A core, what waits to go out, the deliveries that were not taken yet, and what is noted, if anything is; the news of
+-- the active view that were not taken yet, and whether the next steps are told of.
 pub record Machine : Type 0 where
   pub core : Plum
   pub waiting : List Waiting
   pub pending : List Delivery
   pub noted : Option Noted
+  pub news : List News
+  pub tells : Bool
+
+-- the same, where of the news the last ones may not be worked out yet
+abbrev pub machine : Plum → List Waiting → List Delivery → Option Noted → Telling → Machine
+machine core waiting pending noted telling =
+    record { core = core; waiting = waiting; pending = pending; noted = noted; news = all_news telling (plum_state core).active; tells = telling.tells }
 
 -- No step is under way: nothing is drafted.
 abbrev pub AreSettled : List Waiting → Type 0
 AreSettled waiting = map undrafted waiting ≡ waiting
 
 -- The core made one step. For each name, the bytes of the frames that go to it wait behind what waited, in their order,
--- what the step delivers waits behind what was delivered before, and the step is noted behind those before it.
+-- what the step delivers waits behind what was delivered before, and the step is noted behind those before it. Where
+-- steps are told of, the news of its active view wait behind those before them.
 pub record Acts (old : Machine) (stimulus : Stimulus Frame) (new : Machine) : Type 0 where
   pub out : Output Frame
   pub stepped : PlumSteps old.core stimulus out.sends out.deliveries new.core
   pub waits : (name : Name) → settled_for new.waiting name ≡ settled_for old.waiting name ++ mail_for out.sends name
   pub delivers : new.pending ≡ old.pending ++ out.deliveries
   pub notes : new.noted ≡ with_step old.noted (record { stimulus = stimulus; out = out })
+  pub tells : new.news ≡ old.news ++ (if old.tells then news_of stimulus (plum_state old.core).active (plum_state new.core).active else [])
+  pub goes_on : new.tells ≡ old.tells
 
 -- what waits for the other names
 abbrev pub without : Name → List Waiting → List Waiting
@@ -42,7 +55,7 @@ without name waiting = filter (λ (w : Waiting). not (same_name name w.name)) wa
 pub record GoesDown (old : Machine) (name : Name) (dice : Dice) (new : Machine) : Type 0 where
   pub told : Machine
   pub acts : Acts old (Down name dice) told
-  pub dropped : new ≡ record { core = told.core; waiting = without name told.waiting; pending = told.pending; noted = told.noted }
+  pub dropped : new ≡ record told { waiting = without name told.waiting }
 
 -- These names went down, one after the other.
 abbrev pub GoDown : Machine → List Name → Dice → Machine → Type 0

@@ -1,5 +1,6 @@
 pub mod Acting
 pub mod Moving
+pub mod News
 pub mod Node
 pub mod Receiving
 pub mod Recording

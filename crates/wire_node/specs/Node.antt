@@ -31,6 +31,8 @@ pub record Starts (me : Origin) (limits : Limits) (peers : List Name) (contact :
   pub waits : (name : Name) → settled_for node.engine.machine.waiting name ≡ mail_for opening.sends name
   pub delivered : node.engine.machine.pending ≡ []
   pub notes : node.engine.machine.noted ≡ opened noted opening
+  pub news : node.engine.machine.news ≡ []
+  pub tells : node.engine.machine.tells ≡ false
   pub lost : node.engine.lost ≡ []
   pub connections : node.connections ≡ []
   pub ticks : node.ticks ≡ 0

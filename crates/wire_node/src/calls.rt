@@ -1,6 +1,6 @@
 //! The calls that make a node of bytes step.
 ghost use Rattle.std.specs.Prelude.{◌≡◌, IfErr, IfOk, OnErr, OnOk};
-ghost use Rattle.wire_node.specs.Moving.{Broadcasts, GoesAway};
+ghost use Rattle.wire_node.specs.Moving.{Broadcasts, GoesAway, Moves};
 ghost use Rattle.wire_node.specs.Node.{Ticks};
 ghost use Rattle.wire_node.specs.Refusing.{IsRefusal};
 ghost use Rattle.wire_node.specs.Ticking.{IsCutShort};
@@ -37,6 +37,20 @@ impl<A: Allocator + Copy, R: Record<A> + Drop> WireNode<A, R> {
         ensures why { IfErr result (IsRefusal self.old.engine.machine.core (StimulusOf.Down name dice.now)) }
     {
         if let Err(error) = self.engine.take_down(name, dice) {
+            return Err(WireError::of_core(error));
+        }
+        Ok(())
+    }
+
+    /// Has the node join by the contact, as at a start: JOIN goes there, unless the contact is the node itself or active.
+    /// A name for whom too much waits then goes down.
+    pub fn join(&mut self, contact: NodeName, dice: &Dice) -> Result<(), WireError>
+        ensures ok { OnOk result (Moves self.old.engine (StimulusOf.Join contact) dice.now self.new.engine) }
+        ensures rest { self.new ≡ record self.old { engine = self.new.engine } }
+        ensures err { OnErr result (self.new ≡ self.old) }
+        ensures why { IfErr result (IsRefusal self.old.engine.machine.core (StimulusOf.Join contact)) }
+    {
+        if let Err(error) = self.engine.step(&StimulusOf::Join(contact), dice) {
             return Err(WireError::of_core(error));
         }
         Ok(())

@@ -26,6 +26,7 @@ pub(crate) fn copy_stimulus<A: Allocator + Copy>(
             dice: *dice,
         },
         StimulusOf::Shuffle(dice) => StimulusOf::Shuffle(*dice),
+        StimulusOf::Join(contact) => StimulusOf::Join(*contact),
     })
 }
 

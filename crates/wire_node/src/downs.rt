@@ -4,12 +4,13 @@ ghost use Rattle.node_names.specs.Same.{same_name};
 ghost use Rattle.world.specs.IdentityLaw.{IsTooLong};
 ghost use Rattle.frames.specs.Frame.{Frame as Sent};
 ghost use Rattle.node_core.specs.Steps.{PlumIsSpent};
-ghost use Rattle.wire_node.specs.Acting.{AreSettled, GoesDown, without};
+ghost use Rattle.wire_node.specs.Acting.{AreSettled, GoesDown, machine, without};
 ghost use Rattle.wire_node.specs.Moving.{Relieves};
 
 use crate::entry::Entry;
 use crate::record::Record;
 use crate::step::make_step;
+use crate::telling::Telling;
 use node_core::PlumCore;
 use node_names::{Dice, Listed, NodeName};
 use std::alloc::Allocator;
@@ -33,15 +34,16 @@ pub(crate) fn take_down<A: Allocator + Copy, R: Record<A>>(
     entries: &mut Vec<Entry<A>, A>,
     pending: &mut Listed<Delivery<A>, A>,
     notes: &mut R,
+    telling: &mut Telling<A>,
     lost: &mut Listed<NodeName, A>,
     name: NodeName,
     dice: &Dice,
 ) -> Result<(), CoreError>
     requires { AreSettled entries.old.items }
-    ensures down { OnOk result (GoesDown (record { core = core.old; waiting = entries.old.items; pending = pending.old; noted = R.noted notes.old }) name dice.now (record { core = core.new; waiting = entries.new.items; pending = pending.new; noted = R.noted notes.new })) }
+    ensures down { OnOk result (GoesDown (machine core.old entries.old.items pending.old (R.noted notes.old) telling.old) name dice.now (machine core.new entries.new.items pending.new (R.noted notes.new) telling.new)) }
     ensures lost { OnOk result (lost.new ≡ lost.old ++ name ∷ []) }
     ensures settled { AreSettled entries.new.items }
-    ensures err { OnErr result ((core.new ≡ core.old) × (entries.new.items ≡ entries.old.items) × (pending.new ≡ pending.old) × (R.noted notes.new ≡ R.noted notes.old) × (lost.new ≡ lost.old)) }
+    ensures err { OnErr result ((machine core.new entries.new.items pending.new (R.noted notes.new) telling.new ≡ machine core.old entries.old.items pending.old (R.noted notes.old) telling.old) × (lost.new ≡ lost.old)) }
     ensures too_long { IsErrOf result CoreError.PayloadTooLong → IsTooLong {N = Sent} (StimulusOf.Down name dice.now) }
     ensures spent { IsErrOf result CoreError.SeqSpent → PlumIsSpent core.old (StimulusOf.Down name dice.now) }
 {
@@ -52,6 +54,7 @@ pub(crate) fn take_down<A: Allocator + Copy, R: Record<A>>(
         entries,
         pending,
         notes,
+        telling,
         &StimulusOf::Down {
             peer: name,
             dice: *dice,
@@ -84,19 +87,20 @@ pub(crate) fn relieve<A: Allocator + Copy, R: Record<A>>(
     entries: &mut Vec<Entry<A>, A>,
     pending: &mut Listed<Delivery<A>, A>,
     notes: &mut R,
+    telling: &mut Telling<A>,
     lost: &mut Listed<NodeName, A>,
     limit: usize,
     dice: &Dice,
 )
     requires { AreSettled entries.old.items }
-    ensures relieved { Relieves (record { core = core.old; waiting = entries.old.items; pending = pending.old; noted = R.noted notes.old }) lost.old dice.now (record { core = core.new; waiting = entries.new.items; pending = pending.new; noted = R.noted notes.new }) lost.new }
+    ensures relieved { Relieves (machine core.old entries.old.items pending.old (R.noted notes.old) telling.old) lost.old dice.now (machine core.new entries.new.items pending.new (R.noted notes.new) telling.new) lost.new }
     ensures settled { AreSettled entries.new.items }
 {
     for _ in 0..entries.len() {
         let Some(name) = overfull(entries, limit) else {
             return;
         };
-        match take_down(core, entries, pending, notes, lost, name, dice) {
+        match take_down(core, entries, pending, notes, telling, lost, name, dice) {
             Ok(()) => {}
             Err(_) => return,
         }

@@ -15,6 +15,7 @@ use crate::entry::Entry;
 use crate::idle::waiting_for;
 use crate::record::Record;
 use crate::step::make_step;
+use crate::telling::Telling;
 use bytes::Bytes;
 use frames::Frame;
 use node_core::{PlumCore, armed_ids};
@@ -23,14 +24,15 @@ use std::alloc::{AllocError, Allocator};
 use std::marker::Model;
 use world::{Core, CoreError, Delivery, Stimulus, StimulusOf};
 
-/// A core, and what its steps leave to be taken: bytes by the name that they go to, deliveries, what is noted, and names
-/// that are down.
+/// A core, and what its steps leave to be taken: bytes by the name that they go to, deliveries, what is noted, news of the
+/// active view, and names that are down.
 #[derive(Drop)]
 pub(crate) struct Engine<A: Allocator, R: Record<A> + Drop> {
     pub(crate) core: PlumCore<A>,
     pub(crate) entries: Vec<Entry<A>, A>,
     pub(crate) pending: Listed<Delivery<A>, A>,
     pub(crate) record: R,
+    pub(crate) telling: Telling<A>,
     /// The names for whom bytes were dropped.
     pub(crate) lost: Listed<NodeName, A>,
     /// How many bytes may wait for a name.
@@ -40,7 +42,7 @@ pub(crate) struct Engine<A: Allocator, R: Record<A> + Drop> {
 }
 
 impl<A: Allocator, R: Record<A> + Drop> Model for Engine<A, R> {
-    ghost use Rattle.wire_node.specs.Acting.{AreSettled, Machine};
+    ghost use Rattle.wire_node.specs.Acting.{AreSettled, machine};
     ghost use Rattle.wire_node.specs.Moving.{Engine};
     ghost use Rattle.std.specs.FinSet as set;
     ghost use Rattle.std.specs.Coded.{codes};
@@ -52,7 +54,7 @@ impl<A: Allocator, R: Record<A> + Drop> Model for Engine<A, R> {
     ghost coded = { Prim.hlevel (codes, set.code {R = id_cmp} id.the_row.coded) };
 
     ghost view = { λ e. record {
-      machine = record { core = e.core; waiting = e.entries.items; pending = e.pending; noted = R.noted e.record };
+      machine = machine e.core e.entries.items e.pending (R.noted e.record) e.telling;
       lost = e.lost;
     } };
 
@@ -141,6 +143,7 @@ impl<A: Allocator + Copy, R: Record<A> + Drop> Engine<A, R> {
             &mut self.entries,
             &mut self.pending,
             &mut self.record,
+            &mut self.telling,
             stimulus,
         )?;
         relieve(
@@ -148,6 +151,7 @@ impl<A: Allocator + Copy, R: Record<A> + Drop> Engine<A, R> {
             &mut self.entries,
             &mut self.pending,
             &mut self.record,
+            &mut self.telling,
             &mut self.lost,
             self.limit,
             dice,
@@ -168,6 +172,7 @@ impl<A: Allocator + Copy, R: Record<A> + Drop> Engine<A, R> {
             &mut self.entries,
             &mut self.pending,
             &mut self.record,
+            &mut self.telling,
             &StimulusOf::Broadcast(payload),
         )?;
         let Some(id) = last_id(&self.pending) else {
@@ -178,6 +183,7 @@ impl<A: Allocator + Copy, R: Record<A> + Drop> Engine<A, R> {
             &mut self.entries,
             &mut self.pending,
             &mut self.record,
+            &mut self.telling,
             &mut self.lost,
             self.limit,
             &Dice::ZEROS,
@@ -197,6 +203,7 @@ impl<A: Allocator + Copy, R: Record<A> + Drop> Engine<A, R> {
             &mut self.entries,
             &mut self.pending,
             &mut self.record,
+            &mut self.telling,
             &mut self.lost,
             name,
             dice,

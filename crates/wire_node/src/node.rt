@@ -9,6 +9,7 @@ use crate::error::WireError;
 use crate::limits::WireLimits;
 use crate::opening::{beside, first_mail, start_core};
 use crate::record::{Record, Unrecorded};
+use crate::telling::Telling;
 use node_core::PlumCore;
 use node_names::{Listed, NodeName, Origin};
 use std::alloc::{Allocator, Global};
@@ -72,6 +73,7 @@ impl<A: Allocator + Copy, R: Record<A> + Drop> WireNode<A, R> {
                 entries,
                 pending: Listed::new(alloc),
                 record: notes,
+                telling: Telling::new(alloc),
                 lost: Listed::new(alloc),
                 limit: limits.waiting,
                 names: NAMES,

@@ -1,5 +1,5 @@
-//! What a node of bytes has for its driver: bytes by the name that they go to, deliveries, and names that are down.
-ghost use Rattle.std.specs.Prelude.{◌≡◌, ◌<◌, ◌++◌, ◌∷◌, ℕ, List, [], IfOk, OnOk, drop, length, if◌then◌else◌};
+//! What a node of bytes has for its driver: bytes by the name that they go to, deliveries, news, and names that are down.
+ghost use Rattle.std.specs.Prelude.{◌≡◌, ◌<◌, ◌++◌, ◌∷◌, ℕ, List, [], IfOk, OnErr, OnOk, drop, length, if◌then◌else◌};
 ghost use Rattle.bytes.specs.Unread.{concat_slices};
 ghost use Rattle.node_names.specs.NodeName.{Name};
 ghost use Rattle.node_names.specs.Same.{same_name};
@@ -10,6 +10,7 @@ use crate::drafts::place_of;
 use crate::engine::Engine;
 use crate::entry::Entry;
 use crate::idle::drop_idle;
+use crate::news::News;
 use crate::node::{NAMES, WireNode};
 use crate::record::Record;
 use node_names::{Listed, NameSet, NodeName};
@@ -133,6 +134,23 @@ impl<A: Allocator + Copy, R: Record<A> + Drop> Engine<A, R> {
         mem::replace(&mut self.pending, Listed::new(alloc)).into_vec()
     }
 
+    /// Has the next steps be told of, or not.
+    pub(crate) fn tell_news(&mut self, tells: bool)
+        ensures { self.new ≡ record self.old { machine = record self.old.machine { tells = tells } } }
+    {
+        self.telling.set_tells(tells);
+    }
+
+    /// Takes the news that were not taken yet. If memory is refused, nothing changes.
+    pub(crate) fn take_news(&mut self) -> Result<Vec<News, A>, AllocError>
+        ensures given { IfOk result (λ news. news.items ≡ self.old.machine.news) }
+        ensures rest { OnOk result (self.new ≡ record self.old { machine = record self.old.machine { news = [] } }) }
+        ensures err { OnErr result (self.new ≡ self.old) }
+    {
+        self.telling.settle(self.core.active())?;
+        Ok(self.telling.take())
+    }
+
     /// Takes the names for whom bytes were dropped.
     pub(crate) fn take_lost(&mut self) -> Vec<NodeName, A>
         ensures given { result.items ≡ self.old.lost }
@@ -181,6 +199,24 @@ impl<A: Allocator + Copy, R: Record<A> + Drop> WireNode<A, R> {
         ensures rest { self.new ≡ record self.old { engine = record self.old.engine { machine = record self.old.engine.machine { pending = [] } } } }
     {
         self.engine.take_deliveries()
+    }
+
+    /// Has the next steps be told of: which names of the active view came and went. Where it is so, take the news now
+    /// and then: they are kept until they are taken. A node that starts tells nothing. News that were not taken stay.
+    pub fn tell_news(&mut self, tells: bool)
+        ensures { self.new ≡ record self.old { engine = record self.old.engine { machine = record self.old.engine.machine { tells = tells } } } }
+    {
+        self.engine.tell_news(tells);
+    }
+
+    /// Returns the news that were not taken yet, each once and in order. This call takes them, unless memory is refused:
+    /// then nothing changes.
+    pub fn take_news(&mut self) -> Result<Vec<News, A>, AllocError>
+        ensures given { IfOk result (λ news. news.items ≡ self.old.engine.machine.news) }
+        ensures rest { OnOk result (self.new ≡ record self.old { engine = record self.old.engine { machine = record self.old.engine.machine { news = [] } } }) }
+        ensures err { OnErr result (self.new ≡ self.old) }
+    {
+        self.engine.take_news()
     }
 
     /// Returns the names for whom bytes were dropped since the last call, in order: what leads to them is to be closed

@@ -1,14 +1,15 @@
 //! A step of the core, whose frames wait afterwards: all of it, or nothing.
-ghost use Rattle.std.specs.Prelude.{◌≡◌, ◌++◌, OnOk, OnErr, IsErrOf};
+ghost use Rattle.std.specs.Prelude.{◌≡◌, ◌++◌, None, OnOk, OnErr, IsErrOf};
 ghost use Rattle.world.specs.IdentityLaw.{IsTooLong};
 ghost use Rattle.node_core.specs.Steps.{PlumIsSpent};
-ghost use Rattle.wire_node.specs.Acting.{Acts, AreSettled};
+ghost use Rattle.wire_node.specs.Acting.{Acts, AreSettled, machine};
 ghost use Rattle.wire_node.specs.Recording.{with_step};
 ghost use Rattle.wire_node.specs.Waiting.{KeepsSettled, all_drafted};
 
 use crate::drafts::{draft_all, settle_all, undraft_all};
 use crate::entry::Entry;
 use crate::record::Record;
+use crate::telling::Telling;
 use frames::Frame;
 use node_core::PlumCore;
 use node_names::Listed;
@@ -66,25 +67,28 @@ fn note_and_draft<A: Allocator + Copy, R: Record<A>>(
     }
 }
 
-/// Makes a step. If it is refused, nothing changes: `advance`, which cannot be taken back, is the last call that can be
-/// refused.
-pub(crate) fn make_step<A: Allocator + Copy, R: Record<A>>(
+/// Makes a step, where the news of the one before are worked out. If it is refused, nothing changes: `advance`, which
+/// cannot be taken back, is the last call that can be refused.
+fn make_next<A: Allocator + Copy, R: Record<A>>(
     core: &mut PlumCore<A>,
     entries: &mut Vec<Entry<A>, A>,
     pending: &mut Listed<Delivery<A>, A>,
     notes: &mut R,
+    telling: &mut Telling<A>,
     stimulus: &Stimulus<Frame<A>, A>,
 ) -> Result<(), CoreError>
-    requires { AreSettled entries.old.items }
-    ensures acts { OnOk result (Acts (record { core = core.old; waiting = entries.old.items; pending = pending.old; noted = R.noted notes.old }) stimulus.now (record { core = core.new; waiting = entries.new.items; pending = pending.new; noted = R.noted notes.new })) }
+    requires settled { AreSettled entries.old.items }
+    requires told { telling.old.last ≡ None }
+    ensures acts { OnOk result (Acts (machine core.old entries.old.items pending.old (R.noted notes.old) telling.old) stimulus.now (machine core.new entries.new.items pending.new (R.noted notes.new) telling.new)) }
     ensures settled { AreSettled entries.new.items }
-    ensures err { OnErr result ((core.new ≡ core.old) × (entries.new.items ≡ entries.old.items) × (pending.new ≡ pending.old) × (R.noted notes.new ≡ R.noted notes.old)) }
+    ensures err { OnErr result ((core.new ≡ core.old) × (entries.new.items ≡ entries.old.items) × (pending.new ≡ pending.old) × (R.noted notes.new ≡ R.noted notes.old) × (telling.new ≡ telling.old)) }
     ensures too_long { IsErrOf result CoreError.PayloadTooLong → IsTooLong stimulus.now }
     ensures spent { IsErrOf result CoreError.SeqSpent → PlumIsSpent core.old stimulus.now }
 {
     let lent = stimulus.as_ref();
     let mut out = Out::new(*entries.allocator());
-    let Prepared { turn, .. } = core.prepare(&lent, &mut out)?;
+    let Prepared { turn, moved } = core.prepare(&lent, &mut out)?;
+    let change = telling.change_of(moved, stimulus, core.active())?;
     let len = entries.len();
     let given = pending.len();
     note_and_draft(entries, pending, notes, stimulus, out)?;
@@ -95,5 +99,26 @@ pub(crate) fn make_step<A: Allocator + Copy, R: Record<A>>(
         return Err(CoreError::OutOfMemory);
     }
     settle_all(entries);
+    telling.keep(change);
     Ok(())
+}
+
+/// Makes a step. If it is refused, nothing changes.
+pub(crate) fn make_step<A: Allocator + Copy, R: Record<A>>(
+    core: &mut PlumCore<A>,
+    entries: &mut Vec<Entry<A>, A>,
+    pending: &mut Listed<Delivery<A>, A>,
+    notes: &mut R,
+    telling: &mut Telling<A>,
+    stimulus: &Stimulus<Frame<A>, A>,
+) -> Result<(), CoreError>
+    requires { AreSettled entries.old.items }
+    ensures acts { OnOk result (Acts (machine core.old entries.old.items pending.old (R.noted notes.old) telling.old) stimulus.now (machine core.new entries.new.items pending.new (R.noted notes.new) telling.new)) }
+    ensures settled { AreSettled entries.new.items }
+    ensures err { OnErr result (machine core.new entries.new.items pending.new (R.noted notes.new) telling.new ≡ machine core.old entries.old.items pending.old (R.noted notes.old) telling.old) }
+    ensures too_long { IsErrOf result CoreError.PayloadTooLong → IsTooLong stimulus.now }
+    ensures spent { IsErrOf result CoreError.SeqSpent → PlumIsSpent core.old stimulus.now }
+{
+    telling.settle(core.active())?;
+    make_next(core, entries, pending, notes, telling, stimulus)
 }

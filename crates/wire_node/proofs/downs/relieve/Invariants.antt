@@ -1,4 +1,4 @@
-use Rattle.wire_node.specs.Acting.{AreSettled}
+use Rattle.wire_node.specs.Acting.{AreSettled, machine}
 use Rattle.wire_node.specs.Moving.{Relieves}
 use Rattle.wire_node.proofs.downs.relieve.Given as goal
 
@@ -6,7 +6,5 @@ use Rattle.wire_node.proofs.downs.relieve.Given as goal
 abbrev pub invariant-loop : goal.invariant-loop
 invariant-loop g l =
     let noted = g.R.Record.noted in
-    Relieves
-    (record { core = l.fn.core; waiting = l.fn.entries.items; pending = l.fn.pending; noted = noted l.fn.notes }) l.fn.lost l.dice
-    (record { core = l.core; waiting = l.entries.items; pending = l.pending; noted = noted l.notes }) l.lost
+    Relieves (machine l.fn.core l.fn.entries.items l.fn.pending (noted l.fn.notes) l.fn.telling) l.fn.lost l.dice (machine l.core l.entries.items l.pending (noted l.notes) l.telling) l.lost
     × AreSettled l.entries.items

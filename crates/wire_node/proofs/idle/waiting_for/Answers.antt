@@ -1,7 +1,7 @@
-use Rattle.std.proofs.Common.{◌≡◌, ◌∙◌, [], All, IsNone, ap, length, position, rules, subst, sym}
+use Rattle.std.proofs.Common.{◌∙◌, All, IsNone, ap, length, position, rules, subst, sym}
 use Rattle.std.proofs.lemmas.List.Quantifiers.{position-Some}
 use Rattle.node_names.specs.Same.{same_name}
-use Rattle.wire_node.specs.Waiting.{Waiting, settled_for}
+use Rattle.wire_node.specs.Waiting.{Waiting}
 use Rattle.wire_node.proofs.Drafting.{IsOther}
 use Rattle.wire_node.proofs.Sending.{waits_at, waits_none}
 use Rattle.wire_node.proofs.idle.waiting_for.Goals as goal

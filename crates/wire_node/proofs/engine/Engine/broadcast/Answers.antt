@@ -5,9 +5,9 @@ use Rattle.world.specs.declared.stimulus.StimulusOf.TheVariants.{Broadcast}
 use Rattle.node_core.specs.Plum.{plum_state}
 use Rattle.node_core.specs.Steps.{PlumIsSpent}
 use Rattle.node_core.specs.lawful.PlumDelivers.{plum_delivers_one}
+use Rattle.wire_node.specs.Acting.{machine}
 use Rattle.wire_node.specs.Moving.{Broadcasts, Engine}
 use Rattle.wire_node.proofs.Lasts.{last_id_is}
-use Rattle.wire_node.proofs.Stepping.{machine}
 use Rattle.wire_node.proofs.engine.Engine.broadcast.Goals as goal
 
 pub returns-clause-ok : goal.returns-clause-ok
@@ -18,11 +18,11 @@ returns-clause-ok g c =
     let id = c.in-Some.id in
     let one = plum_delivers_one.of_broadcast core c.args.payload acts.out.sends acts.out.deliveries c.make_step.new.core acts.stepped in
     let its : id ≡ next_id (plum_state core) = last_id_is c.self.inside.pending acts.out.deliveries c.make_step.new.pending (next_id (plum_state core)) id c.last_id.result one acts.delivers c.last_id.ensures c.in-Some.is in
-    let after : Engine = record { machine = machine c.relieve.new.core c.relieve.new.entries.items c.relieve.new.pending (noted c.relieve.new.notes); lost = c.relieve.new.lost } in
+    let after : Engine = record { machine = machine c.relieve.new.core c.relieve.new.entries.items c.relieve.new.pending (noted c.relieve.new.notes) c.relieve.new.telling; lost = c.relieve.new.lost } in
     subst (λ (n : Engine). Broadcasts n c.args.payload id after) c.self.view_is
     (record {
       moves = record {
-        stepped = machine c.make_step.new.core c.make_step.new.entries.items c.make_step.new.pending (noted c.make_step.new.notes);
+        stepped = machine c.make_step.new.core c.make_step.new.entries.items c.make_step.new.pending (noted c.make_step.new.notes) c.make_step.new.telling;
         acts = acts;
         relieves = c.relieve.ensures.relieved;
       };

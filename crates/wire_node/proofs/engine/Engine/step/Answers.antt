@@ -1,15 +1,15 @@
 use Rattle.std.proofs.Common.{subst}
+use Rattle.wire_node.specs.Acting.{machine}
 use Rattle.wire_node.specs.Moving.{Engine, Moves}
-use Rattle.wire_node.proofs.Stepping.{machine}
 use Rattle.wire_node.proofs.engine.Engine.step.Goals as goal
 
 pub returns-clause-ok : goal.returns-clause-ok
 returns-clause-ok g c =
     let noted = g.R.Record.noted in
-    let after : Engine = record { machine = machine c.relieve.new.core c.relieve.new.entries.items c.relieve.new.pending (noted c.relieve.new.notes); lost = c.relieve.new.lost } in
+    let after : Engine = record { machine = machine c.relieve.new.core c.relieve.new.entries.items c.relieve.new.pending (noted c.relieve.new.notes) c.relieve.new.telling; lost = c.relieve.new.lost } in
     subst (λ (n : Engine). Moves n c.args.stimulus.now c.args.dice.now after) c.self.view_is
     (record {
-      stepped = machine c.make_step.new.core c.make_step.new.entries.items c.make_step.new.pending (noted c.make_step.new.notes);
+      stepped = machine c.make_step.new.core c.make_step.new.entries.items c.make_step.new.pending (noted c.make_step.new.notes) c.make_step.new.telling;
       acts = c.in_ok-make_step.ensures.acts;
       relieves = c.relieve.ensures.relieved;
     })

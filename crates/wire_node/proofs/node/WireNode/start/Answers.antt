@@ -1,7 +1,8 @@
-use Rattle.std.proofs.Common.{refl, subst, sym}
+use Rattle.std.proofs.Common.{ap, refl, subst, sym}
 use Rattle.std.proofs.lemmas.Result.{IfOk-at_ok}
-use Rattle.node_core.specs.Plum.{Plum}
+use Rattle.node_core.specs.Plum.{Plum, plum_state}
 use Rattle.node_core.specs.Steps.{PlumStarts}
+use Rattle.wire_node.specs.News.{Telling, all_news}
 use Rattle.wire_node.proofs.node.WireNode.start.Goals as goal
 
 pub returns : goal.returns
@@ -15,8 +16,10 @@ returns g c =
       waits = IfOk-at_ok _ both.1 c.first_mail-mail.ensures.waits;
       delivered = c.new.ensures;
       notes = IfOk-at_ok _ both.1 c.first_mail-mail.ensures.notes;
-      lost = c.new-2.ensures;
-      connections = c.new-3.ensures.items;
+      news = ap (λ (t : Telling). all_news t (plum_state c.in_ok-core-2.core).active) c.new-2.ensures;
+      tells = ap (λ (t : Telling). t.tells) c.new-2.ensures;
+      lost = c.new-3.ensures;
+      connections = c.new-4.ensures.items;
       ticks = refl;
-      asking = c.new-4.ensures;
+      asking = c.new-5.ensures;
     }
