@@ -99,6 +99,10 @@ class Proof:
         """Returns whether the prover refused it, and nothing else went wrong."""
         return self.process.returncode == 1 and "NOT PROVED" in self.text() and not self.was_killed()
 
+    def is_unknown(self):
+        """Returns whether this `rt` proves all crates alone: it takes no names, and printed its usage."""
+        return self.process.returncode == 2 and self.text().startswith("usage: ")
+
     def was_kept(self):
         return f"rt: {self.name} is kept" in self.text()
 
@@ -115,13 +119,16 @@ def told(proof):
 
 
 def keeps(name, room):
-    """Returns whether `rt` keeps what passes, by two runs of a crate that stands on none. One that does not pass ends the script."""
+    """Returns whether `rt` keeps what passes, by two runs of a crate that stands on none. One that does not pass ends the script. An `rt`
+    that takes no names keeps nothing."""
     for _ in range(2):
         proof = Proof(name, room)
         while not proof.has_ended():
             time.sleep(0.2)
         if proof.was_kept():
             return True
+        if proof.is_unknown():
+            return False
         print(told(proof), flush=True)
         if not proof.passed():
             sys.exit(1 if proof.is_refused() else 2)

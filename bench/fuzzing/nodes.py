@@ -147,6 +147,9 @@ class Model:
     def lose(self, answer, steps, name):
         ensure(answer == "done" and not self.note_downs(steps, [name]), "a name that is lost is one step")
 
+    def join(self, answer, steps, name):
+        ensure(answer == "done" and self.note_downs(steps, []) == [f"join {name}"], "to be told to join is one step")
+
     def tick(self, answer, steps):
         self.ticks += 1
         first, *fired = self.note_downs(steps, [])
@@ -214,6 +217,8 @@ class Calls:
             return "tick"
         if what < 0.95:
             return f"lose:{chr(self.dice.choice(GROUP.replace(ME.encode(), b'')))}"
+        if what < 0.97:
+            return f"join:{chr(self.dice.choice(GROUP))}"
         return self.dice.choice(["hear", "lost", f"send:{self.dice.choice([1, 7, 100, 65536])}"])
 
     def any_piece(self):

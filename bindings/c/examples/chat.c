@@ -5,9 +5,9 @@
  *   chat a 7201 b=7202 &        a node that b may join
  *   chat b 7202 --join a a=7201
  *
- * The node that is joined runs already: a node whose first call comes to nothing stays alone. Every name that the node
- * may have to call stands on the command line with its port on this machine. One thread, one poll; a peer that takes
- * nothing for a second is hung up. */
+ * The node that is joined may start later, or anew: a node that has no peer tries again once a second. Every name that
+ * the node may have to call stands on the command line with its port on this machine. One thread, one poll; a peer that
+ * takes nothing for a second is hung up. */
 #define _DEFAULT_SOURCE
 #include "plumtree.h"
 
@@ -25,6 +25,7 @@
 enum { PEERS = 64, CALLERS = 64, LISTENER = 0, INPUT, TIMER, FIRST_CALLER, ALL = FIRST_CALLER + CALLERS };
 
 static plumtree_node node;
+static const char *contact = ""; /* the name by which the node joins, if there is one */
 static plumtree_name peers[PEERS]; /* other nodes, with their ports and the connections to them, or -1 */
 static int ports[PEERS], links[PEERS], peer_count;
 static struct pollfd polled[ALL]; /* connections of others have these numbers */
@@ -125,6 +126,18 @@ static void accept_one(void)
     }
 }
 
+/* Makes a tick, and joins again at every tenth without a peer. */
+static void tick(void)
+{
+    static int alone;
+    plumtree_name names[PLUMTREE_ACTIVE_MAX];
+    size_t length;
+    checked("tick", plumtree_wire_tick(&node, roll()));
+    checked("active", plumtree_active(&node, names, PLUMTREE_ACTIVE_MAX, &length));
+    if (length == 0 && contact[0] != 0 && ++alone % 10 == 0)
+        checked("join", plumtree_wire_join(&node, (const uint8_t *)contact, strlen(contact), roll()));
+}
+
 /* Reads a line of standard input, the timer, or what a connection brings. */
 static void read_from(int place)
 {
@@ -133,7 +146,7 @@ static void read_from(int place)
     ssize_t count = read(polled[place].fd, bytes, sizeof bytes);
     int32_t answer = PLUMTREE_DONE;
     if (place == TIMER)
-        checked("tick", plumtree_wire_tick(&node, roll()));
+        tick();
     else if (place == INPUT && count > 0)
         checked("broadcast", plumtree_wire_broadcast(&node, bytes, (size_t)count - (bytes[count - 1]
              == '\n'), &number));
@@ -151,7 +164,6 @@ int main(int count, char **words)
 {
     struct itimerspec ticks = {{0, 100000000}, {0, 100000000}};
     plumtree_limits limits;
-    const char *contact = "";
     if (count < 3) {
         fprintf(stderr, "usage: chat NAME PORT [--join NAME] [PEER=PORT]..\n");
         return 2;

@@ -218,6 +218,7 @@ static void bother(int at)
     wants("no timer", plumtree_fire(&nodes[at], &id), PLUMTREE_NONE);
     wants("unknown", plumtree_knows(&nodes[at], &id), PLUMTREE_NONE);
     wants("bad name", plumtree_link_down(&nodes[at], (const uint8_t *)bad.text, 6, dice), PLUMTREE_BAD_NAME);
+    wants("bad contact", plumtree_join(&nodes[at], (const uint8_t *)bad.text, 6), PLUMTREE_BAD_NAME);
     wants("twice", plumtree_start(&nodes[at], (const uint8_t *)"z", 1, 1, &limits, NULL, 0, NULL, 0), PLUMTREE_LIVE);
 }
 
@@ -357,6 +358,17 @@ static void down(int at)
     take_all(at);
 }
 
+static void join(int at)
+{
+    char contact = name_of((int)below(NODES));
+    int32_t answer;
+    fprintf(scenario, "{do=\"join\",node=\"%c\",contact=\"%c\"},\n", name_of(at), contact);
+    CALL(answer, plumtree_join(&nodes[at], (const uint8_t *)&contact, 1));
+    if (answer != PLUMTREE_DONE)
+        fail("join", answer);
+    take_all(at);
+}
+
 /* A tick is a flush, a firing of each armed timer, and at each tenth a shuffle. Memory does not refuse it: a tick that
  * was refused keeps the steps before. */
 static void tick(int at)
@@ -398,12 +410,14 @@ static void happen(int at, uint64_t what)
         flush(at);
     else if (what < 74)
         fire(at);
-    else if (what < 84)
+    else if (what < 83)
         tick(at);
-    else if (what < 92)
+    else if (what < 90)
         shuffle(at);
-    else if (what < 97)
+    else if (what < 95)
         down(at);
+    else if (what < 98)
+        join(at);
     else if (what < 99)
         bother(at);
     else

@@ -77,6 +77,7 @@ static void each_answers(plumtree_node *node, int32_t wanted)
     LOOK(plumtree_fire_at(node, 0) == wanted);
     LOOK(plumtree_shuffle(node, dice) == wanted);
     LOOK(plumtree_link_down(node, BYTES("a"), dice) == wanted);
+    LOOK(plumtree_join(node, BYTES("a")) == wanted);
     LOOK(plumtree_next_send(node, &name, room, sizeof room, &length) == wanted && length == 0);
     length = 99;
     LOOK(plumtree_next_delivery(node, &id, room, sizeof room, &length) == wanted && length == 0);
@@ -149,6 +150,7 @@ static void empty(void)
     LOOK(plumtree_start(&node, BYTES("a"), 1, &limits, &peer, 1, NULL, 0) == PLUMTREE_DONE);
     LOOK(plumtree_receive(&node, NULL, 0, dice, &taken) == PLUMTREE_NONE && taken == 0);
     LOOK(plumtree_link_down(&node, NULL, 0, dice) == PLUMTREE_BAD_NAME);
+    LOOK(plumtree_join(&node, NULL, 0) == PLUMTREE_BAD_NAME);
     LOOK(plumtree_next_send(&node, &to, NULL, 0, &length) == PLUMTREE_NONE && length == 0);
     LOOK(plumtree_next_delivery(&node, &id, NULL, 0, &length) == PLUMTREE_NONE && length == 0);
     LOOK(plumtree_passive(&node, NULL, 0, &length) == PLUMTREE_DONE && length == 0);
@@ -475,6 +477,33 @@ static void ticks(void)
     free_group();
 }
 
+/* All links of c fail, and it joins again by a: it gets what is broadcast from then on. */
+static void joins(void)
+{
+    uint64_t number;
+    start_group();
+    for (int i = 0; i < 2; i++) {
+        LOOK(plumtree_link_down(&group[i], BYTES("c"), dice) == PLUMTREE_DONE);
+        LOOK(plumtree_link_down(&group[2], (const uint8_t *)group_names[i], 1, dice) == PLUMTREE_DONE);
+    }
+    LOOK(plumtree_broadcast(&group[0], BYTES("early"), &number) == PLUMTREE_DONE);
+    carry(0);
+    seen before = see(&group[2]);
+    LOOK(before.actives == 0 && before.passives == 0 && before.counts.known == 0 && before.counts.sends == 0);
+    LOOK(plumtree_join(&group[2], BYTES("c")) == PLUMTREE_DONE && same(before, see(&group[2])));
+    LOOK(plumtree_join(&group[2], BYTES("No")) == PLUMTREE_BAD_NAME && same(before, see(&group[2])));
+    LOOK(plumtree_join(&group[2], BYTES("a")) == PLUMTREE_DONE);
+    LOOK(see(&group[2]).counts.sends == 1 && see(&group[2]).actives == 0);
+    carry(0);
+    before = see(&group[2]);
+    LOOK(before.actives == 2 && see(&group[0]).actives == 2 && see(&group[1]).actives == 2);
+    LOOK(plumtree_join(&group[2], BYTES("a")) == PLUMTREE_DONE && same(before, see(&group[2])));
+    LOOK(plumtree_broadcast(&group[1], BYTES("late"), &number) == PLUMTREE_DONE);
+    carry(0);
+    LOOK(see(&group[2]).counts.known == 1 && see(&group[0]).counts.known == 2);
+    free_group();
+}
+
 /* ---- Any bytes as frames ---- */
 
 /* Gives the bytes to a node: it answers what plumtree.h says, and where it refuses nothing changes. */
@@ -587,6 +616,11 @@ static int32_t call_link_down(plumtree_node *node)
     return plumtree_link_down(node, BYTES("a"), dice);
 }
 
+static int32_t call_join(plumtree_node *node)
+{
+    return plumtree_join(node, BYTES("a"));
+}
+
 static int32_t call_next_send(plumtree_node *node)
 {
     static uint8_t room[PLUMTREE_FRAME_MAX];
@@ -647,6 +681,7 @@ static void refusals(void)
     refused += refuse_each(&group[2], call_flush);
     refused += refuse_each(&group[2], call_shuffle);
     refused += refuse_each(&group[2], call_link_down);
+    refused += refuse_each(&group[2], call_join);
     LOOK(refused >= 10);
     /* a tick that is refused is made at last, and nothing is lost */
     for (int tick = 1; tick <= 20; tick++)
@@ -927,6 +962,7 @@ int main(int count, char **arguments)
     payload_limits();
     timers();
     ticks();
+    joins();
     any_bytes(rounds);
     refusals();
     spoil_kinds(rounds < 100000 ? 37 : 1);

@@ -109,6 +109,7 @@ static void each_answers(plumtree_node *node, int32_t wanted)
     LOOK(plumtree_wire_receive(node, 1, BYTES("x"), dice) == wanted);
     LOOK(plumtree_wire_ended(node, 1, dice) == wanted);
     LOOK(plumtree_wire_unreachable(node, BYTES("b"), dice) == wanted);
+    LOOK(plumtree_wire_join(node, BYTES("b"), dice) == wanted);
     LOOK(plumtree_wire_tick(node, dice) == wanted);
     LOOK(plumtree_wire_receivers(node, names, 2, &length) == wanted && length == 0);
     length = 99;
@@ -138,6 +139,7 @@ static void no_machine(plumtree_node *node)
     LOOK(plumtree_fire_at(node, 0) == PLUMTREE_NOT_LIVE);
     LOOK(plumtree_shuffle(node, dice) == PLUMTREE_NOT_LIVE);
     LOOK(plumtree_link_down(node, BYTES("b"), dice) == PLUMTREE_NOT_LIVE);
+    LOOK(plumtree_join(node, BYTES("b")) == PLUMTREE_NOT_LIVE);
     LOOK(plumtree_next_send(node, &name, room, sizeof room, &length) == PLUMTREE_NOT_LIVE);
     LOOK(plumtree_next_delivery(node, &id, room, sizeof room, &length) == PLUMTREE_NOT_LIVE);
     LOOK(plumtree_counts_of(node, &counts) == PLUMTREE_NOT_LIVE);
@@ -261,6 +263,7 @@ static void no_bytes(void)
     LOOK(plumtree_wire_ended(&a, number, dice) == PLUMTREE_DONE
          && plumtree_wire_ended(&a, number, dice) == PLUMTREE_NO_CONNECTION);
     LOOK(plumtree_wire_unreachable(&a, NULL, 0, dice) == PLUMTREE_BAD_NAME);
+    LOOK(plumtree_wire_join(&a, NULL, 0, dice) == PLUMTREE_BAD_NAME);
     length = 99;
     LOOK(plumtree_wire_waiting(&a, NULL, 0, &length) == PLUMTREE_BAD_NAME && length == 99);
     LOOK(plumtree_wire_waiting(&a, BYTES("B"), &length) == PLUMTREE_BAD_NAME && length == 99);
@@ -334,6 +337,40 @@ static void downs(void)
     LOOK(plumtree_free(&a) == PLUMTREE_DONE && plumtree_free(&b) == PLUMTREE_DONE && blocks == 0);
 }
 
+/* The link between two nodes fails at both, and one joins again by the other. */
+static void joins(void)
+{
+    static uint8_t out[4096];
+    plumtree_node a = {0}, b = {0};
+    uint64_t number, at_a, at_b;
+    start_two(&a, &b);
+    LOOK(plumtree_wire_unreachable(&a, BYTES("b"), dice) == PLUMTREE_DONE && lost(&a, "b") == PLUMTREE_DONE);
+    LOOK(plumtree_wire_unreachable(&b, BYTES("a"), dice) == PLUMTREE_DONE && lost(&b, "a") == PLUMTREE_DONE);
+    seen before = see(&b);
+    LOOK(before.actives == 0 && before.passives == 0 && before.waiting == 0);
+    LOOK(plumtree_wire_join(&b, BYTES("b"), dice) == PLUMTREE_DONE && same(before, see(&b)));
+    LOOK(plumtree_wire_join(&b, BYTES("A"), dice) == PLUMTREE_BAD_NAME && same(before, see(&b)));
+    LOOK(plumtree_wire_join(&b, BYTES("a"), dice) == PLUMTREE_DONE);
+    LOOK(see(&b).waiting == 1 && waiting(&b, "a") > 0 && see(&b).actives == 0);
+    LOOK(plumtree_wire_accept(&a, &at_a) == PLUMTREE_DONE);
+    LOOK(plumtree_wire_accept(&b, &at_b) == PLUMTREE_DONE);
+    LOOK(plumtree_wire_receive(&a, at_a, out, take_out(&b, "a", out), dice) == PLUMTREE_DONE);
+    LOOK(plumtree_wire_receive(&b, at_b, out, take_out(&a, "b", out), dice) == PLUMTREE_DONE);
+    LOOK(plumtree_wire_receive(&a, at_a, out, take_out(&b, "a", out), dice) == PLUMTREE_DONE);
+    before = see(&b);
+    LOOK(before.actives == 1 && before.waiting == 0 && see(&a).actives == 1);
+    LOOK(plumtree_wire_join(&b, BYTES("a"), dice) == PLUMTREE_DONE && same(before, see(&b)));
+    LOOK(plumtree_wire_broadcast(&a, BYTES("x"), &number) == PLUMTREE_DONE);
+    LOOK(plumtree_wire_receive(&b, at_b, out, take_out(&a, "b", out), dice) == PLUMTREE_DONE);
+    LOOK(see(&b).delivery == 1);
+    LOOK(plumtree_free(&a) == PLUMTREE_DONE);
+    /* less may wait than a JOIN */
+    LOOK(start(&a, "a", 10, NULL, 0) == PLUMTREE_DONE);
+    LOOK(plumtree_wire_join(&a, BYTES("b"), dice) == PLUMTREE_DONE && lost(&a, "b") == PLUMTREE_DONE);
+    LOOK(waiting(&a, "b") == 0 && lost(&a, "") == PLUMTREE_NONE);
+    LOOK(plumtree_free(&a) == PLUMTREE_DONE && plumtree_free(&b) == PLUMTREE_DONE && blocks == 0);
+}
+
 /* Each byte of a frame is spoiled in turn, behind a good frame: the good one is taken, and the connection ends if the
  * other is none. */
 static void spoiled(void)
@@ -389,6 +426,11 @@ static int32_t call_accept(plumtree_node *node)
 static int32_t call_unreachable(plumtree_node *node)
 {
     return plumtree_wire_unreachable(node, BYTES("a"), dice);
+}
+
+static int32_t call_join(plumtree_node *node)
+{
+    return plumtree_wire_join(node, BYTES("z"), dice);
 }
 
 static int32_t call_ended(plumtree_node *node)
@@ -470,7 +512,8 @@ static void refusals(void)
     LOOK(plumtree_wire_receive(&b, heard_link, heard, heard_length, dice) == PLUMTREE_DONE);
     refused += refuse_each(&b, call_broadcast) + refuse_each(&b, call_receivers);
     refused += refuse_each(&b, call_ended) + refuse_each(&a, call_broadcast) + refuse_each(&b, call_unreachable);
-    LOOK(refused >= 6);
+    refused += refuse_each(&a, call_join);
+    LOOK(refused >= 7);
     for (int tick = 1; tick <= 20; tick++)
         for (long nth = 1;; nth++) {
             until_refusal = nth;
@@ -598,6 +641,10 @@ static void any_order(long rounds)
         } else if (random_word() % 4 == 0) {
             int32_t answer = plumtree_wire_tick(&many[at], dice);
             LOOK(answer == PLUMTREE_DONE || answer == PLUMTREE_OUT_OF_MEMORY);
+        } else if (random_word() % 32 == 0) {
+            const uint8_t contact[2] = {'n', (uint8_t)('0' + random_word() % MANY)};
+            int32_t answer = plumtree_wire_join(&many[at], contact, sizeof contact, dice);
+            LOOK(answer == PLUMTREE_DONE || answer == PLUMTREE_OUT_OF_MEMORY);
         } else {
             give_out(at);
         }
@@ -659,6 +706,7 @@ int main(int count, char **arguments)
     no_bytes();
     payloads();
     downs();
+    joins();
     spoiled();
     refusals();
     any_order(rounds);

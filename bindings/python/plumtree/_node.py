@@ -268,6 +268,13 @@ class Node(Kept):
         name = peer.encode()
         _is_done(LIBRARY.plumtree_link_down(self._slot, name, len(name), Dice(*dice)))
 
+    def join(self, contact: str) -> None:
+        """Has the node join by this contact, a node that runs, as at its start. It is for a node without active names, since all
+        its links failed, and may be called again, with another contact each time. A contact that is the node itself or an
+        active name changes nothing."""
+        name = contact.encode()
+        _is_done(LIBRARY.plumtree_join(self._slot, name, len(name)))
+
     def __iter__(self) -> Iterator[Output]:
         while (output := self.poll()) is not None:
             yield output

@@ -80,6 +80,13 @@ class WireNode(Kept):
         encoded = name.encode()
         _is_done(LIBRARY.plumtree_wire_unreachable(self._slot, encoded, len(encoded), Dice(*dice)))
 
+    def join(self, contact: str, dice: Sequence[int] = _ZEROS) -> None:
+        """Has the node join by this contact, a node that runs, as at its start. It is for a node without active names, since all
+        its links failed, and may be called again, with another contact each time. A contact that is the node itself or an
+        active name changes nothing."""
+        encoded = contact.encode()
+        _is_done(LIBRARY.plumtree_wire_join(self._slot, encoded, len(encoded), Dice(*dice)))
+
     def receivers(self) -> list[str]:
         """Returns the names for which bytes wait, each once."""
         size, length, answer = 16, c_size_t(), _ROOM_TOO_SMALL

@@ -49,12 +49,32 @@ class Groups(unittest.TestCase):
         self.assertEqual(group.nodes["b"].active, ["a"])
         self.assertEqual((group.nodes["b"].eager, group.nodes["b"].lazy, group.nodes["b"].passive), (["a"], [], []))
 
+    def test_a_node_joins_again_after_all_its_links_failed(self) -> None:
+        group = Group(Config("a", peers=["b"]), Config("b", peers=["a"]))
+        a, b = group.nodes["a"], group.nodes["b"]
+        a.link_down("b")
+        b.link_down("a")
+        a.broadcast(b"early")
+        b.join("b")
+        self.assertEqual((b.active, b.passive, b.poll()), ([], [], None))
+        b.join("a")
+        self.assertEqual((b.active, b.counts.sends), ([], 1))
+        group.settle()
+        self.assertEqual((a.active, b.active), (["b"], ["a"]))
+        b.join("a")
+        self.assertIsNone(b.poll())
+        a.broadcast(b"late")
+        group.settle()
+        self.assertEqual([payload for (at, _), payload in group.delivered.items() if at == "b"], [b"late"])
+
     def test_a_node_is_freed_once(self) -> None:
         with Node(Config("a")) as node:
             node.broadcast(b"")
         node.close()
         with self.assertRaises(PlumtreeError):
             node.broadcast(b"")
+        with self.assertRaises(PlumtreeError):
+            node.join("b")
 
 
 class Errors(unittest.TestCase):
@@ -71,6 +91,8 @@ class Errors(unittest.TestCase):
         self.refused(-11, Node, Config("a", peers=["b", "b"]))
         self.refused(-10, Node, Config("a", limits=Limits(active=0)))
         self.refused(-7, node.broadcast, bytes(PAYLOAD_MAX + 1))
+        self.refused(-9, node.join, "A")
+        self.refused(-9, node.join, "")
         with self.assertRaises(PlumtreeError):
             node.receive(b"\xff" * 64)
         self.assertEqual(node.counts.known, 0)

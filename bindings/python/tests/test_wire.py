@@ -56,6 +56,25 @@ class Groups(unittest.TestCase):
         b = group.nodes["b"]
         self.assertEqual((b.active, b.eager, b.lazy, b.passive, b.missing), (["a"], ["a"], [], [], []))
 
+    def test_a_node_joins_again_after_all_its_links_failed(self) -> None:
+        group = Group(9, Config("a", peers=["b"]), Config("b", peers=["a"]))
+        a, b = group.nodes["a"], group.nodes["b"]
+        a.unreachable("b")
+        b.unreachable("a")
+        self.assertEqual((a.next_lost(), b.next_lost()), ("b", "a"))
+        a.broadcast(b"early")
+        b.join("b")
+        self.assertEqual((b.active, b.passive, b.receivers()), ([], [], []))
+        b.join("a")
+        self.assertEqual((b.active, b.receivers()), ([], ["a"]))
+        group.settle()
+        self.assertEqual((a.active, b.active), (["b"], ["a"]))
+        b.join("a")
+        self.assertEqual(b.receivers(), [])
+        a.broadcast(b"late")
+        group.settle()
+        self.assertEqual([payload for (at, _), payload in group.delivered.items() if at == "b"], [b"late"])
+
     def test_long_payloads_are_lent_whole(self) -> None:
         a, b = two()
         for byte in range(5):
@@ -88,6 +107,8 @@ class Groups(unittest.TestCase):
         node.close()
         with self.assertRaises(PlumtreeError):
             node.broadcast(b"")
+        with self.assertRaises(PlumtreeError):
+            node.join("b")
 
 
 class Errors(unittest.TestCase):
@@ -104,6 +125,7 @@ class Errors(unittest.TestCase):
         self.refused(-10, WireNode, Config("a", limits=Limits(active=0)))
         self.refused(-7, a.broadcast, bytes(PAYLOAD_MAX + 1))
         self.refused(-9, a.unreachable, "A")
+        self.refused(-9, a.join, "A")
         self.refused(-9, a.transmit, "A")
         self.refused(-9, a.waiting, "A")
         self.refused(-19, a.receive, 1, b"x")

@@ -8,7 +8,8 @@
 //!
 //! - hands over what each connection brings ([`Node::receive`]), and writes what comes out ([`Node::poll`]) whole and in
 //!   order to the connection to its receiver;
-//! - calls [`Node::tick`] some ten times a second, and [`Node::link_down`] when a connection fails or cannot be made.
+//! - calls [`Node::tick`] some ten times a second, [`Node::link_down`] when a connection fails or cannot be made, and
+//!   [`Node::join`] where all did.
 //!
 //! ```
 //! use plumtree::{Config, Dice, Node, Output};

@@ -27,6 +27,8 @@ pub enum Input<'a> {
     Tick(&'a Dice),
     /// [`Node::link_down`].
     LinkDown(&'a Name, &'a Dice),
+    /// [`Node::join`].
+    Join(&'a Name),
 }
 
 /// What a node gives.
@@ -107,6 +109,7 @@ impl Node {
             Input::Shuffle(dice) => self.shuffle(dice).map(|()| 0),
             Input::Tick(dice) => self.tick(dice).map(|()| 0),
             Input::LinkDown(peer, dice) => self.link_down(peer, dice).map(|()| 0),
+            Input::Join(contact) => self.join(contact).map(|()| 0),
         }
     }
 
@@ -190,6 +193,16 @@ impl Node {
             sys::plumtree_link_down(&mut self.handle.slot, name.as_ptr(), name.len(), &dice.0)
         })
         .map(drop)
+    }
+
+    /// Has the node join by this contact, a node that runs, as at its start. It is for a node without active names, since
+    /// all its links failed, and may be called again, with another contact each time. A contact that is the node itself or
+    /// an active name changes nothing.
+    pub fn join(&mut self, contact: &Name) -> Result<(), Error> {
+        let name = contact.as_bytes();
+        // SAFETY: the name has as many bytes as is said.
+        is_done(unsafe { sys::plumtree_join(&mut self.handle.slot, name.as_ptr(), name.len()) })
+            .map(drop)
     }
 
     /// Takes what the node gives next, deliveries first; `None` if nothing waits.

@@ -143,6 +143,7 @@ extern "C" {
         length: usize,
         dice: *const Dice,
     ) -> i32;
+    pub(crate) fn plumtree_join(slot: *mut Slot, contact: *const u8, length: usize) -> i32;
     pub(crate) fn plumtree_next_send(
         slot: *mut Slot,
         to: *mut Name,
@@ -195,6 +196,12 @@ extern "C" {
     pub(crate) fn plumtree_wire_unreachable(
         slot: *mut Slot,
         name: *const u8,
+        length: usize,
+        dice: *const Dice,
+    ) -> i32;
+    pub(crate) fn plumtree_wire_join(
+        slot: *mut Slot,
+        contact: *const u8,
         length: usize,
         dice: *const Dice,
     ) -> i32;

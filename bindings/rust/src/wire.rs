@@ -48,7 +48,8 @@ pub struct WireCounts {
 /// - connects to each name for which bytes wait ([`receivers`](WireNode::receivers)), and writes them there
 ///   ([`write_to`](WireNode::write_to)), or says that it cannot be reached ([`unreachable`](WireNode::unreachable));
 /// - closes connections to lost names ([`next_lost`](WireNode::next_lost)), takes the messages
-///   ([`next_delivery`](WireNode::next_delivery)), and calls [`tick`](WireNode::tick) some ten times a second.
+///   ([`next_delivery`](WireNode::next_delivery)), calls [`tick`](WireNode::tick) some ten times a second, and
+///   [`join`](WireNode::join) where all links failed.
 ///
 /// ```
 /// use plumtree::{Config, Dice, WireNode};
@@ -149,6 +150,16 @@ impl WireNode {
         let (slot, text) = (&mut self.handle.slot, name.as_bytes());
         // SAFETY: the name has as many bytes as is said, and there are sixteen words.
         is_done(unsafe { sys::plumtree_wire_unreachable(slot, text.as_ptr(), text.len(), &dice.0) })
+            .map(drop)
+    }
+
+    /// Has the node join by this contact, a node that runs, as at its start. It is for a node without active names, since
+    /// all its links failed, and may be called again, with another contact each time. A contact that is the node itself or
+    /// an active name changes nothing.
+    pub fn join(&mut self, contact: &Name, dice: &Dice) -> Result<(), Error> {
+        let (slot, text) = (&mut self.handle.slot, contact.as_bytes());
+        // SAFETY: the name has as many bytes as is said, and there are sixteen words.
+        is_done(unsafe { sys::plumtree_wire_join(slot, text.as_ptr(), text.len(), &dice.0) })
             .map(drop)
     }
 

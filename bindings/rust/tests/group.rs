@@ -85,6 +85,46 @@ fn a_node_joins_by_a_contact() {
 }
 
 #[test]
+fn a_node_joins_again_after_all_its_links_failed() {
+    let mut group = Group::new();
+    group.start(&Config::new("a").unwrap().peer("b").unwrap(), "a");
+    group.start(&Config::new("b").unwrap().peer("a").unwrap(), "b");
+    let (a, b) = (Name::new("a").unwrap(), Name::new("b").unwrap());
+    for (at, peer) in [(a, b), (b, a)] {
+        let node = group.nodes.get_mut(&at).unwrap();
+        node.link_down(&peer, &Dice::default()).unwrap();
+        assert!(node.active().is_empty());
+    }
+    group
+        .nodes
+        .get_mut(&a)
+        .unwrap()
+        .broadcast(b"early")
+        .unwrap();
+    let node = group.nodes.get_mut(&b).unwrap();
+    assert_eq!(node.step(Input::Join(&b)), Ok(0));
+    assert_eq!(node.poll(), Ok(None));
+    assert_eq!(node.step(Input::Join(&a)), Ok(0));
+    assert_eq!(node.counts().sends, 1);
+    group.collect("b");
+    group.settle();
+    for (at, peer) in [(a, b), (b, a)] {
+        let node = group.nodes.get_mut(&at).unwrap();
+        assert_eq!(node.active(), [peer]);
+        assert_eq!(node.join(&peer), Ok(()));
+        assert_eq!(node.counts().sends, 0);
+    }
+    group.nodes.get_mut(&a).unwrap().broadcast(b"late").unwrap();
+    group.collect("a");
+    group.settle();
+    let of_b = group.delivered.iter().filter(|((at, _), _)| *at == b);
+    assert_eq!(
+        of_b.map(|(_, payload)| &payload[..]).collect::<Vec<_>>(),
+        [b"late"]
+    );
+}
+
+#[test]
 fn a_frame_is_taken_when_it_is_whole() {
     let mut a = Node::start(&Config::new("a").unwrap().peer("b").unwrap()).unwrap();
     let mut b = Node::start(&Config::new("b").unwrap().peer("a").unwrap()).unwrap();

@@ -113,6 +113,42 @@ fn a_node_joins_by_a_contact() {
 }
 
 #[test]
+fn a_node_joins_again_after_all_its_links_failed() {
+    let mut group = Group::new(9, &[("a", &["b"]), ("b", &["a"])]);
+    let (a, b) = (name("a"), name("b"));
+    for (at, peer) in [(a, b), (b, a)] {
+        let node = group.nodes.get_mut(&at).unwrap();
+        node.unreachable(&peer, &Dice::default()).unwrap();
+        assert!(node.active().is_empty() && node.next_lost() == Some(peer));
+    }
+    group
+        .nodes
+        .get_mut(&a)
+        .unwrap()
+        .broadcast(b"early")
+        .unwrap();
+    let node = group.nodes.get_mut(&b).unwrap();
+    assert_eq!(node.join(&b, &Dice::default()), Ok(()));
+    assert!(node.receivers().unwrap().is_empty());
+    assert_eq!(node.join(&a, &Dice::default()), Ok(()));
+    assert_eq!(node.receivers(), Ok(vec![a]));
+    group.settle();
+    for (at, peer) in [(a, b), (b, a)] {
+        let node = group.nodes.get_mut(&at).unwrap();
+        assert_eq!(node.active(), [peer]);
+        assert_eq!(node.join(&peer, &Dice::default()), Ok(()));
+        assert!(node.receivers().unwrap().is_empty());
+    }
+    group.nodes.get_mut(&a).unwrap().broadcast(b"late").unwrap();
+    group.settle();
+    let of_b = group.delivered.iter().filter(|((at, _), _)| *at == b);
+    assert_eq!(
+        of_b.map(|(_, payload)| &payload[..]).collect::<Vec<_>>(),
+        [b"late"]
+    );
+}
+
+#[test]
 fn long_payloads_are_lent_whole() {
     let (mut a, mut b) = two();
     let link = b.accept().unwrap();

@@ -84,6 +84,7 @@ fn call_with<N: SteppingNode>(
     match verb {
         "end" => push_done(text, &node.ended(ConnectionId(word.parse()?)))?,
         "lose" => push_done(text, &node.unreachable(NodeName::parse(word.as_bytes())?))?,
+        "join" => push_done(text, &node.join(NodeName::parse(word.as_bytes())?))?,
         "send" => push_sent(alloc, text, node, word.parse()?)?,
         "say" => say(alloc, text, node, word)?,
         _ => bail!("no call {verb}"),
@@ -135,8 +136,8 @@ fn call_all<N: SteppingNode>(
 }
 
 /// Starts a node and makes calls, which are separated by blanks: `accept`, `give:1:DIGITS`, `end:1`, `say:LENGTH`,
-/// `lose:NAME`, `tick`, `send:MOST`, `hear` and `lost`. Before them stands how many bytes may wait for a name. Appends
-/// what each call answers and the steps that it makes.
+/// `lose:NAME`, `join:NAME`, `tick`, `send:MOST`, `hear` and `lost`. Before them stands how many bytes may wait for a
+/// name. Appends what each call answers and the steps that it makes.
 pub(crate) fn push_called<N: SteppingNode>(
     alloc: Global,
     text: &mut String,

@@ -24,6 +24,8 @@ pub(crate) trait SteppingNode: Drop {
 
     fn unreachable(&mut self, name: NodeName) -> Result<(), WireError>;
 
+    fn join(&mut self, contact: NodeName) -> Result<(), WireError>;
+
     fn tick(&mut self) -> Result<(), WireError>;
 
     fn receivers(&self) -> Result<Vec<NodeName>, AllocError>;
@@ -73,6 +75,10 @@ impl SteppingNode for WireNode<Global, Recorded> {
 
     fn unreachable(&mut self, name: NodeName) -> Result<(), WireError> {
         self.unreachable(name, &Dice::ZEROS)
+    }
+
+    fn join(&mut self, contact: NodeName) -> Result<(), WireError> {
+        self.join(contact, &Dice::ZEROS)
     }
 
     fn tick(&mut self) -> Result<(), WireError> {

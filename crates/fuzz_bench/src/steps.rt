@@ -21,6 +21,7 @@ fn push_step(alloc: Global, text: &mut String, step: &Step<Frame>) -> Result<(),
         StimulusOf::Flush => text.push_str("flush"),
         StimulusOf::Down { peer, .. } => write!(text, "down {peer}"),
         StimulusOf::Shuffle(_) => text.push_str("shuffle"),
+        StimulusOf::Join(contact) => write!(text, "join {contact}"),
     }
 }
 

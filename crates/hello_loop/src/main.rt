@@ -1,7 +1,7 @@
 //! A node of a group on one thread: it greets the group once, prints a greeting of each node, and ends.
 //!
 //! The arguments are its name and the nodes of the group, as `hello_loop b a=127.0.0.1:7193 b=127.0.0.1:7194`. The
-//! first of the nodes begins the group, and each other joins by it.
+//! first of the nodes begins the group, and each other joins by it, also if it starts later or is started again.
 #![tactic(auto)]
 
 mod greeter;
@@ -33,8 +33,12 @@ where
     P: Program<N>,
 {
     let at = nodes.address(name).context("it is none of the nodes")?;
+    let contact = nodes.contact_of(name);
     let mut event_loop = EventLoop::new(rt, rt.alloc(), nodes, 1)?;
-    event_loop.add(rt, at, node)?;
+    let place = event_loop.add(rt, at, node)?;
+    if let Some(contact) = contact {
+        event_loop.set_contacts(place, &[contact])?;
+    }
     event_loop.run(rt, Duration::from_millis(TICK), program)?;
     event_loop.finish(rt, Duration::from_secs(GRACE))?;
     Ok(())

@@ -6,7 +6,7 @@ use play_script::lists::push_payload;
 use play_script::words::payload;
 use std::alloc::{AllocError, Allocator};
 use std::fmt::Write;
-use wire_node::{ConnectionId, WireError};
+use wire_node::{ConnectionId, News, Parting, WireError};
 
 /// Returns what came of a refusal, which it says, unless it is one of memory.
 pub(crate) fn refused(error: &WireError, said: &mut String) -> Result<Outcome, AllocError> {
@@ -92,6 +92,19 @@ pub(crate) fn lose<A: Allocator + Copy>(
     answered(&answer, said)
 }
 
+/// Has a node join by a contact.
+pub(crate) fn join<A: Allocator + Copy>(
+    node: &mut Node<A>,
+    contact: NodeName,
+    turn: &mut Turn<'_>,
+    said: &mut String,
+) -> Result<Outcome, AllocError> {
+    turn.begin();
+    let answer = node.join(contact, &Dice::ZEROS);
+    turn.end();
+    answered(&answer, said)
+}
+
 /// Makes a tick.
 pub(crate) fn tick<A: Allocator + Copy>(
     node: &mut Node<A>,
@@ -143,6 +156,45 @@ pub(crate) fn deliver<A: Allocator + Copy>(
         said.push('\n')?;
     }
     Ok(Outcome::Done)
+}
+
+/// Says a change of the active view.
+fn say_news(news: &News, said: &mut String) -> Result<(), AllocError> {
+    match news {
+        News::NeighborUp(name) => writeln!(said, "up {name}"),
+        News::NeighborDown { name, why } => writeln!(said, "down {name}, {}", word_of(why)),
+        News::Isolated => writeln!(said, "isolated"),
+        News::Joined => writeln!(said, "joined"),
+    }
+}
+
+/// The word for why a neighbour went.
+fn word_of(why: &Parting) -> &'static str {
+    match why {
+        Parting::Left => "left",
+        Parting::Failed => "failed",
+        Parting::Displaced => "displaced",
+    }
+}
+
+/// Takes the news, and says them.
+pub(crate) fn news<A: Allocator + Copy>(
+    node: &mut Node<A>,
+    turn: &mut Turn<'_>,
+    said: &mut String,
+) -> Result<Outcome, AllocError> {
+    turn.begin();
+    let answer = node.take_news();
+    turn.end();
+    match answer {
+        Ok(taken) => {
+            for one in &taken {
+                say_news(one, said)?;
+            }
+            Ok(Outcome::Done)
+        }
+        Err(_) => Ok(Outcome::NoMemory),
+    }
 }
 
 /// Takes the names for whom bytes were dropped, and says them.

@@ -1,6 +1,7 @@
 //! One node of bytes: `start` makes it, and the others are its calls.
 use crate::node_calls::{
-    accept, broadcast, deliver, end, lose, lost, opening, receivers, refused, steps, tick, transmit,
+    accept, broadcast, deliver, end, join, lose, lost, news, opening, receivers, refused, steps,
+    tick, transmit,
 };
 use crate::receiving::receive;
 use crate::texts::{Node, push_node};
@@ -72,6 +73,12 @@ fn went<A: Allocator + Copy>(node: &mut Node<A>, to: &str, count: &str) -> Outco
     Outcome::Done
 }
 
+/// Has a node tell news from now on.
+fn tell_news<A: Allocator + Copy>(node: &mut Node<A>) -> Outcome {
+    node.tell_news(true);
+    Outcome::Done
+}
+
 /// Makes a call that takes what a node gives.
 fn take<A: Allocator + Copy>(
     node: &mut Node<A>,
@@ -100,6 +107,7 @@ fn at_name<A: Allocator + Copy>(
     };
     match verb {
         "unreachable" => lose(node, of, turn, said),
+        "join" => join(node, of, turn, said),
         "transmit" => transmit(node, &of, said),
         _ => Ok(Outcome::Unknown),
     }
@@ -173,6 +181,8 @@ impl<A: Allocator + Copy> WireLayer<A> {
             ["broadcast", letters] => broadcast(self.alloc, node, letters, turn, said),
             ["accept"] => accept(node, turn, said),
             ["tick"] => tick(node, turn, said),
+            ["tell-news"] => Ok(tell_news(node)),
+            ["news"] => news(node, turn, said),
             ["receivers"] => receivers(node, turn, said),
             ["transmitted", to, count] => Ok(went(node, to, count)),
             [what] => take(node, what, said),

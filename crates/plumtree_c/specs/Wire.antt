@@ -9,7 +9,8 @@ use Rattle.node_names.specs.declared.dice.Dice.{Dice}
 use Rattle.node_names.specs.declared.ids.MsgId.{MsgId}
 use Rattle.node_names.specs.declared.ids.Origin.{Origin}
 use Rattle.world.specs.Delivery.{Delivery}
-use Rattle.wire_node.specs.Moving.{Broadcasts, GoesAway}
+use Rattle.world.specs.declared.stimulus.StimulusOf.TheVariants.{Join}
+use Rattle.wire_node.specs.Moving.{Broadcasts, GoesAway, Moves}
 use Rattle.wire_node.specs.Node.{Closes, Hears, NodeState, Starts}
 use Rattle.wire_node.specs.Receiving.{IsPartial}
 use Rattle.wire_node.specs.Waiting.{settled_for}
@@ -74,6 +75,11 @@ pub record HearsSome (number : ℕ) (bytes : List ℕ) (dice : Dice) (old new : 
 -- The name went down.
 pub record Leaves (name : Name) (dice : Dice) (old new : NodeState) : Type 0 where
   pub away : GoesAway old.engine name dice new.engine
+  pub rest : new ≡ record old { engine = new.engine }
+
+-- The node was told to join by the contact. With these dice names went down for whom too much then waited.
+pub record Joins (contact : Name) (dice : Dice) (old new : NodeState) : Type 0 where
+  pub moves : Moves old.engine (Join contact) dice new.engine
   pub rest : new ≡ record old { engine = new.engine }
 
 -- The first `count` of the bytes that waited for the name went out, or all, if they were fewer. No others did.

@@ -203,3 +203,25 @@ pub extern "C" fn plumtree_link_down(
         Err(refusal) => refusal.code(),
     }
 }
+
+/// Has the node join by the contact, as at its start: JOIN goes there, unless the contact is the node itself or active.
+#[unsafe(no_mangle)]
+pub extern "C" fn plumtree_join(slot: &mut Slot, alloc: Global, contact: &[u8]) -> i32
+    ensures done { IsDone result → Both slot.old.held.value slot.new.held.value (λ old new. Steps old (stimulus.Join contact.now) new) }
+    ensures kept { (IsDone result → ⊥) → slot.new.held.value ≡ slot.old.held.value }
+{
+    let contact = match NodeName::parse(contact) {
+        Ok(contact) => contact,
+        Err(_) => return Refusal::BadName.code(),
+    };
+    let mut node = match slot.take::<Node>(alloc) {
+        Ok(node) => node,
+        Err(refusal) => return refusal.code(),
+    };
+    let answer = node.join(contact);
+    slot.put(node);
+    match answer {
+        Ok(()) => DONE,
+        Err(refusal) => refusal.code(),
+    }
+}

@@ -187,6 +187,14 @@ impl Node {
         self.step(&StimulusOf::Down { peer, dice: *dice })
     }
 
+    /// Has the node join by the contact, as at its start.
+    pub(crate) fn join(&mut self, contact: NodeName) -> Result<(), Refusal>
+        ensures ok { OnOk result (Steps self.old (stimulus.Join contact) self.new) }
+        ensures err { OnErr result (self.new ≡ self.old) }
+    {
+        self.step(&StimulusOf::Join(contact))
+    }
+
     /// Lets the timers of these ids fire. If one is refused, those before have fired.
     fn fire_each(&mut self, ids: &[MsgId]) -> Result<(), Refusal>
         ensures { OnOk result (Runs self.old (map stimulus.Fire ids.now) self.new) }

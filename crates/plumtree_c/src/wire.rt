@@ -1,7 +1,7 @@
 //! A node of bytes, with what it gave and its caller has not got yet.
 ghost use Rattle.std.specs.Prelude.{◌≡◌, ◌⊎◌, ◌++◌, [], length, map, take, IfErr, IfNone, IfOk, IfSome, OnErr, OnOk};
 ghost use Rattle.plumtree_c.specs.Plain.{id_of, name_of};
-ghost use Rattle.plumtree_c.specs.Wire.{bytes_for, Accepts, AreWireCounts, Delivers, Does, HearsAll, HearsSome, Leaves, Loses, Offers, Sends, Stays, Went, WireStarts};
+ghost use Rattle.plumtree_c.specs.Wire.{bytes_for, Accepts, AreWireCounts, Delivers, Does, HearsAll, HearsSome, Joins, Leaves, Loses, Offers, Sends, Stays, Went, WireStarts};
 ghost use Rattle.wire_node.specs.Node.{Closes, Ticks};
 ghost use Rattle.wire_node.specs.Waiting.{receivers_of};
 
@@ -148,6 +148,15 @@ impl Wire {
         ensures err { OnErr result (self.new ≡ self.old) }
     {
         self.node.unreachable(name, dice)?;
+        Ok(())
+    }
+
+    /// Has the node join by the contact, as at its start.
+    pub(crate) fn join(&mut self, contact: NodeName, dice: &Dice) -> Result<(), Refusal>
+        ensures ok { OnOk result (Does (Joins contact dice.now) self.old self.new) }
+        ensures err { OnErr result (self.new ≡ self.old) }
+    {
+        self.node.join(contact, dice)?;
         Ok(())
     }
 

@@ -3,7 +3,7 @@ ghost use Rattle.std.specs.Prelude.{◌≡◌};
 ghost use Rattle.plumtree_c.specs.Answers.{IsDone};
 ghost use Rattle.plumtree_c.specs.Plain.{dice_of};
 ghost use Rattle.plumtree_c.specs.Slots.{BothBytes};
-ghost use Rattle.plumtree_c.specs.Wire.{Does, Leaves, Sends};
+ghost use Rattle.plumtree_c.specs.Wire.{Does, Joins, Leaves, Sends};
 ghost use Rattle.wire_node.specs.Node.{Ticks};
 
 use crate::refusal::{DONE, Refusal};
@@ -60,6 +60,34 @@ pub extern "C" fn plumtree_wire_unreachable(
         Err(refusal) => return refusal.code(),
     };
     let answer = wire.unreachable(name, &Dice(*dice));
+    slot.put(wire);
+    match answer {
+        Ok(()) => DONE,
+        Err(refusal) => refusal.code(),
+    }
+}
+
+/// Has the node join by the contact, as at its start: JOIN waits to go there, unless the contact is the node itself or
+/// active.
+#[unsafe(no_mangle)]
+pub extern "C" fn plumtree_wire_join(
+    slot: &mut Slot,
+    alloc: Global,
+    contact: &[u8],
+    dice: &[u64; 16],
+) -> i32
+    ensures done { IsDone result → BothBytes slot.old.held.value slot.new.held.value (Does (Joins contact.now (dice_of dice.now))) }
+    ensures kept { (IsDone result → ⊥) → slot.new.held.value ≡ slot.old.held.value }
+{
+    let contact = match NodeName::parse(contact) {
+        Ok(contact) => contact,
+        Err(_) => return Refusal::BadName.code(),
+    };
+    let mut wire = match slot.take::<Wire>(alloc) {
+        Ok(wire) => wire,
+        Err(refusal) => return refusal.code(),
+    };
+    let answer = wire.join(contact, &Dice(*dice));
     slot.put(wire);
     match answer {
         Ok(()) => DONE,
