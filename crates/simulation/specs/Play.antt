@@ -30,7 +30,7 @@ use Rattle.simulation.specs.Rolls.{after_roll, rolled, rolls_of}
 use Rattle.simulation.specs.Lines.{line_cmp, lines_of}
 use Rattle.simulation.specs.Trees.{broadcasts_of, TellsTrees}
 use Rattle.simulation.specs.declared.scenario.action.Action.{Action}
-use Rattle.simulation.specs.declared.scenario.action.Action.TheVariants.{Start, Broadcast, Arrive, Lose, Again, Fire, Flush, Shuffle, Down, Stop, ArriveAll, Settle}
+use Rattle.simulation.specs.declared.scenario.action.Action.TheVariants.{Start, Broadcast, Arrive, Lose, Again, Fire, Flush, Shuffle, Join, Down, Stop, ArriveAll, Settle}
 use Rattle.simulation.specs.declared.play.ActionError.{ActionError}
 use Rattle.simulation.specs.declared.play.ActionError.TheVariants as halt
 use Rattle.simulation.specs.declared.play.Idle.{Idle}
@@ -53,6 +53,7 @@ event_of dice (Again number) = Some (event.Again number)
 event_of dice (Fire node id) = Some (event.Fire node id)
 event_of dice (Flush node) = Some (event.Flush node)
 event_of dice (Shuffle node) = Some (event.Shuffle node dice)
+event_of dice (Join node contact) = Some (event.Join node contact)
 event_of dice (Down node peer) = Some (event.Down node peer dice)
 event_of dice (Stop node) = Some (event.Stop node)
 event_of dice ArriveAll = None
@@ -68,6 +69,7 @@ rolls_after (Again number) rolls = rolls
 rolls_after (Fire node id) rolls = rolls
 rolls_after (Flush node) rolls = rolls
 rolls_after (Shuffle node) rolls = after_roll rolls
+rolls_after (Join node contact) rolls = rolls
 rolls_after (Down node peer) rolls = after_roll rolls
 rolls_after (Stop node) rolls = rolls
 rolls_after ArriveAll rolls = rolls

@@ -7,7 +7,7 @@ use Rattle.node_names.specs.Limits.{Limits as Sizes, IsAllowed}
 use Rattle.simulation.specs.Reading.{at_key, IsOptional, IsNumber, IsNumberFromOne, IsText, IsName, IsNames, IsTables}
 use Rattle.simulation.specs.declared.scenario.error.Key.TheVariants.{Seed, Limits, Event, Active, Passive, Arwl, Prwl, Ka, Kp, Threshold, Keep, Do, Node, Incarnation, Peers, Contact, Text, Place, Number, Origin, Seq, Peer}
 use Rattle.simulation.specs.declared.scenario.action.Action.{Action}
-use Rattle.simulation.specs.declared.scenario.action.Action.TheVariants.{Start, Broadcast, Arrive, Lose, Again, Fire, Flush, Shuffle, Down, Stop, ArriveAll, Settle}
+use Rattle.simulation.specs.declared.scenario.action.Action.TheVariants.{Start, Broadcast, Arrive, Lose, Again, Fire, Flush, Shuffle, Join, Down, Stop, ArriveAll, Settle}
 
 -- the greatest number that fits into 64 bits
 abbrev pub greatest : ℕ
@@ -54,6 +54,9 @@ IsAction members (Fire node id) = IsText (at_key Do members) (codes "fire")
     × IsNumberFromOne greatest (at_key Seq members) id.seq
 IsAction members (Flush node) = IsText (at_key Do members) (codes "flush") × IsName (at_key Node members) node
 IsAction members (Shuffle node) = IsText (at_key Do members) (codes "shuffle") × IsName (at_key Node members) node
+IsAction members (Join node contact) = IsText (at_key Do members) (codes "join")
+    × IsName (at_key Node members) node
+    × IsName (at_key Contact members) contact
 IsAction members (Down node peer) = IsText (at_key Do members) (codes "down")
     × IsName (at_key Node members) node
     × IsName (at_key Peer members) peer

@@ -326,6 +326,10 @@ fn event_of<A: Allocator + Copy>(
             name: node,
             dice: rolls.roll(),
         },
+        Action::Join { node, contact } => Event::Join {
+            name: node,
+            contact,
+        },
         Action::Down { node, peer } => Event::Down {
             name: node,
             peer,

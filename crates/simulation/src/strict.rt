@@ -202,6 +202,7 @@ fn keys_of(event: &Table) -> Option<&'static [&'static str]> {
         "again" => Some(&["do", "number"]),
         "fire" => Some(&["do", "node", "origin", "incarnation", "seq"]),
         "flush" | "shuffle" | "stop" => Some(&["do", "node"]),
+        "join" => Some(&["do", "node", "contact"]),
         "down" => Some(&["do", "node", "peer"]),
         "arrive_all" | "settle" => Some(&["do"]),
         _ => None,

@@ -50,6 +50,11 @@ pub enum Action {
     Shuffle {
         node: NodeName,
     },
+    /// A node is told to join by a contact.
+    Join {
+        node: NodeName,
+        contact: NodeName,
+    },
     /// A node's link to a peer fails.
     Down {
         node: NodeName,
@@ -80,6 +85,7 @@ impl Action {
             "fire" => fire(section),
             "flush" => flush(section),
             "shuffle" => shuffle(section),
+            "join" => join(section),
             "down" => down(section),
             "stop" => stop(section),
             "arrive_all" => Ok(Action::ArriveAll),
@@ -176,6 +182,16 @@ fn shuffle(section: &Section<'_>) -> Result<Action, ScenarioError>
 {
     let node = section.name(Key::Node)?;
     Ok(Action::Shuffle { node })
+}
+
+fn join(section: &Section<'_>) -> Result<Action, ScenarioError>
+    requires { IsText (at_key Key.Do (table_view section.now.table.now)) (codes "join") }
+    ensures ok { IfOk result (IsAction (table_view section.now.table.now)) }
+    ensures refused { IfErr result (λ _. (action : Action) → ¬ IsAction (table_view section.now.table.now) action) }
+{
+    let node = section.name(Key::Node)?;
+    let contact = section.name(Key::Contact)?;
+    Ok(Action::Join { node, contact })
 }
 
 fn down(section: &Section<'_>) -> Result<Action, ScenarioError>

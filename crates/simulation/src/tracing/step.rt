@@ -127,6 +127,10 @@ fn copy_event<A: Allocator + Copy>(event: &KeptEvent<A>) -> Result<Event<A>, All
             peers: peers.copy()?,
             contact: *contact,
         },
+        EventOf::Join { name, contact } => EventOf::Join {
+            name: *name,
+            contact: *contact,
+        },
         EventOf::Lose { place } => EventOf::Lose { place: *place },
         EventOf::Again { number } => EventOf::Again { number: *number },
         EventOf::Fire { name, id } => EventOf::Fire {

@@ -107,6 +107,7 @@ fn push_action<A: Allocator>(text: &mut String<A>, action: &Action) -> Result<()
         Action::Fire { node, id } => write!(text, "fire {node} {id}: "),
         Action::Flush { node } => write!(text, "flush {node}: "),
         Action::Shuffle { node } => write!(text, "shuffle {node}: "),
+        Action::Join { node, contact } => write!(text, "join {node} {contact}: "),
         Action::Down { node, peer } => write!(text, "down {node} {peer}: "),
         Action::Stop { node } => write!(text, "stop {node}: "),
         Action::ArriveAll => text.push_str("arrive_all: "),
