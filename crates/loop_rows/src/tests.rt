@@ -6,6 +6,7 @@ mod greetings;
 mod hosts;
 mod one_loop;
 mod ports;
+mod rejoining;
 mod resets;
 mod rows;
 mod stage;

@@ -15,6 +15,16 @@ pub(crate) fn closed_port<R: Net>(rt: &R) -> Result<SocketAddr> {
     Ok(listen(rt)?.local_addr()?)
 }
 
+/// Three addresses where nobody listens.
+pub(crate) fn closed_ports<R: Net>(rt: &R) -> Result<[SocketAddr; 3]> {
+    let (first, second, third) = (listen(rt)?, listen(rt)?, listen(rt)?);
+    Ok([
+        first.local_addr()?,
+        second.local_addr()?,
+        third.local_addr()?,
+    ])
+}
+
 /// Whether the other end has closed the connection.
 pub(crate) fn is_closed(stream: &mut TcpStream) -> bool {
     let mut bytes = [0; 16];

@@ -1,6 +1,6 @@
 //! The rows, which are played with nodes of bytes.
 use crate::tests::tested_node::TestedNode;
-use crate::tests::{backlog, deaf_peers, greetings, one_loop, ports, resets, strangers};
+use crate::tests::{backlog, deaf_peers, greetings, one_loop, ports, rejoining, resets, strangers};
 use anyhow::Result;
 use std::alloc::AllocError;
 use std::net::Net;
@@ -54,6 +54,19 @@ fn play_disturbed<N: TestedNode, R: Net + AllocGlobal>(rt: &R, text: &mut String
     Ok(())
 }
 
+/// Plays the rows of nodes that join by a contact. Appends those that fail.
+fn play_joining<N: TestedNode, R: Net + AllocGlobal>(rt: &R, text: &mut String) -> Result<()> {
+    let joined = rejoining::start_and_join::<N, R>(rt)?;
+    ensure(text, "a third node joins two", joined)?;
+    let awaited = rejoining::start_and_await::<N, R>(rt)?;
+    ensure(text, "a contact may start last", awaited)?;
+    let restarted = rejoining::start_and_restart::<N, R>(rt)?;
+    ensure(text, "a contact may restart", restarted)?;
+    let came_back = rejoining::start_and_lose::<N, R>(rt)?;
+    ensure(text, "an only peer may go and come back", came_back)?;
+    Ok(())
+}
+
 /// Plays the rows of ports. Appends those that fail.
 fn play_ports<N, R>(rt: R, text: &mut String) -> Result<()>
 where
@@ -75,6 +88,7 @@ where
 {
     play_speaking::<N, R>(&rt, text)?;
     play_disturbed::<N, R>(&rt, text)?;
+    play_joining::<N, R>(&rt, text)?;
     play_ports::<N, R>(rt, text)
 }
 

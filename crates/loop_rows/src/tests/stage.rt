@@ -7,6 +7,7 @@ use event_loop::EventLoop;
 use std::alloc::{AllocError, Global};
 use std::net::{Net, SocketAddr};
 use std::time::Duration;
+use wire_node::MAX_WAITING;
 
 /// A loop of nodes, and how many messages each has delivered.
 #[derive(Drop)]
@@ -43,11 +44,34 @@ impl<N: TestedNode> Stage<N> {
         waiting: usize,
     ) -> Result<()> {
         let peers = names(self.alloc, peers)?;
-        let node = N::begin(self.alloc, name(me)?, peers.as_slice(), waiting)?;
-        let place = self.event_loop.add(rt, any_port()?, node)?;
-        self.heard.push(0)?;
+        let node = N::begin(self.alloc, name(me)?, 1, peers.as_slice(), waiting)?;
+        let place = self.host(rt, any_port()?, node)?;
         let at = self.event_loop.address(place)?;
         self.meet(me, at)
+    }
+
+    /// Adds this run of a node at this address, that joins by these contacts, whose names blanks separate.
+    pub(crate) fn join<R: Net>(
+        &mut self,
+        rt: &R,
+        me: &str,
+        run: u64,
+        at: SocketAddr,
+        contacts: &str,
+    ) -> Result<()> {
+        let contacts = names(self.alloc, contacts)?;
+        let node = N::begin(self.alloc, name(me)?, run, &[], MAX_WAITING)?;
+        let place = self.host(rt, at, node)?;
+        self.event_loop.set_contacts(place, contacts.as_slice())?;
+        Ok(())
+    }
+
+    /// Adds a node, and returns its place.
+    fn host<R: Net>(&mut self, rt: &R, at: SocketAddr, node: N) -> Result<usize> {
+        self.heard.reserve(1)?;
+        let place = self.event_loop.add(rt, at, node)?;
+        self.heard.push(0)?;
+        Ok(place)
     }
 
     /// Tells the nodes where another takes connections.
@@ -101,6 +125,31 @@ impl<N: TestedNode> Stage<N> {
     /// How many messages the node at this place has delivered.
     pub(crate) fn heard(&self, place: usize) -> usize {
         self.heard.get(place).copied().unwrap_or(0)
+    }
+
+    /// Whether each node has delivered a message.
+    pub(crate) fn has_heard(&self) -> bool {
+        self.heard.iter().all(|heard| *heard > 0)
+    }
+
+    /// Counts anew what is delivered.
+    pub(crate) fn forget(&mut self) {
+        for heard in &mut self.heard {
+            *heard = 0;
+        }
+    }
+
+    /// Whether no node is alone.
+    pub(crate) fn is_joined(&self) -> bool {
+        (0..self.heard.len()).all(|place| self.has_neighbour(place))
+    }
+
+    /// Whether the node at this place has a neighbour.
+    fn has_neighbour(&self, place: usize) -> bool {
+        match self.event_loop.node(place) {
+            Some(node) => !node.is_alone(),
+            None => false,
+        }
     }
 
     /// Whether the node at this place has this peer.

@@ -9,10 +9,11 @@ use wire_node::{Unrecorded, WireError, WireLimits, WireNode};
 ///
 /// The tests are generic in it: a function that owns a node takes the prover a minute if its type is named.
 pub(crate) trait TestedNode: LoopNode<Global> + PortNode<Global> {
-    /// Starts the first run of a node with these peers, for each of whom this number of bytes may wait.
+    /// Starts this run of a node with these peers, for each of whom this number of bytes may wait.
     fn begin(
         alloc: Global,
         name: NodeName,
+        run: u64,
         peers: &[NodeName],
         waiting: usize,
     ) -> Result<Self, WireError>;
@@ -22,12 +23,13 @@ impl TestedNode for WireNode {
     fn begin(
         alloc: Global,
         name: NodeName,
+        run: u64,
         peers: &[NodeName],
         waiting: usize,
     ) -> Result<WireNode, WireError> {
         let me = Origin {
             name,
-            incarnation: Incarnation(1),
+            incarnation: Incarnation(run),
         };
         let core = Limits::STANDARD;
         let limits = WireLimits { core, waiting };
