@@ -9,7 +9,7 @@
  *     (plumtree_wire_transmit), and says how many it took (plumtree_wire_transmitted), or that the name cannot be
  *     reached (plumtree_wire_unreachable); it closes the connections to names that were lost (plumtree_wire_next_lost);
  *   - it takes the deliveries that wait (plumtree_wire_next_delivery): these are the messages of the group;
- *   - it calls plumtree_wire_tick now and then, a few times a second.
+ *   - it calls plumtree_wire_tick now and then, a few times a second, and plumtree_wire_join where all links failed.
  *
  * A state machine (plumtree_start) leaves frames and what waits to the program too:
  *
@@ -17,7 +17,8 @@
  *   - after each call that changes a node it takes the frames that wait (plumtree_next_send), and writes each to its
  *     connection to the receiver, whole and in order;
  *   - it takes the deliveries that wait (plumtree_next_delivery): these are the messages of the group;
- *   - it calls plumtree_tick now and then, a few times a second, and plumtree_link_down when a connection fails.
+ *   - it calls plumtree_tick now and then, a few times a second, plumtree_link_down when a connection fails, and
+ *     plumtree_join where all did.
  *
  * A connection carries bytes from who made it to who accepted it, and none back. A node of either kind has one slot, a
  * plumtree_node. Calls whose names begin with plumtree_wire_ are for nodes of bytes; plumtree_free and what reads a
@@ -246,6 +247,13 @@ int32_t plumtree_wire_ended(plumtree_node *node, uint64_t number, const uint64_t
 int32_t plumtree_wire_unreachable(plumtree_node *node, const uint8_t *name, size_t name_length,
                                   const uint64_t dice[PLUMTREE_DICE]);
 
+/* Has the node join by this contact, a node that runs, as at its start: JOIN waits to go there. It is for a node without
+ * active names, since all its links failed, and may be called again, with another contact each time. A contact that is
+ * the node itself or an active name changes nothing, and the answer is DONE. BAD_NAME, before all else. If it is refused,
+ * nothing has changed. */
+int32_t plumtree_wire_join(plumtree_node *node, const uint8_t *contact, size_t contact_length,
+                           const uint64_t dice[PLUMTREE_DICE]);
+
 /* The names for which bytes wait, each once. `length` is their number, and 0 if NOT_LIVE, COPIED or OUT_OF_MEMORY.
  * ROOM_TOO_SMALL: the room has as many of the first as it has places for. */
 int32_t plumtree_wire_receivers(plumtree_node *node, plumtree_name *room, size_t room_size, size_t *length);
@@ -319,6 +327,11 @@ int32_t plumtree_shuffle(plumtree_node *node, const uint64_t dice[PLUMTREE_DICE]
  * which it has no link changes nothing, and the answer is DONE. */
 int32_t plumtree_link_down(plumtree_node *node, const uint8_t *peer, size_t peer_length,
                            const uint64_t dice[PLUMTREE_DICE]);
+
+/* Has the node join by this contact, a node that runs, as at its start: it sends JOIN there. It is for a node without
+ * active names, since all its links failed, and may be called again, with another contact each time. A contact that is
+ * the node itself or an active name changes nothing, and the answer is DONE. BAD_NAME, before all else. */
+int32_t plumtree_join(plumtree_node *node, const uint8_t *contact, size_t contact_length);
 
 /* ---- What a state machine sends and delivers ---- */
 
