@@ -1,5 +1,5 @@
 -- How a node's core starts and steps: a packet or a tick of the membership changes the views, and the gossip is told
--- which links went down and came up; the gossip handles everything else.
+-- which links went down and came up; who is to join sends JOIN; the gossip handles everything else.
 use Rattle.std.specs.Prelude.{◌≡◌, ◌+◌, ◌-◌, ◌^◌, ◌<◌, ◌≤◌, ◌⊎◌, ◌||◌, ℕ, Bool, List, [], ◌∷◌, Option, None, Some, length, if◌then◌else◌}
 use Rattle.std.specs.FinSet as set
 use Rattle.node_names.specs.NodeName.{Name}

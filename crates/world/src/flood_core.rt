@@ -25,7 +25,7 @@ type Held<A> = IndexMap<MsgId, Bytes<A>, BuildHasherDefault<FoldHasher>, A>;
 /// A core that delivers and holds each new message, and sends it to every peer but the one that it came from.
 ///
 /// A message of its own incarnation has no effect when it arrives, even if the core does not hold it. Only failed links
-/// change its peers; its contact, firing timers, flushes and membership ticks have no effect.
+/// change its peers; contacts, firing timers, flushes and membership ticks have no effect.
 #[derive(Drop)]
 pub struct FloodCore<A: Allocator = Global> {
     me: Origin,
