@@ -3,3 +3,4 @@ pub mod Counting
 pub mod Pumping
 pub mod Draining
 pub mod Tape
+pub mod Metering

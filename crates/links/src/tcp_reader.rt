@@ -5,6 +5,7 @@ ghost use Rattle.std.specs.IoError.{error_kind};
 ghost use Rattle.links.specs.Counting.{counted, has_risen, moves_none};
 
 use crate::metered::MeteredRead;
+use crate::metered_reader::MeteredReader;
 use crate::tcp_closer::TcpCloser;
 use std::alloc::{AllocError, Global};
 use std::io;
@@ -12,60 +13,48 @@ use std::io::{ErrorKind, Read};
 use std::net::{Shutdown, TcpStream};
 use std::sync::Arc;
 
+/// A connection that is shared with its closers.
+#[derive(Drop)]
+struct SharedStream(Arc<TcpStream, Global>);
+
+impl Read for SharedStream {
+    fn read(&mut self, buf: &mut [u8]) -> io::Result<usize> {
+        let mut stream: &TcpStream = &self.0;
+        stream.read(buf)
+    }
+}
+
 /// The reader of what a peer writes to a TCP connection.
 ///
-/// A read blocks until bytes arrive or the connection ends, which a closer can cause as well as the peer. A read that a
-/// signal interrupts returns `Interrupted` and does not count as failed. Dropping the reader shuts the connection down.
-/// The descriptor is released once all closers are dropped too.
+/// A read blocks until bytes arrive or the connection ends, which a closer can cause as well as the peer. At the end it
+/// returns `Ok(0)`. Its errors are those of the stream: `ConnectionReset` if the peer dropped the connection while
+/// bytes were on their way, `WouldBlock` once a read timeout that was set on the stream has passed, and `Interrupted`
+/// if a signal came, which does not count as failed. Dropping the reader shuts the connection down. The descriptor is
+/// released once all closers are dropped too.
 pub struct TcpReader {
-    stream: Arc<TcpStream, Global>,
-    reads: u64,
-    failures: u64,
-    gave_none: bool,
+    metered: MeteredReader<SharedStream>,
 }
 
 impl Drop for TcpReader {
     fn drop(self) {
-        let TcpReader {
-            stream,
-            reads: _,
-            failures: _,
-            gave_none: _,
-        } = self;
-        let _ = stream.shutdown(Shutdown::Both);
+        let TcpReader { metered } = self;
+        let _ = metered.get_ref().0.shutdown(Shutdown::Both);
     }
 }
 
 impl TcpReader {
-    /// Creates a reader of `stream`. Fails if memory runs out.
-    pub(crate) fn new(alloc: Global, stream: TcpStream) -> io::Result<TcpReader> {
+    /// Creates a reader of a connection, which was accepted or made by `connect`. The only error is that memory for a
+    /// few words is refused: kind `OutOfMemory`. The connection is closed then.
+    pub fn new(alloc: Global, stream: TcpStream) -> io::Result<TcpReader> {
+        let shared = SharedStream(Arc::new(alloc, stream)?);
         Ok(TcpReader {
-            stream: Arc::new(alloc, stream)?,
-            reads: 0,
-            failures: 0,
-            gave_none: false,
+            metered: MeteredReader::new(shared),
         })
     }
 
     /// Creates a handle that can close the connection while another thread reads it.
     pub fn closer(&self) -> Result<TcpCloser, AllocError> {
-        Ok(TcpCloser::new(Arc::try_clone(&self.stream)?))
-    }
-
-    /// Counts a failed call, unless `error` is `Interrupted`, and returns `error`.
-    fn count(&mut self, error: io::Error) -> io::Error
-        ensures failure { error_kind result ≢ ErrorKind.Interrupted → IsTrue (has_risen self.old.failures self.new.failures) }
-        ensures more { self.old.failures ≤ self.new.failures }
-        ensures reads { self.new.reads ≡ self.old.reads }
-        ensures gave_none { self.new.gave_none ≡ self.old.gave_none }
-    {
-        match error.kind() {
-            ErrorKind::Interrupted => error,
-            _ => {
-                self.failures = self.failures.saturating_add(1);
-                error
-            }
-        }
+        Ok(TcpCloser::new(Arc::try_clone(&self.metered.get_ref().0)?))
     }
 }
 
@@ -74,34 +63,25 @@ impl Read for TcpReader {
 
     fn read(&mut self, buf: &mut [u8]) -> io::Result<usize>
         ensures bound { ReadsAtMost result buf.new }
-        ensures counts { self.new.reads ≡ counted self.old.reads 1 }
-        ensures last { self.new.gave_none ≡ moves_none result buf.new }
-        ensures ok { OnOk result (self.new.failures ≡ self.old.failures) }
-        ensures err { OnErr result (self.old.failures ≤ self.new.failures) }
-        ensures failure { IfErr result (λ e. error_kind e ≢ ErrorKind.Interrupted → IsTrue (has_risen self.old.failures self.new.failures)) }
+        ensures counts { self.new.metered.reads ≡ counted self.old.metered.reads 1 }
+        ensures last { self.new.metered.gave_none ≡ moves_none result buf.new }
+        ensures ok { OnOk result (self.new.metered.failures ≡ self.old.metered.failures) }
+        ensures err { OnErr result (self.old.metered.failures ≤ self.new.metered.failures) }
+        ensures failure { IfErr result (λ e. error_kind e ≢ ErrorKind.Interrupted → IsTrue (has_risen self.old.metered.failures self.new.metered.failures)) }
     {
-        self.reads = self.reads.saturating_add(1);
-        self.gave_none = false;
-        let mut stream: &TcpStream = &self.stream;
-        match stream.read(buf) {
-            Ok(n) => {
-                self.gave_none = n == 0 && !buf.is_empty();
-                Ok(n)
-            }
-            Err(error) => Err(self.count(error)),
-        }
+        self.metered.read(buf)
     }
 }
 
 impl MeteredRead for TcpReader {
-    ghost reads = { λ r. r.reads };
+    ghost reads = { λ r. r.metered.reads };
 
-    ghost failed = { λ r. r.failures };
+    ghost failed = { λ r. r.metered.failures };
 
-    ghost gave_none = { λ r. r.gave_none };
+    ghost gave_none = { λ r. r.metered.gave_none };
 
     fn failures(&self) -> u64 {
-        self.failures
+        self.metered.failures()
     }
 
     fn read_counted(&mut self, buf: &mut [u8]) -> io::Result<usize> {
