@@ -2,8 +2,8 @@
 use crate::link::Link;
 use crate::loop_node::LoopNode;
 use crate::program::Situation;
-use crate::rejoining::Rejoining;
 use indexmap::IndexMap;
+use neighborhood::Rejoining;
 use node_names::{Dice, NodeName};
 use rand_core::Rng;
 use slab::Slab;

@@ -20,7 +20,6 @@ mod pace;
 mod program;
 mod reading;
 mod ready_table;
-mod rejoining;
 mod resolve;
 mod running;
 mod sending;

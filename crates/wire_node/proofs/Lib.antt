@@ -6,7 +6,6 @@ pub mod GoingDown
 pub mod Heading
 pub mod Lasts
 pub mod Leading
-pub mod NewsLemmas
 pub mod Sending
 pub mod Stepping
 pub mod Taking

@@ -1,6 +1,5 @@
 pub mod Acting
 pub mod Moving
-pub mod News
 pub mod Node
 pub mod Receiving
 pub mod Recording

@@ -10,7 +10,7 @@ ghost use Rattle.wire_node.specs.Moving.{Relieves};
 use crate::entry::Entry;
 use crate::record::Record;
 use crate::step::make_step;
-use crate::telling::Telling;
+use neighborhood::Telling;
 use node_core::PlumCore;
 use node_names::{Dice, Listed, NodeName};
 use std::alloc::Allocator;

@@ -9,7 +9,7 @@ use crate::error::WireError;
 use crate::limits::WireLimits;
 use crate::opening::{beside, first_mail, start_core};
 use crate::record::{Record, Unrecorded};
-use crate::telling::Telling;
+use neighborhood::Telling;
 use node_core::PlumCore;
 use node_names::{Listed, NodeName, Origin};
 use std::alloc::{Allocator, Global};

@@ -1,6 +1,6 @@
 //! What a node has to tell of its active view.
 ghost use Rattle.std.specs.Prelude.{◌≡◌, ◌&&◌, [], None, Some, IfOk, OnErr, OnOk, false, if◌then◌else◌};
-ghost use Rattle.wire_node.specs.News.{all_news, farewell_of};
+ghost use Rattle.neighborhood.specs.News.{all_news, farewell_of};
 
 use crate::news::{Farewell, News, changes_of, farewell_of};
 use frames::Frame;
@@ -12,14 +12,14 @@ use world::Stimulus;
 
 /// A step that changed the active view, whose news are not worked out yet.
 #[derive(Drop)]
-pub(crate) struct Change<A: Allocator> {
+pub struct Change<A: Allocator> {
     /// The active view before it.
     before: Listed<NodeName, A>,
     farewell: Option<Farewell>,
 }
 
 impl<A: Allocator> Model for Change<A> {
-    ghost use Rattle.wire_node.specs.News.{Change};
+    ghost use Rattle.neighborhood.specs.News.{Change};
 
     ghost Value = { Change };
 
@@ -30,7 +30,7 @@ impl<A: Allocator> Model for Change<A> {
 ///
 /// Those of the last step are worked out before the next, or when they are taken: behind a step nothing may be refused.
 #[derive(Drop)]
-pub(crate) struct Telling<A: Allocator> {
+pub struct Telling<A: Allocator> {
     /// Whether the next steps are told of.
     tells: bool,
     news: Listed<News, A>,
@@ -38,7 +38,7 @@ pub(crate) struct Telling<A: Allocator> {
 }
 
 impl<A: Allocator> Model for Telling<A> {
-    ghost use Rattle.wire_node.specs.News.{Telling};
+    ghost use Rattle.neighborhood.specs.News.{Telling};
 
     ghost Value = { Telling };
 
@@ -47,7 +47,7 @@ impl<A: Allocator> Model for Telling<A> {
 
 impl<A: Allocator + Copy> Telling<A> {
     /// Tells nothing.
-    pub(crate) fn new(alloc: A) -> Telling<A>
+    pub fn new(alloc: A) -> Telling<A>
         ensures { result ≡ record { tells = false; news = []; last = None } }
     {
         Telling {
@@ -58,14 +58,14 @@ impl<A: Allocator + Copy> Telling<A> {
     }
 
     /// Has the next steps be told of, or not.
-    pub(crate) fn set_tells(&mut self, tells: bool)
+    pub fn set_tells(&mut self, tells: bool)
         ensures { self.new ≡ record self.old { tells = tells } }
     {
         self.tells = tells;
     }
 
     /// Works out the news of the last step, where they are not: the active view is as it left it.
-    pub(crate) fn settle(&mut self, active: &NameSet<A>) -> Result<(), AllocError>
+    pub fn settle(&mut self, active: &NameSet<A>) -> Result<(), AllocError>
         ensures ok { OnOk result (self.new ≡ record { tells = self.old.tells; news = all_news self.old active.now.keys; last = None }) }
         ensures err { OnErr result (self.new ≡ self.old) }
     {
@@ -81,7 +81,7 @@ impl<A: Allocator + Copy> Telling<A> {
 
     /// What is to be kept of a step that is about to be made: nothing, unless it is to be told of and the active view
     /// will be another.
-    pub(crate) fn change_of(
+    pub fn change_of(
         &self,
         is_moved: bool,
         stimulus: &Stimulus<Frame<A>, A>,
@@ -100,14 +100,14 @@ impl<A: Allocator + Copy> Telling<A> {
     }
 
     /// Keeps what is to be told of the step that was made.
-    pub(crate) fn keep(&mut self, change: Option<Change<A>>)
+    pub fn keep(&mut self, change: Option<Change<A>>)
         ensures { self.new ≡ record self.old { last = change } }
     {
         self.last = change;
     }
 
     /// Takes the news, which are all worked out.
-    pub(crate) fn take(&mut self) -> Vec<News, A>
+    pub fn take(&mut self) -> Vec<News, A>
         requires { self.old.last ≡ None }
         ensures given { result.items ≡ self.old.news }
         ensures rest { self.new ≡ record self.old { news = [] } }

@@ -1,7 +1,7 @@
 //! What a node tells of its active view: which neighbours came and went, and why.
 ghost use Rattle.std.specs.Prelude.{◌≡◌, ◌++◌, IfOk, OnOk};
 ghost use Rattle.std.specs.List.{flat_map};
-ghost use Rattle.wire_node.specs.News.{arrival_of, changes, departure_of, farewell_of, is_farewell, parting_of, turn_of};
+ghost use Rattle.neighborhood.specs.News.{arrival_of, changes, departure_of, farewell_of, is_farewell, parting_of, turn_of};
 
 use frames::{BodyOf, Frame};
 use node_names::{NameSet, NodeName, has_name};
@@ -34,9 +34,11 @@ pub enum News {
 
 /// A name of which a stimulus itself says that it goes, and why.
 #[derive(Clone, Copy)]
-pub(crate) struct Farewell {
-    name: NodeName,
-    why: Parting,
+pub struct Farewell {
+    /// The name.
+    pub name: NodeName,
+    /// Why it goes.
+    pub why: Parting,
 }
 
 /// Whether a packet says that its sender is a neighbour no longer.
@@ -50,7 +52,7 @@ fn is_farewell<A: Allocator>(frame: &Frame<A>) -> bool
 }
 
 /// The name of which the stimulus itself says that it goes, and why.
-pub(crate) fn farewell_of<A: Allocator>(stimulus: &Stimulus<Frame<A>, A>) -> Option<Farewell>
+pub fn farewell_of<A: Allocator>(stimulus: &Stimulus<Frame<A>, A>) -> Option<Farewell>
     ensures { result ≡ farewell_of stimulus.now }
 {
     match stimulus {
@@ -151,8 +153,10 @@ fn add_turn<A: Allocator>(
     Ok(())
 }
 
-/// The news of a step that changed the active view.
-pub(crate) fn changes_of<A: Allocator + Copy>(
+/// The news of a step that changed the active view: those that went, in the order of the view before; those that came, in
+/// the order of the view after; and last, whether the view became empty or is so no longer. The only error is that
+/// memory is refused.
+pub fn changes_of<A: Allocator + Copy>(
     alloc: A,
     farewell: &Option<Farewell>,
     before: &[NodeName],
