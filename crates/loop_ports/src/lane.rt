@@ -1,4 +1,5 @@
 //! The end of a port in the loop.
+use crate::news_lane::NewsLane;
 use crate::port_node::PortNode;
 use bytes::Bytes;
 use event_loop::Next;
@@ -25,10 +26,12 @@ pub(crate) struct Lane<A: Allocator> {
     first: Option<Delivery<A>>,
     /// Those behind it.
     rest: IntoIter<Delivery<A>, A>,
+    /// The end of the news, if a port has them.
+    news: Option<NewsLane<A>>,
 }
 
 impl<A: Allocator + Copy> Lane<A> {
-    /// Makes the end of a port by these rings.
+    /// Makes the end of a port by these rings, which has no news.
     pub(crate) fn new(
         alloc: A,
         broadcasts: Consumer<Bytes<A>, A>,
@@ -40,16 +43,30 @@ impl<A: Allocator + Copy> Lane<A> {
             refused: None,
             first: None,
             rest: Vec::new(alloc).into_iter(),
+            news: None,
         }
     }
 
-    /// Broadcasts what was handed in, if the node may, and hands out what was delivered. As long as not all can be
-    /// handed out, nothing more is taken.
+    /// The same end with these news.
+    pub(crate) fn with_news(mut self, news: Option<NewsLane<A>>) -> Lane<A> {
+        self.news = news;
+        self
+    }
+
+    /// Takes the end of the news, if a port has them.
+    pub(crate) fn take_news(&mut self) -> Option<NewsLane<A>> {
+        self.news.take()
+    }
+
+    /// Hands out news, broadcasts what was handed in, if the node may, and hands out what was delivered. As long as not
+    /// all deliveries can be handed out, none are taken, and no messages. News do not wait for deliveries, nor these for
+    /// them.
     pub(crate) fn turn<N: PortNode<A>>(
         &mut self,
         may_broadcast: bool,
         node: &mut N,
     ) -> Result<Next, WireError> {
+        self.tell(node);
         if !self.hand_out() {
             return Ok(Next::Hold);
         }
@@ -61,11 +78,31 @@ impl<A: Allocator + Copy> Lane<A> {
         if has_more {
             return Ok(Next::Again);
         }
-        Ok(if self.has_ended() {
-            Next::End
-        } else {
-            Next::Wait
-        })
+        if !self.has_ended() {
+            return Ok(Next::Wait);
+        }
+        self.end_news(node);
+        Ok(Next::End)
+    }
+
+    /// Hands out the news of the node, or ends them, where their port is dropped.
+    fn tell<N: PortNode<A>>(&mut self, node: &mut N) {
+        let Some(news) = &mut self.news else {
+            return;
+        };
+        if news.has_ended() {
+            self.end_news(node);
+            return;
+        }
+        news.turn(node);
+    }
+
+    /// Has the node tell no more, if a port had news, and drops those that wait in it.
+    fn end_news<N: PortNode<A>>(&mut self, node: &mut N) {
+        if self.news.take().is_some() {
+            node.tell_news(false);
+            let _ = node.take_news();
+        }
     }
 
     /// Hands out the deliveries that are left. Returns whether there was room for all, or the port is dropped.

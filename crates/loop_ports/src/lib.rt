@@ -1,9 +1,10 @@
-//! The ends of an event loop's nodes for other threads: messages to broadcast go in and deliveries come out by rings of
-//! a fixed size, and no call waits.
+//! The ends of an event loop's nodes for other threads: messages to broadcast go in, and deliveries and news come out, by
+//! rings of a fixed size, and no call waits.
 #![tactic(auto)]
 
 mod error;
 mod lane;
+mod news_lane;
 mod port;
 mod port_node;
 mod ports;

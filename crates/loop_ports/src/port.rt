@@ -8,6 +8,7 @@ use bytes::Bytes;
 use mio::Waker;
 use rtrb::{Consumer, Producer, PushError};
 use std::alloc::{Allocator, Global};
+use wire_node::News;
 use world::{Delivery, MAX_PAYLOAD};
 
 /// The end of a node for another thread. No call waits.
@@ -15,10 +16,15 @@ use world::{Delivery, MAX_PAYLOAD};
 /// A thread that broadcasts must also take what is delivered, its own messages among it: where nothing more can be
 /// handed out, the loop takes no messages of this port, and reads no more of the node's connections. Once a port is
 /// dropped, what is delivered at its node is dropped too.
+///
+/// News come by a ring of their own, so nothing says whether they came before or after a message. Those that nobody
+/// takes hold nothing up: they wait in the loop.
 #[derive(Drop)]
 pub struct Port<A: Allocator = Global> {
     broadcasts: Producer<Bytes<A>, A>,
     deliveries: Consumer<Delivery<A>, A>,
+    /// Where the port is to have no news, a ring without room.
+    news: Consumer<News, A>,
     waker: Waker,
     /// How many deliveries were taken since the loop was woken for it.
     taken: usize,
@@ -29,11 +35,13 @@ impl<A: Allocator + Copy> Port<A> {
     pub(crate) fn new(
         broadcasts: Producer<Bytes<A>, A>,
         deliveries: Consumer<Delivery<A>, A>,
+        news: Consumer<News, A>,
         waker: Waker,
     ) -> Port<A> {
         Port {
             broadcasts,
             deliveries,
+            news,
             waker,
             taken: 0,
         }
@@ -88,6 +96,16 @@ impl<A: Allocator + Copy> Port<A> {
             let _ = self.waker.wake();
         }
         Some(message)
+    }
+
+    /// Takes the next news of the node, if there are some: which neighbours came and went, each once and in order. A port
+    /// has none that `Ports::open_with_news` did not open.
+    pub fn next_news(&mut self) -> Option<News>
+        ensures some { IfSome result (λ news. received self.new.news ≡ received self.old.news ++ news ∷ []) }
+        ensures none { IfNone result (received self.new.news ≡ received self.old.news) }
+        ensures deliveries { received self.new.deliveries ≡ received self.old.deliveries }
+    {
+        self.news.pop().ok()
     }
 
     /// Whether the loop takes no messages any more. What it delivered before may still be taken.

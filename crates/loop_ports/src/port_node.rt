@@ -1,7 +1,7 @@
 //! A node that other threads use.
 use bytes::Bytes;
-use std::alloc::Allocator;
-use wire_node::WireError;
+use std::alloc::{AllocError, Allocator};
+use wire_node::{News, WireError};
 use world::Delivery;
 
 /// A node that other threads use. Each call does what the one of the same name of a `WireNode` does.
@@ -13,4 +13,10 @@ pub trait PortNode<A: Allocator + Copy>: Drop {
 
     /// Returns the deliveries that were not taken yet, in order.
     fn take_deliveries(&mut self) -> Vec<Delivery<A>, A>;
+
+    /// Has the next steps be told of, or not.
+    fn tell_news(&mut self, tells: bool);
+
+    /// Returns the news that were not taken yet, in order. If memory is refused, none are taken.
+    fn take_news(&mut self) -> Result<Vec<News, A>, AllocError>;
 }

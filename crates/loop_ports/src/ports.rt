@@ -1,5 +1,6 @@
 //! The program of a loop whose nodes other threads use.
 use crate::lane::Lane;
+use crate::news_lane::NewsLane;
 use crate::port::Port;
 use crate::port_node::PortNode;
 use event_loop::{EventLoop, LoopError, LoopNode, Next, Program, Resolve, Situation};
@@ -29,8 +30,8 @@ impl<A: Allocator + Copy> Ports<A> {
     }
 
     /// Opens the port of the node at this place, by which at most `capacity` messages wait to be broadcast, and as many
-    /// deliveries to be taken. It takes the place of a port of the node that was opened before. If the call is refused,
-    /// nothing changes.
+    /// deliveries to be taken. It takes the place of a port of the node that was opened before, but for news, which that one
+    /// still has until it is dropped. If the call is refused, nothing changes.
     pub fn open<N, S>(
         &mut self,
         event_loop: &EventLoop<N, S, A>,
@@ -41,14 +42,60 @@ impl<A: Allocator + Copy> Ports<A> {
         N: LoopNode<A> + PortNode<A>,
         S: Resolve + Drop,
     {
+        let (port, lane, _) = self.make(event_loop, place, capacity, 0)?;
+        if let Some(kept) = self.lanes.get_mut(place) {
+            let news = match kept {
+                Some(before) => before.take_news(),
+                None => None,
+            };
+            *kept = Some(lane.with_news(news));
+        }
+        Ok(port)
+    }
+
+    /// Opens such a port that has news of the node too: from now on the node tells them, and at most `capacity` wait in
+    /// the port, the others in the loop. It takes the place of a port with its news. If the call is refused, nothing
+    /// changes.
+    pub fn open_with_news<N, S>(
+        &mut self,
+        event_loop: &mut EventLoop<N, S, A>,
+        place: usize,
+        capacity: usize,
+    ) -> Result<Port<A>, LoopError>
+    where
+        N: LoopNode<A> + PortNode<A>,
+        S: Resolve + Drop,
+    {
+        let (port, lane, news) = self.make(event_loop, place, capacity, capacity)?;
+        if let Some(kept) = self.lanes.get_mut(place) {
+            *kept = Some(lane.with_news(Some(news)));
+        }
+        if let Some(node) = event_loop.node_mut(place) {
+            node.tell_news(true);
+        }
+        Ok(port)
+    }
+
+    /// Makes a port of the node at this place, whose ring of news has room for so many, and its ends in the loop.
+    fn make<N, S>(
+        &mut self,
+        event_loop: &EventLoop<N, S, A>,
+        place: usize,
+        capacity: usize,
+        news: usize,
+    ) -> Result<(Port<A>, Lane<A>, NewsLane<A>), LoopError>
+    where
+        N: LoopNode<A> + PortNode<A>,
+        S: Resolve + Drop,
+    {
         self.make_room(place)?;
         let waker = event_loop.waker(place)?;
         let (broadcasts, handed_in) = RingBuffer::new(self.alloc, capacity)?;
         let (handed_out, deliveries) = RingBuffer::new(self.alloc, capacity)?;
-        if let Some(lane) = self.lanes.get_mut(place) {
-            *lane = Some(Lane::new(self.alloc, handed_in, handed_out));
-        }
-        Ok(Port::new(broadcasts, deliveries, waker))
+        let (told, news) = RingBuffer::new(self.alloc, news)?;
+        let port = Port::new(broadcasts, deliveries, news, waker);
+        let lane = Lane::new(self.alloc, handed_in, handed_out);
+        Ok((port, lane, NewsLane::new(self.alloc, told)))
     }
 
     /// Makes room for the port of the node at this place.

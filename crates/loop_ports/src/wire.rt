@@ -1,8 +1,8 @@
 //! A node of bytes with ports.
 use crate::port_node::PortNode;
 use bytes::Bytes;
-use std::alloc::Allocator;
-use wire_node::{Record, WireError, WireNode};
+use std::alloc::{AllocError, Allocator};
+use wire_node::{News, Record, WireError, WireNode};
 use world::Delivery;
 
 impl<A: Allocator + Copy, R: Record<A> + Drop> PortNode<A> for WireNode<A, R> {
@@ -13,5 +13,13 @@ impl<A: Allocator + Copy, R: Record<A> + Drop> PortNode<A> for WireNode<A, R> {
 
     fn take_deliveries(&mut self) -> Vec<Delivery<A>, A> {
         self.take_deliveries()
+    }
+
+    fn tell_news(&mut self, tells: bool) {
+        self.tell_news(tells);
+    }
+
+    fn take_news(&mut self) -> Result<Vec<News, A>, AllocError> {
+        self.take_news()
     }
 }

@@ -4,6 +4,7 @@ mod book;
 mod deaf_peers;
 mod greetings;
 mod hosts;
+mod news;
 mod one_loop;
 mod ports;
 mod rejoining;

@@ -1,6 +1,8 @@
 //! The rows, which are played with nodes of bytes.
 use crate::tests::tested_node::TestedNode;
-use crate::tests::{backlog, deaf_peers, greetings, one_loop, ports, rejoining, resets, strangers};
+use crate::tests::{
+    backlog, deaf_peers, greetings, news, one_loop, ports, rejoining, resets, strangers,
+};
 use anyhow::Result;
 use std::alloc::AllocError;
 use std::net::Net;
@@ -75,6 +77,14 @@ where
 {
     let filled = ports::start_and_fill::<N, R>(&rt)?;
     ensure(text, "a port says why it takes nothing", filled)?;
+    let mut found = String::new(rt.alloc());
+    let spoken = news::start_and_tell::<N, R>(&rt, &mut found)?;
+    ensure(
+        text,
+        "news hold no message up, and end with their port",
+        spoken,
+    )?;
+    compare(text, &mut found, news::WANTED)?;
     let taken = ports::start_and_exchange::<N, R>(rt)?;
     ensure(text, "messages of a thread reach the others once", taken)?;
     Ok(())
