@@ -1,4 +1,5 @@
-/* A node over TCP: lines of standard input are broadcast, and messages of the group are printed.
+/* A node over TCP: lines of standard input are broadcast, and messages of the group are printed; news of neighbours go to
+ * standard error.
  *
  * usage: chat NAME PORT [--join NAME] [PEER=PORT]..
  *
@@ -92,6 +93,18 @@ static void send_to(const plumtree_name *name)
         checked("unreachable", plumtree_wire_unreachable(&node, text, name->length, roll()));
 }
 
+/* Prints which neighbours came and went, and why. */
+static void print_news(void)
+{
+    static const char *const ways[] = {"came", "left", "failed", "was displaced"};
+    plumtree_news news;
+    while (checked("next_news", plumtree_wire_next_news(&node, &news)) == PLUMTREE_DONE)
+        if (news.name.length > 0)
+            fprintf(stderr, "chat: %s %s\n", news.name.text, ways[news.why]);
+        else
+            fprintf(stderr, "chat: %s\n", news.kind == PLUMTREE_ISOLATED ? "no neighbour is left" : "joined");
+}
+
 /* Prints what was delivered, writes what waits, and closes connections to names that were lost, until nothing waits. */
 static void give_out(void)
 {
@@ -99,6 +112,7 @@ static void give_out(void)
     plumtree_name names[PEERS];
     plumtree_id id;
     size_t length = 1;
+    print_news();
     while (checked("next_delivery", plumtree_wire_next_delivery(&node, &id, room, sizeof room, &length)) == PLUMTREE_DONE)
         printf("%s: %.*s\n", id.name.text, (int)length, (const char *)room);
     fflush(stdout);
@@ -191,6 +205,7 @@ int main(int count, char **words)
     plumtree_limits_default(&limits);
     checked("start", plumtree_wire_start(&node, (const uint8_t *)words[1], strlen(words[1]), (uint64_t)time(NULL), &limits,
                                          PLUMTREE_WAITING, NULL, 0, (const uint8_t *)contact, strlen(contact)));
+    checked("tell_news", plumtree_wire_tell_news(&node, true));
     for (;;) {
         give_out();
         poll(polled, ALL, -1);

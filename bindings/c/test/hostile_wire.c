@@ -100,6 +100,7 @@ static void each_answers(plumtree_node *node, int32_t wanted)
     plumtree_wire_counts counts;
     plumtree_piece pieces[PLUMTREE_PIECES];
     plumtree_name name, names[2];
+    plumtree_news news = {99, 99, {"", 99}};
     plumtree_id id;
     uint8_t room[64];
     uint64_t number = 99;
@@ -119,6 +120,9 @@ static void each_answers(plumtree_node *node, int32_t wanted)
     length = 99;
     LOOK(plumtree_wire_next_delivery(node, &id, room, sizeof room, &length) == wanted && length == 0);
     LOOK(plumtree_wire_next_lost(node, &name) == wanted);
+    LOOK(plumtree_wire_tell_news(node, true) == wanted);
+    LOOK(plumtree_wire_next_news(node, &news) == wanted);
+    LOOK(news.kind == 99 && news.why == 99 && news.name.length == 99);
     LOOK(plumtree_wire_counts_of(node, &counts) == wanted);
 }
 
@@ -371,6 +375,75 @@ static void joins(void)
     LOOK(plumtree_free(&a) == PLUMTREE_DONE && plumtree_free(&b) == PLUMTREE_DONE && blocks == 0);
 }
 
+/* Takes the first news, which are these, or there are none where the kind is 0. */
+static bool tells(plumtree_node *node, uint8_t kind, const char *who, uint8_t why)
+{
+    plumtree_news news = {99, 99, {"", 99}};
+    int32_t answer = plumtree_wire_next_news(node, &news);
+    if (kind == 0)
+        return answer == PLUMTREE_NONE && news.kind == 99 && news.why == 99 && news.name.length == 99;
+    return answer == PLUMTREE_DONE && news.kind == kind && news.why == why && news.name.length == strlen(who)
+           && strcmp(news.name.text, who) == 0;
+}
+
+/* Starts a node that has one neighbour at most. */
+static void start_small(plumtree_node *node, const char *name, const char *peer, const char *contact)
+{
+    plumtree_limits limits = standard();
+    plumtree_name first = name_of(strlen(peer) > 0 ? peer : "none");
+    limits.active = 1;
+    LOOK(plumtree_wire_start(node, (const uint8_t *)name, strlen(name), 7, &limits, PLUMTREE_WAITING, &first,
+                             strlen(peer) > 0, (const uint8_t *)contact, strlen(contact)) == PLUMTREE_DONE);
+}
+
+/* All that waits at a node for another goes there. */
+static void hand(plumtree_node *from, plumtree_node *to, const char *name)
+{
+    static uint8_t out[4096];
+    uint64_t link = 0;
+    LOOK(plumtree_wire_accept(to, &link) == PLUMTREE_DONE);
+    LOOK(plumtree_wire_receive(to, link, out, take_out(from, name, out), dice) == PLUMTREE_DONE);
+}
+
+/* Of the news of a node whose only neighbour fails, the first are refused memory, and nothing is lost. */
+static void refused_news(plumtree_node *node)
+{
+    plumtree_news refused = {99, 99, {"", 99}};
+    LOOK(plumtree_wire_tell_news(node, true) == PLUMTREE_DONE);
+    LOOK(plumtree_wire_unreachable(node, BYTES("a"), dice) == PLUMTREE_DONE);
+    LOOK(plumtree_wire_tell_news(node, false) == PLUMTREE_DONE);
+    seen before = see(node);
+    until_refusal = 1;
+    LOOK(plumtree_wire_next_news(node, &refused) == PLUMTREE_OUT_OF_MEMORY && until_refusal == 0);
+    LOOK(refused.kind == 99 && refused.why == 99 && refused.name.length == 99 && same(before, see(node)));
+    LOOK(tells(node, PLUMTREE_NEIGHBOR_DOWN, "a", PLUMTREE_FAILED));
+    until_refusal = 1; /* the others were taken with the first */
+    LOOK(tells(node, PLUMTREE_ISOLATED, "", 0) && tells(node, 0, "", 0) && until_refusal == 1);
+    until_refusal = 0;
+    LOOK(same(before, see(node)) && lost(node, "a") == PLUMTREE_DONE && lost(node, "") == PLUMTREE_NONE);
+}
+
+/* A node joins one whose only place is taken: who has it is displaced, and told so. */
+static void news(void)
+{
+    plumtree_node a = {0}, b = {0}, c = {0};
+    start_small(&a, "a", "b", "");
+    start_small(&b, "b", "a", "");
+    start_small(&c, "c", "", "a");
+    LOOK(tells(&a, 0, "", 0) && plumtree_wire_tell_news(&a, true) == PLUMTREE_DONE && tells(&a, 0, "", 0));
+    LOOK(plumtree_wire_tell_news(&b, true) == PLUMTREE_DONE);
+    hand(&c, &a, "a");
+    hand(&a, &b, "b");
+    hand(&a, &c, "c");
+    LOOK(tells(&a, PLUMTREE_NEIGHBOR_DOWN, "b", PLUMTREE_DISPLACED) && tells(&a, PLUMTREE_NEIGHBOR_UP, "c", 0));
+    LOOK(tells(&b, PLUMTREE_NEIGHBOR_DOWN, "a", PLUMTREE_LEFT) && tells(&b, PLUMTREE_ISOLATED, "", 0));
+    LOOK(tells(&a, 0, "", 0) && tells(&b, 0, "", 0));
+    LOOK(see(&c).actives == 1 && tells(&c, 0, "", 0)); /* it was not to tell */
+    refused_news(&c);
+    LOOK(plumtree_free(&a) == PLUMTREE_DONE && plumtree_free(&b) == PLUMTREE_DONE);
+    LOOK(plumtree_free(&c) == PLUMTREE_DONE && blocks == 0);
+}
+
 /* Each byte of a frame is spoiled in turn, behind a good frame: the good one is taken, and the connection ends if the
  * other is none. */
 static void spoiled(void)
@@ -537,6 +610,7 @@ static plumtree_node many[MANY];
 static uint64_t links[MANY][MANY]; /* at the second, of the first's connection to it; 0: there is none */
 static bool has_delivered[MANY][MANY][MESSAGES + 1];
 static uint64_t has_broadcast[MANY];
+static bool is_near[MANY][MANY]; /* by the first's news, the second is its neighbour */
 
 static int numbered(const plumtree_name *name)
 {
@@ -598,12 +672,52 @@ static void take_all(int at)
     }
 }
 
+/* How many neighbours the node has by its news. */
+static size_t near(int at)
+{
+    size_t count = 0;
+    for (int i = 0; i < MANY; i++)
+        count += is_near[at][i];
+    return count;
+}
+
+/* Takes the news. None says what was known, or leaves out what was not. */
+static void take_news(int at)
+{
+    plumtree_news news;
+    int32_t answer;
+    while ((answer = plumtree_wire_next_news(&many[at], &news)) == PLUMTREE_DONE) {
+        if (news.kind == PLUMTREE_ISOLATED || news.kind == PLUMTREE_JOINED) {
+            LOOK(news.why == 0 && news.name.length == 0 && (near(at) == 0) == (news.kind == PLUMTREE_ISOLATED));
+            continue;
+        }
+        bool goes = news.kind == PLUMTREE_NEIGHBOR_DOWN, *is = &is_near[at][numbered(&news.name)];
+        LOOK((goes || news.kind == PLUMTREE_NEIGHBOR_UP) && *is == goes);
+        LOOK(goes ? 1 <= news.why && news.why <= PLUMTREE_DISPLACED : news.why == 0);
+        *is = !goes;
+    }
+    LOOK(answer == PLUMTREE_NONE || answer == PLUMTREE_OUT_OF_MEMORY);
+}
+
+/* After all news were taken, the neighbours are those of which they told. */
+static void look_near(int at)
+{
+    plumtree_name names[MANY];
+    size_t length = 0;
+    take_news(at);
+    LOOK(plumtree_active(&many[at], names, MANY, &length) == PLUMTREE_DONE && length == near(at));
+    for (size_t i = 0; i < length; i++)
+        LOOK(is_near[at][numbered(&names[i])]);
+}
+
 /* Bytes for some of the names go out. Returns whether any waited. */
 static bool give_out(int at)
 {
     plumtree_name names[MANY];
     size_t length;
     take_all(at);
+    if (random_word() % 4 == 0)
+        take_news(at);
     hang_up_lost(at);
     LOOK(plumtree_wire_receivers(&many[at], names, MANY, &length) != PLUMTREE_ROOM_TOO_SMALL);
     for (size_t i = 0; i < length; i++)
@@ -620,6 +734,7 @@ static void any_order(long rounds)
         LOOK(plumtree_wire_start(&many[i], (const uint8_t *)text, (size_t)length, 1, &limits, PLUMTREE_WAITING, NULL,
              0,
                                  (const uint8_t *)"n0", i == 0 ? 0 : 2) == PLUMTREE_DONE);
+        LOOK(plumtree_wire_tell_news(&many[i], true) == PLUMTREE_DONE);
         for (bool waits = true; waits;) {
             waits = false;
             for (int j = 0; j <= i; j++)
@@ -662,6 +777,7 @@ static void any_order(long rounds)
             for (uint64_t number = 1; number <= has_broadcast[origin]; number++)
                 if (i == origin)
                     LOOK(has_delivered[i][origin][number]);
+        look_near(i);
         LOOK(plumtree_free(&many[i]) == PLUMTREE_DONE);
     }
     LOOK(blocks == 0);
@@ -680,6 +796,11 @@ static void structs(void)
         plumtree_piece it[PLUMTREE_PIECES];
         uint8_t after[8];
     } pieces;
+    struct {
+        uint8_t before[8];
+        plumtree_news it;
+        uint8_t after[8];
+    } told;
     plumtree_node a = {0}, b = {0};
     uint64_t number;
     start_two(&a, &b);
@@ -693,6 +814,11 @@ static void structs(void)
     memset(&pieces, 0xee, sizeof pieces);
     LOOK(plumtree_wire_transmit(&a, BYTES("b"), pieces.it) == PLUMTREE_DONE && pieces.before[7] == 0xee
          && pieces.after[0] == 0xee);
+    memset(&told, 0xee, sizeof told);
+    LOOK(plumtree_wire_tell_news(&a, true) == PLUMTREE_DONE);
+    LOOK(plumtree_wire_unreachable(&a, BYTES("b"), dice) == PLUMTREE_DONE);
+    LOOK(plumtree_wire_next_news(&a, &told.it) == PLUMTREE_DONE && told.before[7] == 0xee && told.after[0] == 0xee);
+    LOOK(told.it.kind == PLUMTREE_NEIGHBOR_DOWN && told.it.name.length == 1);
     LOOK(plumtree_free(&a) == PLUMTREE_DONE && plumtree_free(&b) == PLUMTREE_DONE && blocks == 0);
 }
 
@@ -707,6 +833,7 @@ int main(int count, char **arguments)
     payloads();
     downs();
     joins();
+    news();
     spoiled();
     refusals();
     any_order(rounds);

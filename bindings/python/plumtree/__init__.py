@@ -27,7 +27,7 @@ from ._node import (
     Send,
     random_dice,
 )
-from ._wire import WAITING, WireCounts, WireNode
+from ._wire import WAITING, Isolated, Joined, NeighborDown, NeighborUp, News, Parting, WireCounts, WireNode
 
 __all__ = [
     "FRAME_MAX",
@@ -36,9 +36,15 @@ __all__ = [
     "Config",
     "Counts",
     "Deliver",
+    "Isolated",
+    "Joined",
     "Limits",
     "MsgId",
+    "NeighborDown",
+    "NeighborUp",
+    "News",
     "Node",
+    "Parting",
     "PlumtreeError",
     "Send",
     "WireCounts",

@@ -41,6 +41,10 @@ class WireCountsOf(ctypes.Structure):
     _fields_ = [(name, c_uint64) for name in ("held", "missing", "wants", "queued", "ticks")]
 
 
+class NewsOf(ctypes.Structure):
+    _fields_ = [("kind", c_uint8), ("why", c_uint8), ("name", Name)]
+
+
 class Piece(ctypes.Structure):
     """Bytes that a node lends."""
 
@@ -87,6 +91,8 @@ _CALLS = {
     "plumtree_wire_transmitted": (POINTER(Slot), *_BYTES, c_size_t),
     "plumtree_wire_next_delivery": (POINTER(Slot), POINTER(Id), *_ROOM),
     "plumtree_wire_next_lost": (POINTER(Slot), POINTER(Name)),
+    "plumtree_wire_tell_news": (POINTER(Slot), ctypes.c_bool),
+    "plumtree_wire_next_news": (POINTER(Slot), POINTER(NewsOf)),
     "plumtree_wire_counts_of": (POINTER(Slot), POINTER(WireCountsOf)),
     "plumtree_words": (c_int32, *_ROOM),
 }

@@ -2,11 +2,12 @@
 from __future__ import annotations
 
 import ctypes
+import enum
 from ctypes import byref, c_size_t, c_uint64
 from dataclasses import dataclass, fields
-from typing import Iterator, Optional, Sequence
+from typing import Iterator, Optional, Sequence, Union
 
-from ._library import LIBRARY, Dice, Name, Pieces, WireCountsOf
+from ._library import LIBRARY, Dice, Name, NewsOf, Pieces, WireCountsOf
 from ._node import _ROOM_TOO_SMALL, _ZEROS, Config, Deliver, Kept, _is_done, _parts, _text
 
 WAITING = 8_388_608
@@ -22,6 +23,50 @@ class WireCounts:
     wants: int
     queued: int
     ticks: int
+
+
+class Parting(enum.Enum):
+    """Why a neighbour went: it said so, the link to it failed, or it was dropped for another name."""
+
+    LEFT = 1
+    FAILED = 2
+    DISPLACED = 3
+
+
+@dataclass(frozen=True)
+class NeighborUp:
+    """This name is a neighbour now."""
+
+    name: str
+
+
+@dataclass(frozen=True)
+class NeighborDown:
+    """This name is a neighbour no longer."""
+
+    name: str
+    why: Parting
+
+
+@dataclass(frozen=True)
+class Isolated:
+    """The last neighbour went."""
+
+
+@dataclass(frozen=True)
+class Joined:
+    """There was no neighbour, and now there is one."""
+
+
+News = Union[NeighborUp, NeighborDown, Isolated, Joined]
+
+
+def _news(news: NewsOf) -> News:
+    if news.kind == 1:
+        return NeighborUp(_text(news.name))
+    if news.kind == 2:
+        return NeighborDown(_text(news.name), Parting(news.why))
+    return Isolated() if news.kind == 3 else Joined()
 
 
 class WireNode(Kept):
@@ -134,6 +179,17 @@ class WireNode(Kept):
         written there."""
         name = Name()
         return _text(name) if _is_done(LIBRARY.plumtree_wire_next_lost(self._slot, byref(name))) else None
+
+    def tell_news(self, tells: bool = True) -> None:
+        """Has the node tell news of its next steps, or no more. One that was started tells none: `active` has its first
+        neighbours. News that were not taken yet stay."""
+        _is_done(LIBRARY.plumtree_wire_tell_news(self._slot, tells))
+
+    def news(self) -> Iterator[News]:
+        """Takes the news, each change of the active view once and in order. They are kept until they are taken."""
+        news = NewsOf()
+        while _is_done(LIBRARY.plumtree_wire_next_news(self._slot, byref(news))):
+            yield _news(news)
 
     @property
     def counts(self) -> WireCounts:

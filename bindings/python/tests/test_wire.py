@@ -3,7 +3,20 @@ from __future__ import annotations
 
 import unittest
 
-from plumtree import PAYLOAD_MAX, Config, Deliver, Limits, MsgId, PlumtreeError, WireNode
+from plumtree import (
+    PAYLOAD_MAX,
+    Config,
+    Deliver,
+    Isolated,
+    Joined,
+    Limits,
+    MsgId,
+    NeighborDown,
+    NeighborUp,
+    Parting,
+    PlumtreeError,
+    WireNode,
+)
 
 
 class Group:
@@ -98,6 +111,25 @@ class Groups(unittest.TestCase):
         small = WireNode(Config("a", peers=["b"]), waiting=100)
         small.broadcast(bytes(200))
         self.assertEqual(small.next_lost(), "b")
+
+    def test_a_node_tells_each_change_of_its_neighbours_once_and_why(self) -> None:
+        one = Limits(active=1)
+        a, b = WireNode(Config("a", peers=["b"], limits=one)), WireNode(Config("b", peers=["a"], limits=one))
+        c = WireNode(Config("c", contact="a"))
+        for node in (a, b, c):
+            node.tell_news()
+            self.assertEqual(list(node.news()), [])
+        a.receive(a.accept(), c.take("a"))
+        b.receive(b.accept(), a.take("b"))
+        c.receive(c.accept(), a.take("c"))
+        self.assertEqual(list(a.news()), [NeighborDown("b", Parting.DISPLACED), NeighborUp("c")])
+        self.assertEqual(list(b.news()), [NeighborDown("a", Parting.LEFT), Isolated()])
+        self.assertEqual(list(c.news()), [NeighborUp("a"), Joined()])
+        c.unreachable("a")
+        self.assertEqual(next(c.news()), NeighborDown("a", Parting.FAILED))
+        c.tell_news(False)
+        c.join("a")
+        self.assertEqual(list(c.news()), [Isolated()])
 
     def test_a_node_is_freed_once(self) -> None:
         with WireNode(Config("a")) as node:

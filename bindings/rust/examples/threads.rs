@@ -1,5 +1,6 @@
 //! Three nodes over TCP on this machine. Each is shared by a thread for each connection that it accepted, which reads, and
-//! one that writes, ticks and prints. Every node broadcasts a message; the program ends when all have all three.
+//! one that writes, ticks and prints. Every node broadcasts a message; the program ends when all have all three. News of
+//! neighbours go to standard error.
 use plumtree::{Config, Dice, Name, WireNode};
 use std::collections::HashMap;
 use std::io::{ErrorKind, Read};
@@ -54,11 +55,29 @@ fn send(node: &mut WireNode, to: &Name, places: &Places, links: &mut Links) -> s
     }
 }
 
+/// Prints what a node delivers, and its news. Returns how many messages those are.
+fn print_all(name: &str, node: &mut WireNode) -> Outcome<usize> {
+    while let Some(news) = node.next_news()? {
+        eprintln!("{name}: {news:?}");
+    }
+    let mut delivered = 0;
+    while let Some(message) = node.next_delivery()? {
+        delivered += 1;
+        println!(
+            "{}: {}",
+            message.id,
+            String::from_utf8_lossy(&message.payload)
+        );
+    }
+    Ok(delivered)
+}
+
 /// Runs one node until all is delivered, and a while longer for the others.
 fn member(name: &'static str, listener: TcpListener, places: &Places) -> Outcome<()> {
     let others = NAMES.iter().filter(|other| **other != name);
     let config = others.fold(Config::new(name), |config, other| config?.peer(other))?;
     let shared = Arc::new(Mutex::new(WireNode::start(&config)?));
+    lock(&shared).tell_news(true);
     lock(&shared).broadcast(format!("hello from {name}").as_bytes())?;
     let reading = shared.clone();
     thread::spawn(move || {
@@ -82,14 +101,7 @@ fn member(name: &'static str, listener: TcpListener, places: &Places) -> Outcome
         while let Some(lost) = node.next_lost() {
             links.remove(&lost);
         }
-        while let Some(message) = node.next_delivery()? {
-            delivered += 1;
-            println!(
-                "{}: {}",
-                message.id,
-                String::from_utf8_lossy(&message.payload)
-            );
-        }
+        delivered += print_all(name, &mut node)?;
         if quiet == 10 {
             return Ok(());
         }

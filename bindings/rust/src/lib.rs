@@ -34,6 +34,7 @@ mod config;
 mod error;
 mod handle;
 mod name;
+mod news;
 mod node;
 mod sys;
 mod wire;
@@ -41,6 +42,7 @@ mod wire;
 pub use config::{Config, Limits};
 pub use error::Error;
 pub use name::{MsgId, Name};
+pub use news::{News, Parting};
 pub use node::{Counts, Dice, Input, Node, Output};
 pub use wire::{Connection, Delivery, WireCounts, WireNode, WAITING};
 

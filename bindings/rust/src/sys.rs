@@ -83,6 +83,22 @@ pub(crate) struct WireCounts {
     pub(crate) ticks: u64,
 }
 
+#[repr(C)]
+#[derive(Clone, Copy)]
+pub(crate) struct News {
+    pub(crate) kind: u8,
+    pub(crate) why: u8,
+    pub(crate) name: Name,
+}
+
+impl News {
+    pub(crate) const EMPTY: News = News {
+        kind: 0,
+        why: 0,
+        name: Name::EMPTY,
+    };
+}
+
 /// Bytes that a node lends.
 #[repr(C)]
 #[derive(Clone, Copy)]
@@ -94,6 +110,7 @@ pub(crate) struct Piece {
 // the layout that plumtree.h asserts
 const _: () = {
     assert!(std::mem::size_of::<WireCounts>() == 40 && std::mem::size_of::<Piece>() == 16);
+    assert!(std::mem::size_of::<News>() == 36 && std::mem::offset_of!(News, name) == 2);
     assert!(std::mem::size_of::<Slot>() == 24);
     assert!(std::mem::size_of::<Name>() == 34);
     assert!(std::mem::size_of::<Id>() == 56 && std::mem::offset_of!(Id, number) == 48);
@@ -237,6 +254,8 @@ extern "C" {
         length: *mut usize,
     ) -> i32;
     pub(crate) fn plumtree_wire_next_lost(slot: *mut Slot, name: *mut Name) -> i32;
+    pub(crate) fn plumtree_wire_tell_news(slot: *mut Slot, tells: bool) -> i32;
+    pub(crate) fn plumtree_wire_next_news(slot: *mut Slot, news: *mut News) -> i32;
     pub(crate) fn plumtree_wire_counts_of(slot: *mut Slot, counts: *mut WireCounts) -> i32;
     pub(crate) fn plumtree_words(
         answer: i32,

@@ -3,6 +3,7 @@ use crate::config::Config;
 use crate::error::Error;
 use crate::handle::{is_done, readers, Handle, ROOM_TOO_SMALL};
 use crate::name::{MsgId, Name};
+use crate::news::News;
 use crate::node::Dice;
 use crate::sys;
 use std::io::{IoSlice, Write};
@@ -49,7 +50,8 @@ pub struct WireCounts {
 ///   ([`write_to`](WireNode::write_to)), or says that it cannot be reached ([`unreachable`](WireNode::unreachable));
 /// - closes connections to lost names ([`next_lost`](WireNode::next_lost)), takes the messages
 ///   ([`next_delivery`](WireNode::next_delivery)), calls [`tick`](WireNode::tick) some ten times a second, and
-///   [`join`](WireNode::join) where all links failed.
+///   [`join`](WireNode::join) where all links failed, of which the node tells ([`tell_news`](WireNode::tell_news),
+///   [`next_news`](WireNode::next_news)).
 ///
 /// ```
 /// use plumtree::{Config, Dice, WireNode};
@@ -264,6 +266,23 @@ impl WireNode {
             1 => Some(Name(name)),
             _ => None,
         }
+    }
+
+    /// Has the node tell news of its next steps, or no more. One that was started tells none: [`active`](WireNode::active)
+    /// has its first neighbours. News that were not taken yet stay.
+    pub fn tell_news(&mut self, tells: bool) {
+        // SAFETY: the slot is valid.
+        let answer = unsafe { sys::plumtree_wire_tell_news(&mut self.handle.slot, tells) };
+        debug_assert_eq!(answer, 1);
+    }
+
+    /// Takes the next news, each change of the active view once and in order; `None` if none wait. They are kept until they
+    /// are taken. [`Error::OutOfMemory`]: nothing has changed.
+    pub fn next_news(&mut self) -> Result<Option<News>, Error> {
+        let mut news = sys::News::EMPTY;
+        // SAFETY: the slot and `news` are valid.
+        let answer = unsafe { sys::plumtree_wire_next_news(&mut self.handle.slot, &mut news) };
+        Ok(is_done(answer)?.then(|| News::of(&news)))
     }
 
     /// Returns how much the node has.

@@ -1,5 +1,7 @@
 //! Groups of nodes of bytes in one process, and every error.
-use plumtree::{Config, Connection, Dice, Error, Limits, MsgId, Name, WireNode, PAYLOAD_MAX};
+use plumtree::{
+    Config, Connection, Dice, Error, Limits, MsgId, Name, News, Parting, WireNode, PAYLOAD_MAX,
+};
 use std::collections::BTreeMap;
 
 /// A group whose bytes go from node to node, a part at a time.
@@ -243,6 +245,55 @@ fn a_writer_that_takes_no_more_keeps_the_rest_waiting() {
         b.receive(link, &bytes, &Dice::default()).unwrap();
     }
     assert_eq!(b.next_delivery().unwrap().expect("a message").payload, b"m");
+}
+
+/// Takes all news.
+fn heard(node: &mut WireNode) -> Vec<News> {
+    std::iter::from_fn(|| node.next_news().unwrap()).collect()
+}
+
+/// Hands over what waits at one node for the other.
+fn hand(from: &mut WireNode, to: (&mut WireNode, &str)) {
+    let link = to.0.accept().unwrap();
+    let bytes = written(from, to.1);
+    to.0.receive(link, &bytes, &Dice::default()).unwrap();
+}
+
+#[test]
+fn a_node_tells_each_change_of_its_neighbours_once_and_why() {
+    let one = |name, peer| {
+        let limits = Limits {
+            active: 1,
+            ..Limits::default()
+        };
+        let config = Config::new(name).unwrap().limits(limits);
+        WireNode::start(&config.peer(peer).unwrap()).unwrap()
+    };
+    let down = |it, why| News::NeighborDown {
+        name: name(it),
+        why,
+    };
+    let (mut a, mut b) = (one("a", "b"), one("b", "a"));
+    let config = Config::new("c").unwrap().contact("a").unwrap();
+    let mut c = WireNode::start(&config).unwrap();
+    for node in [&mut a, &mut b, &mut c] {
+        assert_eq!(node.next_news(), Ok(None));
+        node.tell_news(true);
+        assert_eq!(node.next_news(), Ok(None));
+    }
+    hand(&mut c, (&mut a, "a"));
+    hand(&mut a, (&mut b, "b"));
+    hand(&mut a, (&mut c, "c"));
+    let displaced = [down("b", Parting::Displaced), News::NeighborUp(name("c"))];
+    assert_eq!(heard(&mut a), displaced);
+    assert_eq!(heard(&mut b), [down("a", Parting::Left), News::Isolated]);
+    let joined = [News::NeighborUp(name("a")), News::Joined];
+    assert_eq!(heard(&mut c), joined);
+    c.unreachable(&name("a"), &Dice::default()).unwrap();
+    assert_eq!(c.next_news(), Ok(Some(down("a", Parting::Failed))));
+    c.tell_news(false);
+    c.join(&name("a"), &Dice::default()).unwrap();
+    assert_eq!(heard(&mut c), [News::Isolated]);
 }
 
 #[test]

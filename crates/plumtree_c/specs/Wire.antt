@@ -1,5 +1,5 @@
 -- What a node of bytes for C is, and what its calls do to it.
-use Rattle.std.specs.Prelude.{◌≡◌, ◌⊎◌, ◌++◌, ℕ, List, [], ◌∷◌, Option, None, drop, length, map, if◌then◌else◌}
+use Rattle.std.specs.Prelude.{◌≡◌, ◌⊎◌, ◌++◌, ℕ, Bool, List, [], ◌∷◌, Option, None, drop, length, map, if◌then◌else◌}
 use Rattle.std.specs.Borrow.{Bor}
 use Rattle.bytes.specs.Unread.{concat_slices}
 use Rattle.node_names.specs.NodeName.{Name}
@@ -14,16 +14,20 @@ use Rattle.wire_node.specs.Moving.{Broadcasts, GoesAway, Moves}
 use Rattle.wire_node.specs.Node.{Closes, Hears, NodeState, Starts}
 use Rattle.wire_node.specs.Receiving.{IsPartial}
 use Rattle.wire_node.specs.Waiting.{settled_for}
+use Rattle.neighborhood.specs.declared.news.News.{News}
 use Rattle.node_core.specs.Plum.{plum_state}
+use Rattle.plumtree_c.specs.Plain.{Says}
 use Rattle.plumtree_c.specs.State.{Gives}
 use Rattle.plumtree_c.specs.declared.piece.Piece.{Piece}
+use Rattle.plumtree_c.specs.declared.plain.PlainNews.{PlainNews}
 use Rattle.plumtree_c.specs.declared.plain.WireCounts.{WireCounts}
 
--- The node, and the deliveries and lost names that were taken from it and that the caller has not got yet.
+-- The node, and the deliveries, lost names and news that were taken from it and that the caller has not got yet.
 pub record WireState : Type 0 where
   pub node : NodeState
   pub deliveries : List Delivery
   pub lost : List Name
+  pub news : List News
 
 -- the deliveries that wait for the caller, in order
 abbrev pub deliveries_in : WireState → List Delivery
@@ -32,6 +36,10 @@ deliveries_in wire = wire.deliveries ++ wire.node.engine.machine.pending
 -- the lost names that wait for the caller, in order
 abbrev pub lost_in : WireState → List Name
 lost_in wire = wire.lost ++ wire.node.engine.lost
+
+-- the news that wait for the caller, in order
+abbrev pub news_in : WireState → List News
+news_in wire = wire.news ++ wire.node.engine.machine.news
 
 -- the bytes that wait for the name
 abbrev pub bytes_for : WireState → Name → List ℕ
@@ -42,12 +50,14 @@ pub record WireStarts (me : Origin) (limits : Limits) (peers : List Name) (conta
   pub starts : Starts me limits peers contact None wire.node
   pub deliveries : wire.deliveries ≡ []
   pub lost : wire.lost ≡ []
+  pub news : wire.news ≡ []
 
 -- The node did this, and nothing that waited for the caller was lost.
 pub record Does (P : NodeState → NodeState → Type 0) (old new : WireState) : Type 0 where
   pub done : P old.node new.node
   pub deliveries : new.deliveries ≡ old.deliveries
   pub lost : new.lost ≡ old.lost
+  pub news : new.news ≡ old.news
 
 -- The node broadcast this payload, and this is the message's number.
 pub record Sends (payload : List ℕ) (number : ℕ) (old new : NodeState) : Type 0 where
@@ -96,18 +106,20 @@ pub record Offers (name : Name) (pieces : List Piece) (wire : WireState) : Type 
 
 -- Of the node, only what waits for the caller may have changed.
 abbrev pub IsSameBeside : NodeState → NodeState → Type 0
-IsSameBeside old new = new ≡ record old { engine = record { machine = record old.engine.machine { pending = new.engine.machine.pending }; lost = new.engine.lost } }
+IsSameBeside old new = new ≡ record old { engine = record { machine = record old.engine.machine { pending = new.engine.machine.pending; news = new.engine.machine.news }; lost = new.engine.lost } }
 
 -- Nothing that the caller can see has changed.
 pub record Stays (old new : WireState) : Type 0 where
   pub deliveries : deliveries_in new ≡ deliveries_in old
   pub lost : lost_in new ≡ lost_in old
+  pub news : news_in new ≡ news_in old
   pub beside : IsSameBeside old.node new.node
 
 -- The first delivery that waited was taken: the message's id and payload. Nothing else has changed.
 pub record Delivers (id : MsgId) (payload : List ℕ) (old new : WireState) : Type 0 where
   pub gives : Gives (deliveries_in old) id payload (deliveries_in new)
   pub lost : lost_in new ≡ lost_in old
+  pub news : news_in new ≡ news_in old
   pub beside : IsSameBeside old.node new.node
 
 -- The first of these names was taken.
@@ -120,7 +132,30 @@ pub record Tells (old : List Name) (name : Name) (new : List Name) : Type 0 wher
 pub record Loses (name : Name) (old new : WireState) : Type 0 where
   pub tells : Tells (lost_in old) name (lost_in new)
   pub deliveries : deliveries_in new ≡ deliveries_in old
+  pub news : news_in new ≡ news_in old
   pub beside : IsSameBeside old.node new.node
+
+-- From now on the node tells news of its steps, or it does not.
+abbrev pub TellsNews : Bool → NodeState → NodeState → Type 0
+TellsNews tells old new = new ≡ record old { engine = record old.engine { machine = record old.engine.machine { tells = tells } } }
+
+-- The first of these news were taken.
+pub record Brings (old : List News) (plain : PlainNews) (new : List News) : Type 0 where
+  pub its : News
+  pub first : old ≡ its ∷ new
+  pub says : Says plain its
+
+-- The first news that waited were taken. Nothing else has changed.
+pub record Informs (plain : PlainNews) (old new : WireState) : Type 0 where
+  pub brings : Brings (news_in old) plain (news_in new)
+  pub deliveries : deliveries_in new ≡ deliveries_in old
+  pub lost : lost_in new ≡ lost_in old
+  pub beside : IsSameBeside old.node new.node
+
+-- No news waited. Nothing that the caller can see has changed.
+pub record HasNoNews (old new : WireState) : Type 0 where
+  pub none : news_in old ≡ []
+  pub stays : Stays old new
 
 -- These are how much the node has.
 pub record AreWireCounts (counts : WireCounts) (wire : WireState) : Type 0 where

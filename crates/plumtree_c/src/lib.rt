@@ -19,4 +19,5 @@ mod stirred;
 mod wire;
 mod wire_calls;
 mod wire_connections;
+mod wire_news;
 mod wire_outputs;

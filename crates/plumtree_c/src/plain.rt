@@ -1,9 +1,10 @@
 //! What crosses to C.
 ghost use Rattle.std.specs.Prelude.{◌≡◌, IfOk};
-ghost use Rattle.plumtree_c.specs.Plain.{id_of, limits_of, name_of};
+ghost use Rattle.plumtree_c.specs.Plain.{id_of, limits_of, name_of, parting_number, Says};
 
 use crate::refusal::Refusal;
 use node_names::{Incarnation, Limits, MsgId, NodeName, Origin};
+use wire_node::{News, Parting};
 
 /// A name: its bytes and then zeros, of which there is at least one, and the number of its bytes.
 #[repr(C)]
@@ -25,6 +26,21 @@ pub struct Id {
 }
 
 const _: () = prove!(size_of::<Id>() == 56);
+
+/// What changed in the active view of a node: numbers of `plumtree_news_kind` and `plumtree_parting` of plumtree.h. What
+/// the kind does not have is 0, and a name without bytes.
+#[repr(C)]
+#[derive(Clone, Copy)]
+pub struct PlainNews {
+    /// What changed.
+    pub kind: u8,
+    /// Why a name went.
+    pub why: u8,
+    /// The name that came or went.
+    pub name: Name,
+}
+
+const _: () = prove!(size_of::<PlainNews>() == 36);
 
 /// The limits of a node, as `node_names::Limits` has them.
 #[repr(C)]
@@ -82,7 +98,24 @@ pub struct WireCounts {
 
 const _: () = prove!(size_of::<WireCounts>() == 40);
 
+/// Why a name went, for C.
+fn number_of(why: Parting) -> u8
+    ensures { result ≡ parting_number why }
+{
+    match why {
+        Parting::Left => 1,
+        Parting::Failed => 2,
+        Parting::Displaced => 3,
+    }
+}
+
 impl Name {
+    /// The name of nobody.
+    const NOBODY: Name = Name {
+        text: [0; 33],
+        length: 0,
+    };
+
     /// The name for C.
     pub(crate) fn of(name: &NodeName) -> Name
         ensures { name_of result ≡ name.now }
@@ -129,6 +162,21 @@ impl Id {
             origin: Origin { name, incarnation },
             seq: self.number,
         })
+    }
+}
+
+impl PlainNews {
+    /// The news for C.
+    pub(crate) fn of(news: &News) -> PlainNews
+        ensures { Says result news.now }
+    {
+        let (kind, why, name) = match news {
+            News::NeighborUp(name) => (1, 0, Name::of(name)),
+            News::NeighborDown { name, why } => (2, number_of(*why), Name::of(name)),
+            News::Isolated => (3, 0, Name::NOBODY),
+            News::Joined => (4, 0, Name::NOBODY),
+        };
+        PlainNews { kind, why, name }
     }
 }
 

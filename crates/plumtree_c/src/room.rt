@@ -1,15 +1,16 @@
 //! Rooms of the caller for bytes and names, and lists whose first items are taken.
-ghost use Rattle.std.specs.Prelude.{◌≡◌, ◌+◌, ◌≤◌, IfNone, IfOk, IfSome, MatchBool, OnErr, drop, length, map, take};
+ghost use Rattle.std.specs.Prelude.{◌≡◌, ◌+◌, ◌≤◌, [], IfNone, IfOk, IfSome, MatchBool, OnErr, drop, length, map, take};
 ghost use Rattle.node_names.specs.Slots.{somes};
 ghost use Rattle.plumtree_c.specs.Plain.{id_of, name_of};
 ghost use Rattle.plumtree_c.specs.State.{Gives};
-ghost use Rattle.plumtree_c.specs.Wire.{Tells};
+ghost use Rattle.plumtree_c.specs.Wire.{Brings, Tells};
 
-use crate::plain::{Id, Name};
+use crate::plain::{Id, Name, PlainNews};
 use crate::refusal::Refusal;
 use node_names::{Listed, NodeName};
 use peer_sets::{Member, PeerKind};
 use std::mem;
+use wire_node::News;
 use world::Delivery;
 
 /// Puts the bytes at the front of the room, or answers `false` if they are too many.
@@ -98,6 +99,22 @@ pub(crate) fn tell(names: &mut Listed<NodeName>, told: &mut usize) -> Option<Nam
     let name = Name::of(first);
     *told = forget(names, *told + 1);
     Some(name)
+}
+
+/// Takes the first news that were not told yet. `heard` of them were.
+pub(crate) fn bring(news: &mut Listed<News>, heard: &mut usize) -> Option<PlainNews>
+    requires { heard.old + heard.old ≤ length news.old }
+    ensures some { IfSome result (λ its. Brings (drop heard.old news.old) its (drop heard.new news.new)) }
+    ensures none { IfNone result ((news.new ≡ news.old) × (heard.new ≡ heard.old)) }
+    ensures empty { IfNone result (drop heard.old news.old ≡ []) }
+    ensures few { heard.new + heard.new ≤ length news.new }
+{
+    let Some(first) = news.as_slice().get(*heard) else {
+        return None;
+    };
+    let its = PlainNews::of(first);
+    *heard = forget(news, *heard + 1);
+    Some(its)
 }
 
 /// Puts the names of as many members of this kind at the front of the room as it has places for. Returns the number of

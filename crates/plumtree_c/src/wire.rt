@@ -1,21 +1,21 @@
 //! A node of bytes, with what it gave and its caller has not got yet.
 ghost use Rattle.std.specs.Prelude.{◌≡◌, ◌⊎◌, ◌++◌, [], length, map, take, IfErr, IfNone, IfOk, IfSome, OnErr, OnOk};
 ghost use Rattle.plumtree_c.specs.Plain.{id_of, name_of};
-ghost use Rattle.plumtree_c.specs.Wire.{bytes_for, Accepts, AreWireCounts, Delivers, Does, HearsAll, HearsSome, Joins, Leaves, Loses, Offers, Sends, Stays, Went, WireStarts};
+ghost use Rattle.plumtree_c.specs.Wire.{bytes_for, Accepts, AreWireCounts, Delivers, Does, HasNoNews, HearsAll, HearsSome, Informs, Joins, Leaves, Loses, Offers, Sends, Stays, TellsNews, Went, WireStarts};
 ghost use Rattle.wire_node.specs.Node.{Closes, Ticks};
 ghost use Rattle.wire_node.specs.Waiting.{receivers_of};
 
 use crate::piece::Piece;
-use crate::plain::{Id, Name, WireCounts};
+use crate::plain::{Id, Name, PlainNews, WireCounts};
 use crate::refusal::Refusal;
-use crate::room::{give, number_of, tell};
+use crate::room::{bring, give, number_of, tell};
 use crate::stirred::Stirred;
 use bytes::Bytes;
 use node_core::PlumCore;
 use node_names::{Dice, Listed, NodeName, Origin};
 use std::alloc::Global;
 use std::marker::Model;
-use wire_node::{ConnectionId, Unrecorded, WireError, WireLimits, WireNode};
+use wire_node::{ConnectionId, News, Unrecorded, WireError, WireLimits, WireNode};
 use world::{Core, Delivery, MAX_PAYLOAD};
 
 /// A node of bytes, with what it gave and its caller has not got yet.
@@ -30,6 +30,10 @@ pub(crate) struct Wire {
     lost: Listed<NodeName>,
     /// How many of these went to the caller.
     told: usize,
+    /// News that were taken from the node. The first of them went to the caller.
+    news: Listed<News>,
+    /// How many of these went to the caller.
+    heard: usize,
     /// How often the node was lent for a change.
     turn: u64,
 }
@@ -50,10 +54,11 @@ impl Model for Wire {
       node = w.node;
       deliveries = drop w.given w.deliveries;
       lost = drop w.told w.lost;
+      news = drop w.heard w.news;
     } };
 
     // At most half of each list went to the caller.
-    ghost invariant = { λ w. (w.given + w.given ≤ length w.deliveries) × (w.told + w.told ≤ length w.lost) };
+    ghost invariant = { λ w. (w.given + w.given ≤ length w.deliveries) × (w.told + w.told ≤ length w.lost) × (w.heard + w.heard ≤ length w.news) };
 }
 
 /// Ends the connection, unless the step of that is refused. Returns whether it has ended.
@@ -99,6 +104,8 @@ impl Wire {
             given: 0,
             lost: Listed::new(alloc),
             told: 0,
+            news: Listed::new(alloc),
+            heard: 0,
             turn: 0,
         })
     }
@@ -259,6 +266,46 @@ impl Wire {
     {
         self.refill_lost();
         self.tell_first()
+    }
+
+    /// Has the node tell news of its next steps, or not.
+    pub(crate) fn tell_news(&mut self, tells: bool)
+        ensures { Does (TellsNews tells) self.old self.new }
+    {
+        self.node.tell_news(tells);
+    }
+
+    /// Takes the news of the node, if the caller has got all that were taken before.
+    fn refill_news(&mut self) -> Result<(), Refusal>
+        ensures ok { OnOk result (Stays self.old self.new) }
+        ensures all { OnOk result (self.new.news ≡ [] → self.new.node.engine.machine.news ≡ []) }
+        ensures err { OnErr result (self.new ≡ self.old) }
+    {
+        if !self.news.is_empty() {
+            return Ok(());
+        }
+        self.news = Listed::from_vec(self.node.take_news()?);
+        self.heard = 0;
+        Ok(())
+    }
+
+    /// Takes the first news that wait and were taken from the node.
+    fn bring_first(&mut self) -> Option<PlainNews>
+        ensures some { IfSome result (λ its. Informs its self.old self.new) }
+        ensures none { IfNone result (self.new ≡ self.old) }
+        ensures empty { IfNone result (self.old.news ≡ []) }
+    {
+        bring(&mut self.news, &mut self.heard)
+    }
+
+    /// Takes the first news that wait.
+    pub(crate) fn next_news(&mut self) -> Result<Option<PlainNews>, Refusal>
+        ensures some { IfOk result (λ found. IfSome found (λ its. Informs its self.old self.new)) }
+        ensures none { IfOk result (λ found. IfNone found (HasNoNews self.old self.new)) }
+        ensures err { OnErr result (self.new ≡ self.old) }
+    {
+        self.refill_news()?;
+        Ok(self.bring_first())
     }
 
     /// How much the node has.
