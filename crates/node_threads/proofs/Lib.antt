@@ -3,6 +3,7 @@ pub mod Failing
 pub mod Keeping
 pub mod Left
 pub mod Lettering
+pub mod LinkOpenings
 pub mod Links
 pub mod Made
 pub mod Receipting

@@ -1,13 +1,13 @@
 -- What a node keeps is kept where it starts, and where links are opened and closed.
-use Rattle.std.specs.Prelude.{◌≡◌, ◌≤◌, ◌+◌, ◌-◌, ◌==◌, ℕ, Bool, true, false, not, List, [], ◌∷◌, ◌++◌, Option, drop, length, map, nat_le, if◌then◌else◌, refl, IsTrue}
+use Rattle.std.specs.Prelude.{◌≡◌, ◌≤◌, ◌+◌, ◌-◌, ◌||◌, ℕ, Bool, true, false, not, List, [], ◌∷◌, ◌++◌, Option, drop, length, nat_le, if◌then◌else◌, refl, IsTrue}
 use Rattle.std.specs.List.{AllByRecursion as Each, IsDistinct}
-use Rattle.std.proofs.Common.{◌∙◌, ap, arith, length-append, subst, sym, zero-le}
-use Rattle.std.proofs.Math.Nat.{le_refl}
+use Rattle.std.proofs.Common.{◌∙◌, ap, arith, length-append, rules, subst, sym, tests, zero-le}
 use Rattle.std.proofs.Math.Seq.{drop-length}
 use Rattle.std.proofs.lemmas.List.{append-nil, length-drop}
+use Rattle.std.proofs.lemmas.List.Folds.{list_any-append}
 use Rattle.node_names.specs.NodeName.{Name}
 use Rattle.node_names.specs.Limits.{Limits}
-use Rattle.node_names.specs.Same.{same_name, same_name-laws}
+use Rattle.node_names.specs.Same.{same_name, same_name-Decides, same_name-laws}
 use Rattle.node_names.specs.declared.ids.Origin.{Origin}
 use Rattle.world.specs.CoreState.{CoreState}
 use Rattle.world.specs.Delivery.{Delivery}
@@ -19,10 +19,8 @@ use Rattle.world.specs.Replay.{Leads}
 use Rattle.world.specs.Stimulus.{Stimulus}
 use Rattle.world.specs.Trace.{Step, Trace, delivered}
 use Rattle.frames.specs.Frame.{Frame}
-use Rattle.node_threads.specs.Applying.{mail_for}
-use Rattle.node_threads.specs.Cell.{Cell, FollowsText, IsKept, Link, peers_of}
-use Rattle.node_threads.specs.LinkText.{link_text, sent_to, spelling, text_of}
-use Rattle.node_threads.specs.Opened.{first_mail, linked_to, without}
+use Rattle.node_threads.specs.Cell.{Cell, FollowsText, IsKept, Link, is_linked, peers_of}
+use Rattle.node_threads.specs.Opened.{linked_since, mail_since, without}
 use Rattle.node_threads.specs.Opening.{IsFresh, TellsItsStart, first_receiver}
 
 -- ---- names of links
@@ -125,16 +123,23 @@ delivered_few state steps one first last (s ∷ ss) leads =
 
 -- ---- links
 
-first_text : (is_first : Bool) (frames : List Frame) → (if is_first then map spelling frames else []) ≡ map spelling ((if is_first then frames else []) ++ [])
-first_text true frames = ap (map spelling) (sym (append-nil frames))
-first_text false frames = refl
+or_true : (b : Bool) → (b || true) ≡ true
+or_true true = refl
+or_true false = refl
 
--- what a link begins with is its text
-begins_text : (trace : Trace Frame) (name : Name) → (if length trace.steps == 0 then mail_for trace.opening.sends name else []) ≡ map spelling (link_text trace name (length trace.steps))
-begins_text trace name =
-    let is_first = length trace.steps == 0 in
-    first_text is_first (sent_to name trace.opening.sends)
-    ∙ ap (λ ss. map spelling ((if is_first then sent_to name trace.opening.sends else []) ++ text_of name ss)) (sym (drop-length trace.steps))
+module _ {C : Type 0} (cell : Cell C) (name : Name) where
+  -- the link whose text begins when the trace had `since` steps
+  abbrev pub link_since : ℕ → Link
+  link_since since = record { peer = name; opened = since; pushed = mail_since cell name since }
+
+  -- if its text fits the ring, the link is open
+  pub opened_linked : (ring since : ℕ) → length (mail_since cell name since) ≤ ring → is_linked (linked_since cell name ring since) name ≡ true
+  opened_linked ring since fits =
+      let within : nat_le (length (mail_since cell name since)) ring ≡ true = search (rules, tests) in
+      ap (λ b. is_linked (without name cell.links ++ (if b then link_since since ∷ [] else [])) name) within
+      ∙ list_any-append (λ (link : Link). same_name name link.peer) (without name cell.links) (link_since since ∷ [])
+      ∙ ap (λ b. is_linked (without name cell.links) name || (b || false)) ((same_name-Decides name name).1 refl)
+      ∙ or_true (is_linked (without name cell.links) name)
 
 module _
     {C : Type 0}
@@ -155,24 +160,20 @@ module _
           texts = each_without (FollowsText cell.trace) name cell.links kept.texts;
         }
 
-    -- the link that is opened now
-    abbrev new_link : Link
-    new_link = record { peer = name; opened = length cell.trace.steps; pushed = first_mail cell name }
-
-    linked_kept : IsKept starts steps (record cell { links = without name cell.links ++ new_link ∷ [] })
-    linked_kept =
+    linked_kept : (since : ℕ) → since ≤ length cell.trace.steps → IsKept starts steps (record cell { links = without name cell.links ++ link_since cell name since ∷ [] })
+    linked_kept since within =
         record {
           limits = kept.limits;
           replays = kept.replays;
           handed = kept.handed;
           waiting = kept.waiting;
-          distinct = distinct_with (without name cell.links) new_link closed_kept.distinct (others name cell.links);
-          texts = each_with (FollowsText cell.trace) (without name cell.links) new_link closed_kept.texts (record { opened_before = le_refl (length cell.trace.steps); pushed_text = begins_text cell.trace name });
+          distinct = distinct_with (without name cell.links) (link_since cell name since) closed_kept.distinct (others name cell.links);
+          texts = each_with (FollowsText cell.trace) (without name cell.links) (link_since cell name since) closed_kept.texts (record { opened_before = within; pushed_text = refl });
         }
 
-    pub opened_kept : (ring : ℕ) → IsKept starts steps (record cell { links = linked_to cell name ring })
-    opened_kept ring =
-        either_way (λ last. IsKept starts steps (record cell { links = without name cell.links ++ last })) (nat_le (length (first_mail cell name)) ring) (new_link ∷ []) [] linked_kept
+    pub opened_kept : (ring since : ℕ) → since ≤ length cell.trace.steps → IsKept starts steps (record cell { links = linked_since cell name ring since })
+    opened_kept ring since within =
+        either_way (λ last. IsKept starts steps (record cell { links = without name cell.links ++ last })) (nat_le (length (mail_since cell name since)) ring) (link_since cell name since ∷ []) [] (linked_kept since within)
         (subst (λ ls. IsKept starts steps (record cell { links = ls })) (sym (append-nil (without name cell.links))) closed_kept)
 
 -- ---- handing out

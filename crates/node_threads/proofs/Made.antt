@@ -1,5 +1,5 @@
 -- A step that was made does what a node's step does.
-use Rattle.std.specs.Prelude.{◌≡◌, ℕ, false, List, [], ◌∷◌, ◌++◌, Option, Result, Ok, Err, IfErr, OnErr, IsErrAnd, length, map, option_map, slice_get, refl}
+use Rattle.std.specs.Prelude.{◌≡◌, ℕ, false, List, [], ◌∷◌, ◌++◌, Option, Some, None, Result, Ok, Err, IfErr, OnErr, OnSome, IsErrAnd, length, map, option_map, slice_get, refl}
 use Rattle.std.proofs.Common.{◌∙◌, ap, sym, subst}
 use Rattle.node_names.specs.NodeName.{Name}
 use Rattle.node_names.specs.declared.ids.MsgId.{MsgId}
@@ -81,6 +81,11 @@ module _
 pub at_error : {T E : Type 0} (result : Result T E) (P : Type 0) → P → OnErr result P
 at_error (Ok x) P p = tt
 at_error (Err e) P p = p
+
+-- what holds anyway holds where something is there
+pub at_some : {T : Type 0} (option : Option T) (P : Type 0) → P → OnSome option P
+at_some (Some x) P p = p
+at_some None P p = tt
 
 -- what holds of an error holds of what a refusal passes on
 pub passed_on : {T E : Type 0} (result : Result T E) (P : E → Type 0) (e : E) → IsErrAnd result (λ passed. passed ≡ e) → P e → IfErr result P

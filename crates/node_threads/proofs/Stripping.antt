@@ -131,6 +131,16 @@ opening_mail : (peer : Name) (is_first : Bool) (sends : List (Name × Frame)) �
 opening_mail peer true sends = refl
 opening_mail peer false sends = refl
 
+-- the text of a link is the packets of the opening, where they count, and then those of the steps
+pub text_parts : (trace : Trace Frame) (peer : Name) (opened : ℕ) → map spelling (link_text trace peer opened) ≡ (if opened == 0 then mail_for trace.opening.sends peer else []) ++ mail_since peer (drop opened trace.steps)
+text_parts trace peer opened =
+    map-append spelling (if opened == 0 then sent_to peer trace.opening.sends else []) (text_of peer (drop opened trace.steps))
+    ∙ ap (λ mail. mail ++ mail_since peer (drop opened trace.steps)) (opening_counts (opened == 0) (sent_to peer trace.opening.sends))
+  where
+    opening_counts : (counts : Bool) (frames : List Frame) → map spelling (if counts then frames else []) ≡ (if counts then map spelling frames else [])
+    opening_counts true frames = refl
+    opening_counts false frames = refl
+
 module _ (given : Texts) (trace : Trace Frame) (peer : Name) (opened : ℕ) (sends : List (Name × Frame)) (first : sends ≡ (if opened == 0 then trace.opening.sends else [])) where
   -- the text is the packets of the opening and then those of the steps
   link_parts : map spelling (link_text trace peer opened) ≡ mail_for sends peer ++ mail_since peer (drop opened trace.steps)

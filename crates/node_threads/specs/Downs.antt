@@ -12,6 +12,7 @@ use Rattle.world.specs.declared.stimulus.StimulusOf.TheVariants.{Down}
 use Rattle.frames.specs.Frame.{Frame}
 use Rattle.node_threads.specs.Applying.{Applies}
 use Rattle.node_threads.specs.Cell.{Cell}
+use Rattle.node_threads.specs.Learning.{Learnt, Opens}
 use Rattle.node_threads.specs.Refusal.{Refuses}
 use Rattle.node_threads.specs.declared.error.HostError.{HostError}
 
@@ -23,49 +24,63 @@ no_dice = record { 0 = replicate 16 0 }
 abbrev pub dice_of : Stream → Dice
 dice_of stream = record { 0 = words 16 stream }
 
+-- The node makes a step, and opens links to receivers of the step that have none, each from that step on. Those in
+-- `left` got none.
+pub record AppliesOpening {C : Type 0} (state : C → CoreState) (steps : C → Stimulus Frame → List (Name × Frame) → List Delivery → C → Type 0) (old : Cell C) (learnt : Learnt) (stimulus : Stimulus Frame) (new : Cell C) (learnt' : Learnt) (id : Option MsgId) (place : ℕ) (full left : List Name) : Type 0 where
+  pub stepped : Cell C
+  pub lacking : List Name
+  pub applies : Applies state steps old stimulus stepped id place full lacking
+  pub opens : Opens place stepped learnt lacking new learnt' left
+
 module _
     {C : Type 0}
     (state : C → CoreState)
     (steps : C → Stimulus Frame → List (Name × Frame) → List Delivery → C → Type 0)
     (is_spent : C → Stimulus Frame → Type 0)
   where
-    -- The node makes a step at the Down of this peer with these dice, or refuses it and stays as it was.
-    abbrev pub TakesDownBy : Dice → Cell C → Name → Cell C → Type 0
-    TakesDownBy dice old peer new =
-        ((id : Option MsgId) × (place : ℕ) × (full : List Name) × (lacking : List Name) × Applies state steps old (Down peer dice) new id place full lacking)
-        ⊎ ((error : HostError) × Refuses is_spent old (Down peer dice) error × (new ≡ old))
+    -- The node makes a step at the Down of this peer with these dice, and opens links to receivers of the step that
+    -- have none; or it refuses the step and stays as it was.
+    abbrev pub TakesDownBy : Dice → Cell C → Learnt → Name → Cell C → Learnt → Type 0
+    TakesDownBy dice old learnt peer new learnt' =
+        ((id : Option MsgId) × (place : ℕ) × (full : List Name) × (left : List Name) × AppliesOpening state steps old learnt (Down peer dice) new learnt' id place full left)
+        ⊎ ((error : HostError) × Refuses is_spent old (Down peer dice) error × (new ≡ old) × (learnt' ≡ learnt))
 
     -- the same with dice of zeros
-    abbrev pub TakesDown : Cell C → Name → Cell C → Type 0
+    abbrev pub TakesDown : Cell C → Learnt → Name → Cell C → Learnt → Type 0
     TakesDown = TakesDownBy no_dice
 
     -- The node takes the Downs of these peers, one after the other.
-    abbrev pub TakesDowns : Cell C → List Name → Cell C → Type 0
-    TakesDowns old [] new = new ≡ old
-    TakesDowns old (peer ∷ peers) new = (mid : Cell C) × TakesDown old peer mid × TakesDowns mid peers new
+    abbrev pub TakesDowns : Cell C → Learnt → List Name → Cell C → Learnt → Type 0
+    TakesDowns old learnt [] new learnt' = (new ≡ old) × (learnt' ≡ learnt)
+    TakesDowns old learnt (peer ∷ peers) new learnt' =
+        (mid : Cell C) × (more : Learnt) × TakesDown old learnt peer mid more × TakesDowns mid more peers new learnt'
 
-    -- The node makes a step, and then takes the Downs of the peers whose links were full, and then of those without a
-    -- link.
-    pub record AppliesWithDowns (old : Cell C) (stimulus : Stimulus Frame) (new : Cell C) (id : Option MsgId) (place : ℕ) (full lacking : List Name) : Type 0 where
-      pub stepped : Cell C
+    -- The node makes a step and opens links to receivers of the step that have none, and then takes the Downs of the
+    -- peers whose links were full, and then of those that got no link.
+    pub record AppliesWithDowns (old : Cell C) (learnt : Learnt) (stimulus : Stimulus Frame) (new : Cell C) (learnt' : Learnt) (id : Option MsgId) (place : ℕ) (full left : List Name) : Type 0 where
+      pub answered : Cell C
+      pub learnt_answered : Learnt
       pub told_full : Cell C
-      pub applies : Applies state steps old stimulus stepped id place full lacking
-      pub downs_full : TakesDowns stepped full told_full
-      pub downs_lacking : TakesDowns told_full lacking new
+      pub learnt_full : Learnt
+      pub applies : AppliesOpening state steps old learnt stimulus answered learnt_answered id place full left
+      pub downs_full : TakesDowns answered learnt_answered full told_full learnt_full
+      pub downs_left : TakesDowns told_full learnt_full left new learnt'
 
     -- The node takes the Downs of these peers, one after the other, each with the next dice of a generator. The last
     -- argument is what the generator yields afterwards.
-    abbrev pub TakesDrawnDowns : Stream → Cell C → List Name → Cell C → Stream → Type 0
-    TakesDrawnDowns stream old [] new left = (new ≡ old) × (left ≡ stream)
-    TakesDrawnDowns stream old (peer ∷ peers) new left =
-        (mid : Cell C) × TakesDownBy (dice_of stream) old peer mid × TakesDrawnDowns (after_words 16 stream) mid peers new left
+    abbrev pub TakesDrawnDowns : Stream → Cell C → Learnt → List Name → Cell C → Learnt → Stream → Type 0
+    TakesDrawnDowns stream old learnt [] new learnt' rest = (new ≡ old) × (learnt' ≡ learnt) × (rest ≡ stream)
+    TakesDrawnDowns stream old learnt (peer ∷ peers) new learnt' rest =
+        (mid : Cell C) × (more : Learnt) × TakesDownBy (dice_of stream) old learnt peer mid more × TakesDrawnDowns (after_words 16 stream) mid more peers new learnt' rest
 
-    -- The node makes a step, and then takes the Downs of the peers whose links were full, and then of those without a
-    -- link, with the next dice of a generator.
-    pub record AppliesDrawing (stream : Stream) (old : Cell C) (stimulus : Stimulus Frame) (new : Cell C) (left : Stream) (id : Option MsgId) (place : ℕ) (full lacking : List Name) : Type 0 where
-      pub stepped : Cell C
+    -- The node makes a step and opens links to receivers of the step that have none, and then takes the Downs of the
+    -- peers whose links were full, and then of those that got no link, with the next dice of a generator.
+    pub record AppliesDrawing (stream : Stream) (old : Cell C) (learnt : Learnt) (stimulus : Stimulus Frame) (new : Cell C) (learnt' : Learnt) (rest : Stream) (id : Option MsgId) (place : ℕ) (full left : List Name) : Type 0 where
+      pub answered : Cell C
+      pub learnt_answered : Learnt
       pub told_full : Cell C
-      pub left_full : Stream
-      pub applies : Applies state steps old stimulus stepped id place full lacking
-      pub downs_full : TakesDrawnDowns stream stepped full told_full left_full
-      pub downs_lacking : TakesDrawnDowns left_full told_full lacking new left
+      pub learnt_full : Learnt
+      pub stream_full : Stream
+      pub applies : AppliesOpening state steps old learnt stimulus answered learnt_answered id place full left
+      pub downs_full : TakesDrawnDowns stream answered learnt_answered full told_full learnt_full stream_full
+      pub downs_left : TakesDrawnDowns stream_full told_full learnt_full left new learnt' rest

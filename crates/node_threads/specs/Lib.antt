@@ -4,6 +4,7 @@ pub mod Cell
 pub mod Closing
 pub mod Downs
 pub mod History
+pub mod Learning
 pub mod Leaving
 pub mod Letters
 pub mod LinkText

@@ -1,9 +1,10 @@
 -- What opening a link does.
-use Rattle.std.specs.Prelude.{ℕ, ◌==◌, not, List, [], ◌∷◌, ◌++◌, filter, length, nat_le, if◌then◌else◌}
+use Rattle.std.specs.Prelude.{ℕ, ◌==◌, not, List, [], ◌∷◌, ◌++◌, filter, length, map, nat_le, if◌then◌else◌}
 use Rattle.node_names.specs.NodeName.{Name}
 use Rattle.node_names.specs.Same.{same_name}
 use Rattle.node_threads.specs.Applying.{mail_for}
 use Rattle.node_threads.specs.Cell.{Cell, Link}
+use Rattle.node_threads.specs.LinkText.{link_text, spelling}
 
 -- the links to other names
 abbrev pub without : Name → List Link → List Link
@@ -24,3 +25,15 @@ abbrev pub linked_to : {C : Type 0} → Cell C → Name → ℕ → List Link
 linked_to cell name ring =
     let mail = first_mail cell name in
     without name cell.links ++ (if nat_le (length mail) ring then record { peer = name; opened = length cell.trace.steps; pushed = mail } ∷ [] else [])
+
+-- what a link that is opened now begins with if its text begins when the trace had `since` steps: all that the node has
+-- sent to the name since, each frame as its bytes
+abbrev pub mail_since : {C : Type 0} → Cell C → Name → ℕ → List (List ℕ)
+mail_since cell name since = map spelling (link_text cell.trace name since)
+
+-- the links after one to this name was opened, with a ring for `ring` frames, whose text begins when the trace had
+-- `since` steps: it is open if what it begins with fits the ring
+abbrev pub linked_since : {C : Type 0} → Cell C → Name → ℕ → ℕ → List Link
+linked_since cell name ring since =
+    let mail = mail_since cell name since in
+    without name cell.links ++ (if nat_le (length mail) ring then record { peer = name; opened = since; pushed = mail } ∷ [] else [])

@@ -11,6 +11,7 @@ use Rattle.world.specs.declared.stimulus.StimulusOf.TheVariants.{Arrive}
 use Rattle.frames.specs.Frame.{Frame}
 use Rattle.node_threads.specs.Cell.{Cell}
 use Rattle.node_threads.specs.Downs.{AppliesDrawing, dice_of}
+use Rattle.node_threads.specs.Learning.{Learnt}
 
 module _
     {C : Type 0}
@@ -20,15 +21,15 @@ module _
   where
     -- The node takes the frame from whoever sent it, with the next dice of a generator, and then the Downs that follow,
     -- with the dice after those.
-    pub record TakesFrame (stream : Stream) (old : Cell C) (frame : Frame) (new : Cell C) (left : Stream) : Type 0 where
+    pub record TakesFrame (stream : Stream) (old : Cell C) (learnt : Learnt) (frame : Frame) (new : Cell C) (learnt' : Learnt) (rest : Stream) : Type 0 where
       pub id : Option MsgId
       pub place : ℕ
       pub full : List Name
-      pub lacking : List Name
-      pub applies : AppliesDrawing state steps is_spent (after_words 16 stream) old (Arrive frame.sender frame (dice_of stream)) new left id place full lacking
+      pub left : List Name
+      pub applies : AppliesDrawing state steps is_spent (after_words 16 stream) old learnt (Arrive frame.sender frame (dice_of stream)) new learnt' rest id place full left
 
     -- The node takes these frames, one after the other.
-    abbrev pub TakesFrames : Stream → Cell C → List Frame → Cell C → Stream → Type 0
-    TakesFrames stream old [] new left = (new ≡ old) × (left ≡ stream)
-    TakesFrames stream old (frame ∷ frames) new left =
-        (mid : Cell C) × (rest : Stream) × TakesFrame stream old frame mid rest × TakesFrames rest mid frames new left
+    abbrev pub TakesFrames : Stream → Cell C → Learnt → List Frame → Cell C → Learnt → Stream → Type 0
+    TakesFrames stream old learnt [] new learnt' rest = (new ≡ old) × (learnt' ≡ learnt) × (rest ≡ stream)
+    TakesFrames stream old learnt (frame ∷ frames) new learnt' rest =
+        (mid : Cell C) × (more : Learnt) × (next : Stream) × TakesFrame stream old learnt frame mid more next × TakesFrames next mid more frames new learnt' rest

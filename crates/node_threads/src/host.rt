@@ -154,10 +154,9 @@ impl<C: NodeCore<A> + Drop, A: Allocator + Copy> Host<C, A> {
 
     /// Tells the worker that writes the link to this name to end once its outlet has no frame. Its connection is then
     /// dropped, and `join_ended` hands its outlet back.
+    /// If memory is refused for this, nothing happens.
     pub fn retire<R: Wait>(&self, rt: &R, peer: &NodeName) {
-        if let Some(place) = self.shared.writer(peer) {
-            place.retire(rt);
-        }
+        self.shared.retire(rt, peer);
     }
 
     /// Gives the worker with this number access to the node's steps.

@@ -10,7 +10,7 @@ use std::alloc::Allocator;
 use std::thread::Threads;
 
 /// Appends an item, for which there is room.
-fn put<T: Drop, A: Allocator>(list: &mut Vec<T, A>, item: T)
+pub(crate) fn put<T: Drop, A: Allocator>(list: &mut Vec<T, A>, item: T)
     requires { vec_len list.old < vec_capacity list.old }
 {
     list.push(item).unwrap();

@@ -1,11 +1,12 @@
 //! Opening and closing links.
-ghost use Rattle.std.specs.Prelude.{◌≡◌, ◌≤◌, ◌<◌, ◌+◌, ◌++◌, [], ◌∷◌, false, not, nat_le, if◌then◌else◌, IfOk, IfErr, OnOk, OnErr, length, vec_len, vec_capacity};
+ghost use Rattle.std.specs.Prelude.{◌≡◌, ◌≤◌, ◌<◌, ◌==◌, ◌+◌, ◌++◌, [], ◌∷◌, false, true, map, not, nat_le, if◌then◌else◌, IfOk, IfErr, IfSome, IfNone, OnOk, OnErr, OnSome, length, vec_len, vec_capacity};
 ghost use Rattle.node_names.specs.Same.{has_name, same_name};
 ghost use Rattle.rtrb.specs.Ring.{sent, known_free};
 ghost use Rattle.node_threads.specs.Applying.{mail_for};
 ghost use Rattle.indexmap.specs.IndexSet.{spare};
 ghost use Rattle.node_threads.specs.Cell.{IsListed, is_linked};
-ghost use Rattle.node_threads.specs.Opened.{first_mail, linked_to, others, without};
+ghost use Rattle.node_threads.specs.LinkText.{link_text, spelling};
+ghost use Rattle.node_threads.specs.Opened.{first_mail, linked_since, linked_to, mail_since, others, without};
 
 use crate::cell::NodeCell;
 use crate::cores::NodeCore;
@@ -14,9 +15,11 @@ use crate::link::{Link, Mail};
 use crate::link_frame::LinkFrame;
 use crate::outlet::Outlet;
 use crate::posting::{has_link, mail_for};
+use frames::Frame;
 use node_names::{Listed, NameSet, NodeName};
 use rtrb::{Producer, RingBuffer};
 use std::alloc::{AllocError, Allocator};
+use world::Trace;
 
 /// Puts the frames into a ring that has room for them.
 fn fill<A: Allocator>(ring: &mut Producer<LinkFrame<A>, A>, mail: Mail<A>)
@@ -49,7 +52,7 @@ fn close<A: Allocator>(links: &mut Vec<Link<A>, A>, names: &mut NameSet<A>, name
 }
 
 /// Appends a name that is not in the set, which has room for it.
-fn put_last<A: Allocator>(names: &mut NameSet<A>, name: NodeName)
+pub(crate) fn put_last<A: Allocator>(names: &mut NameSet<A>, name: NodeName)
     requires room { 0 < spare names.old }
     requires absent { has_name names.old.keys name ≡ false }
     ensures { names.new.keys ≡ names.old.keys ++ name ∷ [] }
@@ -84,6 +87,42 @@ fn link<A: Allocator>(
     }
 }
 
+/// The frames of the opening to the name, if they belong to the text of a link that begins when the trace had `since`
+/// steps.
+fn opening_mail<A: Allocator + Copy>(
+    alloc: A,
+    trace: &Trace<Frame<A>, A>,
+    name: &NodeName,
+    since: usize,
+) -> Result<Mail<A>, AllocError>
+    ensures { IfOk result (λ mail. mail ≡ (if since == 0 then mail_for trace.now.opening.sends name.now else [])) }
+{
+    if since > 0 {
+        return Ok(Listed::new(alloc));
+    }
+    mail_for(alloc, name, trace.opening().sends.as_slice())
+}
+
+/// The text so far of a link to the name that begins when the trace had `since` steps.
+fn mail_since<A: Allocator + Copy>(
+    alloc: A,
+    trace: &Trace<Frame<A>, A>,
+    name: &NodeName,
+    since: usize,
+) -> Result<Mail<A>, AllocError>
+    ensures { IfOk result (λ mail. mail ≡ map spelling (link_text trace.now name.now since)) }
+{
+    let mut mail = opening_mail(alloc, trace, name, since)?;
+    for place in since..trace.len() {
+        let Some(step) = trace.step(place) else {
+            unreachable!()
+        };
+        let more = mail_for(alloc, name, step.out.sends.as_slice())?;
+        mail.append(more.into_vec())?;
+    }
+    Ok(mail)
+}
+
 impl<C: NodeCore<A> + Drop, A: Allocator + Copy> NodeCell<C, A> {
     /// The frames that a link to the name begins with: those of the opening to it if the node has made no step, and no
     /// frames otherwise.
@@ -96,6 +135,37 @@ impl<C: NodeCore<A> + Drop, A: Allocator + Copy> NodeCell<C, A> {
         mail_for(alloc, name, self.trace.opening().sends.as_slice())
     }
 
+    /// Opens a link to the name that begins with these frames, which are its text since the trace had `since` steps,
+    /// and closes the one that was open. If they do not fit the ring, the link is closed at once.
+    fn open_with(
+        &mut self,
+        name: NodeName,
+        ring: usize,
+        since: usize,
+        mail: Mail<A>,
+    ) -> Result<Outlet<A>, AllocError>
+        requires within { since ≤ length self.old.trace.steps }
+        requires text { mail ≡ mail_since self.old name since }
+        ensures outlet { IfOk result (λ outlet. outlet ≡ record { peer = name; opened = since; given = []; seen = [] }) }
+        ensures linked { OnOk result (self.new ≡ record self.old { links = linked_since self.old name ring since }) }
+        ensures err { OnErr result (self.new ≡ self.old) }
+    {
+        let alloc = *self.links.allocator();
+        let (producer, consumer) = RingBuffer::new(alloc, ring)?;
+        self.links.reserve(1)?;
+        self.names.reserve(1)?;
+        link(
+            &mut self.links,
+            &mut self.names,
+            name,
+            since,
+            producer,
+            mail,
+            ring,
+        );
+        Ok(Outlet::new(alloc, name, since, consumer))
+    }
+
     /// Opens a link to the name, whose ring has room for `ring` frames, and closes the one that was open.
     ///
     /// If what the opening sent to the name does not fit the ring, the link is closed at once. The only error is
@@ -106,22 +176,61 @@ impl<C: NodeCore<A> + Drop, A: Allocator + Copy> NodeCell<C, A> {
         ensures refused { IfErr result (λ e. e ≡ HostError.OutOfMemory) }
         ensures err { OnErr result (self.new ≡ self.old) }
     {
-        let alloc = *self.links.allocator();
-        let opened = self.trace.len();
+        let alloc = self.alloc();
+        let opened = self.trace().len();
         let mail = self.first_mail(alloc, &name)?;
-        let (producer, consumer) = RingBuffer::new(alloc, ring)?;
-        self.links.reserve(1)?;
-        self.names.reserve(1)?;
-        link(
-            &mut self.links,
-            &mut self.names,
-            name,
-            opened,
-            producer,
-            mail,
-            ring,
-        );
-        Ok(Outlet::new(alloc, name, opened, consumer))
+        let outlet = self.open_with(name, ring, opened, mail)?;
+        Ok(outlet)
+    }
+
+    /// The text so far of a link to the name that begins when the trace had `since` steps.
+    fn text_since(&self, name: &NodeName, since: usize) -> Result<Mail<A>, AllocError>
+        ensures { IfOk result (λ mail. mail ≡ mail_since self.now name.now since) }
+    {
+        mail_since(self.alloc(), self.trace(), name, since)
+    }
+
+    /// Opens a link to the name whose text begins when the trace had `since` steps, and closes the one that was open.
+    /// Its ring has room for `ring` frames.
+    ///
+    /// What the node has sent to the name since is put into the ring at once. If it does not fit, the link is closed at
+    /// once. The only error is `OutOfMemory`.
+    pub fn open_link_since(
+        &mut self,
+        name: NodeName,
+        ring: usize,
+        since: usize,
+    ) -> Result<Outlet<A>, HostError>
+        requires { since ≤ length self.old.trace.steps }
+        ensures outlet { IfOk result (λ outlet. outlet ≡ record { peer = name; opened = since; given = []; seen = [] }) }
+        ensures linked { OnOk result (self.new ≡ record self.old { links = linked_since self.old name ring since }) }
+        ensures refused { IfErr result (λ e. e ≡ HostError.OutOfMemory) }
+        ensures err { OnErr result (self.new ≡ self.old) }
+    {
+        let mail = self.text_since(&name, since)?;
+        let outlet = self.open_with(name, ring, since, mail)?;
+        Ok(outlet)
+    }
+
+    /// Opens a link as `open_link_since` does, if what it begins with fits the ring and memory is there for it.
+    /// Otherwise returns `None` and changes nothing.
+    pub(crate) fn open_fitting(
+        &mut self,
+        name: NodeName,
+        ring: usize,
+        since: usize,
+    ) -> Option<Outlet<A>>
+        requires { since ≤ length self.old.trace.steps }
+        ensures outlet { IfSome result (λ outlet. outlet ≡ record { peer = name; opened = since; given = []; seen = [] }) }
+        ensures linked { OnSome result (self.new ≡ record self.old { links = linked_since self.old name ring since }) }
+        ensures open { OnSome result (is_linked (linked_since self.old name ring since) name ≡ true) }
+        ensures none { IfNone result (self.new ≡ self.old) }
+    {
+        let mail = self.text_since(&name, since).ok()?;
+        if mail.len() > ring {
+            return None;
+        }
+        self.open_with(name, ring, since, mail).ok()
     }
 
     /// Whether a link to the name is open.

@@ -7,6 +7,7 @@ use crate::applied::Applied;
 use crate::cell::NodeCell;
 use crate::cores::NodeCore;
 use crate::error::HostError;
+use crate::kept::Kept;
 use crate::outlet::Outlet;
 use crate::receipt::Receipt;
 use crate::sealing::Sealed;
@@ -24,13 +25,13 @@ use std::sync::atomic::{AtomicBool, AtomicUsize, Ordering};
 use std::sync::{Condvar, Mutex, Wait};
 use world::{Delivery, Stimulus, StimulusOf};
 
-/// A running node. The lock holds the cell until the node is closed.
+/// A running node. The lock holds the cell, and what goes along with it, until the node is closed.
 ///
 /// Waiting threads are woken at each step that sends or delivers what they wait for, and at the stop.
 #[derive(Drop)]
 pub(crate) struct Shared<C: NodeCore<A> + Drop, A: Allocator> {
-    cell: Held<NodeCell<C, A>>,
-    wakeups: Wakeups<A>,
+    pub(crate) kept: Held<Kept<C, A>>,
+    pub(crate) wakeups: Wakeups<A>,
     /// Whether the node was stopped, for threads that make no step.
     is_stopped: AtomicBool,
     /// Whether a worker was refused memory.
@@ -43,18 +44,22 @@ pub(crate) struct Shared<C: NodeCore<A> + Drop, A: Allocator> {
 }
 
 /// Whether no delivery waits for the application, but one may still come.
-fn is_idle<C: NodeCore<A> + Drop, A: Allocator + Copy>(cell: &NodeCell<C, A>) -> bool {
-    cell.pending().is_empty() && !cell.is_shut()
+fn is_idle<C: NodeCore<A> + Drop, A: Allocator + Copy>(kept: &Kept<C, A>) -> bool {
+    kept.cell.pending().is_empty() && !kept.cell.is_shut()
 }
 
 /// A cache-padded mutex around a value that can be taken out.
-type Held<T> = CachePadded<Mutex<Option<T>>>;
+pub(crate) type Held<T> = CachePadded<Mutex<Option<T>>>;
 
 /// Calls `call` with what the lock holds, if it was not taken out.
 ///
 /// The prover takes long over a function that names what a guard holds. So it is any type here, and callers lend it to
 /// a closure.
-fn with<T: Drop, Q, R: Wait, F: FnOnce(&mut T) -> Q>(rt: &R, lock: &Held<T>, call: F) -> Option<Q>
+pub(crate) fn with<T: Drop, Q, R: Wait, F: FnOnce(&mut T) -> Q>(
+    rt: &R,
+    lock: &Held<T>,
+    call: F,
+) -> Option<Q>
     requires { F.IsAlwaysCallable call }
     ensures { IfSome result (MayAnswer F.FnOnce call) }
 {
@@ -75,9 +80,12 @@ fn take_out<T: Drop, R: Wait>(rt: &R, lock: &Held<T>, told: &Condvar) -> T {
 }
 
 /// What makes steps under a lock.
-trait Stepping<A: Allocator> {
+pub(crate) trait Stepping<A: Allocator> {
     /// How many steps it made.
     fn steps(&self) -> usize;
+
+    /// Notes what the last steps changed.
+    fn look(&mut self);
 
     /// The threads to wake for the steps from this place on.
     fn moved_since(&self, wakeups: &Wakeups<A>, first: usize) -> WakeSet;
@@ -94,12 +102,13 @@ fn step_held<T: Stepping<A>, A: Allocator, Q, F: FnOnce(&mut T) -> Q>(
 {
     let first = held.steps();
     let answer = call(held);
+    held.look();
     (answer, held.moved_since(wakeups, first))
 }
 
 /// Calls `call` with what the lock holds, under one hold of the lock, and wakes the threads that wait for what its
 /// steps sent or delivered. `None`: the node is closed.
-fn step<T: Stepping<A> + Drop, A: Allocator + Copy, Q, R: Wait, F: FnOnce(&mut T) -> Q>(
+pub(crate) fn step<T: Stepping<A> + Drop, A: Allocator + Copy, Q, R: Wait, F: FnOnce(&mut T) -> Q>(
     rt: &R,
     lock: &Held<T>,
     wakeups: &Wakeups<A>,
@@ -129,19 +138,23 @@ fn moved_since<C: NodeCore<A> + Drop, A: Allocator + Copy>(
     moved
 }
 
-impl<C: NodeCore<A> + Drop, A: Allocator + Copy> Stepping<A> for NodeCell<C, A> {
+impl<C: NodeCore<A> + Drop, A: Allocator + Copy> Stepping<A> for Kept<C, A> {
     fn steps(&self) -> usize {
-        self.trace().len()
+        self.cell.trace().len()
+    }
+
+    fn look(&mut self) {
+        self.look();
     }
 
     fn moved_since(&self, wakeups: &Wakeups<A>, first: usize) -> WakeSet {
-        moved_since(self, wakeups, first)
+        moved_since(&self.cell, wakeups, first)
     }
 }
 
 /// Broadcasts a payload with its Downs. Returns the receipt for the port.
 fn broadcast<C: NodeCore<A> + Drop, A: Allocator + Copy>(
-    cell: &mut NodeCell<C, A>,
+    kept: &mut Kept<C, A>,
     payload: Bytes<A>,
 ) -> Result<Receipt, HostError>
     ensures { IfErr result (RefusesPayload payload) }
@@ -151,7 +164,9 @@ fn broadcast<C: NodeCore<A> + Drop, A: Allocator + Copy>(
         place,
         full: _,
         unlinked: _,
-    } = cell.apply_with_downs(StimulusOf::Broadcast(payload))?;
+    } = kept
+        .cell
+        .apply_with_downs(StimulusOf::Broadcast(payload), &mut kept.learnt)?;
     let Some(id) = id else { unreachable!() };
     Ok(Receipt { id, place })
 }
@@ -165,8 +180,9 @@ impl<C: NodeCore<A> + Drop, A: Allocator + Copy> Shared<C, A> {
         ring: usize,
     ) -> Result<Shared<C, A>, AllocError> {
         let wakeups = Wakeups::new(alloc, names)?;
+        let kept = Kept::new(alloc, cell, names)?;
         Ok(Shared {
-            cell: CachePadded::new(Mutex::new(Some(cell))),
+            kept: CachePadded::new(Mutex::new(Some(kept))),
             wakeups,
             is_stopped: AtomicBool::new(false),
             lacks_memory: AtomicBool::new(false),
@@ -184,9 +200,9 @@ impl<C: NodeCore<A> + Drop, A: Allocator + Copy> Shared<C, A> {
     ) -> Result<Applied<A>, HostError> {
         step(
             rt,
-            &self.cell,
+            &self.kept,
             &self.wakeups,
-            |cell| cell.apply_with_downs(stimulus),
+            |kept| kept.cell.apply_with_downs(stimulus, &mut kept.learnt),
         )
         .unwrap_or(Err(HostError::Closed))
     }
@@ -200,9 +216,11 @@ impl<C: NodeCore<A> + Drop, A: Allocator + Copy> Shared<C, A> {
     ) -> Result<Applied<A>, HostError> {
         step(
             rt,
-            &self.cell,
+            &self.kept,
             &self.wakeups,
-            |cell| cell.apply_drawing(stimulus, generator),
+            |kept| kept
+                .cell
+                .apply_drawing(stimulus, generator, &mut kept.learnt),
         )
         .unwrap_or(Err(HostError::Closed))
     }
@@ -217,9 +235,9 @@ impl<C: NodeCore<A> + Drop, A: Allocator + Copy> Shared<C, A> {
     ) -> (usize, Result<(), HostError>) {
         step(
             rt,
-            &self.cell,
+            &self.kept,
             &self.wakeups,
-            |cell| take_frames(cell, frames, generator),
+            |kept| take_frames(&mut kept.cell, frames, generator, &mut kept.learnt),
         )
         .unwrap_or((0, Err(HostError::Closed)))
     }
@@ -230,9 +248,9 @@ impl<C: NodeCore<A> + Drop, A: Allocator + Copy> Shared<C, A> {
     {
         step(
             rt,
-            &self.cell,
+            &self.kept,
             &self.wakeups,
-            |cell| broadcast(cell, payload),
+            |kept| broadcast(kept, payload),
         )
         .unwrap_or(Err(HostError::Closed))
     }
@@ -246,24 +264,31 @@ impl<C: NodeCore<A> + Drop, A: Allocator + Copy> Shared<C, A> {
         ensures { IfOk result (λ new. new.peer ≡ outlet.now.peer) }
     {
         let (peer, ring) = (outlet.peer(), self.ring);
-        with(rt, &self.cell, |cell| cell.open_link(peer, ring)).unwrap_or(Err(HostError::Closed))
+        with(rt, &self.kept, |kept| kept.cell.open_link(peer, ring)).unwrap_or(Err(
+            HostError::Closed,
+        ))
     }
 
     /// Ends the node: from now on no step is made, and no thread waits for one.
     pub(crate) fn stop<R: Wait>(&self, rt: &R) {
-        let _ = with(rt, &self.cell, |cell| cell.shut());
+        let _ = with(rt, &self.kept, |kept| kept.cell.shut());
         self.is_stopped.store(true, Ordering::SeqCst);
         self.wakeups.wake_all(rt);
     }
 
     /// Hands out the steps since the last call.
     pub(crate) fn seal<R: Wait>(&self, rt: &R) -> Result<Sealed<C, A>, HostError> {
-        with(rt, &self.cell, |cell| cell.seal()).unwrap_or(Err(HostError::Closed))
+        with(rt, &self.kept, |kept| kept.cell.seal()).unwrap_or(Err(HostError::Closed))
     }
 
     /// Whether the name is in the core's active view.
     pub(crate) fn is_neighbour<R: Wait>(&self, rt: &R, name: &NodeName) -> bool {
-        with(rt, &self.cell, |cell| cell.core().active().contains(name)).unwrap_or(false)
+        with(
+            rt,
+            &self.kept,
+            |kept| kept.cell.core().active().contains(name),
+        )
+        .unwrap_or(false)
     }
 
     /// Whether the node was stopped.
@@ -278,7 +303,7 @@ impl<C: NodeCore<A> + Drop, A: Allocator + Copy> Shared<C, A> {
 
     /// Takes the cell out of the lock. If the cell is not there, waits until it is.
     pub(crate) fn take<R: Wait>(&self, rt: &R) -> NodeCell<C, A> {
-        take_out(rt, &self.cell, &self.wakeups.delivered)
+        take_out(rt, &self.kept, &self.wakeups.delivered).into_cell()
     }
 
     /// Waits for deliveries and hands them out. Returns `None` when the node was stopped and all are handed out.
@@ -286,24 +311,34 @@ impl<C: NodeCore<A> + Drop, A: Allocator + Copy> Shared<C, A> {
         let mut guard = self
             .wakeups
             .delivered
-            .wait_while(rt, self.cell.lock(rt), |cell| match cell {
-                Some(cell) => is_idle(cell),
+            .wait_while(rt, self.kept.lock(rt), |kept| match kept {
+                Some(kept) => is_idle(kept),
                 None => false,
             });
-        let given = guard.as_mut()?.take_deliveries();
+        let given = guard.as_mut()?.cell.take_deliveries();
         if given.is_empty() { None } else { Some(given) }
     }
 
     /// The ids whose timers are armed.
     pub(crate) fn timers<R: Wait>(&self, rt: &R) -> Result<Vec<MsgId, A>, HostError> {
         let alloc = self.alloc;
-        let timers = with(rt, &self.cell, |cell| {
-            armed_ids(alloc, cell.core().timers())
+        let timers = with(rt, &self.kept, |kept| {
+            armed_ids(alloc, kept.cell.core().timers())
         });
         match timers {
             Some(timers) => Ok(timers?),
             None => Err(HostError::Closed),
         }
+    }
+
+    /// Has the writer of the link to this name end once its outlet has no frame. If memory is refused, it does not.
+    pub(crate) fn retire<R: Wait>(&self, rt: &R, peer: &NodeName) {
+        self.wakeups.retire(rt, peer);
+    }
+
+    /// Whether the writer of the link to this name was told to end since the last call.
+    pub(crate) fn takes_retirement<R: Wait>(&self, rt: &R, peer: &NodeName) -> bool {
+        self.wakeups.takes_retirement(rt, peer)
     }
 
     /// Notes that a worker was refused memory.

@@ -22,6 +22,19 @@ pub trait Ticker {
 /// The node shuffles its passive view every `SHUFFLE_EVERY` ticks.
 const SHUFFLE_EVERY: u64 = 10;
 
+/// Has a node that has no neighbour join again, if it is time for that (`Host::set_contacts`).
+fn join_again<R: Wait, C: NodeCore<A> + Drop, A: Allocator + Copy, G: Gate + Drop>(
+    rt: &R,
+    steps: &Stepper<C, A, G>,
+    now: u64,
+    generator: &mut Lcg128Xsl64,
+) -> Result<(), HostError> {
+    match steps.shared.due_contact(rt, now, generator) {
+        Some(contact) => steps.apply_drawing(rt, StimulusOf::Join(contact), generator),
+        None => Ok(()),
+    }
+}
+
 /// Makes one tick: queued announcements are flushed, each armed timer fires, and at every tenth tick the passive view
 /// is shuffled.
 fn make_tick<R: Wait, C: NodeCore<A> + Drop, A: Allocator + Copy, G: Gate + Drop>(
@@ -62,13 +75,15 @@ where
         }
         ticks = ticks.wrapping_add(1);
         let shuffles = ticks % SHUFFLE_EVERY == 0;
+        join_again(rt, steps, ticks, &mut generator)?;
         make_tick(rt, steps, shuffles, &mut generator)?;
     }
     unreachable!()
 }
 
-/// Starts the worker that keeps the node's time. At each tick it applies Flush, then Fire for each id whose timer is
-/// armed, and at every tenth tick Shuffle. The dice of Shuffles, and of the Downs that follow any of these steps, are
+/// Starts the worker that keeps the node's time. At each tick it applies Join, where the node has no neighbour and one of
+/// its contacts is due (`Host::set_contacts`), then Flush, then Fire for each id whose timer is armed, and at every tenth
+/// tick Shuffle. The dice of Shuffles, and of the Downs that follow any of these steps, are
 /// drawn from a generator with this seed.
 ///
 /// It ends when the ticker does, or at the first refusal; `Host::lacks_memory` tells whether memory was refused.

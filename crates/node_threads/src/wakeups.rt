@@ -3,7 +3,7 @@ use crate::writer_place::WriterPlace;
 use frames::Frame;
 use node_names::{NameSet, NodeName};
 use std::alloc::{AllocError, Allocator};
-use std::sync::{Condvar, Wait};
+use std::sync::{Condvar, Mutex, Wait};
 use world::Out;
 
 /// The threads that steps are to wake.
@@ -43,15 +43,30 @@ pub(crate) struct Wakeups<A: Allocator> {
     /// The names that links were opened to at the start, in the order of their writers' places.
     names: NameSet<A>,
     writers: Vec<WriterPlace, A>,
+    /// The names whose writers are to end once their outlets have no frame.
+    retiring: Mutex<NameSet<A>>,
 }
 
-/// Makes a place for each of the names, and one for the writers of links to other names.
+/// How many places the writers of links to other names share.
+const SHARED: usize = 16;
+
+/// Which of the shared places is that of the writer of a link to this name.
+fn shared_place(name: &NodeName) -> usize {
+    let mut sum: usize = 0;
+    for byte in name.as_bytes() {
+        sum = sum.wrapping_mul(31).wrapping_add(usize::from(*byte));
+    }
+    sum % SHARED
+}
+
+/// Makes a place for each of the names, and the shared ones.
 fn places_for<A: Allocator + Copy>(
     alloc: A,
     names: &NameSet<A>,
 ) -> Result<Vec<WriterPlace, A>, AllocError> {
-    let mut writers = Vec::new(alloc);
-    for _ in 0..=names.len() {
+    let count = names.len().saturating_add(SHARED);
+    let mut writers = Vec::with_capacity(alloc, count)?;
+    for _ in 0..count {
         writers.push(WriterPlace::new())?;
     }
     Ok(writers)
@@ -69,17 +84,36 @@ impl<A: Allocator + Copy> Wakeups<A> {
             delivered: Condvar::new(),
             names,
             writers,
+            retiring: Mutex::new(NameSet::new(alloc)),
         })
     }
 
     /// The number of the place where the writer of a link to this name waits.
     fn place_of(&self, peer: &NodeName) -> usize {
-        self.names.get_index_of(peer).unwrap_or(self.names.len())
+        match self.names.get_index_of(peer) {
+            Some(place) => place,
+            None => self.names.len().saturating_add(shared_place(peer)),
+        }
     }
 
     /// The place where the writer of a link to this name waits.
     pub(crate) fn writer(&self, peer: &NodeName) -> Option<&WriterPlace> {
         self.writers.get(self.place_of(peer))
+    }
+
+    /// Has the writer of the link to this name end once its outlet has no frame. If memory is refused, it does not.
+    pub(crate) fn retire<R: Wait>(&self, rt: &R, peer: &NodeName) {
+        if self.retiring.lock(rt).insert(*peer).is_err() {
+            return;
+        }
+        if let Some(place) = self.writer(peer) {
+            place.tell(rt);
+        }
+    }
+
+    /// Whether the writer of the link to this name was told to end since the last call.
+    pub(crate) fn takes_retirement<R: Wait>(&self, rt: &R, peer: &NodeName) -> bool {
+        self.retiring.lock(rt).swap_remove(peer)
     }
 
     /// Adds the threads that a step is to wake.

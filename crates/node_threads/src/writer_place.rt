@@ -1,5 +1,4 @@
 //! Where the writer of a link waits.
-use std::sync::atomic::{AtomicBool, Ordering};
 use std::sync::{Condvar, Mutex, Wait};
 
 /// How many times the writer was notified, and how many threads wait for more.
@@ -17,8 +16,6 @@ struct Told {
 pub(crate) struct WriterPlace {
     told: Mutex<Told>,
     more: Condvar,
-    /// Whether the writer is to end once its outlet has no frame.
-    retires: AtomicBool,
 }
 
 impl WriterPlace {
@@ -30,7 +27,6 @@ impl WriterPlace {
                 waiting: 0,
             }),
             more: Condvar::new(),
-            retires: AtomicBool::new(false),
         }
     }
 
@@ -54,16 +50,5 @@ impl WriterPlace {
         told.waiting = told.waiting.saturating_add(1);
         let mut told = self.more.wait_while(rt, told, |told| told.times == times);
         told.waiting = told.waiting.saturating_sub(1);
-    }
-
-    /// Tells the writer to end once its outlet has no frame.
-    pub(crate) fn retire<R: Wait>(&self, rt: &R) {
-        self.retires.store(true, Ordering::SeqCst);
-        self.tell(rt);
-    }
-
-    /// Whether the writer was told to end since the last call.
-    pub(crate) fn takes_retirement(&self) -> bool {
-        self.retires.swap(false, Ordering::SeqCst)
     }
 }

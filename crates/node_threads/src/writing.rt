@@ -10,7 +10,6 @@ use crate::outlet::Outlet;
 use crate::shared::Shared;
 use crate::stepper::Stepper;
 use crate::worker::{LinksTo, Outlets, Worker, start_promised};
-use crate::writer_place::WriterPlace;
 use links::{LinkEnd, MeteredWrite};
 use node_names::Dice;
 use std::alloc::Allocator;
@@ -106,9 +105,9 @@ enum Writing {
 
 /// What a worker that writes is to do next; `None` if it is to wait. It asks whether the link is closed before it looks
 /// at the outlet, since frames may be put into the ring until the link is closed.
-fn next_writing<C: NodeCore<A> + Drop, A: Allocator + Copy>(
+fn next_writing<R: Wait, C: NodeCore<A> + Drop, A: Allocator + Copy>(
+    rt: &R,
     shared: &Shared<C, A>,
-    place: &WriterPlace,
     outlet: &mut Outlet<A>,
 ) -> Option<Writing>
     ensures peer { outlet.new.peer ≡ outlet.old.peer }
@@ -122,7 +121,7 @@ fn next_writing<C: NodeCore<A> + Drop, A: Allocator + Copy>(
         Some(Writing::Stopped)
     } else if is_closed {
         Some(Writing::LinkClosed)
-    } else if place.takes_retirement() {
+    } else if shared.takes_retirement(rt, &outlet.peer()) {
         Some(Writing::Retired)
     } else {
         None
@@ -143,7 +142,7 @@ fn wait_for_writing<R: Wait, C: NodeCore<A> + Drop, A: Allocator + Copy>(
     };
     for _ in rt.forever() {
         let times = place.times(rt);
-        if let Some(writing) = next_writing(shared, place, outlet) {
+        if let Some(writing) = next_writing(rt, shared, outlet) {
             return writing;
         }
         place.wait(rt, times);

@@ -3,7 +3,7 @@ use crate::texts::{push_applied, push_cell, push_frame, push_link};
 use frames::Frame;
 use node_core::PlumCore;
 use node_names::{Limits, NodeName, Origin};
-use node_threads::{Applied, HostError, NodeCell, Outlet, Sealed};
+use node_threads::{Applied, HostError, Learnt, NodeCell, Outlet, Sealed};
 use play_script::frame_words::stimulus;
 use play_script::layer::{Layer, Outcome, Turn};
 use play_script::lists::{push_payload, yes_or_no};
@@ -15,12 +15,13 @@ use world::{Core, CoreError, Out, Stimulus, are_peers};
 /// A node of Plumtree with its links.
 pub(crate) type Cell<A> = NodeCell<PlumCore<A>, A>;
 
-/// A node, once it was started, and the ends of its links, in the order of their opening.
+/// A node, once it was started, the ends of its links, in the order of their opening, and what it may open by itself.
 #[derive(Drop)]
 pub struct CellLayer<A: Allocator + Copy> {
     alloc: A,
     cell: Option<Cell<A>>,
     outlets: Vec<Outlet<A>, A>,
+    learnt: Learnt<A>,
 }
 
 /// Returns what came of a refusal, which it says, unless it is one of memory.
@@ -71,16 +72,16 @@ fn put<T: Drop>(
     }
 }
 
-/// Has the node make a step, with the Downs of the links that turn out to be down if that is asked for.
+/// Has the node make a step, with the links that it opens and the Downs of those that turn out to be down if that is
+/// asked for.
 fn apply<A: Allocator + Copy>(
     cell: &mut Cell<A>,
     stimulus: Stimulus<Frame<A>, A>,
-    with_downs: bool,
+    learnt: Option<&mut Learnt<A>>,
 ) -> Result<Applied<A>, HostError> {
-    if with_downs {
-        cell.apply_with_downs(stimulus)
-    } else {
-        cell.apply(stimulus)
+    match learnt {
+        Some(learnt) => cell.apply_with_downs(stimulus, learnt),
+        None => cell.apply(stimulus),
     }
 }
 
@@ -89,7 +90,7 @@ fn step<A: Allocator + Copy>(
     alloc: A,
     cell: &mut Cell<A>,
     words: &[&str],
-    with_downs: bool,
+    learnt: Option<&mut Learnt<A>>,
     turn: &mut Turn<'_>,
     said: &mut String,
 ) -> Result<Outcome, AllocError> {
@@ -97,7 +98,7 @@ fn step<A: Allocator + Copy>(
         return Ok(Outcome::Unknown);
     };
     turn.begin();
-    let answer = apply(cell, stimulus, with_downs);
+    let answer = apply(cell, stimulus, learnt);
     turn.end();
     match answer {
         Ok(applied) => {
@@ -220,7 +221,31 @@ impl<A: Allocator + Copy> CellLayer<A> {
             alloc,
             cell: None,
             outlets: Vec::new(alloc),
+            learnt: Learnt::new(alloc),
         }
+    }
+
+    /// Has the node open links by itself, with rings for so many frames, to at most so many names: `allow 4 2`.
+    fn allow(&mut self, ring: &str, most: &str) -> Result<Outcome, AllocError> {
+        let (Ok(ring), Ok(most)) = (ring.parse::<usize>(), most.parse::<usize>()) else {
+            return Ok(Outcome::Unknown);
+        };
+        self.learnt.allow(ring, most);
+        Ok(Outcome::Done)
+    }
+
+    /// Takes the ends of the links that the node opened by itself, and says since which step each is open.
+    fn take_opened(&mut self, said: &mut String) -> Result<Outcome, AllocError> {
+        for outlet in self.learnt.take_outlets() {
+            writeln!(
+                said,
+                "link to {} from step {} on",
+                outlet.peer(),
+                outlet.opened()
+            )?;
+            self.outlets.push(outlet)?;
+        }
+        Ok(Outcome::Done)
     }
 
     /// Makes the node of a run: `start a trace 9 peers p q`.
@@ -247,6 +272,7 @@ impl<A: Allocator + Copy> CellLayer<A> {
         let outcome = put(&mut self.cell, made, said)?;
         if outcome == Outcome::Done {
             self.outlets.clear();
+            put_into(&mut self.learnt, Learnt::new(self.alloc));
         }
         Ok(outcome)
     }
@@ -336,8 +362,11 @@ impl<A: Allocator + Copy> CellLayer<A> {
                 cell.shut();
                 Ok(Outcome::Done)
             }
-            ["with-downs", words @ ..] => step(self.alloc, cell, words, true, turn, said),
-            _ => step(self.alloc, cell, words, false, turn, said),
+            ["with-downs", words @ ..] => {
+                let learnt = Some(&mut self.learnt);
+                step(self.alloc, cell, words, learnt, turn, said)
+            }
+            _ => step(self.alloc, cell, words, None, turn, said),
         }
     }
 }
@@ -353,6 +382,8 @@ impl<A: Allocator + Copy> Layer for CellLayer<A> {
             ["start", me, words @ ..] => self.start(me, words, turn, said),
             ["open", peer, room] => self.open(peer, room, turn, said),
             ["close", peer] => self.close(peer, said),
+            ["allow", ring, most] => self.allow(ring, most),
+            ["opened"] => self.take_opened(said),
             ["pop", peer] => self.at_link("pop", peer, turn, said),
             ["report", peer] => self.at_link("report", peer, turn, said),
             ["has-next", peer] => self.at_link("has-next", peer, turn, said),
@@ -362,6 +393,7 @@ impl<A: Allocator + Copy> Layer for CellLayer<A> {
 
     fn clear(&mut self) {
         put_into(&mut self.cell, None);
+        put_into(&mut self.learnt, Learnt::new(self.alloc));
         self.outlets.clear();
     }
 

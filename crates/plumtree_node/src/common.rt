@@ -1,10 +1,10 @@
 //! What the engines that one thread runs have in common.
-use crate::address::{Address, address_of};
+use crate::address::{Address, AddressBook, address_of};
 use crate::ticks::Ticking;
 use node_names::NodeName;
 use std::alloc::{AllocError, Global};
 use std::net::SocketAddr;
-use std::sync::Arc;
+use std::sync::{Arc, Wait};
 use std::time::Duration;
 
 /// What the engines that one thread runs have in common.
@@ -23,6 +23,8 @@ pub struct Common<R: Drop> {
     workers: u64,
     pub ticking: Arc<Ticking, Global>,
     addresses: Vec<Address>,
+    /// What the program tells later.
+    pub(crate) book: Arc<AddressBook, Global>,
 }
 
 impl<R: Drop> Common<R> {
@@ -44,6 +46,7 @@ impl<R: Drop> Common<R> {
             workers: 0,
             ticking: Arc::new(alloc, Ticking::new())?,
             addresses,
+            book: Arc::new(alloc, AddressBook::new(alloc))?,
         })
     }
 
@@ -60,7 +63,13 @@ impl<R: Drop> Common<R> {
     }
 
     /// Where the node of this name takes connections, if its address is known.
-    pub(crate) fn address_of(&self, name: &NodeName) -> Option<SocketAddr> {
-        address_of(self.addresses.as_slice(), name)
+    pub(crate) fn address_of(&self, name: &NodeName) -> Option<SocketAddr>
+    where
+        R: Wait,
+    {
+        match self.book.find(&self.rt, name) {
+            Some(at) => Some(at),
+            None => address_of(self.addresses.as_slice(), name),
+        }
     }
 }

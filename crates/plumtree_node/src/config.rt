@@ -25,13 +25,19 @@ const SEED: u64 = 0xcbf2_9ce4_8422_2325;
 
 const SEED_FACTOR: u64 = 0x0000_0100_0000_01b3;
 
+/// How many names a node may have links to at once, if nothing else is said: the standard views have 35 names.
+const LINKS: usize = 128;
+
 /// What a node is started with: who it is, where it listens, whom it knows, and what it may take.
 #[derive(Drop)]
 pub struct Config {
     pub(crate) me: Origin,
     pub(crate) listen: SocketAddr,
     pub(crate) peers: Vec<NodeName>,
+    /// The contact by which it joins when it starts.
     pub(crate) contact: Option<NodeName>,
+    /// By whom it joins again, once it has no neighbour.
+    pub(crate) contacts: Vec<NodeName>,
     pub(crate) addresses: Vec<Address>,
     /// The first name that was given two addresses.
     twice: Option<NodeName>,
@@ -39,6 +45,8 @@ pub struct Config {
     pub(crate) tick: Duration,
     pub(crate) patience: Duration,
     pub(crate) ring: usize,
+    pub(crate) links: usize,
+    pub(crate) tells_news: bool,
     pub(crate) steps: usize,
     pub(crate) seed: u64,
 }
@@ -87,12 +95,15 @@ impl Config {
             listen,
             peers: Vec::new(alloc),
             contact: None,
+            contacts: Vec::new(alloc),
             addresses: Vec::new(alloc),
             twice: None,
             limits: Limits::STANDARD,
             tick: Duration::from_millis(TICK),
             patience: Duration::from_secs(PATIENCE),
             ring: RING,
+            links: LINKS,
+            tells_news: false,
             steps: STEPS,
             seed: seed_of(&me),
         }
@@ -102,19 +113,23 @@ impl Config {
     /// first broadcast and its tenth tick: a peer that can't be reached is dropped.
     pub fn peer(mut self, name: NodeName, at: SocketAddr) -> Result<Config, AllocError> {
         self.note(name, at)?;
+        keep(&mut self.contacts, name)?;
         keep(&mut self.peers, name)?;
         Ok(self)
     }
 
-    /// Has the node join a group by this member of it, which must be running. Only the last call counts.
+    /// Has the node join a group by this member of it. Call it again for more: the node joins by the first when it
+    /// starts, and while it has no neighbour by all of them in turn, and by its peers, with pauses that grow from two
+    /// ticks to 256. So they need not run yet when the node starts, and may come back later.
     pub fn contact(mut self, name: NodeName, at: SocketAddr) -> Result<Config, AllocError> {
         self.note(name, at)?;
-        self.contact = Some(name);
+        keep(&mut self.contacts, name)?;
+        self.contact = self.contact.or(Some(name));
         Ok(self)
     }
 
-    /// Tells the node where another takes connections. It can have links to these names alone: frames carry names and
-    /// no addresses, so a node that hears of a name without an address drops it.
+    /// Tells the node where another takes connections, as `Node::knows` does once it runs. It can have links to such
+    /// names alone: frames carry names and no addresses, so a node that hears of a name without an address drops it.
     pub fn knows(mut self, name: NodeName, at: SocketAddr) -> Result<Config, AllocError> {
         self.note(name, at)?;
         Ok(self)
@@ -151,6 +166,20 @@ impl Config {
         self
     }
 
+    /// How many names the node may have links to at once. Beyond that many, a name that it hears of counts as one that
+    /// cannot be reached. Without this call they are 128, more than the standard views have names. A link is made when
+    /// a frame goes to the name, and given up when it is not used and leads to no neighbour.
+    pub fn links(mut self, links: usize) -> Config {
+        self.links = links;
+        self
+    }
+
+    /// Has the node tell how its neighbours change: `Node::news`. Without this call it tells nothing.
+    pub fn tell_news(mut self) -> Config {
+        self.tells_news = true;
+        self
+    }
+
     /// How many steps the node may make: a step is a broadcast, a frame that came, or a part of a tick. It keeps all of
     /// them, since its history is compared and handed out at the end, and ends when they are made. Without this call
     /// they are 1,048,576, which take three gigabytes where each is a message that goes on over four links, and much
@@ -165,6 +194,17 @@ impl Config {
     pub fn seed(mut self, seed: u64) -> Config {
         self.seed = seed;
         self
+    }
+
+    /// The names that links are opened to before the node's first step: its peers and its first contact.
+    pub(crate) fn first_links(&self, alloc: Global) -> Result<Vec<NodeName>, AllocError> {
+        let mut names = Vec::from_slice(alloc, self.peers.as_slice())?;
+        if let Some(contact) = self.contact {
+            if !has_name(names.as_slice(), &contact) {
+                keep(&mut names, contact)?;
+            }
+        }
+        Ok(names)
     }
 
     /// What the node's engine works with.

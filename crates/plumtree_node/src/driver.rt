@@ -8,6 +8,7 @@ use crate::pace::{idle_ticks, pause, pause_after};
 use crate::rested::Rested;
 use crate::shortage::Shortage;
 use crate::slot::Slot;
+use node_names::NodeName;
 use node_threads::{Host, NodeCore, Outlet};
 use std::alloc::Global;
 use std::net::{Net, TcpListener, TcpStream};
@@ -29,6 +30,43 @@ pub(crate) struct Driver<R: Machine, C: NodeCore<Global> + Drop> {
     pub(crate) spare: TcpListener,
     pub(crate) sink: ToInbox<R>,
     pub(crate) orders: Orders,
+    pub(crate) staying: Staying,
+}
+
+/// How the node stays in its group.
+#[derive(Drop)]
+pub(crate) struct Staying {
+    /// How many names it may have links to at once.
+    pub(crate) links: usize,
+    /// By whom it joins again.
+    pub(crate) contacts: Vec<NodeName>,
+    /// Where it tells how its neighbours change, if it does.
+    pub(crate) news: Option<Arc<Inbox, Global>>,
+}
+
+/// Has the engine's node stay in its group.
+fn stay_in<R: Wait, C: NodeCore<Global> + Drop>(
+    rt: &R,
+    engine: &mut Engine<C>,
+    staying: &Staying,
+) -> Result<(), Shortage> {
+    engine.stay_in(rt, staying.links, staying.contacts.as_slice())?;
+    if staying.news.is_some() {
+        engine.tell_news(rt)?;
+    }
+    Ok(())
+}
+
+/// Hands out what the node told of its neighbours.
+fn hand_news<R: Wait, C: NodeCore<Global> + Drop>(
+    rt: &R,
+    engine: &Engine<C>,
+    staying: &Staying,
+) -> Result<(), Shortage> {
+    if let Some(inbox) = &staying.news {
+        inbox.put_news(rt, engine.take_news(rt))?;
+    }
+    Ok(())
 }
 
 /// What the thread that runs a node leaves: its host, or the shortage that ended it.
@@ -63,6 +101,7 @@ fn make_turns<R, C>(
     common: &mut Common<R>,
     engine: &mut Engine<C>,
     orders: &Orders,
+    staying: &Staying,
 ) -> Result<(), Shortage>
 where
     R: Machine,
@@ -72,6 +111,7 @@ where
     let mut looked: u64 = 0;
     for _ in rt.forever() {
         let is_busy = turn(common, engine)?;
+        hand_news(&rt, engine, staying)?;
         retire_idle(&rt, engine, common.ticking.now(), &mut looked);
         engine.check(false)?;
         if orders.is_stopping() || common.ticking.is_over() {
@@ -89,13 +129,15 @@ fn work<R, C>(
     listener: TcpListener,
     sink: ToInbox<R>,
     orders: &Orders,
+    staying: &Staying,
 ) -> Result<(), Shortage>
 where
     R: Machine,
     C: NodeCore<Global> + Drop + Send + 'static,
 {
+    stay_in(&common.rt, engine, staying)?;
     engine.start_threads(common, listener, sink, u64::MAX)?;
-    make_turns(common, engine, orders)
+    make_turns(common, engine, orders, staying)
 }
 
 /// Dials the node's own address until the thread that waits there will end.
@@ -138,11 +180,12 @@ impl<R: Machine, C: NodeCore<Global> + Drop + Send + 'static> Driver<R, C> {
             spare,
             sink,
             orders,
+            staying,
         } = self;
         let rt = common.rt;
         let alloc = common.alloc;
         let mut engine = Engine::new(alloc, ground, host, outlets);
-        let ended = work(&mut common, &mut engine, listener, sink, &orders);
+        let ended = work(&mut common, &mut engine, listener, sink, &orders, &staying);
         stop(&rt, &mut engine, spare);
         let rested = engine.into_rested(&rt, alloc);
         ended?;

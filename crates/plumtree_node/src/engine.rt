@@ -15,6 +15,8 @@ use crate::shortage::Shortage;
 use crate::shortages::Shortages;
 use crate::ticks::Ticks;
 use frames::Frame;
+use neighborhood::News;
+use node_names::NodeName;
 use node_threads::{Handed, Host, NodeCore, Outlet, Port};
 use std::alloc::{AllocError, Global};
 use std::net::{Net, SocketAddr, TcpListener, TcpStream};
@@ -95,7 +97,12 @@ impl<C: NodeCore<Global> + Drop + Send + 'static> Engine<C> {
     {
         let mut outlets = Vec::new(common.alloc);
         self.running.join_ended(&common.rt, &mut outlets)?;
-        self.links.take_back(outlets)?;
+        let host = &mut self.running.host;
+        self.links.take_back(&common.rt, host, outlets)?;
+        if self.links.opens {
+            let opened = self.running.host.take_opened(&common.rt);
+            self.links.take_opened(opened)?;
+        }
         self.read_arrivals(common)
     }
 
@@ -138,6 +145,35 @@ impl<C: NodeCore<Global> + Drop> Engine<C> {
             acceptor: Acceptor::new(at, arrivals),
             shortages,
         }
+    }
+
+    /// Has the node open links to names that it learns, to at most so many names at once, and join again by these names
+    /// while it has no neighbour.
+    pub(crate) fn stay_in<R: Wait>(
+        &mut self,
+        rt: &R,
+        links: usize,
+        contacts: &[NodeName],
+    ) -> Result<(), Shortage> {
+        self.links.opens = true;
+        self.running.host.allow_links(rt, links);
+        match self.running.host.set_contacts(rt, contacts) {
+            Ok(()) => Ok(()),
+            Err(_) => Err(Shortage::Memory),
+        }
+    }
+
+    /// Has the node tell how its neighbours change.
+    pub(crate) fn tell_news<R: Wait>(&self, rt: &R) -> Result<(), Shortage> {
+        match self.running.host.tell_news(rt, true) {
+            Ok(()) => Ok(()),
+            Err(_) => Err(Shortage::Memory),
+        }
+    }
+
+    /// Takes what the node told of its neighbours.
+    pub(crate) fn take_news<R: Wait>(&self, rt: &R) -> Vec<News> {
+        self.running.host.take_news(rt)
     }
 
     /// Returns an error if its threads had a shortage, or, when `is_last`, still have one.

@@ -1,6 +1,7 @@
 //! What a node delivered and its program has not taken yet.
 use crate::shortage::Shortage;
 use crate::shortages::Shortages;
+use neighborhood::News;
 use node_threads::Handed;
 use std::alloc::{AllocError, Global};
 use std::collections::VecDeque;
@@ -35,6 +36,7 @@ impl Waiting {
 pub(crate) struct Inbox {
     waiting: Mutex<Waiting>,
     came: Condvar,
+    news: Mutex<Vec<News>>,
     alloc: Global,
 }
 
@@ -47,8 +49,19 @@ impl Inbox {
                 is_over: false,
             }),
             came: Condvar::new(),
+            news: Mutex::new(Vec::new(alloc)),
             alloc,
         }
+    }
+
+    /// Appends news. If there is no memory, they are lost.
+    pub(crate) fn put_news<R: Wait>(&self, rt: &R, mut news: Vec<News>) -> Result<(), AllocError> {
+        self.news.lock(rt).append(&mut news)
+    }
+
+    /// Takes all news that are there, the oldest first.
+    pub(crate) fn take_news<R: Wait>(&self, rt: &R) -> Vec<News> {
+        mem::replace(&mut *self.news.lock(rt), Vec::new(self.alloc))
     }
 
     /// Appends deliveries. If there is no memory for one, it is lost, with those behind it.

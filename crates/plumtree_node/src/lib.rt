@@ -40,6 +40,7 @@ pub use error::{BroadcastError, StartError, StopError};
 pub use list::keep;
 pub use listening::{listen_at, listen_spare};
 pub use machine::Machine;
+pub use neighborhood::{News, Parting};
 pub use node::Node;
 pub use pace::{idle_ticks, pause, pause_after};
 pub use ports::broadcast;

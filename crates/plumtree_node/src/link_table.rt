@@ -43,6 +43,21 @@ pub(crate) struct LinkTable {
     /// The outlets whose links have no writer.
     unwritten: Vec<Outlet>,
     written: Vec<WrittenLink>,
+    /// Whether the node opens links itself, so that one without a frame need not be kept.
+    pub(crate) opens: bool,
+}
+
+/// Gives up the link of an outlet. If memory is refused, the outlet is kept.
+fn give_up<R: Wait, C: NodeCore<Global> + Drop>(
+    rt: &R,
+    host: &mut Host<C>,
+    unwritten: &mut Vec<Outlet>,
+    outlet: Outlet,
+) -> Result<(), AllocError> {
+    match host.give_up(rt, outlet) {
+        Some(outlet) => keep(unwritten, outlet),
+        None => Ok(()),
+    }
 }
 
 impl LinkTable {
@@ -51,15 +66,34 @@ impl LinkTable {
         LinkTable {
             unwritten: outlets,
             written: Vec::new(alloc),
+            opens: false,
         }
     }
 
-    /// Takes the outlets of writers that have ended.
-    pub(crate) fn take_back(&mut self, outlets: Vec<Outlet>) -> Result<(), AllocError> {
+    /// Takes the outlets of links that the node opened.
+    pub(crate) fn take_opened(&mut self, outlets: Vec<Outlet>) -> Result<(), AllocError> {
         for outlet in outlets {
+            keep(&mut self.unwritten, outlet)?;
+        }
+        Ok(())
+    }
+
+    /// Takes the outlets of writers that have ended. The links of those without a frame are given up, where the node
+    /// opens one anew once it sends there.
+    pub(crate) fn take_back<R: Wait, C: NodeCore<Global> + Drop>(
+        &mut self,
+        rt: &R,
+        host: &mut Host<C>,
+        outlets: Vec<Outlet>,
+    ) -> Result<(), AllocError> {
+        for mut outlet in outlets {
             let peer = outlet.peer();
             self.written.retain(|link| link.peer != peer);
-            keep(&mut self.unwritten, outlet)?;
+            if self.opens && !outlet.has_next() {
+                give_up(rt, host, &mut self.unwritten, outlet)?;
+            } else {
+                keep(&mut self.unwritten, outlet)?;
+            }
         }
         Ok(())
     }
@@ -85,7 +119,7 @@ impl LinkTable {
         Ok(true)
     }
 
-    /// Starts the writer of a link if it has a frame.
+    /// Starts the writer of a link if it has a frame. A link to a name without an address is given up.
     fn look_at<R, C>(
         &mut self,
         common: &Common<R>,
@@ -106,7 +140,10 @@ impl LinkTable {
                 let dialler = self.connect(common, shortages, peer, at)?;
                 running.write(common.rt, outlet, dialler)
             }
-            None => Ok(()),
+            None => {
+                let given = give_up(&common.rt, &mut running.host, &mut self.unwritten, outlet);
+                Ok(given?)
+            }
         }
     }
 
@@ -162,10 +199,7 @@ impl LinkTable {
 
     /// The outlets of the links that have no writer.
     pub(crate) fn into_unwritten(self) -> Vec<Outlet> {
-        let LinkTable {
-            unwritten,
-            written: _,
-        } = self;
+        let LinkTable { unwritten, .. } = self;
         unwritten
     }
 }

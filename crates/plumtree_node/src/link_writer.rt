@@ -7,7 +7,7 @@ use crate::last_use::LastUse;
 use crate::pace::pause;
 use crate::shortage::Shortage;
 use crate::shortages::{Failures, MAX_FAILURES, Shortages};
-use links::{LinkEnd, MeteredWrite};
+use links::{LinkEnd, MeteredWrite, MeteredWriter};
 use node_threads::Dialler;
 use std::alloc::Global;
 use std::io;
@@ -23,10 +23,8 @@ const GATHERED: usize = 16 * 1_024;
 /// Writes to a link's connection, and notes when. Bytes are sent at a flush, or when the buffer is full.
 #[derive(Drop)]
 pub(crate) struct LinkWriter {
-    connection: BufWriter<TcpStream>,
+    connection: MeteredWriter<BufWriter<TcpStream>>,
     used: Arc<LastUse, Global>,
-    failures: u64,
-    took_none: bool,
 }
 
 impl Write for LinkWriter {
@@ -34,22 +32,15 @@ impl Write for LinkWriter {
 
     fn write(&mut self, buf: &[u8]) -> io::Result<usize>
         ensures bound { WritesAtMost result buf.now }
-        ensures last { self.new.took_none ≡ moves_none result buf.now }
-        ensures ok { OnOk result (self.new.failures ≡ self.old.failures) }
-        ensures err { OnErr result (IsTrue (has_risen self.old.failures self.new.failures)) }
+        ensures last { self.new.connection.took_none ≡ moves_none result buf.now }
+        ensures ok { OnOk result (self.new.connection.failures ≡ self.old.connection.failures) }
+        ensures err { OnErr result (IsTrue (has_risen self.old.connection.failures self.new.connection.failures)) }
     {
-        self.took_none = false;
-        match self.connection.write(buf) {
-            Ok(n) => {
-                self.used.renew();
-                self.took_none = n == 0 && !buf.is_empty();
-                Ok(n)
-            }
-            Err(error) => {
-                self.failures = self.failures.saturating_add(1);
-                Err(error)
-            }
+        let written = self.connection.write(buf);
+        if written.is_ok() {
+            self.used.renew();
         }
+        written
     }
 
     fn flush(&mut self) -> io::Result<()> {
@@ -58,12 +49,12 @@ impl Write for LinkWriter {
 }
 
 impl MeteredWrite for LinkWriter {
-    ghost failed = { λ w. w.failures };
+    ghost failed = { λ w. w.connection.failures };
 
-    ghost took_none = { λ w. w.took_none };
+    ghost took_none = { λ w. w.connection.took_none };
 
     fn failures(&self) -> u64 {
-        self.failures
+        self.connection.failures()
     }
 
     fn write_counted(&mut self, buf: &[u8]) -> io::Result<usize> {
@@ -128,11 +119,10 @@ fn gather(
     connection: TcpStream,
     used: &Arc<LastUse, Global>,
 ) -> io::Result<LinkWriter> {
+    let buffered = BufWriter::with_capacity(alloc, GATHERED, connection)?;
     Ok(LinkWriter {
-        connection: BufWriter::with_capacity(alloc, GATHERED, connection)?,
+        connection: MeteredWriter::new(buffered),
         used: Arc::try_clone(used)?,
-        failures: 0,
-        took_none: false,
     })
 }
 

@@ -3,10 +3,10 @@ ghost use Rattle.std.specs.Prelude.{IfOk};
 ghost use Rattle.node_core.specs.Steps.{PlumStarts, PlumSteps};
 ghost use Rattle.node_threads.specs.History.{IsHistory};
 
-use crate::address::others;
+use crate::address::AddressBook;
 use crate::common::Common;
 use crate::config::Config;
-use crate::driver::{Driver, Left};
+use crate::driver::{Driver, Left, Staying};
 use crate::engine::Ground;
 use crate::error::{BroadcastError, StartError, StopError};
 use crate::inbox::{Inbox, ToInbox};
@@ -18,10 +18,12 @@ use crate::slot::Slot;
 use crate::starting::{Started, start_host};
 use bytes::Bytes;
 use frames::Frame;
+use neighborhood::News;
 use node_core::PlumCore;
-use node_names::MsgId;
+use node_names::{MsgId, NodeName};
 use node_threads::{NodeCore, Port};
-use std::alloc::Global;
+use std::alloc::{AllocError, Global};
+use std::mem;
 use std::net::{Net, SocketAddr, TcpListener, TcpStream};
 use std::sync::{Arc, Wait};
 use std::thread::Threads;
@@ -39,6 +41,7 @@ pub struct Node<R: Drop, C: NodeCore<Global> + Drop = PlumCore> {
     address: SocketAddr,
     ports: Vec<Port<C>>,
     inbox: Arc<Inbox, Global>,
+    book: Arc<AddressBook, Global>,
     left: Arc<Slot<Left<C>>, Global>,
     stop_at_drop: StopAtDrop,
 }
@@ -64,11 +67,23 @@ impl Doors {
     }
 }
 
+/// Where news go, if the node tells them.
+fn news_of(
+    tells: bool,
+    inbox: &Arc<Inbox, Global>,
+) -> Result<Option<Arc<Inbox, Global>>, AllocError> {
+    if tells {
+        Ok(Some(Arc::try_clone(inbox)?))
+    } else {
+        Ok(None)
+    }
+}
+
 /// Has a thread run a node whose host was started.
 fn run<R, C>(
     rt: R,
     alloc: Global,
-    config: Config,
+    mut config: Config,
     doors: Doors,
     started: Started<C>,
 ) -> Result<Node<R, C>, StartError>
@@ -91,8 +106,15 @@ where
         inbox: Arc::try_clone(&inbox)?,
         shortages: Arc::try_clone(&ground.shortages)?,
     };
+    let staying = Staying {
+        links: config.links,
+        contacts: mem::replace(&mut config.contacts, Vec::new(alloc)),
+        news: news_of(config.tells_news, &inbox)?,
+    };
+    let common = config.into_common(rt, alloc)?;
+    let book = Arc::try_clone(&common.book)?;
     let driver = Driver {
-        common: config.into_common(rt, alloc)?,
+        common,
         ground,
         host,
         outlets,
@@ -100,6 +122,7 @@ where
         spare,
         sink,
         orders,
+        staying,
     };
     driver.start(rt, Arc::try_clone(&inbox)?, Arc::try_clone(&left)?)?;
     Ok(Node {
@@ -108,6 +131,7 @@ where
         address,
         ports,
         inbox,
+        book,
         left,
         stop_at_drop,
     })
@@ -131,7 +155,7 @@ impl<R: Drop> Node<R> {
             + 'static,
     {
         config.check()?;
-        let names = others(alloc, config.addresses.as_slice(), &config.me.name)?;
+        let names = config.first_links(alloc)?;
         let doors = Doors::open(&rt, config.listen)?;
         let started = start_host(
             alloc,
@@ -193,6 +217,23 @@ impl<R: Drop, C: NodeCore<Global> + Drop> Node<R, C> {
         R: Wait,
     {
         self.inbox.take(&self.rt)
+    }
+
+    /// Tells the node where another takes connections from now on, also one that has moved.
+    pub fn knows(&self, name: NodeName, at: SocketAddr) -> Result<(), AllocError>
+    where
+        R: Wait,
+    {
+        self.book.note(&self.rt, name, at)
+    }
+
+    /// Takes what the node told of its neighbours (`Config::tell_news`), the oldest first, without waiting: who came,
+    /// who went and why, and that it has no neighbour, or has one again. They are kept until they are taken.
+    pub fn news(&self) -> Vec<News>
+    where
+        R: Wait,
+    {
+        self.inbox.take_news(&self.rt)
     }
 
     /// Stops the node, waits for its threads, and returns its history.
