@@ -9,6 +9,7 @@
  *     (plumtree_wire_transmit), and says how many it took (plumtree_wire_transmitted), or that the name cannot be
  *     reached (plumtree_wire_unreachable); it closes the connections to names that were lost (plumtree_wire_next_lost);
  *   - it takes the deliveries that wait (plumtree_wire_next_delivery): these are the messages of the group;
+ *   - it may be told which neighbours come and go, and why (plumtree_wire_tell_news, plumtree_wire_next_news);
  *   - it calls plumtree_wire_tick now and then, a few times a second, and plumtree_wire_join where all links failed.
  *
  * A state machine (plumtree_start) leaves frames and what waits to the program too:
@@ -40,6 +41,7 @@
 #ifndef PLUMTREE_H
 #define PLUMTREE_H
 
+#include <stdbool.h>
 #include <stddef.h>
 #include <stdint.h>
 
@@ -157,6 +159,28 @@ typedef struct plumtree_wire_counts {
     uint64_t ticks;   /* ticks that were made */
 } plumtree_wire_counts;
 
+/* What changed in the active view of a node. */
+typedef enum plumtree_news_kind {
+    PLUMTREE_NEIGHBOR_UP = 1,   /* the name is a neighbour now */
+    PLUMTREE_NEIGHBOR_DOWN = 2, /* the name is a neighbour no longer */
+    PLUMTREE_ISOLATED = 3,      /* the last neighbour went */
+    PLUMTREE_JOINED = 4         /* there was no neighbour, and now there is one */
+} plumtree_news_kind;
+
+/* Why a neighbour went. */
+typedef enum plumtree_parting {
+    PLUMTREE_LEFT = 1,     /* it said so, by a DISCONNECT or a NEIGHBORREPLY that refuses */
+    PLUMTREE_FAILED = 2,   /* the link to it failed */
+    PLUMTREE_DISPLACED = 3 /* it was dropped for another name */
+} plumtree_parting;
+
+/* News of a node. */
+typedef struct plumtree_news {
+    uint8_t kind;       /* one of plumtree_news_kind */
+    uint8_t why;        /* one of plumtree_parting, for NEIGHBOR_DOWN; else 0 */
+    plumtree_name name; /* who, for NEIGHBOR_UP and NEIGHBOR_DOWN; else no bytes */
+} plumtree_news;
+
 /* Bytes that a node lends: `length` of them, from `at` on. A struct iovec of POSIX has the same layout. */
 typedef struct plumtree_piece {
     const uint8_t *at;
@@ -170,6 +194,8 @@ PLUMTREE_ASSERT(sizeof(plumtree_limits) == 16 && offsetof(plumtree_limits, kp) =
 PLUMTREE_ASSERT(offsetof(plumtree_limits, keep) == 12);
 PLUMTREE_ASSERT(sizeof(plumtree_counts) == 56 && offsetof(plumtree_counts, deliveries) == 48);
 PLUMTREE_ASSERT(sizeof(plumtree_wire_counts) == 40 && offsetof(plumtree_wire_counts, ticks) == 32);
+PLUMTREE_ASSERT(sizeof(plumtree_news) == 36 && offsetof(plumtree_news, why) == 1 && offsetof(plumtree_news, name) == 2);
+PLUMTREE_ASSERT(sizeof(bool) == 1);
 PLUMTREE_ASSERT(sizeof(plumtree_piece) == 16 && offsetof(plumtree_piece, length) == 8);
 PLUMTREE_ASSERT(sizeof(size_t) == 8);
 
@@ -283,6 +309,16 @@ int32_t plumtree_wire_next_delivery(plumtree_node *node, plumtree_id *id, uint8_
 /* Takes the first lost name that waits: bytes for it were dropped, so close the connection to it before more is written
  * there. NONE: no name was lost. Never NUMBERS_SPENT or OUT_OF_MEMORY. */
 int32_t plumtree_wire_next_lost(plumtree_node *node, plumtree_name *name);
+
+/* Has the node tell news of its next steps, or, where `tells` is false, no more. One that was started tells none, so that
+ * its first neighbours are no news: plumtree_active has them. News that were not taken yet stay. Never NUMBERS_SPENT or
+ * OUT_OF_MEMORY. */
+int32_t plumtree_wire_tell_news(plumtree_node *node, bool tells);
+
+/* Takes the first news that wait. Each change of the active view is told once and in order: of one step those that went,
+ * then those that came, and last ISOLATED or JOINED. They are kept until they are taken, so take them now and then. NONE:
+ * no news wait. OUT_OF_MEMORY: nothing has changed. Never NUMBERS_SPENT. */
+int32_t plumtree_wire_next_news(plumtree_node *node, plumtree_news *news);
 
 /* How much the node has. It changes nothing. Never NUMBERS_SPENT or OUT_OF_MEMORY. */
 int32_t plumtree_wire_counts_of(plumtree_node *node, plumtree_wire_counts *counts);

@@ -77,11 +77,13 @@ fn put<T: Drop>(
 fn apply<A: Allocator + Copy>(
     cell: &mut Cell<A>,
     stimulus: Stimulus<Frame<A>, A>,
-    learnt: Option<&mut Learnt<A>>,
+    learnt: &mut Learnt<A>,
+    with_downs: bool,
 ) -> Result<Applied<A>, HostError> {
-    match learnt {
-        Some(learnt) => cell.apply_with_downs(stimulus, learnt),
-        None => cell.apply(stimulus),
+    if with_downs {
+        cell.apply_with_downs(stimulus, learnt)
+    } else {
+        cell.apply(stimulus)
     }
 }
 
@@ -90,7 +92,8 @@ fn step<A: Allocator + Copy>(
     alloc: A,
     cell: &mut Cell<A>,
     words: &[&str],
-    learnt: Option<&mut Learnt<A>>,
+    learnt: &mut Learnt<A>,
+    with_downs: bool,
     turn: &mut Turn<'_>,
     said: &mut String,
 ) -> Result<Outcome, AllocError> {
@@ -98,7 +101,7 @@ fn step<A: Allocator + Copy>(
         return Ok(Outcome::Unknown);
     };
     turn.begin();
-    let answer = apply(cell, stimulus, learnt);
+    let answer = apply(cell, stimulus, learnt, with_downs);
     turn.end();
     match answer {
         Ok(applied) => {
@@ -352,7 +355,7 @@ impl<A: Allocator + Copy> CellLayer<A> {
         turn: &mut Turn<'_>,
         said: &mut String,
     ) -> Result<Outcome, AllocError> {
-        let Some(cell) = &mut self.cell else {
+        let (Some(cell), learnt, alloc) = (&mut self.cell, &mut self.learnt, self.alloc) else {
             return Ok(Outcome::Unknown);
         };
         match words {
@@ -362,11 +365,8 @@ impl<A: Allocator + Copy> CellLayer<A> {
                 cell.shut();
                 Ok(Outcome::Done)
             }
-            ["with-downs", words @ ..] => {
-                let learnt = Some(&mut self.learnt);
-                step(self.alloc, cell, words, learnt, turn, said)
-            }
-            _ => step(self.alloc, cell, words, None, turn, said),
+            ["with-downs", words @ ..] => step(alloc, cell, words, learnt, true, turn, said),
+            _ => step(alloc, cell, words, learnt, false, turn, said),
         }
     }
 }

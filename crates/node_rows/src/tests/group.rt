@@ -1,11 +1,13 @@
 //! A group of nodes on this machine, each at a port that the system chose.
-use crate::tests::member::TestedNode;
 use anyhow::Result;
+use bytes::Bytes;
 use node_names::{Incarnation, NodeName};
-use plumtree_node::{Config, News};
+use plumtree_node::{Config, News, Node};
 use std::alloc::Global;
-use std::net::SocketAddr;
+use std::net::{Net, SocketAddr, TcpListener, TcpStream};
+use std::sync::Wait;
 use std::thread;
+use std::thread::Threads;
 use std::time::{Clock, Duration};
 
 /// How long a tick takes, in milliseconds.
@@ -13,10 +15,10 @@ const TICK: u64 = 10;
 
 /// A node, its name, and what it told.
 #[derive(Drop)]
-struct Member<N: Drop> {
+struct Member<R: Drop> {
     name: NodeName,
     at: SocketAddr,
-    node: N,
+    node: Node<R>,
     /// Whether it has no neighbour, by what it told.
     is_alone: bool,
     /// How many messages it delivered since the group was asked last.
@@ -25,7 +27,7 @@ struct Member<N: Drop> {
     told: String,
 }
 
-impl<N: Drop> Member<N> {
+impl<R: Drop> Member<R> {
     /// Notes what it told since.
     fn note_news(&mut self, news: &[News]) -> Result<()> {
         for item in news {
@@ -47,9 +49,9 @@ impl<N: Drop> Member<N> {
 
 /// Nodes that start and end one after the other.
 #[derive(Drop)]
-pub(crate) struct Group<N: Drop> {
+pub(crate) struct Group<R: Drop> {
     alloc: Global,
-    members: Vec<Member<N>>,
+    members: Vec<Member<R>>,
 }
 
 /// What a node is started with: its name, its run, and its contacts, each with its address.
@@ -68,9 +70,9 @@ fn config_of(
     Ok(config)
 }
 
-impl<N: Drop> Group<N> {
+impl<R: Drop> Group<R> {
     /// Makes a group without nodes.
-    pub(crate) fn new(alloc: Global) -> Group<N> {
+    pub(crate) fn new(alloc: Global) -> Group<R> {
         Group {
             alloc,
             members: Vec::new(alloc),
@@ -89,7 +91,7 @@ impl<N: Drop> Group<N> {
 
     /// Starts a node that joins by these contacts, each a letter, and tells the others where it listens. A contact that
     /// does not run yet is looked for where nobody listens.
-    pub(crate) fn begin<R: Copy>(
+    pub(crate) fn begin(
         &mut self,
         rt: R,
         name: NodeName,
@@ -97,15 +99,21 @@ impl<N: Drop> Group<N> {
         contacts: &[NodeName],
     ) -> Result<()>
     where
-        N: TestedNode<R>,
+        R: Threads
+            + Wait
+            + Clock
+            + Net<Listener = TcpListener, Stream = TcpStream>
+            + Copy
+            + Send
+            + 'static,
     {
         let mut known = Vec::new(self.alloc);
         for contact in contacts {
             known.push((*contact, self.place_of(contact)?))?;
         }
         let config = config_of(self.alloc, name, run, known.as_slice())?;
-        let node = N::begin(rt, self.alloc, config)?;
-        let at = node.place();
+        let node = Node::start(rt, self.alloc, config)?;
+        let at = node.address();
         self.members.push(Member {
             name,
             at,
@@ -114,18 +122,18 @@ impl<N: Drop> Group<N> {
             heard: 0,
             told: String::new(self.alloc),
         })?;
-        self.introduce::<R>()
+        self.introduce()
     }
 
     /// Tells each node where the others listen.
-    fn introduce<R>(&self) -> Result<()>
+    fn introduce(&self) -> Result<()>
     where
-        N: TestedNode<R>,
+        R: Wait,
     {
         for member in &self.members {
             for other in &self.members {
                 if member.name != other.name {
-                    member.node.meet(other.name, other.at)?;
+                    member.node.knows(other.name, other.at)?;
                 }
             }
         }
@@ -133,21 +141,21 @@ impl<N: Drop> Group<N> {
     }
 
     /// Ends the node that was started last.
-    pub(crate) fn end_last<R>(&mut self) -> Result<()>
+    pub(crate) fn end_last(&mut self) -> Result<()>
     where
-        N: TestedNode<R>,
+        R: Threads + Wait,
     {
         if let Some(member) = self.members.pop() {
             let Member { node, .. } = member;
-            node.end()?;
+            node.stop()?;
         }
         Ok(())
     }
 
     /// Waits for so many ticks.
-    pub(crate) fn wait<R: Clock>(&mut self, rt: &R, ticks: usize) -> Result<()>
+    pub(crate) fn wait(&mut self, rt: &R, ticks: usize) -> Result<()>
     where
-        N: TestedNode<R>,
+        R: Wait + Clock,
     {
         for _ in 0..ticks {
             self.pass(rt)?;
@@ -156,15 +164,15 @@ impl<N: Drop> Group<N> {
     }
 
     /// Waits for a tick, and takes what the nodes gave.
-    fn pass<R: Clock>(&mut self, rt: &R) -> Result<()>
+    fn pass(&mut self, rt: &R) -> Result<()>
     where
-        N: TestedNode<R>,
+        R: Wait + Clock,
     {
         thread::sleep(rt, Duration::from_millis(TICK));
         for member in &mut self.members {
-            let heard = member.node.count_heard();
+            let heard = member.node.deliveries().len();
             member.heard = member.heard.saturating_add(heard);
-            let news = member.node.take_news();
+            let news = member.node.news();
             member.note_news(news.as_slice())?;
         }
         Ok(())
@@ -181,9 +189,9 @@ impl<N: Drop> Group<N> {
     }
 
     /// Waits until no node is alone, for at most so many ticks. Returns whether none is.
-    fn gather<R: Clock>(&mut self, rt: &R, ticks: usize) -> Result<bool>
+    fn gather(&mut self, rt: &R, ticks: usize) -> Result<bool>
     where
-        N: TestedNode<R>,
+        R: Wait + Clock,
     {
         for _ in 0..ticks {
             self.pass(rt)?;
@@ -195,15 +203,16 @@ impl<N: Drop> Group<N> {
     }
 
     /// Has the node at this place broadcast. Returns whether each node delivers that within so many ticks.
-    fn reaches_all<R: Clock>(&mut self, rt: &R, place: usize, ticks: usize) -> Result<bool>
+    fn reaches_all(&mut self, rt: &R, place: usize, ticks: usize) -> Result<bool>
     where
-        N: TestedNode<R>,
+        R: Wait + Clock,
     {
         for member in &mut self.members {
             member.heard = 0;
         }
         if let Some(member) = self.members.get_mut(place) {
-            member.node.say(self.alloc, b"hello")?;
+            let payload = Bytes::copy_from_slice(self.alloc, b"hello")?;
+            member.node.broadcast(payload)?;
         }
         for _ in 0..ticks {
             self.pass(rt)?;
@@ -215,9 +224,9 @@ impl<N: Drop> Group<N> {
     }
 
     /// Returns whether within so many ticks no node is alone, and then each reaches all others within as many.
-    pub(crate) fn becomes_whole<R: Clock>(&mut self, rt: &R, ticks: usize) -> Result<bool>
+    pub(crate) fn becomes_whole(&mut self, rt: &R, ticks: usize) -> Result<bool>
     where
-        N: TestedNode<R>,
+        R: Wait + Clock,
     {
         let mut is_whole = self.gather(rt, ticks)?;
         for place in 0..self.members.len() {

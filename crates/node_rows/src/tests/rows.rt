@@ -1,10 +1,11 @@
 //! The rows, which are played with nodes over TCP.
 use crate::tests::group::Group;
-use crate::tests::member::TestedNode;
 use crate::tests::staying::{TOLD, await_contact, join_two, lose_only_peer, restart_contact};
 use anyhow::Result;
-use plumtree_node::Node;
 use std::alloc::{AllocError, Global};
+use std::net::{Net, TcpListener, TcpStream};
+use std::sync::Wait;
+use std::thread::Threads;
 use std::time::Clock;
 
 /// Appends what is not so.
@@ -16,15 +17,21 @@ fn ensure(text: &mut String, what: &str, is_so: bool) -> Result<(), AllocError> 
 }
 
 /// Plays the rows of nodes that join by a contact. Appends those that fail.
-fn play_joining<N: TestedNode<R>, R: Clock + Copy>(
-    rt: R,
-    alloc: Global,
-    text: &mut String,
-) -> Result<()> {
-    let mut group: Group<N> = Group::new(alloc);
+fn play_joining<R>(rt: R, alloc: Global, text: &mut String) -> Result<()>
+where
+    R: Threads
+        + Wait
+        + Clock
+        + Net<Listener = TcpListener, Stream = TcpStream>
+        + Copy
+        + Send
+        + Drop
+        + 'static,
+{
+    let mut group: Group<R> = Group::new(alloc);
     let joined = join_two(rt, &mut group)?;
     ensure(text, "a third node joins two", joined)?;
-    let mut group: Group<N> = Group::new(alloc);
+    let mut group: Group<R> = Group::new(alloc);
     let awaited = await_contact(rt, &mut group)?;
     ensure(text, "a contact may start last", awaited)?;
     let restarted = restart_contact(rt, &mut group)?;
@@ -34,12 +41,18 @@ fn play_joining<N: TestedNode<R>, R: Clock + Copy>(
 
 /// Plays the row of a node that loses its only peer. Appends it if it fails, and what the node told if that is not as it
 /// must be.
-fn play_losing<N: TestedNode<R>, R: Clock + Copy>(
-    rt: R,
-    alloc: Global,
-    text: &mut String,
-) -> Result<()> {
-    let mut group: Group<N> = Group::new(alloc);
+fn play_losing<R>(rt: R, alloc: Global, text: &mut String) -> Result<()>
+where
+    R: Threads
+        + Wait
+        + Clock
+        + Net<Listener = TcpListener, Stream = TcpStream>
+        + Copy
+        + Send
+        + Drop
+        + 'static,
+{
+    let mut group: Group<R> = Group::new(alloc);
     let came_back = lose_only_peer(rt, &mut group)?;
     ensure(text, "an only peer may go and come back", came_back)?;
     let mut told = String::new(alloc);
@@ -55,8 +68,8 @@ fn play_losing<N: TestedNode<R>, R: Clock + Copy>(
 fn nodes_stay_in(rt: HostRuntime) -> Result<()> {
     let alloc = rt.alloc();
     let mut text = String::new(alloc);
-    play_joining::<Node<HostRuntime>, HostRuntime>(rt, alloc, &mut text)?;
-    play_losing::<Node<HostRuntime>, HostRuntime>(rt, alloc, &mut text)?;
+    play_joining(rt, alloc, &mut text)?;
+    play_losing(rt, alloc, &mut text)?;
     assert_eq!(rt; text.as_str(), "");
     Ok(())
 }

@@ -1,8 +1,10 @@
 //! Nodes that join by a contact that never heard of them, comes late, restarts, or goes and comes back.
 use crate::tests::group::Group;
-use crate::tests::member::TestedNode;
 use anyhow::Result;
 use node_names::NodeName;
+use std::net::{Net, TcpListener, TcpStream};
+use std::sync::Wait;
+use std::thread::Threads;
 use std::time::Clock;
 
 /// Within how many ticks of 10 ms nodes become a group. They do so in some 10, and in 48 where a pause of 32 ticks has
@@ -25,10 +27,17 @@ fn names() -> Result<[NodeName; 3]> {
 }
 
 /// Has a third node join two that never heard of it. Returns whether they are a group before and after.
-pub(crate) fn join_two<N: TestedNode<R>, R: Clock + Copy>(
-    rt: R,
-    group: &mut Group<N>,
-) -> Result<bool> {
+pub(crate) fn join_two<R>(rt: R, group: &mut Group<R>) -> Result<bool>
+where
+    R: Threads
+        + Wait
+        + Clock
+        + Net<Listener = TcpListener, Stream = TcpStream>
+        + Copy
+        + Send
+        + Drop
+        + 'static,
+{
     let [a, b, c] = names()?;
     group.begin(rt, a, 1, &[])?;
     group.begin(rt, b, 1, &[a])?;
@@ -38,10 +47,17 @@ pub(crate) fn join_two<N: TestedNode<R>, R: Clock + Copy>(
 }
 
 /// Has two nodes join by a contact that is not there yet. Returns whether they are alone until it is, and a group then.
-pub(crate) fn await_contact<N: TestedNode<R>, R: Clock + Copy>(
-    rt: R,
-    group: &mut Group<N>,
-) -> Result<bool> {
+pub(crate) fn await_contact<R>(rt: R, group: &mut Group<R>) -> Result<bool>
+where
+    R: Threads
+        + Wait
+        + Clock
+        + Net<Listener = TcpListener, Stream = TcpStream>
+        + Copy
+        + Send
+        + Drop
+        + 'static,
+{
     let [a, b, c] = names()?;
     group.begin(rt, b, 1, &[a])?;
     group.begin(rt, c, 1, &[a])?;
@@ -52,27 +68,41 @@ pub(crate) fn await_contact<N: TestedNode<R>, R: Clock + Copy>(
 }
 
 /// Has the contact restart, elsewhere and as another run, and join by the others. Returns whether they are a group.
-pub(crate) fn restart_contact<N: TestedNode<R>, R: Clock + Copy>(
-    rt: R,
-    group: &mut Group<N>,
-) -> Result<bool> {
+pub(crate) fn restart_contact<R>(rt: R, group: &mut Group<R>) -> Result<bool>
+where
+    R: Threads
+        + Wait
+        + Clock
+        + Net<Listener = TcpListener, Stream = TcpStream>
+        + Copy
+        + Send
+        + Drop
+        + 'static,
+{
     let [a, b, c] = names()?;
-    group.end_last::<R>()?;
+    group.end_last()?;
     group.begin(rt, a, 2, &[b, c])?;
     group.becomes_whole(&rt, BOUND)
 }
 
 /// Has a node lose its only peer, which is away and then comes back as another run, elsewhere and without contacts.
 /// Returns whether they are a group before and after, and the node is alone meanwhile.
-pub(crate) fn lose_only_peer<N: TestedNode<R>, R: Clock + Copy>(
-    rt: R,
-    group: &mut Group<N>,
-) -> Result<bool> {
+pub(crate) fn lose_only_peer<R>(rt: R, group: &mut Group<R>) -> Result<bool>
+where
+    R: Threads
+        + Wait
+        + Clock
+        + Net<Listener = TcpListener, Stream = TcpStream>
+        + Copy
+        + Send
+        + Drop
+        + 'static,
+{
     let [a, b, _] = names()?;
     group.begin(rt, b, 1, &[a])?;
     group.begin(rt, a, 1, &[])?;
     let were_two = group.becomes_whole(&rt, BOUND)?;
-    group.end_last::<R>()?;
+    group.end_last()?;
     group.wait(&rt, AWAY)?;
     let was_alone = !group.is_joined();
     group.begin(rt, a, 2, &[])?;
