@@ -12,7 +12,7 @@ use std::sync::Arc;
 /// A part of a trace whose steps no longer change. The trace shares it with everyone who was given it.
 #[derive(Drop)]
 pub struct Segment<N: Drop, A: Allocator = Global> {
-    /// The place in the trace of the first of its steps.
+    /// The place of the first of its steps, among those that the trace had when it was made.
     pub first: usize,
     /// The steps, in order.
     pub steps: Listed<Step<N, A>, A>,

@@ -1,5 +1,5 @@
 //! The steps of a trace.
-ghost use Rattle.std.specs.Prelude.{◌≡◌, ◌<◌, ◌≤◌, ◌^◌, [], ◌∷◌, ◌++◌, length, take, option_copied, vec_len, vec_capacity, OnOk, OnErr, IfOk};
+ghost use Rattle.std.specs.Prelude.{◌≡◌, ◌<◌, ◌≤◌, ◌^◌, [], ◌∷◌, ◌++◌, length, drop, take, option_copied, vec_len, vec_capacity, OnOk, OnErr, IfOk};
 ghost use Rattle.std.specs.List.{slice_get};
 ghost use Rattle.std.specs.Arc.{arc_value};
 ghost use Rattle.world.specs.Segments.{Abut, BeginBefore, Ends, joined};
@@ -140,6 +140,16 @@ impl<N: Drop, A: Allocator> StepList<N, A> {
         let end = end_of(&self.parts);
         self.tail.truncate(len.saturating_sub(end));
         cut(&mut self.parts, len);
+    }
+
+    /// Drops the steps of the parts, which are the first ones, and returns how many there were.
+    pub(crate) fn forget_parts(&mut self) -> usize
+        ensures within { result ≤ length self.old }
+        ensures rest { self.new ≡ drop result self.old }
+    {
+        let end = end_of(&self.parts);
+        self.parts.clear();
+        end
     }
 
     /// Turns the tail into a segment and returns it. The list shares the segment, unless it is empty. The steps of the

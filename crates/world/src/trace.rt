@@ -1,5 +1,5 @@
 //! The history of one run of a node.
-ghost use Rattle.std.specs.Prelude.{◌≡◌, [], ◌∷◌, ◌++◌, ◌↔◌, length, take, IfOk, IsTrue, OnOk, OnErr, option_copied};
+ghost use Rattle.std.specs.Prelude.{◌≡◌, ◌≤◌, [], ◌∷◌, ◌++◌, ◌↔◌, length, drop, take, IfOk, IsTrue, OnOk, OnErr, option_copied};
 ghost use Rattle.std.specs.List.{slice_get};
 ghost use Rattle.std.specs.Arc.{arc_value};
 ghost use Rattle.world.specs.Segments.{Ends};
@@ -83,6 +83,15 @@ impl<N: Drop, A: Allocator + Copy> Trace<N, A> {
         ensures ends { IfOk result (λ segment. Ends self.old.steps (arc_value segment)) }
     {
         self.steps.seal()
+    }
+
+    /// Drops the steps that were handed out in segments, which are the first ones, and returns how many there were.
+    /// Places count from the first step that is left, in later segments too.
+    pub fn forget_sealed(&mut self) -> usize
+        ensures within { result ≤ length self.old.steps }
+        ensures rest { self.new ≡ record self.old { steps = drop result self.old.steps } }
+    {
+        self.steps.forget_parts()
     }
 }
 
