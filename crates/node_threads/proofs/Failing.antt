@@ -22,9 +22,9 @@ module _
   where
     failing : (e : CloseError K A) → Finds starts steps ports outlets e → Fails starts steps made ports workers e
     failing (of.PortMissing host given others) found = absurd found
-    failing (of.Unlike port trace) found = (counted, found.0, found.1)
-    failing (of.Torn peer trace) found = (counted, found.0, record { before = before; outlets = outlets; left = left; alike = found.1; torn = found.2 })
-    failing (of.OutOfMemory trace) found = (counted, found)
+    failing (of.Unlike port since trace) found = (counted, found.0, found.1)
+    failing (of.Torn peer since trace) found = (counted, found.0, record { before = before; outlets = outlets; left = left; alike = found.1; torn = found.2 })
+    failing (of.OutOfMemory since trace) found = (counted, found)
 
     pub fails : {X : Type 0} (r : Result X (CloseError K A)) → IfErr r (Finds starts steps ports outlets) → IfErr r (Fails starts steps made ports workers)
     fails (Ok x) found = tt

@@ -16,7 +16,7 @@ use Rattle.world.specs.Stimulus.{Stimulus}
 use Rattle.world.specs.Trace.{Step, Trace, delivered}
 use Rattle.frames.specs.Frame.{Frame}
 use Rattle.node_threads.specs.Applying.{Applies, Posts, Puts, mail_for, mail_to}
-use Rattle.node_threads.specs.Cell.{Cell, FollowsText, IsKept, Link, peers_of}
+use Rattle.node_threads.specs.Cell.{Cell, FollowsText, IsKept, IsKeptAfter, Link, after, lost, peers_of}
 use Rattle.node_threads.specs.LinkText.{link_text, sent_to, spelling, text_of}
 
 -- ---- the trace
@@ -94,46 +94,67 @@ module _
     (id : Option MsgId)
     (place : ℕ)
     (full lacking : List Name)
-    (kept : IsKept starts steps old)
+    (before : List (Step Frame))
+    (kept : IsKeptAfter starts steps before old)
     (done : Applies state steps old stimulus new id place full lacking)
   where
     abbrev made : Step Frame
     made = record { stimulus = stimulus; out = done.out }
 
-    replays_on : Replays starts steps kept.limits (with_step old.trace made) new.core
+    replays_on : Replays starts steps kept.limits (with_step (after before old.trace) made) new.core
     replays_on =
-        let before = kept.replays in
+        let start = kept.replays in
         record {
-          first = before.first;
-          allowed = before.allowed;
-          started = before.started;
-          silent = before.silent;
-          leads = leads_on steps before.first old.core old.trace.steps made new.core before.leads done.stepped;
+          first = start.first;
+          allowed = start.allowed;
+          started = start.started;
+          silent = start.silent;
+          leads = leads_on steps start.first old.core (before ++ old.trace.steps) made new.core start.leads done.stepped;
         }
 
-    waiting_on : new.pending ≡ drop new.handed_out (delivered (old.trace.steps ++ made ∷ []))
+    waiting_on : new.pending ≡ drop new.handed_out (delivered ((before ++ old.trace.steps) ++ made ∷ []))
     waiting_on =
         done.delivers
         ∙ ap (λ ds. ds ++ done.out.deliveries) kept.waiting
-        ∙ sym (drop-append-le old.handed_out (delivered old.trace.steps) done.out.deliveries kept.handed)
-        ∙ sym (ap (drop old.handed_out) (delivered_on old.trace.steps made))
-        ∙ sym (ap (λ n. drop n (delivered (old.trace.steps ++ made ∷ []))) done.handed_out)
+        ∙ sym (drop-append-le old.handed_out (delivered (before ++ old.trace.steps)) done.out.deliveries kept.handed)
+        ∙ sym (ap (drop old.handed_out) (delivered_on (before ++ old.trace.steps) made))
+        ∙ sym (ap (λ n. drop n (delivered ((before ++ old.trace.steps) ++ made ∷ []))) done.handed_out)
 
-    handed_on : new.handed_out ≤ length (delivered (old.trace.steps ++ made ∷ []))
+    handed_on : new.handed_out ≤ length (delivered ((before ++ old.trace.steps) ++ made ∷ []))
     handed_on =
         let handed = kept.handed in
         let same = done.handed_out in
-        let more = ap length (delivered_on old.trace.steps made) in
-        omega (arith, length-append (delivered old.trace.steps) done.out.deliveries)
+        let more = ap length (delivered_on (before ++ old.trace.steps) made) in
+        omega (arith, length-append (delivered (before ++ old.trace.steps)) done.out.deliveries)
 
-    pub applied_keeps : IsKept starts steps new
-    applied_keeps =
-        let here = sym done.recorded in
+    applied_after : IsKeptAfter starts steps before new
+    applied_after =
+        let here = ap (λ ss. record old.trace { steps = ss }) (append_assoc before old.trace.steps (made ∷ [])) ∙ ap (after before) (sym done.recorded) in
         record {
           limits = kept.limits;
           replays = subst (λ trace. Replays starts steps kept.limits trace new.core) here replays_on;
           handed = subst (λ (trace : Trace Frame). new.handed_out ≤ length (delivered trace.steps)) here handed_on;
           waiting = subst (λ (trace : Trace Frame). new.pending ≡ drop new.handed_out (delivered trace.steps)) here waiting_on;
           distinct = puts_distinct (map (mail_to done.out.sends) old.links) old.links new.links full kept.distinct done.posts;
-          texts = subst (λ trace. Each (FollowsText trace) new.links) here (posts_follow old.trace made old.links new.links full kept.texts done.posts);
+          texts = subst (λ trace. Each (FollowsText trace) new.links) here (posts_follow (after before old.trace) made old.links new.links full kept.texts done.posts);
         }
+
+pub applied_keeps :
+    {C : Type 0}
+    {state : C → CoreState}
+    {starts : Origin → Limits → List Name → Option Name → List (Name × Frame) → C → Type 0}
+    {steps : C → Stimulus Frame → List (Name × Frame) → List Delivery → C → Type 0}
+    (old : Cell C)
+    (stimulus : Stimulus Frame)
+    (new : Cell C)
+    (id : Option MsgId)
+    (place : ℕ)
+    (full lacking : List Name)
+    → IsKept starts steps old
+    → Applies state steps old stimulus new id place full lacking
+    → IsKept starts steps new
+applied_keeps old stimulus new id place full lacking kept done = record {
+  before = kept.before;
+  forgotten = kept.forgotten ∙ sym (ap lost done.its_since);
+  kept = applied_after old stimulus new id place full lacking kept.before kept.kept done;
+}

@@ -1,7 +1,7 @@
 -- What workers leave, one after the other.
-use Rattle.std.specs.Prelude.{◌≡◌, List, [], ◌∷◌, ◌++◌, Option, All}
+use Rattle.std.specs.Prelude.{◌≡◌, ◌⊎◌, List, [], ◌∷◌, ◌++◌, Option, All}
 use Rattle.std.specs.List.{AllZip}
-use Rattle.std.proofs.Common.{◌∙◌, ap, arith, length-append, subst, sym}
+use Rattle.std.proofs.Common.{◌∙◌, ap, arith, inl, inr, length-append, subst, sym}
 use Rattle.std.proofs.lemmas.List.{append-nil, flat_map_more}
 use Rattle.std.proofs.lemmas.List.Elements.{All-push}
 use Rattle.node_names.specs.NodeName.{Name}
@@ -33,3 +33,8 @@ joined before workers given worker its left has = subst (AreLeft before (workers
 -- the outlets of the links that were given up, and the last one
 pub leaves_to : (peer : Name) (spent : List Outlet) (last : Outlet) (outlets : List Outlet) → outlets ≡ spent ++ last ∷ [] → All (GoesTo peer) spent → last.peer ≡ peer → LeavesTo peer outlets
 leaves_to peer spent last outlets is all its = rw is (omega (arith, length-append spent (last ∷ [])), All-push (GoesTo peer) spent last all its)
+
+-- an outlet of a link to the same name was kept, or it was not
+pub kept_or_not : (peer : Name) (old new : List Outlet) (last : Outlet) → All (GoesTo peer) old → last.peer ≡ peer → (new ≡ old) ⊎ (new ≡ old ++ last ∷ []) → All (GoesTo peer) new
+kept_or_not peer old new last all goes (inl same) = subst (All (GoesTo peer)) (sym same) all
+kept_or_not peer old new last all goes (inr more) = subst (All (GoesTo peer)) (sym more) (All-push (GoesTo peer) old last all goes)

@@ -1,10 +1,13 @@
 pub mod DownSteps
 pub mod Failing
+pub mod GivingUp
+pub mod Histories
 pub mod Keeping
 pub mod Left
 pub mod Lettering
 pub mod LinkOpenings
 pub mod Links
+pub mod Lost
 pub mod Made
 pub mod Receipting
 pub mod Reporting

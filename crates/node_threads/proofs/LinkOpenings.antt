@@ -1,9 +1,16 @@
 -- Links that a node opens by itself, one after the other.
-use Rattle.std.specs.Prelude.{◌≡◌, ◌≤◌, ◌<◌, ℕ, List, [], ◌∷◌, ◌++◌, length, refl}
-use Rattle.std.proofs.Common.{◌∙◌, ◌+◌, ap, append_assoc, arith, drop, get_or, inl, inr, subst, sym}
+use Rattle.std.specs.Prelude.{◌≡◌, ◌<◌, ℕ, List, [], ◌∷◌, ◌++◌, Option, length, refl}
+use Rattle.std.proofs.Common.{◌∙◌, ◌+◌, ap, append_assoc, arith, drop, get_or, length-append, inl, inr, subst, sym}
 use Rattle.std.proofs.lemmas.List.{append-nil, drop-drop, drop_more}
 use Rattle.node_names.specs.NodeName.{Name}
-use Rattle.node_threads.specs.Cell.{Cell}
+use Rattle.node_names.specs.declared.ids.MsgId.{MsgId}
+use Rattle.world.specs.CoreState.{CoreState}
+use Rattle.world.specs.Delivery.{Delivery}
+use Rattle.world.specs.Stimulus.{Stimulus}
+use Rattle.world.specs.Trace.{Step, Trace}
+use Rattle.frames.specs.Frame.{Frame}
+use Rattle.node_threads.specs.Applying.{Applies}
+use Rattle.node_threads.specs.Cell.{Cell, IsPlace, lost}
 use Rattle.node_threads.specs.Learning.{Learnt, Opens, OpensOne}
 
 -- where no name may be held, none is opened
@@ -71,5 +78,17 @@ module _ {C : Type 0} (since : ℕ) where
       (on now more [] (subst (λ names. Opens since now more names now more []) (sym is) (refl, refl, refl)))
 
   -- the trace is as long after a link was opened
-  pub still_within : (now : Cell C) (more : Learnt) (name : Name) (next : Cell C) (more' : Learnt) → OpensOne since now more name next more' → since ≤ length now.trace.steps → since ≤ length next.trace.steps
-  still_within now more name next more' opened within = subst (λ cell. since ≤ length cell.trace.steps) (sym opened.linked) within
+  pub still_within : (now : Cell C) (more : Learnt) (name : Name) (next : Cell C) (more' : Learnt) → OpensOne since now more name next more' → IsPlace now since → IsPlace next since
+  still_within now more name next more' opened within = subst (λ cell. IsPlace cell since) (sym opened.linked) within
+
+-- the place of a step is a place of the node after it
+pub its_own_place :
+    {C : Type 0} (state : C → CoreState) (steps : C → Stimulus Frame → List (Name × Frame) → List Delivery → C → Type 0) (old : Cell C) (stimulus : Stimulus Frame) (new : Cell C) (id : Option MsgId) (place : ℕ) (full lacking : List Name)
+    → Applies state steps old stimulus new id place full lacking
+    → IsPlace new place
+its_own_place state steps old stimulus new id place full lacking done =
+    let same : lost new.since ≡ lost old.since = ap lost done.its_since in
+    let step : Step Frame = record { stimulus = stimulus; out = done.out } in
+    let long : length new.trace.steps ≡ length (old.trace.steps ++ step ∷ []) = ap (λ (trace : Trace Frame). length trace.steps) done.recorded in
+    let here = done.its_place in
+    (omega (arith, same, here), omega (arith, same, here, long, length-append old.trace.steps (step ∷ [])))

@@ -1,9 +1,9 @@
 -- What a node keeps is kept where it starts, and where links are opened and closed.
-use Rattle.std.specs.Prelude.{◌≡◌, ◌≤◌, ◌+◌, ◌-◌, ◌||◌, ℕ, Bool, true, false, not, List, [], ◌∷◌, ◌++◌, Option, drop, length, nat_le, if◌then◌else◌, refl, IsTrue}
+use Rattle.std.specs.Prelude.{◌≡◌, ◌≤◌, ◌+◌, ◌-◌, ◌||◌, ℕ, Bool, true, false, not, List, [], ◌∷◌, ◌++◌, Option, Some, None, map, option_map, drop, take, length, nat_le, if◌then◌else◌, refl, IsTrue}
 use Rattle.std.specs.List.{AllByRecursion as Each, IsDistinct}
-use Rattle.std.proofs.Common.{◌∙◌, ap, arith, length-append, rules, subst, sym, tests, zero-le}
+use Rattle.std.proofs.Common.{◌∙◌, ap, append_assoc, arith, length-append, rules, subst, sym, tests, zero-le}
 use Rattle.std.proofs.Math.Seq.{drop-length}
-use Rattle.std.proofs.lemmas.List.{append-nil, length-drop}
+use Rattle.std.proofs.lemmas.List.{append-nil, length-drop, length-take-le, take-append-drop}
 use Rattle.std.proofs.lemmas.List.Folds.{list_any-append}
 use Rattle.node_names.specs.NodeName.{Name}
 use Rattle.node_names.specs.Limits.{Limits}
@@ -15,13 +15,16 @@ use Rattle.world.specs.lawful.NameLists.{either_way}
 use Rattle.world.specs.OneDelivery.{OneDelivery}
 use Rattle.world.specs.Output.{Output}
 use Rattle.world.specs.Peers.{are_peers}
-use Rattle.world.specs.Replay.{Leads}
+use Rattle.world.specs.Replay.{Leads, Replays}
 use Rattle.world.specs.Stimulus.{Stimulus}
 use Rattle.world.specs.Trace.{Step, Trace, delivered}
 use Rattle.frames.specs.Frame.{Frame}
-use Rattle.node_threads.specs.Cell.{Cell, FollowsText, IsKept, Link, is_linked, peers_of}
+use Rattle.node_threads.specs.Cell.{Cell, FollowsText, IsKept, IsKeptAfter, IsPlace, Link, after, is_linked, lost, peers_of, steps_made}
+use Rattle.node_threads.specs.Forgetting.{forgetting}
+use Rattle.node_threads.specs.LinkText.{spelling}
 use Rattle.node_threads.specs.Opened.{linked_since, mail_since, without}
 use Rattle.node_threads.specs.Opening.{IsFresh, TellsItsStart, first_receiver}
+use Rattle.node_threads.proofs.Lost.{whole_text}
 
 -- ---- names of links
 
@@ -88,7 +91,7 @@ pub fresh_kept :
     (opening : Output Frame)
     (limit : ℕ)
     → IsFresh starts core opening
-    → IsKept starts steps (record { core = core; trace = fresh_trace (state core) opening; limit = limit; links = []; pending = []; handed_out = 0; is_shut = false })
+    → IsKept starts steps (record { core = core; since = None; trace = fresh_trace (state core) opening; limit = limit; links = []; pending = []; handed_out = 0; is_shut = false })
 fresh_kept state starts steps tells core opening limit fresh =
     let shows = tells fresh.me fresh.limits fresh.peers fresh.contact opening.sends core fresh.started in
     let me = sym shows.is_me in
@@ -96,6 +99,7 @@ fresh_kept state starts steps tells core opening limit fresh =
     let contact = sym shows.to_contact in
     let Allowed : Origin → List Name → Option Name → Type 0 = λ o ps ct. IsTrue (are_peers fresh.limits o.name ps ct) in
     let Started : Origin → List Name → Option Name → Type 0 = λ o ps ct. starts o fresh.limits ps ct opening.sends core in
+    let kept : IsKeptAfter starts steps [] (record { core = core; since = None; trace = fresh_trace (state core) opening; limit = limit; links = []; pending = []; handed_out = 0; is_shut = false }) =
     record {
       limits = fresh.limits;
       replays =
@@ -110,7 +114,8 @@ fresh_kept state starts steps tells core opening limit fresh =
       waiting = refl;
       distinct = no_names;
       texts = tt;
-    }
+    } in
+    record { before = []; forgotten = refl; kept = kept }
 
 -- ---- deliveries
 
@@ -149,29 +154,46 @@ module _
     (name : Name)
     (kept : IsKept starts steps cell)
   where
+    abbrev all : IsKeptAfter starts steps kept.before cell
+    all = kept.kept
+
+    closed_after : IsKeptAfter starts steps kept.before (record cell { links = without name cell.links })
+    closed_after =
+        record {
+          limits = all.limits;
+          replays = all.replays;
+          handed = all.handed;
+          waiting = all.waiting;
+          distinct = distinct_without name cell.links all.distinct;
+          texts = each_without (FollowsText (after kept.before cell.trace)) name cell.links all.texts;
+        }
+
     pub closed_kept : IsKept starts steps (record cell { links = without name cell.links })
-    closed_kept =
+    closed_kept = record { before = kept.before; forgotten = kept.forgotten; kept = closed_after }
+
+    -- the new link follows its text
+    follows : (since : ℕ) → IsPlace cell since → FollowsText (after kept.before cell.trace) (link_since cell name since)
+    follows since within =
         record {
-          limits = kept.limits;
-          replays = kept.replays;
-          handed = kept.handed;
-          waiting = kept.waiting;
-          distinct = distinct_without name cell.links kept.distinct;
-          texts = each_without (FollowsText cell.trace) name cell.links kept.texts;
+          opened_before = (let forgotten = kept.forgotten in omega (arith, within.1, forgotten, length-append kept.before cell.trace.steps));
+          pushed_text = ap (map spelling) (whole_text kept.before cell.trace name (lost cell.since) since kept.forgotten within.0);
         }
 
-    linked_kept : (since : ℕ) → since ≤ length cell.trace.steps → IsKept starts steps (record cell { links = without name cell.links ++ link_since cell name since ∷ [] })
-    linked_kept since within =
+    linked_after : (since : ℕ) → IsPlace cell since → IsKeptAfter starts steps kept.before (record cell { links = without name cell.links ++ link_since cell name since ∷ [] })
+    linked_after since within =
         record {
-          limits = kept.limits;
-          replays = kept.replays;
-          handed = kept.handed;
-          waiting = kept.waiting;
-          distinct = distinct_with (without name cell.links) (link_since cell name since) closed_kept.distinct (others name cell.links);
-          texts = each_with (FollowsText cell.trace) (without name cell.links) (link_since cell name since) closed_kept.texts (record { opened_before = within; pushed_text = refl });
+          limits = all.limits;
+          replays = all.replays;
+          handed = all.handed;
+          waiting = all.waiting;
+          distinct = distinct_with (without name cell.links) (link_since cell name since) closed_after.distinct (others name cell.links);
+          texts = each_with (FollowsText (after kept.before cell.trace)) (without name cell.links) (link_since cell name since) closed_after.texts (follows since within);
         }
 
-    pub opened_kept : (ring since : ℕ) → since ≤ length cell.trace.steps → IsKept starts steps (record cell { links = linked_since cell name ring since })
+    linked_kept : (since : ℕ) → IsPlace cell since → IsKept starts steps (record cell { links = without name cell.links ++ link_since cell name since ∷ [] })
+    linked_kept since within = record { before = kept.before; forgotten = kept.forgotten; kept = linked_after since within }
+
+    pub opened_kept : (ring since : ℕ) → IsPlace cell since → IsKept starts steps (record cell { links = linked_since cell name ring since })
     opened_kept ring since within =
         either_way (λ last. IsKept starts steps (record cell { links = without name cell.links ++ last })) (nat_le (length (mail_since cell name since)) ring) (link_since cell name since ∷ []) [] (linked_kept since within)
         (subst (λ ls. IsKept starts steps (record cell { links = ls })) (sym (append-nil (without name cell.links))) closed_kept)
@@ -190,23 +212,55 @@ module _
     (cell : Cell C)
     (kept : IsKept starts steps cell)
   where
-    abbrev all_taken : cell.handed_out + length cell.pending ≡ length (delivered cell.trace.steps)
-    all_taken = taken_all cell.handed_out (delivered cell.trace.steps) cell.pending kept.handed kept.waiting
+    abbrev steps_of : List (Step Frame)
+    steps_of = kept.before ++ cell.trace.steps
+
+    abbrev all_taken : cell.handed_out + length cell.pending ≡ length (delivered steps_of)
+    all_taken = taken_all cell.handed_out (delivered steps_of) cell.pending kept.kept.handed kept.kept.waiting
 
     -- a count of deliveries is at most one of steps
-    pub counts_few : OneDelivery state steps → cell.handed_out + length cell.pending ≤ length cell.trace.steps
+    pub counts_few : OneDelivery state steps → cell.handed_out + length cell.pending ≤ steps_made cell
     counts_few one =
-        let few = delivered_few state steps one kept.replays.first cell.core cell.trace.steps kept.replays.leads in
+        let few = delivered_few state steps one kept.kept.replays.first cell.core steps_of kept.kept.replays.leads in
         let all = all_taken in
-        omega arith
+        let forgotten = kept.forgotten in
+        omega (arith, length-append kept.before cell.trace.steps)
 
     pub taken_kept : IsKept starts steps (record cell { pending = []; handed_out = cell.handed_out + length cell.pending })
     taken_kept =
         record {
-          limits = kept.limits;
-          replays = kept.replays;
-          handed = (let all = all_taken in omega arith);
-          waiting = sym (ap (λ n. drop n (delivered cell.trace.steps)) all_taken ∙ drop-length (delivered cell.trace.steps));
-          distinct = kept.distinct;
-          texts = kept.texts;
+          before = kept.before;
+          forgotten = kept.forgotten;
+          kept =
+              record {
+                limits = kept.kept.limits;
+                replays = kept.kept.replays;
+                handed = (let all = all_taken in omega arith);
+                waiting = sym (ap (λ n. drop n (delivered steps_of)) all_taken ∙ drop-length (delivered steps_of));
+                distinct = kept.kept.distinct;
+                texts = kept.kept.texts;
+              };
+        }
+
+    -- ---- forgetting
+
+    -- what is left after the first steps of the trace are forgotten is still kept
+    pub forgetting_kept : (since count : ℕ) → cell.since ≡ Some since → count ≤ length cell.trace.steps → IsKept starts steps (forgetting count cell)
+    forgetting_kept since count is within =
+        let whole : (kept.before ++ take count cell.trace.steps) ++ drop count cell.trace.steps ≡ steps_of = append_assoc kept.before (take count cell.trace.steps) (drop count cell.trace.steps) ∙ ap (λ ss. kept.before ++ ss) (take-append-drop count cell.trace.steps) in
+        let same : after (kept.before ++ take count cell.trace.steps) (forgetting count cell).trace ≡ after kept.before cell.trace = ap (λ ss. record cell.trace { steps = ss }) whole in
+        let long : length (kept.before ++ take count cell.trace.steps) ≡ since + count =
+        length-append kept.before (take count cell.trace.steps) ∙ ap (λ n. n + length (take count cell.trace.steps)) (kept.forgotten ∙ ap lost is) ∙ ap (λ n. since + n) (length-take-le count cell.trace.steps within) in
+        record {
+          before = kept.before ++ take count cell.trace.steps;
+          forgotten = long ∙ sym (ap (λ s. lost (option_map (λ n. n + count) s)) is);
+          kept =
+              record {
+                limits = kept.kept.limits;
+                replays = subst (λ trace. Replays starts steps kept.kept.limits trace cell.core) (sym same) kept.kept.replays;
+                handed = subst (λ (trace : Trace Frame). cell.handed_out ≤ length (delivered trace.steps)) (sym same) kept.kept.handed;
+                waiting = subst (λ (trace : Trace Frame). cell.pending ≡ drop cell.handed_out (delivered trace.steps)) (sym same) kept.kept.waiting;
+                distinct = kept.kept.distinct;
+                texts = subst (λ trace. Each (FollowsText trace) cell.links) (sym same) kept.kept.texts;
+              };
         }

@@ -13,7 +13,7 @@ use Rattle.world.specs.Trace.{Trace}
 use Rattle.world.specs.declared.stimulus.StimulusOf.TheVariants.{Broadcast, Arrive, Fire, Flush, Down, Shuffle, Join}
 use Rattle.frames.specs.Frame.{Frame}
 use Rattle.node_threads.specs.Applying.{Applies, Puts, broadcast_id, id_given, mail_to, unlinked}
-use Rattle.node_threads.specs.Cell.{Cell, Link}
+use Rattle.node_threads.specs.Cell.{Cell, Link, steps_made}
 
 -- the first id is the id of the first
 first_id : (given : List Delivery) → option_map (λ d. d.id) (slice_get given 0) ≡ slice_get (ids given) 0
@@ -48,13 +48,13 @@ module _
   where
     -- the node after the step
     abbrev pub after_step : Cell C
-    after_step = record { core = core; trace = trace; limit = old.limit; links = live; pending = pending; handed_out = old.handed_out; is_shut = old.is_shut }
+    after_step = record { core = core; since = old.since; trace = trace; limit = old.limit; links = live; pending = pending; handed_out = old.handed_out; is_shut = old.is_shut }
 
     pub made_applies :
         steps old.core stimulus out.sends out.deliveries after
         → core ≡ after
         → id ≡ id_given stimulus out.deliveries
-        → place ≡ length old.trace.steps
+        → place ≡ steps_made old
         → trace ≡ record old.trace { steps = old.trace.steps ++ record { stimulus = stimulus; out = out } ∷ [] }
         → pending ≡ old.pending ++ out.deliveries
         → mails ≡ map (mail_to out.sends) old.links
@@ -73,6 +73,7 @@ module _
           posts = subst (λ ms. Puts ms old.links live full) its_mails put;
           lacks = lacks;
           its_limit = refl;
+          its_since = refl;
           handed_out = refl;
           is_open = is_open;
         }

@@ -1,5 +1,5 @@
 -- What is left of a list after a text, part by part.
-use Rattle.std.specs.Prelude.{◌≡◌, ◌⊎◌, ◌+◌, ◌<◌, ◌≤◌, ◌==◌, ℕ, Bool, true, false, List, [], ◌∷◌, ◌++◌, Option, Some, None, drop, filter, length, map, not, refl, if◌then◌else◌}
+use Rattle.std.specs.Prelude.{◌≡◌, ◌⊎◌, ◌+◌, ◌-◌, ◌<◌, ◌≤◌, ◌==◌, ℕ, Bool, true, false, List, [], ◌∷◌, ◌++◌, Option, Some, None, drop, filter, length, map, not, refl, if◌then◌else◌}
 use Rattle.std.specs.List.{slice_get}
 use Rattle.std.specs.Prelude.{nat_eq}
 use Rattle.std.specs.Cmp.Lexicographic.{pointwise}
@@ -12,7 +12,7 @@ use Rattle.node_names.specs.Same.{same_name, same_name-Decides}
 use Rattle.world.specs.Trace.{Step, Trace}
 use Rattle.frames.specs.Frame.{Frame}
 use Rattle.node_threads.specs.Applying.{mail_for}
-use Rattle.node_threads.specs.LinkText.{link_text, sent_to, spelling, text_of}
+use Rattle.node_threads.specs.LinkText.{sent_to, spelling, text_of, text_since}
 use Rattle.node_threads.specs.Outlet.{Outlet}
 use Rattle.node_threads.specs.Report.{BeginsText, Leaves}
 
@@ -127,47 +127,47 @@ is_there {X = X} xs i within none = go (slice_get_cases xs i).1
 -- ---- the text of a link
 
 -- the packets of the opening, where they count, as their bytes
-opening_mail : (peer : Name) (is_first : Bool) (sends : List (Name × Frame)) → mail_for (if is_first then sends else []) peer ≡ map spelling (if is_first then sent_to peer sends else [])
+pub opening_mail : (peer : Name) (is_first : Bool) (sends : List (Name × Frame)) → mail_for (if is_first then sends else []) peer ≡ map spelling (if is_first then sent_to peer sends else [])
 opening_mail peer true sends = refl
 opening_mail peer false sends = refl
 
 -- the text of a link is the packets of the opening, where they count, and then those of the steps
-pub text_parts : (trace : Trace Frame) (peer : Name) (opened : ℕ) → map spelling (link_text trace peer opened) ≡ (if opened == 0 then mail_for trace.opening.sends peer else []) ++ mail_since peer (drop opened trace.steps)
-text_parts trace peer opened =
-    map-append spelling (if opened == 0 then sent_to peer trace.opening.sends else []) (text_of peer (drop opened trace.steps))
-    ∙ ap (λ mail. mail ++ mail_since peer (drop opened trace.steps)) (opening_counts (opened == 0) (sent_to peer trace.opening.sends))
+pub text_parts : (since : ℕ) (trace : Trace Frame) (peer : Name) (opened : ℕ) → map spelling (text_since since trace peer opened) ≡ (if opened == 0 then mail_for trace.opening.sends peer else []) ++ mail_since peer (drop (opened - since) trace.steps)
+text_parts since trace peer opened =
+    map-append spelling (if opened == 0 then sent_to peer trace.opening.sends else []) (text_of peer (drop (opened - since) trace.steps))
+    ∙ ap (λ mail. mail ++ mail_since peer (drop (opened - since) trace.steps)) (opening_counts (opened == 0) (sent_to peer trace.opening.sends))
   where
     opening_counts : (counts : Bool) (frames : List Frame) → map spelling (if counts then frames else []) ≡ (if counts then map spelling frames else [])
     opening_counts true frames = refl
     opening_counts false frames = refl
 
-module _ (given : Texts) (trace : Trace Frame) (peer : Name) (opened : ℕ) (sends : List (Name × Frame)) (first : sends ≡ (if opened == 0 then trace.opening.sends else [])) where
+module _ (given : Texts) (since : ℕ) (trace : Trace Frame) (peer : Name) (opened : ℕ) (sends : List (Name × Frame)) (first : sends ≡ (if opened == 0 then trace.opening.sends else [])) where
   -- the text is the packets of the opening and then those of the steps
-  link_parts : map spelling (link_text trace peer opened) ≡ mail_for sends peer ++ mail_since peer (drop opened trace.steps)
+  link_parts : map spelling (text_since since trace peer opened) ≡ mail_for sends peer ++ mail_since peer (drop (opened - since) trace.steps)
   link_parts =
-      map-append spelling (if opened == 0 then sent_to peer trace.opening.sends else []) (text_of peer (drop opened trace.steps))
-      ∙ ap (λ mail. mail ++ mail_since peer (drop opened trace.steps)) (sym (ap (λ ss. mail_for ss peer) first ∙ opening_mail peer (opened == 0) trace.opening.sends))
+      map-append spelling (if opened == 0 then sent_to peer trace.opening.sends else []) (text_of peer (drop (opened - since) trace.steps))
+      ∙ ap (λ mail. mail ++ mail_since peer (drop (opened - since) trace.steps)) (sym (ap (λ ss. mail_for ss peer) first ∙ opening_mail peer (opened == 0) trace.opening.sends))
 
-  pub after_link : (rest : Texts) (left : Option Texts) → Leaves given (mail_for sends peer) (Some rest) → Leaves rest (mail_since peer (drop opened trace.steps)) left → Leaves given (map spelling (link_text trace peer opened)) left
-  after_link rest left one two = subst (λ t. Leaves given t left) (sym link_parts) (after_both given (mail_for sends peer) (mail_since peer (drop opened trace.steps)) rest left one two)
+  pub after_link : (rest : Texts) (left : Option Texts) → Leaves given (mail_for sends peer) (Some rest) → Leaves rest (mail_since peer (drop (opened - since) trace.steps)) left → Leaves given (map spelling (text_since since trace peer opened)) left
+  after_link rest left one two = subst (λ t. Leaves given t left) (sym link_parts) (after_both given (mail_for sends peer) (mail_since peer (drop (opened - since) trace.steps)) rest left one two)
 
-  pub after_link_differing : Leaves given (mail_for sends peer) None → Leaves given (map spelling (link_text trace peer opened)) None
-  after_link_differing differ = subst (λ t. Leaves given t None) (sym link_parts) (after_differing given (mail_for sends peer) (mail_since peer (drop opened trace.steps)) differ)
+  pub after_link_differing : Leaves given (mail_for sends peer) None → Leaves given (map spelling (text_since since trace peer opened)) None
+  after_link_differing differ = subst (λ t. Leaves given t None) (sym link_parts) (after_differing given (mail_for sends peer) (mail_since peer (drop (opened - since) trace.steps)) differ)
 
 -- ---- an outlet
 
-module _ (trace : Trace Frame) (outlet : Outlet) where
+module _ (since : ℕ) (trace : Trace Frame) (outlet : Outlet) where
   -- the text of the outlet's link
   abbrev pub its_text : Texts
-  its_text = map spelling (link_text trace outlet.peer outlet.opened)
+  its_text = map spelling (text_since since trace outlet.peer outlet.opened)
 
-  pub is_begun : (rest : Texts) → outlet.opened ≤ length trace.steps → Leaves outlet.given its_text (Some rest) → length rest ≡ 0 → BeginsText trace outlet
-  is_begun rest before left none = record { opened_before = before; begins = begins outlet.given its_text rest left none }
+  pub is_begun : (rest : Texts) → since ≤ outlet.opened → outlet.opened ≤ since + length trace.steps → Leaves outlet.given its_text (Some rest) → length rest ≡ 0 → BeginsText since trace outlet
+  is_begun rest behind before left none = record { opened_since = behind; opened_before = before; begins = begins outlet.given its_text rest left none }
 
-  pub is_not_begun : Leaves outlet.given its_text None → BeginsText trace outlet → ⊥
+  pub is_not_begun : Leaves outlet.given its_text None → BeginsText since trace outlet → ⊥
   is_not_begun left text = begins_not outlet.given its_text left text.begins
 
-  pub is_used_up : (rest : Texts) → Leaves outlet.given its_text (Some rest) → BeginsText trace outlet → length rest ≡ 0
+  pub is_used_up : (rest : Texts) → Leaves outlet.given its_text (Some rest) → BeginsText since trace outlet → length rest ≡ 0
   is_used_up rest left text = begins_whole outlet.given its_text rest left text.begins
 
 -- ---- one packet that goes to the peer
@@ -177,7 +177,7 @@ not_false true is = refl
 not_false false is = absurd (true≢false is)
 
 module _ (given rest : Texts) (first : List ℕ) (peer : Name) (send : Name × Frame) (parts : given ≡ first ∷ rest) (goes : same_name send.0 peer ≡ true) where
-  its_mail : mail_for (send ∷ []) peer ≡ spelling send.1 ∷ []
+  pub its_mail : mail_for (send ∷ []) peer ≡ spelling send.1 ∷ []
   its_mail = ap (λ b. bytes_of (if b then send ∷ [] else [])) goes
 
   -- what came out first is the packet

@@ -10,7 +10,7 @@ use Rattle.world.specs.PayloadLaw.{next_id}
 use Rattle.world.specs.Stimulus.{Stimulus}
 use Rattle.world.specs.declared.stimulus.StimulusOf.TheVariants.{Broadcast, Arrive, Fire, Flush, Down, Shuffle, Join}
 use Rattle.frames.specs.Frame.{Frame}
-use Rattle.node_threads.specs.Cell.{Cell, Link, is_linked}
+use Rattle.node_threads.specs.Cell.{Cell, Link, is_linked, steps_made}
 use Rattle.node_threads.specs.LinkText.{sent_to, spelling}
 
 -- the id that a broadcast gets
@@ -72,11 +72,12 @@ pub record Applies {C : Type 0} (state : C → CoreState) (steps : C → Stimulu
   pub out : Output Frame
   pub stepped : steps old.core stimulus out.sends out.deliveries new.core
   pub its_id : id ≡ broadcast_id (state old.core) stimulus
-  pub its_place : place ≡ length old.trace.steps
+  pub its_place : place ≡ steps_made old
   pub recorded : new.trace ≡ record old.trace { steps = old.trace.steps ++ record { stimulus = stimulus; out = out } ∷ [] }
   pub delivers : new.pending ≡ old.pending ++ out.deliveries
   pub posts : Posts out.sends old.links new.links full
   pub lacks : lacking ≡ unlinked old.links out.sends
   pub its_limit : new.limit ≡ old.limit
+  pub its_since : new.since ≡ old.since
   pub handed_out : new.handed_out ≡ old.handed_out
   pub is_open : new.is_shut ≡ false

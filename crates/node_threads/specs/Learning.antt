@@ -14,11 +14,11 @@ pub record Learnt : Type 0 where
   pub names : List Name
   pub outlets : List Outlet
 
--- the outlet of a link to this name whose text begins when the trace had `since` steps, which has given nothing
+-- the outlet of a link to this name whose text begins when the node had made `since` steps, which has given nothing
 abbrev pub outlet_since : ℕ → Name → Outlet
 outlet_since since name = record { peer = name; opened = since; given = []; seen = [] }
 
--- the node with a link to this name whose text begins when the trace had `since` steps
+-- the node with a link to this name whose text begins when the node had made `since` steps
 abbrev pub with_link : {C : Type 0} → ℕ → Cell C → Learnt → Name → Cell C
 with_link since cell learnt name = record cell { links = linked_since cell name learnt.ring since }
 
@@ -33,7 +33,7 @@ pub record MayOpen {C : Type 0} (since : ℕ) (cell : Cell C) (learnt : Learnt) 
   pub fewer : length learnt.names < learnt.most
   pub fits : is_linked (with_link since cell learnt name).links name ≡ true
 
--- The node opens a link to this name, whose text begins when the trace had `since` steps.
+-- The node opens a link to this name, whose text begins when the node had made `since` steps.
 pub record OpensOne {C : Type 0} (since : ℕ) (old : Cell C) (learnt : Learnt) (name : Name) (new : Cell C) (learnt' : Learnt) : Type 0 where
   pub may_open : MayOpen since old learnt name
   pub linked : new ≡ with_link since old learnt name

@@ -3,6 +3,7 @@ pub mod Calls
 pub mod Cell
 pub mod Closing
 pub mod Downs
+pub mod Forgetting
 pub mod History
 pub mod Learning
 pub mod Leaving

@@ -1,5 +1,5 @@
 -- What a link carries: the frames that a node sent to one name since the link was opened.
-use Rattle.std.specs.Prelude.{ℕ, ◌==◌, List, [], ◌++◌, drop, filter, length, map, if◌then◌else◌}
+use Rattle.std.specs.Prelude.{ℕ, ◌==◌, ◌-◌, List, [], ◌++◌, drop, filter, length, map, if◌then◌else◌}
 use Rattle.std.specs.List.{flat_map}
 use Rattle.std.specs.Int.{w32, to_be_bytes}
 use Rattle.node_names.specs.NodeName.{Name}
@@ -24,3 +24,7 @@ text_of peer steps = flat_map (λ step. sent_to peer step.out.sends) steps
 -- opening if there was no step yet, and then those of the steps since.
 abbrev pub link_text : Trace Frame → Name → ℕ → List Frame
 link_text trace peer opened = (if opened == 0 then sent_to peer trace.opening.sends else []) ++ text_of peer (drop opened trace.steps)
+
+-- The same, where the trace lacks the first `since` steps, which were made before the link was opened.
+abbrev pub text_since : ℕ → Trace Frame → Name → ℕ → List Frame
+text_since since trace peer opened = (if opened == 0 then sent_to peer trace.opening.sends else []) ++ text_of peer (drop (opened - since) trace.steps)

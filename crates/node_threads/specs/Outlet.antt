@@ -1,5 +1,5 @@
 -- What an outlet is seen as.
-use Rattle.std.specs.Prelude.{◌≡◌, ℕ, List, []}
+use Rattle.std.specs.Prelude.{◌≡◌, ℕ, List, [], ◌++◌}
 use mathlib.Core.List.{IsPrefix}
 use Rattle.node_names.specs.NodeName.{Name}
 
@@ -8,8 +8,12 @@ pub record Tap : Type 0 where
   pub given : List (List ℕ)
   pub seen : List (List ℕ)
 
--- The name that its link goes to, how many steps the trace had when that was opened, what came out of it, each frame as
--- its bytes, and what it saw in its ring and did not give.
+-- The frames that came out of a ring end in these.
+abbrev pub EndsIn : List (List ℕ) → List (List ℕ) → Type 0
+EndsIn all last = (before : List (List ℕ)) × (all ≡ before ++ last)
+
+-- The name that its link goes to, how many steps the node had made when that was opened, what came out of it since, each
+-- frame as its bytes, and what it saw in its ring and did not give.
 pub record Outlet : Type 0 where
   pub peer : Name
   pub opened : ℕ

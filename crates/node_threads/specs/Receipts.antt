@@ -1,12 +1,16 @@
 -- What ports got for their broadcasts, and when this is as in the trace.
 use Rattle.std.specs.Prelude.{◌≡◌, ◌≤◌, ◌<◌, ◌+◌, ◌==◌, ℕ, List, [], ◌∷◌, Option, Some, None, All, count_by, length, slice_get, take}
 use Rattle.std.specs.List.{flat_map}
+use Rattle.node_names.specs.NodeName.{Name}
 use Rattle.node_names.specs.declared.ids.MsgId.{MsgId}
+use Rattle.world.specs.CoreState.{CoreState}
+use Rattle.world.specs.Delivery.{Delivery}
 use Rattle.world.specs.Stimulus.{Stimulus}
 use Rattle.world.specs.Trace.{Step}
 use Rattle.world.specs.declared.stimulus.StimulusOf.TheVariants.{Broadcast, Arrive, Fire, Flush, Down, Shuffle, Join}
 use Rattle.frames.specs.Frame.{Frame}
-use Rattle.node_threads.specs.Applying.{id_given}
+use Rattle.node_threads.specs.Applying.{Applies, id_given}
+use Rattle.node_threads.specs.Cell.{Cell}
 use Rattle.node_threads.specs.declared.receipt.Receipt.{Receipt}
 
 -- A port asked for the broadcast of this payload and got this receipt.
@@ -44,6 +48,14 @@ pub record PortsFit (steps : List (Step Frame)) (ports : List (List Call)) : Typ
   pub in_order : All (Rises 0) ports
   pub right : All (IsRight steps) (all_calls ports)
   pub once : (place : ℕ) → calls_at place (all_calls ports) ≤ 1
+
+-- A node made a step that broadcast this payload, and the receipt has the id and the place of that step.
+pub record IsMade {C : Type 0} (state : C → CoreState) (steps : C → Stimulus Frame → List (Name × Frame) → List Delivery → C → Type 0) (payload : List ℕ) (receipt : Receipt) : Type 0 where
+  pub old : Cell C
+  pub new : Cell C
+  pub full : List Name
+  pub lacking : List Name
+  pub applies : Applies state steps old (Broadcast payload) new (Some receipt.id) receipt.place full lacking
 
 -- 1 for a broadcast, and 0 for any other stimulus
 abbrev pub broadcasts_of : Stimulus Frame → ℕ

@@ -1,16 +1,16 @@
 -- When a running node refuses a step.
-use Rattle.std.specs.Prelude.{◌≡◌, ◌<◌, ◌≤◌, ℕ, List, true, false, length}
+use Rattle.std.specs.Prelude.{◌≡◌, ◌⊎◌, ◌<◌, ◌≤◌, ◌+◌, ◌^◌, ℕ, List, true, false, length}
 use Rattle.world.specs.IdentityLaw.{IsTooLong}
 use Rattle.world.specs.Stimulus.{Stimulus}
 use Rattle.world.specs.declared.protocol.CoreError.TheVariants.{PayloadTooLong, SeqSpent, OutOfMemory}
 use Rattle.frames.specs.Frame.{Frame}
-use Rattle.node_threads.specs.Cell.{Cell}
+use Rattle.node_threads.specs.Cell.{Cell, steps_made}
 use Rattle.node_threads.specs.declared.error.HostError.{HostError}
 use Rattle.node_threads.specs.declared.error.HostError.TheVariants as host
 
--- The node was not shut, and its trace may have one more step.
+-- The node was not shut, its trace may have one more step, and there is a number for the place behind it.
 abbrev pub HasRoom : {C : Type 0} → Cell C → Type 0
-HasRoom cell = (cell.is_shut ≡ false) × (length cell.trace.steps < cell.limit)
+HasRoom cell = (cell.is_shut ≡ false) × (length cell.trace.steps < cell.limit) × (steps_made cell + 1 < 2 ^ 64)
 
 -- When the core refuses the step with this error: a payload that is too long is refused as such, and numbers are used
 -- up only if the core says so.
@@ -27,7 +27,7 @@ CoreRefuses is_spent core stimulus host.OutOfMemory = IsTooLong stimulus → ⊥
 -- allocation is refused.
 abbrev pub Refuses : {C : Type 0} → (C → Stimulus Frame → Type 0) → Cell C → Stimulus Frame → HostError → Type 0
 Refuses is_spent cell stimulus host.Closed = cell.is_shut ≡ true
-Refuses is_spent cell stimulus host.TraceFull = (cell.is_shut ≡ false) × (cell.limit ≤ length cell.trace.steps)
+Refuses is_spent cell stimulus host.TraceFull = (cell.is_shut ≡ false) × ((cell.limit ≤ length cell.trace.steps) ⊎ (2 ^ 64 ≤ steps_made cell + 1))
 Refuses is_spent cell stimulus (host.Refused error) = HasRoom cell × CoreRefuses is_spent cell.core stimulus (host.Refused error)
 Refuses is_spent cell stimulus host.GateShut = ⊥
 Refuses is_spent cell stimulus host.OutOfMemory = HasRoom cell × (IsTooLong stimulus → ⊥)

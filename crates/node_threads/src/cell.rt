@@ -1,8 +1,9 @@
 //! The state that a running node keeps under its lock.
-ghost use Rattle.std.specs.Prelude.{◌≡◌, ◌<◌, ◌+◌, [], true, false, IfOk, IfErr, OnOk, OnErr, length};
+ghost use Rattle.std.specs.Prelude.{◌≡◌, ◌⊎◌, ◌<◌, ◌≤◌, ◌+◌, ◌^◌, [], true, false, IfOk, IfErr, OnOk, OnErr, None, Some, length};
 ghost use Rattle.world.specs.IdentityLaw.{IsTooLong};
 ghost use Rattle.node_threads.specs.Applying.{Applies, id_given};
-ghost use Rattle.node_threads.specs.History.{IsHistory};
+ghost use Rattle.node_threads.specs.Cell.{lost, steps_made};
+ghost use Rattle.node_threads.specs.Closing.{IsLeft};
 ghost use Rattle.node_threads.specs.Opening.{IsFresh, first_receiver};
 ghost use Rattle.node_threads.specs.Refusal.{CoreRefuses, HasRoom, Refuses};
 
@@ -11,6 +12,7 @@ use crate::cores::NodeCore;
 use crate::error::HostError;
 use crate::link::Link;
 use crate::posting::{Posting, close_full, post_all, posting_for};
+use crate::progress::Progress;
 use crate::recording::record;
 use frames::Frame;
 use node_core::PreparedStep;
@@ -26,6 +28,8 @@ use world::{CoreError, Delivery, Out, Prepared, Step, Stimulus, StimulusOf, Trac
 #[derive(Drop)]
 pub struct NodeCell<C: NodeCore<A> + Drop, A: Allocator = Global> {
     core: C,
+    /// How many of its steps it has forgotten, if it may forget. The trace has those after them.
+    pub(crate) since: Option<usize>,
     pub(crate) trace: Trace<Frame<A>, A>,
     limit: usize,
     pub(crate) links: Vec<Link<A>, A>,
@@ -36,17 +40,21 @@ pub struct NodeCell<C: NodeCore<A> + Drop, A: Allocator = Global> {
     pending: Listed<Delivery<A>, A>,
     handed_out: usize,
     is_shut: bool,
+    /// How many steps it had made when the last segment was made.
+    pub(crate) sealed: usize,
+    /// How far its outlets were compared with the trace.
+    pub(crate) progress: Progress<A>,
 }
 
 impl<C: NodeCore<A> + Drop, A: Allocator> Model for NodeCell<C, A> {
-    ghost use Rattle.std.specs.Prelude.{◌≡◌, []};
-    ghost use Rattle.node_threads.specs.Cell.{Cell, IsKept, IsListed};
+    ghost use Rattle.std.specs.Prelude.{◌≡◌, ◌<◌, ◌+◌, ◌^◌, [], length};
+    ghost use Rattle.node_threads.specs.Cell.{Cell, IsKept, IsListed, lost};
 
     ghost Value = { Cell C };
 
-    ghost view = { λ c. record { core = c.core; trace = c.trace; limit = c.limit; links = c.links.items; pending = c.pending; handed_out = c.handed_out; is_shut = c.is_shut } };
+    ghost view = { λ c. record { core = c.core; since = c.since; trace = c.trace; limit = c.limit; links = c.links.items; pending = c.pending; handed_out = c.handed_out; is_shut = c.is_shut } };
 
-    ghost invariant = { λ c. IsKept C.starts C.steps (record { core = c.core; trace = c.trace; limit = c.limit; links = c.links.items; pending = c.pending; handed_out = c.handed_out; is_shut = c.is_shut }) × IsListed c.links.items c.names.keys × (c.room.items ≡ []) };
+    ghost invariant = { λ c. IsKept C.starts C.steps (record { core = c.core; since = c.since; trace = c.trace; limit = c.limit; links = c.links.items; pending = c.pending; handed_out = c.handed_out; is_shut = c.is_shut }) × IsListed c.links.items c.names.keys × (c.room.items ≡ []) × (lost c.since + length c.trace.steps < 2 ^ 64) };
 }
 
 /// The id of the message that was broadcast, if the step was a broadcast.
@@ -117,6 +125,7 @@ impl<C: NodeCore<A> + Drop, A: Allocator + Copy> NodeCell<C, A> {
         requires { IsFresh C.starts core opening }
         ensures ok { IfOk result (λ cell. cell ≡ record {
           core = core;
+          since = None;
           trace = record { origin = (C.state core).me; peers = (C.state core).active; contact = first_receiver opening.sends; opening = opening; steps = [] };
           limit = trace_limit;
           links = [];
@@ -129,6 +138,7 @@ impl<C: NodeCore<A> + Drop, A: Allocator + Copy> NodeCell<C, A> {
         let trace = fresh_trace(alloc, &core, opening)?;
         Ok(NodeCell {
             core,
+            since: None,
             trace,
             limit: trace_limit,
             links: Vec::new(alloc),
@@ -137,13 +147,15 @@ impl<C: NodeCore<A> + Drop, A: Allocator + Copy> NodeCell<C, A> {
             pending: Listed::new(alloc),
             handed_out: 0,
             is_shut: false,
+            sealed: 0,
+            progress: Progress::new(alloc),
         })
     }
 
     /// Lets the core take one stimulus, records the step, and puts its frames into the rings of the open links.
     ///
-    /// `Closed`: the node was shut. `TraceFull`: the trace has as many steps as it may have. `Refused`: the core
-    /// refused the step. `OutOfMemory` comes last. A link whose ring has no room is closed and listed in
+    /// `Closed`: the node was shut. `TraceFull`: the trace has as many steps as it may have, or the node has made
+    /// `usize::MAX` of them. `Refused`: the core refused the step. `OutOfMemory` comes last. A link whose ring has no room is closed and listed in
     /// `Applied::full`, and the step stands.
     pub fn apply(&mut self, stimulus: Stimulus<Frame<A>, A>) -> Result<Applied<A>, HostError>
         ensures applied { IfOk result (λ applied. Applies C.state C.steps self.old stimulus self.new applied.id applied.place applied.full applied.unlinked) }
@@ -154,10 +166,10 @@ impl<C: NodeCore<A> + Drop, A: Allocator + Copy> NodeCell<C, A> {
         if self.is_shut {
             return Err(HostError::Closed);
         }
-        let place = self.trace.len();
-        if place >= self.limit {
+        if self.is_full() {
             return Err(HostError::TraceFull);
         }
+        let place = self.steps_made();
         let alloc = *self.links.allocator();
         let (turn, out) = prepare(alloc, &self.core, &stimulus)?;
         self.room.reserve(self.links.len())?;
@@ -192,7 +204,7 @@ impl<C: NodeCore<A> + Drop, A: Allocator + Copy> NodeCell<C, A> {
         ensures given { result.items ≡ self.old.pending }
         ensures handed_out { self.new ≡ record self.old { pending = []; handed_out = self.old.handed_out + length self.old.pending } }
     {
-        let _bound = self.trace.len();
+        let _bound = self.steps_made();
         let alloc = *self.links.allocator();
         let given = mem::replace(&mut self.pending, Listed::new(alloc));
         self.handed_out += given.len();
@@ -234,24 +246,58 @@ impl<C: NodeCore<A> + Drop, A: Allocator + Copy> NodeCell<C, A> {
         &self.core
     }
 
-    /// The trace: all that the node did.
+    /// The trace: all that the node did, without the steps that it has forgotten.
     pub fn trace(&self) -> &Trace<Frame<A>, A>
         ensures { result.now ≡ self.now.trace }
     {
         &self.trace
     }
+
+    /// How many of its steps it has forgotten, if it may forget (`forget_from_now`).
+    pub fn since(&self) -> Option<usize>
+        ensures { result ≡ self.now.since }
+    {
+        self.since
+    }
+
+    /// How many of its steps it has forgotten.
+    pub(crate) fn lost(&self) -> usize
+        ensures { result ≡ lost self.now.since }
+    {
+        match self.since {
+            Some(since) => since,
+            None => 0,
+        }
+    }
+
+    /// How many steps it has made, forgotten ones included.
+    pub fn steps_made(&self) -> usize
+        ensures { result ≡ steps_made self.now }
+    {
+        self.lost() + self.trace.len()
+    }
+
+    /// Whether no step more may be made.
+    fn is_full(&self) -> bool
+        ensures full { result ≡ true → (self.now.limit ≤ length self.now.trace.steps) ⊎ (2 ^ 64 ≤ steps_made self.now + 1) }
+        ensures room { result ≡ false → (length self.now.trace.steps < self.now.limit) × (steps_made self.now + 1 < 2 ^ 64) }
+    {
+        self.trace.len() >= self.limit || self.steps_made() == usize::MAX
+    }
+
     /// The allocator of all that it keeps.
     pub(crate) fn alloc(&self) -> A {
         *self.links.allocator()
     }
 
-    /// Takes the trace, which is all that the node did, out of it.
+    /// Takes the trace, which is all that the node did but for what it has forgotten, out of it.
     pub fn into_trace(self) -> Trace<Frame<A>, A>
         ensures same { result ≡ self.trace }
-        ensures history { IsHistory C.starts C.steps result }
+        ensures history { IsLeft C.starts C.steps self.since result }
     {
         let NodeCell {
             core: _,
+            since: _,
             trace,
             limit: _,
             links: _,
@@ -260,6 +306,8 @@ impl<C: NodeCore<A> + Drop, A: Allocator + Copy> NodeCell<C, A> {
             pending: _,
             handed_out: _,
             is_shut: _,
+            sealed: _,
+            progress: _,
         } = self;
         trace
     }

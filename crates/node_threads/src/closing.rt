@@ -1,8 +1,7 @@
 //! Closing a running node.
-ghost use Rattle.std.specs.Prelude.{◌≡◌, ◌≤◌, true, List, ◌∷◌, [], ◌++◌, IfOk, IfErr, length};
+ghost use Rattle.std.specs.Prelude.{◌≡◌, ◌≤◌, true, None, List, ◌∷◌, [], ◌++◌, IfOk, IfErr, length};
 ghost use Rattle.world.specs.Trace.{delivered};
-ghost use Rattle.node_threads.specs.Closing.{Fails, Finds, IsClosed, Matches, Mismatches};
-ghost use Rattle.node_threads.specs.History.{IsHistory};
+ghost use Rattle.node_threads.specs.Closing.{Fails, Finds, IsClosed, IsLeft, Matches, Mismatches};
 ghost use Rattle.node_threads.specs.Leaving.{AreLeft, outlets_of};
 ghost use Rattle.node_threads.specs.Outlet.{Outlet};
 ghost use Rattle.node_threads.specs.Receipts.{Call as Made};
@@ -70,8 +69,8 @@ fn compare_records<C: NodeCore<A> + Drop, A: Allocator + Copy>(
     ports: Vec<Port<C, A>, A>,
     workers: &[Outlets<A>],
 ) -> Result<Vec<LinkReport, A>, Mismatch>
-    ensures ok { IfOk result (λ links. Matches cell.now.trace ports.items (outlets_of workers.now) links.items) }
-    ensures err { IfErr result (Mismatches cell.now.trace ports.items (outlets_of workers.now)) }
+    ensures ok { IfOk result (λ links. Matches cell.now.since cell.now.trace ports.items (outlets_of workers.now) links.items) }
+    ensures err { IfErr result (Mismatches cell.now.since cell.now.trace ports.items (outlets_of workers.now)) }
 {
     let alloc = cell.alloc();
     let calls = calls_of(alloc, ports)?;
@@ -81,14 +80,15 @@ fn compare_records<C: NodeCore<A> + Drop, A: Allocator + Copy>(
 /// Makes the error that hands the trace out.
 fn close_error<C: NodeCore<A> + Drop, A: Allocator + Copy>(
     mismatch: Mismatch,
+    since: Option<usize>,
     trace: Trace<Frame<A>, A>,
 ) -> CloseError<C, A>
-    ensures { (ports : List (List Made)) (outlets : List Outlet) → IsHistory C.starts C.steps trace → Mismatches trace ports outlets mismatch → Finds C.starts C.steps ports outlets result }
+    ensures { (ports : List (List Made)) (outlets : List Outlet) → IsLeft C.starts C.steps since trace → Mismatches since trace ports outlets mismatch → Finds C.starts C.steps ports outlets result }
 {
     match mismatch {
-        Mismatch::Port(port) => CloseError::Unlike { port, trace },
-        Mismatch::Link(peer) => CloseError::Torn { peer, trace },
-        Mismatch::OutOfMemory => CloseError::OutOfMemory { trace },
+        Mismatch::Port(port) => CloseError::Unlike { port, since, trace },
+        Mismatch::Link(peer) => CloseError::Torn { peer, since, trace },
+        Mismatch::OutOfMemory => CloseError::OutOfMemory { since, trace },
     }
 }
 
@@ -96,7 +96,7 @@ impl<C: NodeCore<A> + Drop, A: Allocator + Copy> NodeCell<C, A> {
     /// The number of deliveries that were handed out, which are the first ones of its trace.
     fn count_handed(&self) -> u64
         ensures same { result ≡ self.now.handed_out }
-        ensures within { result ≤ length (delivered self.now.trace.steps) }
+        ensures within { self.now.since ≡ None → result ≤ length (delivered self.now.trace.steps) }
     {
         let _steps = self.trace.len();
         self.handed_out()
@@ -109,23 +109,26 @@ fn hand_back<C: NodeCore<A> + Drop, A: Allocator + Copy>(
     ports: Vec<Port<C, A>, A>,
     workers: Vec<Outlets<A>, A>,
 ) -> Result<Closed<A>, CloseError<C, A>>
+    ensures since { IfOk result (λ closed. closed.since ≡ cell.since) }
     ensures trace { IfOk result (λ closed. closed.trace ≡ cell.trace) }
-    ensures history { IfOk result (λ closed. IsHistory C.starts C.steps closed.trace) }
+    ensures history { IfOk result (λ closed. IsLeft C.starts C.steps closed.since closed.trace) }
     ensures handed { IfOk result (λ closed. closed.handed_out ≡ cell.handed_out) }
-    ensures handed_within { IfOk result (λ closed. closed.handed_out ≤ length (delivered closed.trace.steps)) }
-    ensures matches { IfOk result (λ closed. Matches closed.trace ports.items (outlets_of workers.items) closed.links.items) }
+    ensures handed_within { IfOk result (λ closed. closed.since ≡ None → closed.handed_out ≤ length (delivered closed.trace.steps)) }
+    ensures matches { IfOk result (λ closed. Matches closed.since closed.trace ports.items (outlets_of workers.items) closed.links.items) }
     ensures err { IfErr result (Finds C.starts C.steps ports.items (outlets_of workers.items)) }
 {
     let verdict = compare_records(&cell, ports, workers.as_slice());
     let handed_out = cell.count_handed();
+    let since = cell.since();
     let trace = cell.into_trace();
     match verdict {
         Ok(links) => Ok(Closed {
+            since,
             trace,
             handed_out,
             links,
         }),
-        Err(mismatch) => Err(close_error(mismatch, trace)),
+        Err(mismatch) => Err(close_error(mismatch, since, trace)),
     }
 }
 
@@ -135,7 +138,7 @@ impl<C: NodeCore<A> + Drop, A: Allocator + Copy> Host<C, A> {
     /// `PortMissing`: the number of ports is not the number that were made, or the number of workers is not the number
     /// that were started and not joined yet; nothing was stopped. After that come `Unlike`, `Torn` and `OutOfMemory`,
     /// in this order except that an allocation may be refused at any point: the node is closed, and its trace is handed
-    /// out.
+    /// out. Of a node that may forget, all this is about what is left: `Closed::since`.
     ///
     /// Call it in the thread that started the workers. It returns when they have ended: readers whose links do not end
     /// keep it waiting.
@@ -146,9 +149,9 @@ impl<C: NodeCore<A> + Drop, A: Allocator + Copy> Host<C, A> {
         workers: Vec<Worker<A>, A>,
     ) -> Result<Closed<A>, CloseError<C, A>>
         ensures counted { IfOk result (λ closed. length ports.items ≡ self) }
-        ensures history { IfOk result (λ closed. IsHistory C.starts C.steps closed.trace) }
-        ensures handed { IfOk result (λ closed. closed.handed_out ≤ length (delivered closed.trace.steps)) }
-        ensures matches { IfOk result (λ closed. IsClosed closed.trace ports.items workers.items closed.links.items) }
+        ensures history { IfOk result (λ closed. IsLeft C.starts C.steps closed.since closed.trace) }
+        ensures handed { IfOk result (λ closed. closed.since ≡ None → closed.handed_out ≤ length (delivered closed.trace.steps)) }
+        ensures matches { IfOk result (λ closed. IsClosed closed.since closed.trace ports.items workers.items closed.links.items) }
         ensures err { IfErr result (Fails C.starts C.steps self ports.items workers.items) }
     {
         if ports.len() != self.ports || workers.len() != self.shared.workers() {
@@ -165,6 +168,7 @@ impl<C: NodeCore<A> + Drop, A: Allocator + Copy> Host<C, A> {
         match outlets {
             Ok(outlets) => hand_back(cell, ports, outlets),
             Err(_) => Err(CloseError::OutOfMemory {
+                since: cell.since(),
                 trace: cell.into_trace(),
             }),
         }

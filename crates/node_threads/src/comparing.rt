@@ -1,7 +1,8 @@
 //! Compares what a closed node left with its trace.
-ghost use Rattle.std.specs.Prelude.{◌≡◌, List, [], ◌∷◌, ◌++◌, IfOk, IfErr, OnOk};
+ghost use Rattle.std.specs.Prelude.{◌≡◌, List, [], ◌∷◌, ◌++◌, None, IfOk, IfErr, OnOk};
 ghost use Rattle.std.specs.Option.{option_to_list};
-ghost use Rattle.node_threads.specs.Closing.{Matches, Mismatches, Tears};
+ghost use Rattle.node_threads.specs.Cell.{lost};
+ghost use Rattle.node_threads.specs.Closing.{AreAlike, Matches, Mismatches, Tears};
 ghost use Rattle.node_threads.specs.Leaving.{outlets_in, outlets_of};
 ghost use Rattle.node_threads.specs.Outlet.{Outlet as Seen};
 ghost use Rattle.node_threads.specs.Receipts.{AllAlike};
@@ -49,11 +50,26 @@ fn compare_ports<A: Allocator + Copy>(
     ports: &[Listed<Call<A>, A>],
 ) -> Result<(), Mismatch>
     ensures ok { OnOk result (AllAlike trace.now.steps ports.now) }
-    ensures err { (outlets : List Seen) → IfErr result (Mismatches trace.now ports.now outlets) }
+    ensures err { (outlets : List Seen) → IfErr result (Mismatches None trace.now ports.now outlets) }
 {
     match first_unlike(alloc, trace, ports)? {
         Some(port) => Err(Mismatch::Port(port)),
         None => Ok(()),
+    }
+}
+
+/// Checks that the receipts of all ports are as in the trace, unless the node may forget.
+fn compare_calls<C: NodeCore<A> + Drop, A: Allocator + Copy>(
+    alloc: A,
+    cell: &NodeCell<C, A>,
+    ports: &[Listed<Call<A>, A>],
+) -> Result<(), Mismatch>
+    ensures ok { OnOk result (AreAlike cell.now.since cell.now.trace.steps ports.now) }
+    ensures err { (outlets : List Seen) → IfErr result (Mismatches cell.now.since cell.now.trace ports.now outlets) }
+{
+    match cell.since() {
+        Some(_) => Ok(()),
+        None => compare_ports(alloc, cell.trace(), ports),
     }
 }
 
@@ -74,8 +90,8 @@ fn report_one<C: NodeCore<A> + Drop, A: Allocator + Copy>(
     outlet: &Outlet<A>,
     links: &mut Vec<LinkReport, A>,
 ) -> Result<(), Mismatch>
-    ensures ok { OnOk result (AddsReports cell.now.trace (outlet.now ∷ []) links.old.items links.new.items) }
-    ensures err { IfErr result (Tears cell.now.trace (outlet.now ∷ [])) }
+    ensures ok { OnOk result (AddsReports (lost cell.now.since) cell.now.trace (outlet.now ∷ []) links.old.items links.new.items) }
+    ensures err { IfErr result (Tears (lost cell.now.since) cell.now.trace (outlet.now ∷ [])) }
 {
     match cell.report(outlet) {
         Ok(Some(report)) => Ok(add_report(links, report)?),
@@ -90,8 +106,8 @@ fn report_each<C: NodeCore<A> + Drop, A: Allocator + Copy>(
     outlets: &[Outlet<A>],
     links: &mut Vec<LinkReport, A>,
 ) -> Result<(), Mismatch>
-    ensures ok { OnOk result (AddsReports cell.now.trace outlets.now links.old.items links.new.items) }
-    ensures err { IfErr result (Tears cell.now.trace outlets.now) }
+    ensures ok { OnOk result (AddsReports (lost cell.now.since) cell.now.trace outlets.now links.old.items links.new.items) }
+    ensures err { IfErr result (Tears (lost cell.now.since) cell.now.trace outlets.now) }
 {
     for outlet in outlets {
         report_one(cell, outlet, links)?;
@@ -105,8 +121,8 @@ fn report_last<C: NodeCore<A> + Drop, A: Allocator + Copy>(
     outlet: &Option<Outlet<A>>,
     links: &mut Vec<LinkReport, A>,
 ) -> Result<(), Mismatch>
-    ensures ok { OnOk result (AddsReports cell.now.trace (option_to_list outlet.now) links.old.items links.new.items) }
-    ensures err { IfErr result (Tears cell.now.trace (option_to_list outlet.now)) }
+    ensures ok { OnOk result (AddsReports (lost cell.now.since) cell.now.trace (option_to_list outlet.now) links.old.items links.new.items) }
+    ensures err { IfErr result (Tears (lost cell.now.since) cell.now.trace (option_to_list outlet.now)) }
 {
     match outlet {
         Some(outlet) => report_one(cell, outlet, links),
@@ -120,8 +136,8 @@ fn report_worker<C: NodeCore<A> + Drop, A: Allocator + Copy>(
     outlets: &Outlets<A>,
     links: &mut Vec<LinkReport, A>,
 ) -> Result<(), Mismatch>
-    ensures ok { OnOk result (AddsReports cell.now.trace (outlets_in outlets.now) links.old.items links.new.items) }
-    ensures err { IfErr result (Tears cell.now.trace (outlets_in outlets.now)) }
+    ensures ok { OnOk result (AddsReports (lost cell.now.since) cell.now.trace (outlets_in outlets.now) links.old.items links.new.items) }
+    ensures err { IfErr result (Tears (lost cell.now.since) cell.now.trace (outlets_in outlets.now)) }
 {
     report_each(cell, outlets.spent.as_slice(), links)?;
     report_last(cell, &outlets.last, links)
@@ -133,8 +149,8 @@ fn compare_links<C: NodeCore<A> + Drop, A: Allocator + Copy>(
     cell: &NodeCell<C, A>,
     workers: &[Outlets<A>],
 ) -> Result<Vec<LinkReport, A>, Mismatch>
-    ensures ok { IfOk result (λ links. AddsReports cell.now.trace (outlets_of workers.now) [] links.items) }
-    ensures err { IfErr result (Tears cell.now.trace (outlets_of workers.now)) }
+    ensures ok { IfOk result (λ links. AddsReports (lost cell.now.since) cell.now.trace (outlets_of workers.now) [] links.items) }
+    ensures err { IfErr result (Tears (lost cell.now.since) cell.now.trace (outlets_of workers.now)) }
 {
     let mut links = Vec::new(alloc);
     for outlets in workers {
@@ -150,9 +166,9 @@ pub(crate) fn compare<C: NodeCore<A> + Drop, A: Allocator + Copy>(
     ports: &[Listed<Call<A>, A>],
     workers: &[Outlets<A>],
 ) -> Result<Vec<LinkReport, A>, Mismatch>
-    ensures ok { IfOk result (λ links. Matches cell.now.trace ports.now (outlets_of workers.now) links.items) }
-    ensures err { IfErr result (Mismatches cell.now.trace ports.now (outlets_of workers.now)) }
+    ensures ok { IfOk result (λ links. Matches cell.now.since cell.now.trace ports.now (outlets_of workers.now) links.items) }
+    ensures err { IfErr result (Mismatches cell.now.since cell.now.trace ports.now (outlets_of workers.now)) }
 {
-    compare_ports(alloc, cell.trace(), ports)?;
+    compare_calls(alloc, cell, ports)?;
     compare_links(alloc, cell, workers)
 }

@@ -1,5 +1,5 @@
 //! A running node: how it starts and how it stops.
-ghost use Rattle.std.specs.Prelude.{◌≡◌, [], ◌∷◌, ◌++◌, IfOk, IfErr, OnOk, map, replicate};
+ghost use Rattle.std.specs.Prelude.{◌≡◌, [], ◌∷◌, ◌++◌, None, IfOk, IfErr, OnOk, map, replicate};
 ghost use Rattle.node_threads.specs.Opening.{IsFresh};
 ghost use Rattle.node_threads.specs.Outlet.{fresh_outlet};
 
@@ -70,7 +70,7 @@ fn open_links<C: NodeCore<A> + Drop, A: Allocator + Copy>(
     names: &[NodeName],
     ring: usize,
 ) -> Result<Vec<Outlet<A>, A>, HostError>
-    requires { cell.old.trace.steps ≡ [] }
+    requires { (cell.old.since ≡ None) × (cell.old.trace.steps ≡ []) }
     ensures outlets { IfOk result (λ outlets. outlets.items ≡ map fresh_outlet names.now) }
     ensures err { IfErr result (λ e. e ≡ HostError.OutOfMemory) }
 {

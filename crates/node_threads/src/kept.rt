@@ -58,13 +58,16 @@ impl<C: NodeCore<A> + Drop, A: Allocator + Copy> Kept<C, A> {
 
     /// Notes how the last steps changed the active view.
     pub(crate) fn look(&mut self) {
-        self.teller
-            .note(self.cell.core().active(), self.cell.trace());
+        self.teller.note(
+            self.cell.core().active(),
+            self.cell.lost(),
+            self.cell.trace(),
+        );
     }
 
     /// Has the changes of the active view be told from now on, or none.
     pub(crate) fn tell_news(&mut self, tells: bool) -> Result<(), HostError> {
-        let steps = self.cell.trace().len();
+        let steps = self.cell.steps_made();
         let active = self.cell.core().active();
         Ok(self.teller.set_tells(tells, active, steps)?)
     }

@@ -3,6 +3,7 @@ ghost use Rattle.std.specs.Prelude.{◌≡◌, ◌≤◌, ◌<◌, [], true, fal
 ghost use Rattle.node_names.specs.Same.{has_name, same_name};
 ghost use Rattle.indexmap.specs.IndexSet.{spare};
 ghost use Rattle.node_threads.specs.Applying.{with_name};
+ghost use Rattle.node_threads.specs.Cell.{IsPlace};
 ghost use Rattle.node_threads.specs.Learning.{Opens, OpensOne};
 ghost use Rattle.node_threads.specs.Opened.{others};
 
@@ -93,7 +94,7 @@ impl<A: Allocator + Copy> Learnt<A> {
         mem::replace(&mut self.outlets, Vec::new(alloc))
     }
 
-    /// Opens a link to the name whose text begins when the trace had `since` steps. Returns whether it did.
+    /// Opens a link to the name whose text begins when the node had made `since` steps. Returns whether it did.
     ///
     /// If the name is held, if as many names are held as may be, if memory is refused, or if what the link begins with
     /// does not fit its ring, nothing changes.
@@ -103,7 +104,7 @@ impl<A: Allocator + Copy> Learnt<A> {
         since: usize,
         name: NodeName,
     ) -> bool
-        requires { since ≤ length cell.old.trace.steps }
+        requires { IsPlace cell.old since }
         ensures opened { result ≡ true → OpensOne since cell.old self.old name cell.new self.new }
         ensures left { result ≡ false → (cell.new ≡ cell.old) × (self.new ≡ self.old) }
     {
@@ -156,7 +157,7 @@ pub(crate) fn open_unlinked<C: NodeCore<A> + Drop, A: Allocator + Copy>(
     place: usize,
     mut unlinked: Vec<NodeName, A>,
 ) -> Vec<NodeName, A>
-    requires { place ≤ length cell.old.trace.steps }
+    requires { IsPlace cell.old place }
     ensures opens { Opens place cell.old learnt.old unlinked.items cell.new learnt.new result.items }
     ensures none { learnt.old.most ≡ 0 → (cell.new ≡ cell.old) × (learnt.new ≡ learnt.old) × (result.items ≡ unlinked.items) }
 {

@@ -4,8 +4,8 @@ ghost use Rattle.node_names.specs.Same.{has_name, same_name};
 ghost use Rattle.rtrb.specs.Ring.{sent, known_free};
 ghost use Rattle.node_threads.specs.Applying.{mail_for};
 ghost use Rattle.indexmap.specs.IndexSet.{spare};
-ghost use Rattle.node_threads.specs.Cell.{IsListed, is_linked};
-ghost use Rattle.node_threads.specs.LinkText.{link_text, spelling};
+ghost use Rattle.node_threads.specs.Cell.{IsListed, IsPlace, is_linked, steps_made};
+ghost use Rattle.node_threads.specs.LinkText.{spelling, text_since};
 ghost use Rattle.node_threads.specs.Opened.{first_mail, linked_since, linked_to, mail_since, others, without};
 
 use crate::cell::NodeCell;
@@ -87,8 +87,8 @@ fn link<A: Allocator>(
     }
 }
 
-/// The frames of the opening to the name, if they belong to the text of a link that begins when the trace had `since`
-/// steps.
+/// The frames of the opening to the name, if they belong to the text of a link that begins when the node had made
+/// `since` steps.
 fn opening_mail<A: Allocator + Copy>(
     alloc: A,
     trace: &Trace<Frame<A>, A>,
@@ -103,17 +103,20 @@ fn opening_mail<A: Allocator + Copy>(
     mail_for(alloc, name, trace.opening().sends.as_slice())
 }
 
-/// The text so far of a link to the name that begins when the trace had `since` steps.
+/// The text so far of a link to the name that begins when the node had made `since` steps, of which the trace lacks the
+/// first `lost`.
 fn mail_since<A: Allocator + Copy>(
     alloc: A,
     trace: &Trace<Frame<A>, A>,
+    lost: usize,
     name: &NodeName,
     since: usize,
 ) -> Result<Mail<A>, AllocError>
-    ensures { IfOk result (λ mail. mail ≡ map spelling (link_text trace.now name.now since)) }
+    requires { lost ≤ since }
+    ensures { IfOk result (λ mail. mail ≡ map spelling (text_since lost trace.now name.now since)) }
 {
     let mut mail = opening_mail(alloc, trace, name, since)?;
-    for place in since..trace.len() {
+    for place in since - lost..trace.len() {
         let Some(step) = trace.step(place) else {
             unreachable!()
         };
@@ -129,14 +132,14 @@ impl<C: NodeCore<A> + Drop, A: Allocator + Copy> NodeCell<C, A> {
     fn first_mail(&self, alloc: A, name: &NodeName) -> Result<Mail<A>, AllocError>
         ensures { IfOk result (λ mail. mail ≡ first_mail self.now name.now) }
     {
-        if !self.trace.is_empty() {
+        if self.steps_made() > 0 {
             return Ok(Listed::new(alloc));
         }
         mail_for(alloc, name, self.trace.opening().sends.as_slice())
     }
 
-    /// Opens a link to the name that begins with these frames, which are its text since the trace had `since` steps,
-    /// and closes the one that was open. If they do not fit the ring, the link is closed at once.
+    /// Opens a link to the name that begins with these frames, which are its text since the node had made `since`
+    /// steps, and closes the one that was open. If they do not fit the ring, the link is closed at once.
     fn open_with(
         &mut self,
         name: NodeName,
@@ -144,7 +147,7 @@ impl<C: NodeCore<A> + Drop, A: Allocator + Copy> NodeCell<C, A> {
         since: usize,
         mail: Mail<A>,
     ) -> Result<Outlet<A>, AllocError>
-        requires within { since ≤ length self.old.trace.steps }
+        requires within { IsPlace self.old since }
         requires text { mail ≡ mail_since self.old name since }
         ensures outlet { IfOk result (λ outlet. outlet ≡ record { peer = name; opened = since; given = []; seen = [] }) }
         ensures linked { OnOk result (self.new ≡ record self.old { links = linked_since self.old name ring since }) }
@@ -154,6 +157,7 @@ impl<C: NodeCore<A> + Drop, A: Allocator + Copy> NodeCell<C, A> {
         let (producer, consumer) = RingBuffer::new(alloc, ring)?;
         self.links.reserve(1)?;
         self.names.reserve(1)?;
+        let mark = self.progress.mark(since)?;
         link(
             &mut self.links,
             &mut self.names,
@@ -163,7 +167,7 @@ impl<C: NodeCore<A> + Drop, A: Allocator + Copy> NodeCell<C, A> {
             mail,
             ring,
         );
-        Ok(Outlet::new(alloc, name, since, consumer))
+        Ok(Outlet::new(alloc, name, since, mark, consumer))
     }
 
     /// Opens a link to the name, whose ring has room for `ring` frames, and closes the one that was open.
@@ -171,26 +175,27 @@ impl<C: NodeCore<A> + Drop, A: Allocator + Copy> NodeCell<C, A> {
     /// If what the opening sent to the name does not fit the ring, the link is closed at once. The only error is
     /// `OutOfMemory`.
     pub fn open_link(&mut self, name: NodeName, ring: usize) -> Result<Outlet<A>, HostError>
-        ensures outlet { IfOk result (λ outlet. outlet ≡ record { peer = name; opened = length self.old.trace.steps; given = []; seen = [] }) }
+        ensures outlet { IfOk result (λ outlet. outlet ≡ record { peer = name; opened = steps_made self.old; given = []; seen = [] }) }
         ensures linked { OnOk result (self.new ≡ record self.old { links = linked_to self.old name ring }) }
         ensures refused { IfErr result (λ e. e ≡ HostError.OutOfMemory) }
         ensures err { OnErr result (self.new ≡ self.old) }
     {
         let alloc = self.alloc();
-        let opened = self.trace().len();
+        let opened = self.steps_made();
         let mail = self.first_mail(alloc, &name)?;
         let outlet = self.open_with(name, ring, opened, mail)?;
         Ok(outlet)
     }
 
-    /// The text so far of a link to the name that begins when the trace had `since` steps.
+    /// The text so far of a link to the name that begins when the node had made `since` steps.
     fn text_since(&self, name: &NodeName, since: usize) -> Result<Mail<A>, AllocError>
+        requires { IsPlace self.now since }
         ensures { IfOk result (λ mail. mail ≡ mail_since self.now name.now since) }
     {
-        mail_since(self.alloc(), self.trace(), name, since)
+        mail_since(self.alloc(), self.trace(), self.lost(), name, since)
     }
 
-    /// Opens a link to the name whose text begins when the trace had `since` steps, and closes the one that was open.
+    /// Opens a link to the name whose text begins when the node had made `since` steps, and closes the one that was open.
     /// Its ring has room for `ring` frames.
     ///
     /// What the node has sent to the name since is put into the ring at once. If it does not fit, the link is closed at
@@ -201,7 +206,7 @@ impl<C: NodeCore<A> + Drop, A: Allocator + Copy> NodeCell<C, A> {
         ring: usize,
         since: usize,
     ) -> Result<Outlet<A>, HostError>
-        requires { since ≤ length self.old.trace.steps }
+        requires { IsPlace self.old since }
         ensures outlet { IfOk result (λ outlet. outlet ≡ record { peer = name; opened = since; given = []; seen = [] }) }
         ensures linked { OnOk result (self.new ≡ record self.old { links = linked_since self.old name ring since }) }
         ensures refused { IfErr result (λ e. e ≡ HostError.OutOfMemory) }
@@ -220,7 +225,7 @@ impl<C: NodeCore<A> + Drop, A: Allocator + Copy> NodeCell<C, A> {
         ring: usize,
         since: usize,
     ) -> Option<Outlet<A>>
-        requires { since ≤ length self.old.trace.steps }
+        requires { IsPlace self.old since }
         ensures outlet { IfSome result (λ outlet. outlet ≡ record { peer = name; opened = since; given = []; seen = [] }) }
         ensures linked { OnSome result (self.new ≡ record self.old { links = linked_since self.old name ring since }) }
         ensures open { OnSome result (is_linked (linked_since self.old name ring since) name ≡ true) }

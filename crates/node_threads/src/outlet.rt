@@ -1,19 +1,24 @@
 //! The reading end of a link.
-ghost use Rattle.std.specs.Prelude.{◌≡◌, ◌≢◌, ◌≤◌, [], ◌∷◌, ◌++◌, ℕ, List, Some, None, Ok, OnErr, length};
+ghost use Rattle.std.specs.Prelude.{◌≡◌, ◌≢◌, ◌≤◌, [], ◌∷◌, ◌++◌, ℕ, List, Some, None, Ok, OnErr, drop, length};
 ghost use Rattle.std.specs.Bool.{Decides};
 ghost use mathlib.Core.List.{IsPrefix};
 ghost use Rattle.rtrb.specs.Ring.{known_items, received};
 ghost use Rattle.node_threads.specs.Outlet.{Looks};
 
 use crate::link_frame::LinkFrame;
+use crate::progress::Mark;
 use bytes::Bytes;
 use links::{LinkEnd, MeteredWrite, Source, drain};
 use node_names::NodeName;
 use rtrb::Consumer;
 use std::alloc::{AllocError, Allocator, Global};
 use std::marker::Model;
+use std::sync::atomic::Ordering;
 
-/// The reading end of a ring, and the frames that came out of it.
+/// How many frames a link writes at once. A busy link never runs out of them, and is to be compared in between.
+const BATCH: u32 = 128;
+
+/// The reading end of a ring, and the frames that came out of it, but for those that were given up.
 #[derive(Drop)]
 struct Tap<A: Allocator> {
     ring: Consumer<LinkFrame<A>, A>,
@@ -21,15 +26,14 @@ struct Tap<A: Allocator> {
 }
 
 impl<A: Allocator> Model for Tap<A> {
-    ghost use Rattle.std.specs.Prelude.{◌≡◌};
     ghost use Rattle.rtrb.specs.Ring.{known_items, received};
-    ghost use Rattle.node_threads.specs.Outlet.{Tap as Seen};
+    ghost use Rattle.node_threads.specs.Outlet.{EndsIn, Tap as Seen};
 
     ghost Value = { Seen };
 
     ghost view = { λ t. record { given = t.given.items; seen = known_items t.ring } };
 
-    ghost invariant = { λ t. received t.ring ≡ t.given.items };
+    ghost invariant = { λ t. EndsIn (received t.ring) t.given.items };
 }
 
 impl<A: Allocator + Copy> Tap<A> {
@@ -52,6 +56,16 @@ impl<A: Allocator + Copy> Tap<A> {
     }
 }
 
+impl<A: Allocator> Tap<A> {
+    /// Gives the first frames up.
+    fn give_up(&mut self, frames: usize)
+        requires { frames ≤ length self.old.given }
+        ensures { self.new ≡ record self.old { given = drop frames self.old.given } }
+    {
+        self.given.drain(..frames);
+    }
+}
+
 impl<A: Allocator + Copy> Source<A> for Tap<A> {
     ghost given = { λ t. t.given };
 
@@ -64,12 +78,13 @@ impl<A: Allocator + Copy> Source<A> for Tap<A> {
 
 /// Where the frames of a link come out, each as its bytes, in the order in which the node sent them.
 ///
-/// It keeps the frames that it gave, so that these can be compared with what the node sent. Their payloads are shared
-/// with the node's trace.
+/// It keeps the frames that it gave, so that these can be compared with what the node sent, until it gives them up
+/// (`NodeCell::compare`). Their payloads are shared with the node's trace.
 #[derive(Drop)]
 pub struct Outlet<A: Allocator = Global> {
     peer: NodeName,
     opened: usize,
+    mark: Mark<A>,
     tap: Tap<A>,
 }
 
@@ -87,6 +102,7 @@ impl<A: Allocator + Copy> Outlet<A> {
         alloc: A,
         peer: NodeName,
         opened: usize,
+        mark: Mark<A>,
         ring: Consumer<LinkFrame<A>, A>,
     ) -> Outlet<A>
         requires { (received ring ≡ []) × (known_items ring ≡ []) }
@@ -96,6 +112,7 @@ impl<A: Allocator + Copy> Outlet<A> {
         Outlet {
             peer,
             opened,
+            mark,
             tap: Tap { ring, given },
         }
     }
@@ -109,7 +126,7 @@ impl<A: Allocator> Outlet<A> {
         self.peer
     }
 
-    /// The number of steps that the trace had when the link was opened.
+    /// The number of steps that the node had made when the link was opened, or up to which it was compared.
     pub fn opened(&self) -> usize
         ensures { result ≡ self.now.opened }
     {
@@ -123,7 +140,17 @@ impl<A: Allocator> Outlet<A> {
         self.tap.given.as_slice()
     }
 
-    /// The number of frames that it gave.
+    /// Gives the first frames up, as if its link had been opened when the node had made `opened` steps.
+    pub(crate) fn give_up(&mut self, opened: usize, frames: usize)
+        requires { frames ≤ length self.old.given }
+        ensures { self.new ≡ record self.old { opened = opened; given = drop frames self.old.given } }
+    {
+        self.opened = opened;
+        self.tap.give_up(frames);
+        self.mark.store(opened, Ordering::SeqCst);
+    }
+
+    /// The number of frames that it gave, without those that it gave up.
     pub fn taken(&self) -> u64
         ensures { result ≡ length self.now.given }
     {
@@ -158,12 +185,12 @@ impl<A: Allocator + Copy> Outlet<A> {
         self.tap.pop()
     }
 
-    /// Writes all frames that it has.
+    /// Writes the frames that it has, but at most so many that its writer soon sees what else there is to do.
     pub(crate) fn write_to<W: MeteredWrite>(&mut self, writer: &mut W) -> Result<(), LinkEnd>
         ensures link { self.new ≡ record self.old { given = self.new.given; seen = self.new.seen } }
         ensures more { IsPrefix self.old.given self.new.given }
     {
-        drain(&mut self.tap, writer, u32::MAX)?;
+        drain(&mut self.tap, writer, BATCH)?;
         Ok(())
     }
 }

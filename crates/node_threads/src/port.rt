@@ -1,5 +1,6 @@
 //! Where the application broadcasts.
 ghost use Rattle.std.specs.Prelude.{◌≡◌, [], ◌∷◌, ◌++◌, ◌<◌, IfErr, IfOk, OnErr, vec_len, vec_capacity};
+ghost use Rattle.node_threads.specs.Receipts.{IsMade};
 ghost use Rattle.node_threads.specs.Refusal.{RefusesPayload};
 
 use crate::cores::NodeCore;
@@ -14,7 +15,8 @@ use std::sync::{Arc, Wait};
 
 /// A port of a running node, for one thread of the application.
 ///
-/// It keeps each payload that it broadcast, with its receipt, so that closing the node can compare them with the trace.
+/// It keeps each payload that it broadcast, with its receipt, so that closing the node can compare them with the trace,
+/// until it is told to forget them.
 #[derive(Drop)]
 pub struct Port<C: NodeCore<A> + Drop, A: Allocator = Global> {
     shared: Arc<Shared<C, A>, A>,
@@ -46,6 +48,7 @@ fn broadcast<R: Wait, C: NodeCore<A> + Drop, A: Allocator + Copy>(
     calls: &mut Vec<Call<A>, A>,
     payload: Bytes<A>,
 ) -> Result<Receipt, HostError>
+    ensures made { IfOk result (λ receipt. IsMade C.state C.steps payload receipt) }
     ensures ok { IfOk result (λ receipt. calls.new.items ≡ calls.old.items ++ record { payload = payload; receipt = receipt } ∷ []) }
     ensures err { OnErr result (calls.new.items ≡ calls.old.items) }
     ensures refused { IfErr result (RefusesPayload payload) }
@@ -73,11 +76,19 @@ impl<C: NodeCore<A> + Drop, A: Allocator + Copy> Port<C, A> {
     /// The errors are those of `NodeCell::apply`, in the same order, except that `OutOfMemory` may come before the
     /// others, since the port makes room to keep the call.
     pub fn broadcast<R: Wait>(&mut self, rt: &R, payload: Bytes<A>) -> Result<Receipt, HostError>
+        ensures made { IfOk result (λ receipt. IsMade C.state C.steps payload receipt) }
         ensures ok { IfOk result (λ receipt. self.new ≡ self.old ++ record { payload = payload; receipt = receipt } ∷ []) }
         ensures err { OnErr result (self.new ≡ self.old) }
         ensures refused { IfErr result (RefusesPayload payload) }
     {
         broadcast(rt, &self.shared, &mut self.calls, payload)
+    }
+
+    /// Forgets its calls. Of a node that may forget (`Host::forget_from_now`) the close does not ask for them.
+    pub fn forget(&mut self)
+        ensures { self.new ≡ [] }
+    {
+        self.calls.clear();
     }
 
     /// Its calls, in order.

@@ -1,8 +1,8 @@
 //! Compares what came out of a link with what the node sent, one packet at a time.
-ghost use Rattle.std.specs.Prelude.{◌≡◌, ◌==◌, ◌∷◌, [], IfOk, drop, map, nat_eq, option_copied, if◌then◌else◌};
+ghost use Rattle.std.specs.Prelude.{◌≡◌, ◌≤◌, ◌-◌, ◌==◌, ◌∷◌, [], IfOk, drop, map, nat_eq, option_copied, if◌then◌else◌};
 ghost use Rattle.std.specs.Cmp.Lexicographic.{pointwise};
 ghost use Rattle.node_threads.specs.Applying.{mail_for};
-ghost use Rattle.node_threads.specs.LinkText.{link_text, spelling, text_of};
+ghost use Rattle.node_threads.specs.LinkText.{spelling, text_of, text_since};
 ghost use Rattle.node_threads.specs.Report.{Leaves};
 
 use crate::link_frame::LinkFrame;
@@ -97,7 +97,10 @@ fn strip_steps<'a, A: Allocator + Copy>(
 }
 
 /// The packets of the opening if a link was opened before any step, and no packets otherwise.
-fn opening_of<A: Allocator>(trace: &Trace<Frame<A>, A>, opened: usize) -> &[(NodeName, Frame<A>)]
+pub(crate) fn opening_of<A: Allocator>(
+    trace: &Trace<Frame<A>, A>,
+    opened: usize,
+) -> &[(NodeName, Frame<A>)]
     ensures { result.now ≡ (if opened == 0 then trace.now.opening.sends else []) }
 {
     if opened == 0 {
@@ -107,18 +110,21 @@ fn opening_of<A: Allocator>(trace: &Trace<Frame<A>, A>, opened: usize) -> &[(Nod
     }
 }
 
-/// What is left of these frames after all that the node sent to the peer since the link was opened.
+/// What is left of these frames after all that the node sent to the peer since the link was opened. The trace lacks the
+/// first `lost` steps.
 pub(crate) fn strip_text<'a, A: Allocator + Copy>(
     alloc: A,
     trace: &Trace<Frame<A>, A>,
+    lost: usize,
     peer: &NodeName,
     opened: usize,
     given: &'a [LinkFrame<A>],
 ) -> Result<Option<&'a [LinkFrame<A>]>, AllocError>
-    ensures { IfOk result (λ left. Leaves given.now (map spelling (link_text trace.now peer.now opened)) (option_copied left)) }
+    requires { lost ≤ opened }
+    ensures { IfOk result (λ left. Leaves given.now (map spelling (text_since lost trace.now peer.now opened)) (option_copied left)) }
 {
     let Some(rest) = strip(alloc, peer, opening_of(trace, opened), given)? else {
         return Ok(None);
     };
-    strip_steps(alloc, trace, peer, opened, rest)
+    strip_steps(alloc, trace, peer, opened - lost, rest)
 }

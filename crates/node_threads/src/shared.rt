@@ -1,6 +1,7 @@
 //! What the threads of a running node share: the cell under its lock, and the threads that wait for it.
 ghost use Rattle.std.specs.Prelude.{◌≡◌, IfErr, IfOk, IfSome};
 ghost use Rattle.node_threads.specs.Calls.{MayAnswer};
+ghost use Rattle.node_threads.specs.Receipts.{IsMade};
 ghost use Rattle.node_threads.specs.Refusal.{RefusesPayload};
 
 use crate::applied::Applied;
@@ -10,7 +11,6 @@ use crate::error::HostError;
 use crate::kept::Kept;
 use crate::outlet::Outlet;
 use crate::receipt::Receipt;
-use crate::sealing::Sealed;
 use crate::taking::take_frames;
 use crate::wakeups::{WakeSet, Wakeups};
 use crate::writer_place::WriterPlace;
@@ -38,6 +38,8 @@ pub(crate) struct Shared<C: NodeCore<A> + Drop, A: Allocator> {
     lacks_memory: AtomicBool,
     /// How many workers were started and not joined yet.
     workers: AtomicUsize,
+    /// The place up to which writers are to have their outlets compared.
+    pub(crate) wanted: AtomicUsize,
     /// How many frames a link's ring has room for.
     pub(crate) ring: usize,
     pub(crate) alloc: A,
@@ -157,7 +159,8 @@ fn broadcast<C: NodeCore<A> + Drop, A: Allocator + Copy>(
     kept: &mut Kept<C, A>,
     payload: Bytes<A>,
 ) -> Result<Receipt, HostError>
-    ensures { IfErr result (RefusesPayload payload) }
+    ensures made { IfOk result (λ receipt. IsMade C.state C.steps payload receipt) }
+    ensures refused { IfErr result (RefusesPayload payload) }
 {
     let Applied {
         id,
@@ -187,6 +190,7 @@ impl<C: NodeCore<A> + Drop, A: Allocator + Copy> Shared<C, A> {
             is_stopped: AtomicBool::new(false),
             lacks_memory: AtomicBool::new(false),
             workers: AtomicUsize::new(0),
+            wanted: AtomicUsize::new(0),
             ring,
             alloc,
         })
@@ -244,7 +248,8 @@ impl<C: NodeCore<A> + Drop, A: Allocator + Copy> Shared<C, A> {
 
     /// Broadcasts a payload.
     pub(crate) fn broadcast<R: Wait>(&self, rt: &R, payload: Bytes<A>) -> Result<Receipt, HostError>
-        ensures { IfErr result (RefusesPayload payload) }
+        ensures made { IfOk result (λ receipt. IsMade C.state C.steps payload receipt) }
+        ensures refused { IfErr result (RefusesPayload payload) }
     {
         step(
             rt,
@@ -274,11 +279,6 @@ impl<C: NodeCore<A> + Drop, A: Allocator + Copy> Shared<C, A> {
         let _ = with(rt, &self.kept, |kept| kept.cell.shut());
         self.is_stopped.store(true, Ordering::SeqCst);
         self.wakeups.wake_all(rt);
-    }
-
-    /// Hands out the steps since the last call.
-    pub(crate) fn seal<R: Wait>(&self, rt: &R) -> Result<Sealed<C, A>, HostError> {
-        with(rt, &self.kept, |kept| kept.cell.seal()).unwrap_or(Err(HostError::Closed))
     }
 
     /// Whether the name is in the core's active view.

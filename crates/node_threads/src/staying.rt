@@ -93,7 +93,7 @@ impl<C: NodeCore<A> + Drop, A: Allocator + Copy> Host<C, A> {
 
     /// Gives up the link of an outlet that has no writer: the link is closed, and if its outlet still has frames, the
     /// core is told that it is down. A later step that sends to the name opens a link anew. The outlet is kept for the
-    /// close.
+    /// close, unless the node may forget and what came out is as it was sent.
     ///
     /// If memory is refused, nothing happens, and the outlet is returned.
     pub fn give_up<R: Wait>(&mut self, rt: &R, mut outlet: Outlet<A>) -> Option<Outlet<A>> {
@@ -101,6 +101,9 @@ impl<C: NodeCore<A> + Drop, A: Allocator + Copy> Host<C, A> {
             return Some(outlet);
         }
         self.shared.close_link(rt, &mut outlet);
+        if self.shared.lets_go(rt, &outlet) {
+            return None;
+        }
         let spent = Vec::new(self.shared.alloc);
         let last = Some(outlet);
         put(&mut self.left, Outlets { spent, last });

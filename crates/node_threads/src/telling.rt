@@ -15,7 +15,7 @@ pub(crate) struct Teller<A: Allocator> {
     tells: bool,
     /// The active view when it looked last.
     known: Vec<NodeName, A>,
-    /// How many steps the trace had then.
+    /// How many steps the node had made then.
     since: usize,
     news: Vec<News, A>,
 }
@@ -75,29 +75,32 @@ impl<A: Allocator + Copy> Teller<A> {
         Ok(())
     }
 
-    /// Notes how the view changed since the last call. If memory is refused, the next call makes up for it.
-    pub(crate) fn note(&mut self, active: &NameSet<A>, trace: &Trace<Frame<A>, A>) {
+    /// Notes how the view changed since the last call. The trace lacks the first `lost` steps. If memory is refused, the
+    /// next call makes up for it.
+    pub(crate) fn note(&mut self, active: &NameSet<A>, lost: usize, trace: &Trace<Frame<A>, A>) {
         if !self.tells {
             return;
         }
         if !is_same(self.known.as_slice(), active) {
             let told = self.news.len();
-            if self.add_changes(active, trace).is_err() {
+            let first = self.since.saturating_sub(lost);
+            if self.add_changes(active, first, trace).is_err() {
                 self.news.truncate(told);
                 return;
             }
         }
-        self.since = trace.len();
+        self.since = lost.saturating_add(trace.len());
     }
 
-    /// Appends what changed, and keeps the view.
+    /// Appends what changed, by the steps from the place `first` on, and keeps the view.
     fn add_changes(
         &mut self,
         active: &NameSet<A>,
+        first: usize,
         trace: &Trace<Frame<A>, A>,
     ) -> Result<(), AllocError> {
         let known = Vec::from_slice(*self.news.allocator(), active.as_slice())?;
-        self.add_departures(active, trace)?;
+        self.add_departures(active, first, trace)?;
         self.add_arrivals(active)?;
         if active.is_empty() {
             add(&mut self.news, News::Isolated)?;
@@ -112,11 +115,12 @@ impl<A: Allocator + Copy> Teller<A> {
     fn add_departures(
         &mut self,
         active: &NameSet<A>,
+        first: usize,
         trace: &Trace<Frame<A>, A>,
     ) -> Result<(), AllocError> {
         for name in self.known.iter() {
             if !active.contains(name) {
-                let why = parting_of(trace, self.since, name);
+                let why = parting_of(trace, first, name);
                 add(&mut self.news, News::NeighborDown { name: *name, why })?;
             }
         }

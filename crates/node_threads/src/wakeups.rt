@@ -147,6 +147,11 @@ impl<A: Allocator + Copy> Wakeups<A> {
         }
     }
 
+    /// Wakes all writers.
+    pub(crate) fn wake_writers<R: Wait>(&self, rt: &R) {
+        self.tell_writers(rt, u64::MAX);
+    }
+
     /// Wakes all threads that wait.
     pub(crate) fn wake_all<R: Wait>(&self, rt: &R) {
         self.wake(rt, WakeSet::all());

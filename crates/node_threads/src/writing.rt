@@ -1,5 +1,5 @@
 //! The worker that takes a link's frames to a peer.
-ghost use Rattle.std.specs.Prelude.{◌≡◌, ◌<◌, [], ◌∷◌, ◌++◌, Some, All, IfOk, vec_capacity, vec_len};
+ghost use Rattle.std.specs.Prelude.{◌≡◌, ◌⊎◌, ◌<◌, [], ◌∷◌, ◌++◌, Some, All, IfOk, vec_capacity, vec_len};
 ghost use Rattle.node_threads.specs.Leaving.{GoesTo, LeavesTo, outlets_in};
 
 use crate::cores::NodeCore;
@@ -43,6 +43,8 @@ struct Outgoing<A: Allocator, D: Dialler + Drop> {
     dialler: D,
     writer: Option<D::Writer>,
     spent: Vec<Outlet<A>, A>,
+    /// The place up to which its outlet was last asked to be compared.
+    asked: usize,
 }
 
 impl<A: Allocator + Copy, D: Dialler + Drop> Outgoing<A, D> {
@@ -56,10 +58,11 @@ impl<A: Allocator + Copy, D: Dialler + Drop> Outgoing<A, D> {
             dialler,
             writer: None,
             spent: Vec::new(alloc),
+            asked: 0,
         }
     }
 
-    /// Writes all frames that the outlet has and flushes the connection, which is made for the first frame.
+    /// Writes frames that the outlet has and flushes the connection, which is made for the first frame.
     fn write(&mut self) -> Result<(), LinkEnd>
         ensures outlet { self.new.outlet.peer ≡ self.old.outlet.peer }
         ensures spent { self.new.spent.items ≡ self.old.spent.items }
@@ -83,6 +86,7 @@ impl<A: Allocator + Copy, D: Dialler + Drop> Outgoing<A, D> {
             dialler: _,
             writer: _,
             spent,
+            asked: _,
         } = self;
         Outlets {
             spent,
@@ -95,6 +99,8 @@ impl<A: Allocator + Copy, D: Dialler + Drop> Outgoing<A, D> {
 enum Writing {
     /// Its outlet has a frame.
     Frames,
+    /// Its outlet is empty, and is to be compared.
+    Comparison,
     /// Its link is closed, and its outlet empty.
     LinkClosed,
     /// It was told to end, and its outlet is empty.
@@ -108,6 +114,7 @@ enum Writing {
 fn next_writing<R: Wait, C: NodeCore<A> + Drop, A: Allocator + Copy>(
     rt: &R,
     shared: &Shared<C, A>,
+    asked: usize,
     outlet: &mut Outlet<A>,
 ) -> Option<Writing>
     ensures peer { outlet.new.peer ≡ outlet.old.peer }
@@ -117,6 +124,8 @@ fn next_writing<R: Wait, C: NodeCore<A> + Drop, A: Allocator + Copy>(
     let is_closed = outlet.is_closed();
     if outlet.has_next() {
         Some(Writing::Frames)
+    } else if shared.wanted() > asked {
+        Some(Writing::Comparison)
     } else if is_stopped {
         Some(Writing::Stopped)
     } else if is_closed {
@@ -132,6 +141,7 @@ fn next_writing<R: Wait, C: NodeCore<A> + Drop, A: Allocator + Copy>(
 fn wait_for_writing<R: Wait, C: NodeCore<A> + Drop, A: Allocator + Copy>(
     rt: &R,
     shared: &Shared<C, A>,
+    asked: usize,
     outlet: &mut Outlet<A>,
 ) -> Writing
     ensures peer { outlet.new.peer ≡ outlet.old.peer }
@@ -142,7 +152,7 @@ fn wait_for_writing<R: Wait, C: NodeCore<A> + Drop, A: Allocator + Copy>(
     };
     for _ in rt.forever() {
         let times = place.times(rt);
-        if let Some(writing) = next_writing(rt, shared, outlet) {
+        if let Some(writing) = next_writing(rt, shared, asked, outlet) {
             return writing;
         }
         place.wait(rt, times);
@@ -156,6 +166,21 @@ fn keep<A: Allocator>(spent: &mut Vec<Outlet<A>, A>, outlet: Outlet<A>)
     ensures { spent.new.items ≡ spent.old.items ++ outlet ∷ [] }
 {
     spent.push(outlet).unwrap();
+}
+
+/// Appends an outlet, for which there is room, unless it can go.
+fn keep_rest<R: Wait, C: NodeCore<A> + Drop, A: Allocator + Copy>(
+    rt: &R,
+    shared: &Shared<C, A>,
+    spent: &mut Vec<Outlet<A>, A>,
+    outlet: Outlet<A>,
+)
+    requires { vec_len spent.old < vec_capacity spent.old }
+    ensures { (spent.new.items ≡ spent.old.items) ⊎ (spent.new.items ≡ spent.old.items ++ outlet ∷ []) }
+{
+    if !shared.lets_go(rt, &outlet) {
+        keep(spent, outlet);
+    }
 }
 
 /// Tells the node that the link is down, and goes on with a new link.
@@ -175,8 +200,22 @@ fn renew<R: Wait, C: NodeCore<A> + Drop, A: Allocator + Copy, G: Gate + Drop, D:
     steps.apply(rt, StimulusOf::Down { peer, dice })?;
     let outlet = steps.shared.open_again(rt, &link.outlet)?;
     let spent = mem::replace(&mut link.outlet, outlet);
-    keep(&mut link.spent, spent);
+    keep_rest(rt, &steps.shared, &mut link.spent, spent);
     Ok(())
+}
+
+/// Has the outlet of a link compared with what the node sent, if that is asked for.
+fn compare<R: Wait, C: NodeCore<A> + Drop, A: Allocator + Copy, D: Dialler + Drop>(
+    rt: &R,
+    shared: &Shared<C, A>,
+    link: &mut Outgoing<A, D>,
+)
+    ensures outlet { link.new.outlet.peer ≡ link.old.outlet.peer }
+    ensures spent { link.new.spent.items ≡ link.old.spent.items }
+{
+    if link.outlet.opened() < shared.wanted() {
+        shared.compare(rt, &mut link.outlet);
+    }
 }
 
 /// Notes that a writer was refused memory, if that is how its connection ended.
@@ -204,12 +243,17 @@ where
     ensures spent { All (GoesTo link.old.outlet.peer) link.new.spent.items }
 {
     for _ in rt.forever() {
-        match wait_for_writing(rt, &steps.shared, &mut link.outlet) {
-            Writing::Frames => {
-                if let Err(end) = link.write() {
+        match wait_for_writing(rt, &steps.shared, link.asked, &mut link.outlet) {
+            Writing::Frames => match link.write() {
+                Ok(()) => compare(rt, &steps.shared, link),
+                Err(end) => {
                     note_end(&steps.shared, end);
                     renew(rt, steps, link)?;
                 }
+            },
+            Writing::Comparison => {
+                link.asked = steps.shared.wanted();
+                compare(rt, &steps.shared, link);
             }
             Writing::LinkClosed => renew(rt, steps, link)?,
             Writing::Retired | Writing::Stopped => return Ok(()),

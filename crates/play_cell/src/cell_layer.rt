@@ -161,7 +161,8 @@ fn push_sealed<A: Allocator + Copy>(
     said: &mut String,
     sealed: &Sealed<PlumCore<A>, A>,
 ) -> Result<(), AllocError> {
-    let (first, count) = (sealed.segment.first, sealed.segment.steps.len());
+    let first = sealed.since.saturating_add(sealed.segment.first);
+    let count = sealed.segment.steps.len();
     let held = sealed.state.held().len();
     writeln!(
         said,
@@ -198,6 +199,47 @@ fn seal<A: Allocator + Copy>(
         None => Ok(Outcome::Done),
         Some(error) => refused(error, said),
     }
+}
+
+/// Makes a segment of the last steps without handing it out.
+fn seal_off<A: Allocator + Copy>(
+    cell: &mut Cell<A>,
+    turn: &mut Turn<'_>,
+    said: &mut String,
+) -> Result<Outcome, AllocError> {
+    turn.begin();
+    let answer = cell.seal_off();
+    turn.end();
+    match answer {
+        Ok(()) => Ok(Outcome::Done),
+        Err(error) => refused(error, said),
+    }
+}
+
+/// Has the node forget what it may, and says how many steps that were.
+fn forget<A: Allocator + Copy>(
+    cell: &mut Cell<A>,
+    said: &mut String,
+) -> Result<Outcome, AllocError> {
+    let count = cell.forget_sealed();
+    writeln!(said, "{count} steps forgotten")?;
+    Ok(Outcome::Done)
+}
+
+/// Compares what came out of a link with what the node sent, and says from which step on the link is open now.
+fn compare<A: Allocator + Copy>(
+    cell: &Cell<A>,
+    outlet: &mut Outlet<A>,
+    said: &mut String,
+) -> Result<Outcome, AllocError> {
+    cell.compare(outlet);
+    writeln!(
+        said,
+        "link to {} from step {} on",
+        outlet.peer(),
+        outlet.opened()
+    )?;
+    Ok(Outcome::Done)
 }
 
 /// Puts a value into a place, and drops what was there.
@@ -318,6 +360,15 @@ impl<A: Allocator + Copy> CellLayer<A> {
         Ok(Outcome::Done)
     }
 
+    /// Drops the ends of the links to a peer.
+    fn drop_outlets(&mut self, peer: &str) -> Result<Outcome, AllocError> {
+        let Some(peer) = name(peer) else {
+            return Ok(Outcome::Unknown);
+        };
+        self.outlets.retain(|outlet| outlet.peer() != peer);
+        Ok(Outcome::Done)
+    }
+
     /// Makes a call that is about the last link to a peer.
     fn at_link(
         &mut self,
@@ -340,6 +391,7 @@ impl<A: Allocator + Copy> CellLayer<A> {
         match verb {
             "pop" => pop(outlet, turn, said),
             "report" => report(cell, outlet, turn, said),
+            "compare" => compare(cell, outlet, said),
             "has-next" => {
                 writeln!(said, "{}", yes_or_no(outlet.has_next()))?;
                 Ok(Outcome::Done)
@@ -361,6 +413,12 @@ impl<A: Allocator + Copy> CellLayer<A> {
         match words {
             ["deliver"] => deliver(cell, said),
             ["seal"] => seal(cell, turn, said),
+            ["seal-off"] => seal_off(cell, turn, said),
+            ["forget"] => forget(cell, said),
+            ["may-forget"] => {
+                cell.forget_from_now();
+                Ok(Outcome::Done)
+            }
             ["shut"] => {
                 cell.shut();
                 Ok(Outcome::Done)
@@ -386,6 +444,8 @@ impl<A: Allocator + Copy> Layer for CellLayer<A> {
             ["opened"] => self.take_opened(said),
             ["pop", peer] => self.at_link("pop", peer, turn, said),
             ["report", peer] => self.at_link("report", peer, turn, said),
+            ["compare", peer] => self.at_link("compare", peer, turn, said),
+            ["drop", peer] => self.drop_outlets(peer),
             ["has-next", peer] => self.at_link("has-next", peer, turn, said),
             _ => self.at_node(words, turn, said),
         }

@@ -48,13 +48,17 @@ pub(crate) fn push_frame(said: &mut String, bytes: &[u8]) -> Result<(), AllocErr
     }
 }
 
-/// Appends how many steps a node made, the deliveries that wait, and its core's active view and queue.
+/// Appends how many steps a node made, and how many of them it forgot, the deliveries that wait, and its core's active view and queue.
 pub(crate) fn push_cell<A: Allocator + Copy>(
     text: &mut String,
     cell: &Cell<A>,
 ) -> Result<(), AllocError> {
     let mark = if cell.is_shut() { ", shut" } else { "" };
-    write!(text, "steps: {}{mark}\nactive view:", cell.trace().len())?;
+    write!(text, "steps: {}{mark}", cell.steps_made())?;
+    if let Some(since) = cell.since() {
+        write!(text, ", {since} forgotten")?;
+    }
+    text.push_str("\nactive view:")?;
     for name in cell.core().active() {
         write!(text, " {name}")?;
     }

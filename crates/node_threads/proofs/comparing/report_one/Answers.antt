@@ -1,5 +1,6 @@
 use Rattle.std.proofs.Common.{[], refl, rules, sym}
 use Rattle.std.proofs.lemmas.List.Elements.{All-nil}
+use Rattle.node_threads.specs.Cell.{lost}
 use Rattle.node_threads.specs.Report.{BeginsText}
 use Rattle.node_threads.proofs.comparing.report_one.Goals as goal
 
@@ -9,7 +10,7 @@ returns-in-Ok-None-clause-err g c = record {
   outlet = c.args.outlet.now;
   after = [];
   parts = refl;
-  begun = All-nil (BeginsText c.args.cell.now.trace);
+  begun = All-nil (BeginsText (lost c.args.cell.now.since) c.args.cell.now.trace);
   torn = c.report.ensures.none (search rules);
   its_peer = sym c.peer.ensures;
 }

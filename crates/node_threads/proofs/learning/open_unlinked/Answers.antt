@@ -1,7 +1,7 @@
 use Rattle.std.proofs.Common.{◌≡◌, ◌∙◌, ◌<◌, ◌≤◌, ◌++◌, ◌∷◌, ◌+◌, [], List, arith, drop, length, subst, sym, take}
 use Rattle.std.proofs.lemmas.List.{drop-set-lt, drop_all, length-set, take_more_set}
 use Rattle.node_names.specs.NodeName.{Name}
-use Rattle.node_threads.specs.Cell.{Cell}
+use Rattle.node_threads.specs.Cell.{Cell, IsPlace}
 use Rattle.node_threads.specs.Learning.{Opens}
 use Rattle.node_threads.proofs.LinkOpenings.{OpensOn, leaves_on, name_here, none_opened, opens_end, opens_on, past_it, still_within}
 use Rattle.node_threads.proofs.learning.open_unlinked.Goals as goal
@@ -42,7 +42,7 @@ loop-at-preserved g c =
       (let few = before.0 in omega (arith, few)),
       length-set now left name ∙ before.1,
       drop-set-lt (at + 1) now left name sooner ∙ past_it now all at before.2,
-      subst (λ (it : Cell g.row.C.Denot). c.args.place ≤ length it.trace.steps) (sym same.0) before.3,
+      subst (λ (it : Cell g.row.C.Denot). IsPlace it c.args.place) (sym same.0) before.3,
       subst (λ names. OpensOn c.args.place c.args.cell.now c.args.learnt.now all cell learnt (drop (at + 1) all) names) (sym (take_more_set now left name inside))
           (subst (λ it. OpensOn c.args.place c.args.cell.now c.args.learnt.now all it learnt (drop (at + 1) all) (take left now ++ name ∷ [])) (sym same.0)
           (subst (λ it. OpensOn c.args.place c.args.cell.now c.args.learnt.now all c.loop-at.cell it (drop (at + 1) all) (take left now ++ name ∷ [])) (sym same.1) on)),

@@ -1,4 +1,5 @@
 use Rattle.std.proofs.Common.{◌≡◌, ◌≤◌, drop, length, take}
+use Rattle.node_threads.specs.Cell.{IsPlace}
 use Rattle.node_threads.proofs.LinkOpenings.{OpensOn}
 use Rattle.node_threads.proofs.learning.open_unlinked.Given as goal
 
@@ -8,5 +9,5 @@ invariant-loop-at g l =
     (l.left ≤ l.at) ×
     (length l.unlinked.items ≡ length l.fn.unlinked.items) ×
     (drop l.at l.unlinked.items ≡ drop l.at l.fn.unlinked.items) ×
-    (l.place ≤ length l.cell.trace.steps) ×
+    IsPlace l.cell l.place ×
     OpensOn l.place l.fn.cell l.fn.learnt l.fn.unlinked.items l.cell l.learnt (drop l.at l.fn.unlinked.items) (take l.left l.unlinked.items)

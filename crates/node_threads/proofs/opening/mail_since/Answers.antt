@@ -1,11 +1,11 @@
-use Rattle.std.proofs.Common.{◌≡◌, ◌∙◌, ◌++◌, ◌+◌, List, ℕ, ap, append_assoc, drop, rules, sym}
+use Rattle.std.proofs.Common.{◌≡◌, ◌∙◌, ◌++◌, ◌+◌, ◌-◌, List, ℕ, ap, append_assoc, drop, rules, sym}
 use Rattle.std.proofs.lemmas.List.{append-nil}
 use Rattle.node_threads.specs.Applying.{mail_for}
 use Rattle.node_threads.proofs.Stripping.{is_there, mail_since, mail_since_at, no_steps, text_parts}
 use Rattle.node_threads.proofs.opening.mail_since.Goals as goal
 
 pub loop-place-init : goal.loop-place-init
-loop-place-init g c = ap (λ mail. mail ++ mail_since c.args.name.now (drop c.args.since c.args.trace.now.steps)) c.in_ok-mail.ensures ∙ sym (text_parts c.args.trace.now c.args.name.now c.args.since)
+loop-place-init g c = ap (λ mail. mail ++ mail_since c.args.name.now (drop (c.args.since - c.args.lost) c.args.trace.now.steps)) c.in_ok-mail.ensures ∙ sym (text_parts c.args.lost c.args.trace.now c.args.name.now c.args.since)
 
 pub unreachable-requires : goal.unreachable-requires
 unreachable-requires g c = is_there c.args.trace.now.steps c.loop-place.place (search rules) c.in_default.ensures
