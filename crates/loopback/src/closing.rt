@@ -1,5 +1,6 @@
 //! The end of a run.
 ghost use Rattle.std.specs.Prelude.{◌≡◌, ◌+◌, [], ◌∷◌, ◌++◌, None, All, IfOk, OnOk, length};
+ghost use Rattle.node_threads.specs.Closing.{IsLeft};
 ghost use Rattle.node_threads.specs.History.{IsHistory};
 
 use crate::error::RunError;
@@ -8,8 +9,9 @@ use crate::node::Node;
 use crate::speech::{Speech, Stamp};
 use crate::stopping::stop_all;
 use frames::Frame;
+use node_names::NodeName;
 use node_threads::NodeCore;
-use plumtree_node::{Shortage, keep};
+use plumtree_node::{Past, Shortage, StopError, keep};
 use std::alloc::{AllocError, Global};
 use std::net::{Net, TcpListener, TcpStream};
 use std::sync::Wait;
@@ -67,6 +69,21 @@ impl RunReport {
     }
 }
 
+/// The history of a node that was closed, which never forgets.
+fn history_of<C: NodeCore<Global> + Drop>(
+    node: NodeName,
+    closed: Result<Past, StopError>,
+) -> Result<Trace<Frame>, RunError>
+    requires { IfOk closed (λ past. IsLeft C.starts C.steps past.since past.trace) }
+    ensures { IfOk result (IsHistory C.starts C.steps) }
+{
+    match closed {
+        Ok(Past { since: None, trace }) => Ok(trace),
+        Ok(Past { since: Some(_), .. }) => Err(RunError::Forgotten { node }),
+        Err(error) => Err(RunError::closing(node, error)),
+    }
+}
+
 /// Closes a node, and adds what it leaves.
 fn close_node<R: Threads + Wait, C: NodeCore<Global> + Drop>(
     rt: &R,
@@ -83,12 +100,10 @@ fn close_node<R: Threads + Wait, C: NodeCore<Global> + Drop>(
         inbox,
         speech,
     } = node;
-    match engine.close(rt, ports) {
-        Ok(trace) => match leave(rt, trace, speech, &inbox, ran) {
-            Ok(()) => Ok(()),
-            Err(_) => Err(RunError::short(name, Shortage::Memory)),
-        },
-        Err(error) => Err(RunError::closing(name, error)),
+    let trace = history_of::<C>(name, engine.close(rt, ports))?;
+    match leave(rt, trace, speech, &inbox, ran) {
+        Ok(()) => Ok(()),
+        Err(_) => Err(RunError::short(name, Shortage::Memory)),
     }
 }
 

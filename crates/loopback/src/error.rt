@@ -32,6 +32,9 @@ pub enum RunError {
     /// What came out of one of the node's links is not what the node sent.
     #[error("node {node}: what came out of a link is not what was sent")]
     Torn { node: NodeName },
+    /// The node has forgotten a part of its history.
+    #[error("node {node}: it has forgotten a part of its history")]
+    Forgotten { node: NodeName },
     /// An allocation is refused that belongs to no single node.
     #[error("out of memory")]
     OutOfMemory,

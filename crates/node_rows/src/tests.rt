@@ -1,4 +1,5 @@
 //! The tests, and what they share.
+mod forgetting;
 mod group;
 mod rows;
 mod staying;

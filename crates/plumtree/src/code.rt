@@ -25,6 +25,9 @@ impl fmt::Display for RunCode {
             RunError::Unlike { node } => write!(f, "node {node}: C1"),
             RunError::WorkerMissing { node } => write!(f, "node {node}: C2"),
             RunError::Torn { node } => write!(f, "node {node}: C4"),
+            RunError::Forgotten { node } => {
+                write!(f, "node {node}: it has forgotten a part of its history")
+            }
             RunError::OutOfMemory => f.write_str("out of memory"),
         }
     }

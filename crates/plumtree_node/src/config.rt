@@ -48,6 +48,8 @@ pub struct Config {
     pub(crate) links: usize,
     pub(crate) tells_news: bool,
     pub(crate) steps: usize,
+    /// Whether it forgets the steps that were compared.
+    pub(crate) forgets: bool,
     pub(crate) seed: u64,
 }
 
@@ -105,6 +107,7 @@ impl Config {
             links: LINKS,
             tells_news: false,
             steps: STEPS,
+            forgets: true,
             seed: seed_of(&me),
         }
     }
@@ -143,9 +146,9 @@ impl Config {
     }
 
     /// How long a tick takes: at each the node sends the announcements that it has gathered, and asks for messages that
-    /// it misses; at every tenth it exchanges names. Without this call it is a tenth of a second: shorter ticks use the
-    /// steps up sooner, and after longer ones a user notices a message that was lost on its way. `Node::stop` waits for
-    /// a tick.
+    /// it misses; at every tenth it exchanges names. Without this call it is a tenth of a second: shorter ticks take
+    /// more steps, and after longer ones a user notices a message that was lost on its way. `Node::stop` waits for a
+    /// tick.
     pub fn tick(mut self, tick: Duration) -> Config {
         self.tick = tick;
         self
@@ -180,10 +183,21 @@ impl Config {
         self
     }
 
-    /// How many steps the node may make: a step is a broadcast, a frame that came, or a part of a tick. It keeps all of
-    /// them, since its history is compared and handed out at the end, and ends when they are made. Without this call
-    /// they are 1,048,576, which take three gigabytes where each is a message that goes on over four links, and much
-    /// less where most are ticks.
+    /// Has the node keep its history: `Node::stop` hands out all of it, and the node ends when it has made `steps`
+    /// steps. Without this call the node forgets, once a tick, the steps that were compared with what came out of its
+    /// links, so that it may run without end, and `Node::stop` hands out the steps that are left.
+    pub fn keep_history(mut self) -> Config {
+        self.forgets = false;
+        self
+    }
+
+    /// How many steps the node may keep: a step is a broadcast, a frame that came, or a part of a tick. It ends when it
+    /// keeps so many. Without this call they are 1,048,576, which take three gigabytes where each is a message that
+    /// goes on over four links, and much less where most are ticks.
+    ///
+    /// A node that forgets keeps the steps of the last two or three ticks, and more as long as a peer takes nothing of
+    /// what the node sent: then it keeps all steps since, until that link is given up, since the peer let the node wait
+    /// too long (`patience`) or more frames wait than may (`ring`).
     pub fn steps(mut self, steps: usize) -> Config {
         self.steps = steps;
         self

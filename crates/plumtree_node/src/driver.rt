@@ -42,14 +42,19 @@ pub(crate) struct Staying {
     pub(crate) contacts: Vec<NodeName>,
     /// Where it tells how its neighbours change, if it does.
     pub(crate) news: Option<Arc<Inbox, Global>>,
+    /// Whether it forgets the steps that were compared.
+    pub(crate) forgets: bool,
 }
 
-/// Has the engine's node stay in its group.
+/// Has the engine's node stay in its group, and forget steps if it is to.
 fn stay_in<R: Wait, C: NodeCore<Global> + Drop>(
     rt: &R,
     engine: &mut Engine<C>,
     staying: &Staying,
 ) -> Result<(), Shortage> {
+    if staying.forgets {
+        engine.forget_from_now(rt);
+    }
     engine.stay_in(rt, staying.links, staying.contacts.as_slice())?;
     if staying.news.is_some() {
         engine.tell_news(rt)?;
@@ -83,20 +88,27 @@ where
     Ok(are_read || are_written)
 }
 
-/// Ends the writers of unused links, once a tick. `looked` is the tick in which this was done last.
-fn retire_idle<R: Wait, C: NodeCore<Global> + Drop>(
+/// Ends the writers of unused links, and has the node forget steps if it is to, once a tick. `looked` is the tick in
+/// which this was done last.
+fn tidy<R: Wait, C: NodeCore<Global> + Drop>(
     rt: &R,
     engine: &mut Engine<C>,
+    staying: &Staying,
     now: u64,
     looked: &mut u64,
-) {
-    if now != *looked {
-        engine.retire_idle(rt, now, idle_ticks(engine.written()));
-        *looked = now;
+) -> Result<(), Shortage> {
+    if now == *looked {
+        return Ok(());
     }
+    *looked = now;
+    engine.retire_idle(rt, now, idle_ticks(engine.written()));
+    if staying.forgets {
+        engine.forget(rt)?;
+    }
+    Ok(())
 }
 
-/// Makes turns until the node is to stop, or has made all its steps, so that its clock has ended.
+/// Makes turns until the node is to stop, or keeps as many steps as it may, so that its clock has ended.
 fn make_turns<R, C>(
     common: &mut Common<R>,
     engine: &mut Engine<C>,
@@ -112,7 +124,7 @@ where
     for _ in rt.forever() {
         let is_busy = turn(common, engine)?;
         hand_news(&rt, engine, staying)?;
-        retire_idle(&rt, engine, common.ticking.now(), &mut looked);
+        tidy(&rt, engine, staying, common.ticking.now(), &mut looked)?;
         engine.check(false)?;
         if orders.is_stopping() || common.ticking.is_over() {
             return Ok(());

@@ -1,6 +1,6 @@
 //! A running node's links, and the threads that work for them.
 ghost use Rattle.std.specs.Prelude.{IfOk};
-ghost use Rattle.node_threads.specs.History.{IsHistory};
+ghost use Rattle.node_threads.specs.Closing.{IsLeft};
 
 use crate::acceptor::Acceptor;
 use crate::arrivals::Arrivals;
@@ -9,12 +9,12 @@ use crate::error::StopError;
 use crate::link_table::LinkTable;
 use crate::machine::Machine;
 use crate::pace::pause;
+use crate::past::Past;
 use crate::rested::Rested;
 use crate::running::Running;
 use crate::shortage::Shortage;
 use crate::shortages::Shortages;
 use crate::ticks::Ticks;
-use frames::Frame;
 use neighborhood::News;
 use node_names::NodeName;
 use node_threads::{Handed, Host, NodeCore, Outlet, Port};
@@ -23,7 +23,7 @@ use std::net::{Net, SocketAddr, TcpListener, TcpStream};
 use std::sync::{Arc, Wait};
 use std::thread::Threads;
 use std::time::Clock;
-use world::{Delivery, Trace};
+use world::Delivery;
 
 /// What an engine's threads share, before any of them runs.
 #[derive(Drop)]
@@ -171,6 +171,18 @@ impl<C: NodeCore<Global> + Drop> Engine<C> {
         }
     }
 
+    /// Has the node forget steps from now on, whenever `forget` is called.
+    pub(crate) fn forget_from_now<R: Wait>(&self, rt: &R) {
+        self.running.host.forget_from_now(rt);
+    }
+
+    /// Has the node, which may forget, forget the steps that were there at the last call, once all links were compared
+    /// with them. Those without a writer are compared here.
+    pub(crate) fn forget<R: Wait>(&mut self, rt: &R) -> Result<(), Shortage> {
+        self.links.compare(rt, &self.running.host);
+        self.running.forget(rt)
+    }
+
     /// Takes what the node told of its neighbours.
     pub(crate) fn take_news<R: Wait>(&self, rt: &R) -> Vec<News> {
         self.running.host.take_news(rt)
@@ -257,13 +269,9 @@ impl<C: NodeCore<Global> + Drop> Engine<C> {
         })
     }
 
-    /// Waits for the workers, closes the node with its ports, and returns its history.
-    pub fn close<R: Threads + Wait>(
-        self,
-        rt: &R,
-        ports: Vec<Port<C>>,
-    ) -> Result<Trace<Frame>, StopError>
-        ensures { IfOk result (IsHistory C.starts C.steps) }
+    /// Waits for the workers, closes the node with its ports, and returns what it leaves.
+    pub fn close<R: Threads + Wait>(self, rt: &R, ports: Vec<Port<C>>) -> Result<Past, StopError>
+        ensures { IfOk result (λ past. IsLeft C.starts C.steps past.since past.trace) }
     {
         let Engine { running, links, .. } = self;
         running.close(rt, ports, links.into_unwritten())

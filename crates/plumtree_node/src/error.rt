@@ -60,11 +60,11 @@ impl<T: Drop> From<AllocFailed<T>> for StartError {
 /// Why a node refused a broadcast. It is then as it was.
 #[derive(Clone, Copy, Debug, PartialEq, Eq, Error)]
 pub enum BroadcastError {
-    /// The node has ended: it had a shortage, which `Node::stop` tells, or it has made all its steps.
+    /// The node has ended: it had a shortage, which `Node::stop` tells, or it kept as many steps as it may.
     #[error("the node has ended")]
     Ended,
-    /// The node has made as many steps as it may make, and is about to end.
-    #[error("the node has made all its steps")]
+    /// The node keeps as many steps as it may, and is about to end.
+    #[error("the node keeps as many steps as it may")]
     TraceFull,
     /// The payload has more than 32,768 bytes.
     #[error("the payload has more than 32,768 bytes")]

@@ -197,6 +197,13 @@ impl LinkTable {
         }
     }
 
+    /// Compares what came out of the links that have no writer with what the node sent.
+    pub(crate) fn compare<R: Wait, C: NodeCore<Global> + Drop>(&mut self, rt: &R, host: &Host<C>) {
+        for outlet in self.unwritten.iter_mut() {
+            host.compare(rt, outlet);
+        }
+    }
+
     /// The outlets of the links that have no writer.
     pub(crate) fn into_unwritten(self) -> Vec<Outlet> {
         let LinkTable { unwritten, .. } = self;

@@ -1,7 +1,7 @@
 //! A node that runs by itself.
 ghost use Rattle.std.specs.Prelude.{IfOk};
 ghost use Rattle.node_core.specs.Steps.{PlumStarts, PlumSteps};
-ghost use Rattle.node_threads.specs.History.{IsHistory};
+ghost use Rattle.node_threads.specs.Closing.{IsLeft};
 
 use crate::address::AddressBook;
 use crate::common::Common;
@@ -13,11 +13,11 @@ use crate::inbox::{Inbox, ToInbox};
 use crate::listening::{listen_at, listen_spare};
 use crate::machine::Machine;
 use crate::orders::{StopAtDrop, give_orders};
-use crate::ports::broadcast;
+use crate::past::Past;
+use crate::ports::{broadcast, forget_calls};
 use crate::slot::Slot;
 use crate::starting::{Started, start_host};
 use bytes::Bytes;
-use frames::Frame;
 use neighborhood::News;
 use node_core::PlumCore;
 use node_names::{MsgId, NodeName};
@@ -28,12 +28,12 @@ use std::net::{Net, SocketAddr, TcpListener, TcpStream};
 use std::sync::{Arc, Wait};
 use std::thread::Threads;
 use std::time::Clock;
-use world::{Delivery, Trace};
+use world::Delivery;
 
 /// A node that runs by itself: it listens at its address, has links to the nodes whose addresses it was given, and
 /// collects what it delivers.
 ///
-/// It may be moved to another thread. Dropping it stops it too, without waiting, and its history is lost.
+/// It may be moved to another thread. Dropping it stops it too, without waiting, and what it has not forgotten is lost.
 #[derive(Drop)]
 pub struct Node<R: Drop, C: NodeCore<Global> + Drop = PlumCore> {
     rt: R,
@@ -44,6 +44,8 @@ pub struct Node<R: Drop, C: NodeCore<Global> + Drop = PlumCore> {
     book: Arc<AddressBook, Global>,
     left: Arc<Slot<Left<C>>, Global>,
     stop_at_drop: StopAtDrop,
+    /// Whether it forgets its steps, and so what was broadcast.
+    forgets: bool,
 }
 
 /// Where a node listens, and a listener that keeps a descriptor for its end.
@@ -79,6 +81,20 @@ fn news_of(
     }
 }
 
+/// How the node stays in its group. Takes the contacts out of what it is started with.
+fn staying_of(
+    alloc: Global,
+    config: &mut Config,
+    inbox: &Arc<Inbox, Global>,
+) -> Result<Staying, AllocError> {
+    Ok(Staying {
+        links: config.links,
+        contacts: mem::replace(&mut config.contacts, Vec::new(alloc)),
+        news: news_of(config.tells_news, inbox)?,
+        forgets: config.forgets,
+    })
+}
+
 /// Has a thread run a node whose host was started.
 fn run<R, C>(
     rt: R,
@@ -106,11 +122,8 @@ where
         inbox: Arc::try_clone(&inbox)?,
         shortages: Arc::try_clone(&ground.shortages)?,
     };
-    let staying = Staying {
-        links: config.links,
-        contacts: mem::replace(&mut config.contacts, Vec::new(alloc)),
-        news: news_of(config.tells_news, &inbox)?,
-    };
+    let forgets = config.forgets;
+    let staying = staying_of(alloc, &mut config, &inbox)?;
     let common = config.into_common(rt, alloc)?;
     let book = Arc::try_clone(&common.book)?;
     let driver = Driver {
@@ -134,6 +147,7 @@ where
         book,
         left,
         stop_at_drop,
+        forgets,
     })
 }
 
@@ -170,15 +184,16 @@ impl<R: Drop> Node<R> {
         run(rt, alloc, config, doors, started)
     }
 
-    /// Stops the node, waits for its threads, and returns its history, in which deliveries that were not taken stand
-    /// too. This takes a tick, and as long as a peer that takes nothing is waited for (`Config::patience`).
+    /// Stops the node, waits for its threads, and returns what it leaves: its whole history if it keeps that
+    /// (`Config::keep_history`), in which deliveries that were not taken stand too, or else the steps that it has not
+    /// forgotten. This takes a tick, and as long as a peer that takes nothing is waited for (`Config::patience`).
     ///
     /// `Short` is the shortage that ended the node before; `Unlike` and `Torn` say that its history is not what the
-    /// program and its links saw of it.
-    pub fn stop(self) -> Result<Trace<Frame>, StopError>
+    /// program and its links saw of it. What the program broadcast is compared only if the node keeps its history.
+    pub fn stop(self) -> Result<Past, StopError>
     where
         R: Threads + Wait,
-        ensures { IfOk result (IsHistory PlumStarts PlumSteps) }
+        ensures { IfOk result (λ past. IsLeft PlumStarts PlumSteps past.since past.trace) }
     {
         self.close()
     }
@@ -196,7 +211,11 @@ impl<R: Drop, C: NodeCore<Global> + Drop> Node<R, C> {
     where
         R: Wait,
     {
-        match broadcast(&self.rt, self.ports.as_mut_slice(), payload) {
+        let sent = broadcast(&self.rt, self.ports.as_mut_slice(), payload);
+        if self.forgets {
+            forget_calls(self.ports.as_mut_slice());
+        }
+        match sent {
             Ok(id) => Ok(id),
             Err(error) => Err(BroadcastError::of(error)),
         }
@@ -236,11 +255,11 @@ impl<R: Drop, C: NodeCore<Global> + Drop> Node<R, C> {
         self.inbox.take_news(&self.rt)
     }
 
-    /// Stops the node, waits for its threads, and returns its history.
-    fn close(self) -> Result<Trace<Frame>, StopError>
+    /// Stops the node, waits for its threads, and returns what it leaves.
+    fn close(self) -> Result<Past, StopError>
     where
         R: Threads + Wait,
-        ensures { IfOk result (IsHistory C.starts C.steps) }
+        ensures { IfOk result (λ past. IsLeft C.starts C.steps past.since past.trace) }
     {
         let Node {
             rt,

@@ -25,3 +25,10 @@ pub fn broadcast<R: Wait, C: NodeCore<Global> + Drop>(
         Err(error) => Err(error),
     }
 }
+
+/// Has the first of a node's ports forget what was broadcast through it. The node must be one that may forget.
+pub(crate) fn forget_calls<C: NodeCore<Global> + Drop>(ports: &mut [Port<C>]) {
+    if let Some(port) = ports.first_mut() {
+        port.forget();
+    }
+}

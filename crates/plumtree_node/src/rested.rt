@@ -1,15 +1,14 @@
 //! What is left of an engine, for the thread that closes its node.
 ghost use Rattle.std.specs.Prelude.{IfOk};
-ghost use Rattle.node_threads.specs.History.{IsHistory};
+ghost use Rattle.node_threads.specs.Closing.{IsLeft};
 
 use crate::error::StopError;
+use crate::past::Past;
 use crate::running::Running;
-use frames::Frame;
 use node_threads::{Host, NodeCore, Outlet, Port};
 use std::alloc::Global;
 use std::sync::Wait;
 use std::thread::Threads;
-use world::Trace;
 
 /// A host whose workers were joined. A thread's handle stays with the thread that made it, so this is what the thread
 /// that ran an engine leaves to the one that closes the node.
@@ -23,14 +22,14 @@ pub(crate) struct Rested<C: NodeCore<Global> + Drop> {
 }
 
 impl<C: NodeCore<Global> + Drop> Rested<C> {
-    /// Closes the node with its ports, and returns its history.
+    /// Closes the node with its ports, and returns what it leaves.
     pub(crate) fn close<R: Threads + Wait>(
         self,
         rt: &R,
         alloc: Global,
         ports: Vec<Port<C>>,
-    ) -> Result<Trace<Frame>, StopError>
-        ensures { IfOk result (IsHistory C.starts C.steps) }
+    ) -> Result<Past, StopError>
+        ensures { IfOk result (λ past. IsLeft C.starts C.steps past.since past.trace) }
     {
         let Rested {
             host,

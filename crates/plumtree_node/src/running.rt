@@ -1,13 +1,13 @@
 //! A node's host, and the workers that it employs.
 ghost use Rattle.std.specs.Prelude.{IfOk};
-ghost use Rattle.node_threads.specs.History.{IsHistory};
+ghost use Rattle.node_threads.specs.Closing.{IsLeft};
 
 use crate::error::StopError;
 use crate::link_writer::LinkDialler;
 use crate::list::keep;
+use crate::past::Past;
 use crate::shortage::Shortage;
 use crate::ticks::Ticks;
-use frames::Frame;
 use links::{TcpCloser, TcpReader};
 use node_threads::{
     CloseError, Closed, Handed, Host, HostError, NodeCore, OpenGate, Outlet, Port, Worker,
@@ -18,7 +18,7 @@ use std::net::{Net, TcpListener, TcpStream};
 use std::sync::Wait;
 use std::thread::Threads;
 use std::time::Clock;
-use world::{Delivery, Trace};
+use world::Delivery;
 
 /// A node's host, and the workers that it employs.
 #[derive(Drop)]
@@ -132,6 +132,14 @@ impl<C: NodeCore<Global> + Drop> Running<C> {
         host
     }
 
+    /// Has the node forget the steps that were there at the last call, once all links were compared with them.
+    pub(crate) fn forget<R: Wait>(&self, rt: &R) -> Result<(), Shortage> {
+        match self.host.forget_made(rt) {
+            Ok(_) | Err(HostError::Closed) => Ok(()),
+            Err(_) => Err(Shortage::Memory),
+        }
+    }
+
     /// Joins the workers that have ended, closes the connections that are no longer read, and appends the outlets of
     /// the links that are no longer written.
     pub(crate) fn join_ended<R: Threads>(
@@ -163,15 +171,15 @@ impl<C: NodeCore<Global> + Drop> Running<C> {
         self.closers.clear();
     }
 
-    /// Closes the node, which is stopped, with its ports and the outlets of links that are not written. Returns its
-    /// history.
+    /// Closes the node, which is stopped, with its ports and the outlets of links that are not written. Returns what it
+    /// leaves.
     pub(crate) fn close<R: Threads + Wait>(
         mut self,
         rt: &R,
         ports: Vec<Port<C>>,
         outlets: Vec<Outlet>,
-    ) -> Result<Trace<Frame>, StopError>
-        ensures { IfOk result (IsHistory C.starts C.steps) }
+    ) -> Result<Past, StopError>
+        ensures { IfOk result (λ past. IsLeft C.starts C.steps past.since past.trace) }
     {
         let rested = self.rest(outlets);
         let Running {
@@ -179,21 +187,24 @@ impl<C: NodeCore<Global> + Drop> Running<C> {
             workers,
             closers: _,
         } = self;
-        let trace = trace_of(host.close(rt, ports, workers))?;
+        let past = past_of(host.close(rt, ports, workers))?;
         rested?;
-        Ok(trace)
+        Ok(past)
     }
 }
 
-/// The history of a node that was closed, or why it is not as it should be.
-fn trace_of<C: NodeCore<Global> + Drop>(
+/// What a node leaves that was closed, or why that is not as it should be.
+fn past_of<C: NodeCore<Global> + Drop>(
     closed: Result<Closed, CloseError<C>>,
-) -> Result<Trace<Frame>, StopError>
-    requires { IfOk closed (λ closed. IsHistory C.starts C.steps closed.trace) }
-    ensures { IfOk result (IsHistory C.starts C.steps) }
+) -> Result<Past, StopError>
+    requires { IfOk closed (λ closed. IsLeft C.starts C.steps closed.since closed.trace) }
+    ensures { IfOk result (λ past. IsLeft C.starts C.steps past.since past.trace) }
 {
     match closed {
-        Ok(closed) => Ok(closed.trace),
+        Ok(closed) => Ok(Past {
+            since: closed.since,
+            trace: closed.trace,
+        }),
         Err(error) => Err(stop_of(&error)),
     }
 }

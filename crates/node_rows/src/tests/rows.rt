@@ -1,4 +1,5 @@
 //! The rows, which are played with nodes over TCP.
+use crate::tests::forgetting::{run_on, run_out};
 use crate::tests::group::Group;
 use crate::tests::staying::{TOLD, await_contact, join_two, lose_only_peer, restart_contact};
 use anyhow::Result;
@@ -63,6 +64,25 @@ where
     Ok(())
 }
 
+/// Plays the rows of nodes that make more steps than they may keep. Appends those that fail.
+fn play_lasting<R>(rt: R, alloc: Global, text: &mut String) -> Result<()>
+where
+    R: Threads
+        + Wait
+        + Clock
+        + Net<Listener = TcpListener, Stream = TcpStream>
+        + Copy
+        + Send
+        + Drop
+        + 'static,
+{
+    let ran_on = run_on(rt, alloc)?;
+    ensure(text, "nodes that forget run on", ran_on)?;
+    let ran_out = run_out(rt, alloc)?;
+    ensure(text, "a node that keeps its history ends", ran_out)?;
+    Ok(())
+}
+
 /// All rows are one test: each function that names the node's type takes the prover a minute.
 #[test]
 fn nodes_stay_in(rt: HostRuntime) -> Result<()> {
@@ -70,6 +90,7 @@ fn nodes_stay_in(rt: HostRuntime) -> Result<()> {
     let mut text = String::new(alloc);
     play_joining(rt, alloc, &mut text)?;
     play_losing(rt, alloc, &mut text)?;
+    play_lasting(rt, alloc, &mut text)?;
     assert_eq!(rt; text.as_str(), "");
     Ok(())
 }
