@@ -86,13 +86,14 @@ fn parse_names<A: Allocator + Copy>(
     Ok(names)
 }
 
-/// Starts a node with these peers.
+/// Starts a node with these peers. Its trace may have so many steps.
 fn start_among<C: TestedCore<A> + Drop, A: Allocator + Copy>(
     alloc: A,
     me: Origin,
     limits: Limits,
     peers: &[NodeName],
     ports: usize,
+    steps: usize,
 ) -> Result<Node<C, A>, HostError>
     requires { IsTrue (are_peers limits me.name peers.now None) }
 {
@@ -101,7 +102,7 @@ fn start_among<C: TestedCore<A> + Drop, A: Allocator + Copy>(
         Ok(core) => core,
         Err(error) => return Err(HostError::Refused(error)),
     };
-    let (host, ports, outlets) = Host::start(alloc, core, opening, peers, ports, RING, STEPS)?;
+    let (host, ports, outlets) = Host::start(alloc, core, opening, peers, ports, RING, steps)?;
     Ok(Node {
         host,
         ports,
@@ -118,11 +119,23 @@ pub(crate) fn start<C: TestedCore<A> + Drop, A: Allocator + Copy>(
     peers: &str,
     ports: usize,
 ) -> Result<Node<C, A>, HostError> {
+    start_within(rt, alloc, me, peers, ports, STEPS)
+}
+
+/// Starts such a node whose trace may have so many steps.
+pub(crate) fn start_within<C: TestedCore<A> + Drop, A: Allocator + Copy>(
+    rt: &impl Abort,
+    alloc: A,
+    me: &str,
+    peers: &str,
+    ports: usize,
+    steps: usize,
+) -> Result<Node<C, A>, HostError> {
     let me = first_run(name(rt, me));
     let peers = parse_names(rt, alloc, peers)?;
     let limits = Limits::STANDARD;
     assert!(rt; are_peers(&limits, &me.name, peers.as_slice(), &None));
-    start_among(alloc, me, limits, peers.as_slice(), ports)
+    start_among(alloc, me, limits, peers.as_slice(), ports, steps)
 }
 
 /// Closes a node. Replaces the text with the answer.

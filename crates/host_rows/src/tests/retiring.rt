@@ -18,8 +18,8 @@ const LEFT: &str =
 
 /// Makes connections that take everything.
 #[derive(Drop)]
-struct Tapes {
-    alloc: Global,
+pub(crate) struct Tapes {
+    pub(crate) alloc: Global,
 }
 
 impl Dialler for Tapes {

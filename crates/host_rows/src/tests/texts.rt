@@ -165,9 +165,21 @@ fn push_links(text: &mut String, links: &[LinkReport]) -> Result<(), AllocError>
     Ok(())
 }
 
+/// Appends how many steps a node forgot, if it may forget, and the trace of the others.
+fn push_past<A: Allocator>(
+    text: &mut String,
+    since: &Option<usize>,
+    trace: &Trace<Frame<A>, A>,
+) -> Result<(), AllocError> {
+    if let Some(since) = since {
+        write!(text, "forgot {since}: ")?;
+    }
+    push_trace(text, trace)
+}
+
 /// Appends what a node left.
 fn push_closed<A: Allocator>(text: &mut String, closed: &Closed<A>) -> Result<(), AllocError> {
-    push_trace(text, &closed.trace)?;
+    push_past(text, &closed.since, &closed.trace)?;
     write!(text, " | handed out {}", closed.handed_out)?;
     push_links(text, closed.links.as_slice())
 }
@@ -180,17 +192,17 @@ pub(crate) fn push_answer<C: NodeCore<A> + Drop, A: Allocator>(
     match answer {
         Ok(closed) => push_closed(text, closed),
         Err(CloseError::PortMissing { .. }) => write!(text, "port missing"),
-        Err(CloseError::Unlike { port, trace }) => {
+        Err(CloseError::Unlike { port, since, trace }) => {
             write!(text, "unlike at {port}: ")?;
-            push_trace(text, trace)
+            push_past(text, since, trace)
         }
-        Err(CloseError::Torn { peer, trace }) => {
+        Err(CloseError::Torn { peer, since, trace }) => {
             write!(text, "torn to {peer}: ")?;
-            push_trace(text, trace)
+            push_past(text, since, trace)
         }
-        Err(CloseError::OutOfMemory { trace }) => {
+        Err(CloseError::OutOfMemory { since, trace }) => {
             write!(text, "out of memory: ")?;
-            push_trace(text, trace)
+            push_past(text, since, trace)
         }
     }
 }
