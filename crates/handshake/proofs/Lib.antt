@@ -1,0 +1,6 @@
+mod Agree
+mod FaultsTold
+mod HelloAgrees
+mod NameReading
+mod PartsAgree
+mod SocketBytes

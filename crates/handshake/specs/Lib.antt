@@ -1,0 +1,5 @@
+pub mod Answer
+pub mod Faults
+pub mod Reading
+pub mod Socket
+pub mod Text

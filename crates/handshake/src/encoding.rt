@@ -1,0 +1,55 @@
+//! Writing a `Hello` as bytes.
+ghost use Rattle.std.specs.Prelude.{◌≡◌, ◌++◌, IfOk, OnOk};
+ghost use Rattle.node_names.specs.NodeName.{IsNodeName};
+ghost use Rattle.handshake.specs.Text.{IsAddress, IsHello, address_text, name_text, text};
+
+use crate::address::Address;
+use crate::hello::Hello;
+use crate::{MAX_HELLO, VERSION};
+use bytes::Bytes;
+use node_names::NodeName;
+use std::alloc::{AllocError, Allocator};
+
+fn put_name<A: Allocator>(out: &mut Vec<u8, A>, name: &NodeName) -> Result<(), AllocError>
+    ensures bytes { OnOk result (out.new.items ≡ out.old.items ++ name_text name.now) }
+    ensures valid { OnOk result (IsNodeName name.now) }
+{
+    let letters = name.as_bytes();
+    out.push(letters.len() as u8)?;
+    out.extend_from_slice(letters)?;
+    Ok(())
+}
+
+fn put_address<A: Allocator>(out: &mut Vec<u8, A>, at: &Address) -> Result<(), AllocError>
+    ensures bytes { OnOk result (out.new.items ≡ out.old.items ++ address_text at.now) }
+    ensures valid { OnOk result (IsAddress at.now) }
+{
+    let port = match at {
+        Address::V4 { octets, port } => {
+            out.push(4)?;
+            out.extend_from_slice(octets)?;
+            *port
+        }
+        Address::V6 { octets, port } => {
+            out.push(6)?;
+            out.extend_from_slice(octets)?;
+            *port
+        }
+    };
+    out.extend_from_slice(&port.to_be_bytes())?;
+    Ok(())
+}
+
+/// Encodes `hello` as bytes: its text.
+pub fn encode<A: Allocator + Copy>(alloc: A, hello: &Hello) -> Result<Bytes<A>, AllocError>
+    ensures text { IfOk result (λ bytes. bytes ≡ text hello.now) }
+    // So `decode`, of bytes that begin with these, returns `hello`.
+    ensures valid { OnOk result (IsHello hello.now) }
+{
+    let mut out = Vec::with_capacity(alloc, MAX_HELLO)?;
+    out.extend_from_slice(&[b'P', b'L', b'U', b'M', VERSION])?;
+    put_name(&mut out, &hello.label)?;
+    put_name(&mut out, &hello.name)?;
+    put_address(&mut out, &hello.at)?;
+    Ok(Bytes::from_vec(out)?)
+}
