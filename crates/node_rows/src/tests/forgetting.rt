@@ -68,7 +68,7 @@ fn config_of(alloc: Global, name: NodeName) -> Result<Config> {
 }
 
 /// Starts two nodes, of which the second joins by the first.
-fn start_two<R>(rt: R, alloc: Global) -> Result<[Hearer<R>; 2]>
+fn start_two<R>(rt: R, alloc: Global) -> Result<(Hearer<R>, Hearer<R>)>
 where
     R: Threads
         + Wait
@@ -84,8 +84,15 @@ where
     let config = config_of(alloc, b)?.contact(a, one.address())?;
     let two = Node::start(rt, alloc, config)?;
     one.knows(b, two.address())?;
-    let [one, two] = [one, two].map(|node| Hearer { node, heard: 0 });
-    Ok([one, two])
+    let one = Hearer {
+        node: one,
+        heard: 0,
+    };
+    let two = Hearer {
+        node: two,
+        heard: 0,
+    };
+    Ok((one, two))
 }
 
 /// Waits until the node has a neighbour. Returns whether it has one.
@@ -131,6 +138,12 @@ fn say_batch<R: Wait + Clock + Drop>(
     Ok(await_messages(rt, one, end) && await_messages(rt, two, end))
 }
 
+/// Stops a node. Returns what it leaves.
+fn stop<R: Threads + Wait + Drop>(hearer: Hearer<R>) -> Result<Past> {
+    let Hearer { node, heard: _ } = hearer;
+    Ok(node.stop()?)
+}
+
 /// Whether a node has forgotten more steps than it may keep, and has kept no more than that.
 fn has_forgotten(past: &Past) -> bool {
     let since = past.since.unwrap_or(0);
@@ -150,15 +163,13 @@ where
         + Drop
         + 'static,
 {
-    let [mut one, mut two] = start_two(rt, alloc)?;
+    let (mut one, mut two) = start_two(rt, alloc)?;
     let mut is_so = await_neighbour(&rt, &one) && await_neighbour(&rt, &two);
     for batch in 0..MESSAGES / BATCH {
         is_so = is_so && say_batch(&rt, alloc, &mut one, &mut two, batch * BATCH)?;
     }
-    for Hearer { node, .. } in [one, two] {
-        is_so = has_forgotten(&node.stop()?) && is_so;
-    }
-    Ok(is_so)
+    let (one, two) = (stop(one)?, stop(two)?);
+    Ok(is_so && has_forgotten(&one) && has_forgotten(&two))
 }
 
 /// Has a node that keeps its history broadcast until it refuses. Returns whether it has ended then, and hands out as many
