@@ -9,6 +9,7 @@ use mio::Interest;
 use mio::net::TcpStream;
 use std::alloc::Allocator;
 use std::io::ErrorKind;
+use std::net::SocketAddr;
 use wire_node::ConnectionId;
 
 /// Whether an error of this kind concerns only the connection that would have been taken, so that others may wait.
@@ -60,8 +61,8 @@ impl<N: LoopNode<A>, S: Resolve + Drop, A: Allocator + Copy> EventLoop<N, S, A> 
             return Ok(false);
         };
         match listener.accept() {
-            Ok(stream) => {
-                self.admit(place, stream, id)?;
+            Ok((stream, from)) => {
+                self.admit(place, stream, id, from)?;
                 Ok(true)
             }
             Err(error) => Ok(is_of_peer(error.kind())),
@@ -87,12 +88,14 @@ impl<N: LoopNode<A>, S: Resolve + Drop, A: Allocator + Copy> EventLoop<N, S, A> 
         Ok(Some(id))
     }
 
-    /// Has the poll watch a connection, and keeps it. One that cannot be watched is closed.
+    /// Has the poll watch a connection, keeps it, and tells the node where it comes from. One that cannot be watched is
+    /// closed.
     fn admit(
         &mut self,
         owner: usize,
         stream: TcpStream,
         id: ConnectionId,
+        from: SocketAddr,
     ) -> Result<(), LoopError> {
         let mut stream = stream;
         let Some(token) = Source::Connection(self.connections.next_place()).token() else {
@@ -111,6 +114,9 @@ impl<N: LoopNode<A>, S: Resolve + Drop, A: Allocator + Copy> EventLoop<N, S, A> 
         }
         let connection = Connection::new(stream, owner, id, self.now);
         self.connections.insert(connection)?;
+        if let Some(hosted) = self.nodes.get_mut(owner) {
+            hosted.node.came(id, from);
+        }
         Ok(())
     }
 

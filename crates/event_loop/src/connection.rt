@@ -83,13 +83,20 @@ impl Connection {
     }
 
     /// Whether it owes bytes for more than this number of ticks: it sent none since it came, or not the rest of a
-    /// frame.
-    pub(crate) fn is_stalled(&self, now: u64, ticks: u64) -> bool {
-        let owes = match self.at {
-            Some(place) => place.is_within(),
-            None => true,
+    /// frame. Where its node hears pulses, it also owes one in twice the time, so that whoever made it closes it first if
+    /// it is of no use.
+    pub(crate) fn is_stalled(&self, now: u64, ticks: u64, hears_pulses: bool) -> bool {
+        let is_idle = match self.at {
+            Some(place) => !place.is_within(),
+            None => false,
         };
-        owes && !self.is_held && self.since.saturating_add(ticks) < now
+        let most = if is_idle {
+            ticks.saturating_mul(2)
+        } else {
+            ticks
+        };
+        let owes = !is_idle || hears_pulses;
+        owes && !self.is_held && self.since.saturating_add(most) < now
     }
 
     /// Reads once into the buffer.

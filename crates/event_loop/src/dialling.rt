@@ -2,6 +2,7 @@
 use crate::error::LoopError;
 use crate::event_loop::EventLoop;
 use crate::link::Link;
+use crate::link_error::LinkError;
 use crate::loop_node::LoopNode;
 use crate::resolve::Resolve;
 use crate::source::Source;
@@ -15,6 +16,17 @@ use std::net::{Net, SocketAddr};
 /// How many links a node has at most: to the 80 names that its views may have, and to others that it answers. Beyond that
 /// a link is closed that is of no use any more; if there is none, the name counts as one that cannot be reached.
 pub const LINKS: usize = 128;
+
+/// What came of reaching a name.
+#[derive(Clone, Copy)]
+pub(crate) enum Reached {
+    /// There is a link, at this place.
+    Link(usize),
+    /// Its address is being looked up.
+    Awaited,
+    /// It cannot be reached.
+    Unreachable(LinkError),
+}
 
 /// Begins to connect to an address, for a writer that gathers bytes itself, so that each write is sent at once. Has the
 /// poll watch the connection as the link at this place.
@@ -34,32 +46,48 @@ fn dial_at<R: Net>(
 }
 
 impl<N: LoopNode<A>, S: Resolve + Drop, A: Allocator + Copy> EventLoop<N, S, A> {
-    /// Dials the name for the node at this place, unless there is a link to it. Returns the place of the link, unless
-    /// the name has no address, there are too many links, or the system refuses. Where an allocation is refused, nothing
-    /// is dialled.
+    /// Dials the name for the node at this place, unless there is a link to it. Where an allocation is refused, nothing is
+    /// dialled.
     pub(crate) fn reach<R: Net>(
         &mut self,
         rt: &R,
         place: usize,
         name: NodeName,
-    ) -> Result<Option<usize>, LoopError> {
-        let Some(hosted) = self.nodes.get(place) else {
-            return Ok(None);
-        };
-        if let Some(link) = hosted.link_to(&name) {
-            return Ok(Some(link));
+    ) -> Result<Reached, LoopError> {
+        if let Some(link) = self.link_to(place, &name) {
+            return Ok(Reached::Link(link));
         }
-        let Some(at) = self.resolver.resolve(&name) else {
-            return Ok(None);
+        let Some(at) = self.address_of(place, &name) else {
+            return Ok(if self.resolver.is_awaited(&name) {
+                Reached::Awaited
+            } else {
+                Reached::Unreachable(LinkError::NoAddress)
+            });
         };
         if !self.may_dial(place) {
-            return Ok(None);
+            return Ok(Reached::Unreachable(LinkError::TooMany));
         }
-        self.make_room(place)?;
-        let Ok(stream) = dial_at(rt, self.poll.registry(), at, self.links.vacant_key()) else {
-            return Ok(None);
-        };
-        Ok(Some(self.keep_link(place, name, stream)?))
+        self.make_room(place, name)?;
+        match dial_at(rt, self.poll.registry(), at, self.links.vacant_key()) {
+            Ok(stream) => Ok(Reached::Link(self.keep_link(place, name, stream)?)),
+            Err(error) => {
+                self.close_link(place, &name);
+                Ok(Reached::Unreachable(LinkError::System(error)))
+            }
+        }
+    }
+
+    /// The place of the link to the name of the node at this place, if there is one.
+    fn link_to(&self, place: usize, name: &NodeName) -> Option<usize> {
+        self.nodes.get(place)?.link_to(name)
+    }
+
+    /// Where the name takes connections, as the node at this place knows, or else the resolver.
+    fn address_of(&mut self, place: usize, name: &NodeName) -> Option<SocketAddr> {
+        match self.nodes.get(place)?.node.address_of(name) {
+            Some(at) => Some(at),
+            None => self.resolver.resolve(name),
+        }
     }
 
     /// Whether the node at this place may have one more link. If it has as many as it may, one that is of no use now is
@@ -78,11 +106,14 @@ impl<N: LoopNode<A>, S: Resolve + Drop, A: Allocator + Copy> EventLoop<N, S, A> 
         true
     }
 
-    /// Makes room for a link of the node at this place.
-    fn make_room(&mut self, place: usize) -> Result<(), AllocError> {
+    /// Makes room for a link to the name of the node at this place, and has the node begin it.
+    fn make_room(&mut self, place: usize, name: NodeName) -> Result<(), AllocError> {
         self.links.reserve(1)?;
         match self.nodes.get_mut(place) {
-            Some(hosted) => hosted.reserve(),
+            Some(hosted) => {
+                hosted.reserve()?;
+                hosted.node.opens(name)
+            }
             None => Ok(()),
         }
     }

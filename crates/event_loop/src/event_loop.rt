@@ -79,7 +79,8 @@ impl<N: LoopNode<A>, S: Resolve + Drop, A: Allocator + Copy> EventLoop<N, S, A> 
     }
 
     /// Sets for how many ticks a peer may keep a node waiting: 64, if nothing is set. A connection over which nothing
-    /// came for longer, or not the rest of a frame, is closed; a link that took nothing for longer of what waits for
+    /// came for longer since it was made, or not the rest of a frame, or nothing for twice as long where the node hears
+    /// pulses, is closed; a link that took nothing for longer of what waits for
     /// its name counts as ended, and one that was not used for longer and leads to no neighbour is closed. The less, the
     /// sooner is a node that asked to become a neighbour told that it cannot be answered.
     pub fn set_patience(&mut self, ticks: u64) {

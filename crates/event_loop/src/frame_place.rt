@@ -1,9 +1,9 @@
-//! Where in a frame a stream of bytes stands.
+//! Where in a frame or another record a stream of bytes stands.
 
 /// How many bytes at the front of a frame say how many follow.
 const PREFIX: usize = 4;
 
-/// Where in a frame a stream of bytes stands.
+/// Where in a frame or another record a stream of bytes stands.
 #[derive(Clone, Copy, Debug, PartialEq, Eq)]
 pub(crate) struct FramePlace {
     /// How many bytes of the prefix are lacking.
@@ -48,8 +48,13 @@ impl FramePlace {
         has_ended
     }
 
-    /// Goes on by a byte of a prefix.
+    /// Goes on by a byte of a prefix. A first byte other than 0 begins no frame, since a frame has fewer than 2^24 bytes,
+    /// but a record that a node may have beside its frames, whose second byte says how many follow.
     fn pass_prefix(&mut self, byte: u8) {
+        if self.prefix == PREFIX && byte != 0 {
+            self.prefix = 1;
+            return;
+        }
         self.prefix = self.prefix.saturating_sub(1);
         self.number = self.number << 8 | byte as u32;
         if self.prefix == 0 {

@@ -1,5 +1,6 @@
 //! A node in an event loop.
 use crate::link::Link;
+use crate::link_error::LinkError;
 use crate::loop_node::LoopNode;
 use crate::program::Situation;
 use indexmap::IndexMap;
@@ -79,12 +80,11 @@ impl<N: Drop, A: Allocator + Copy> HostedNode<N, A> {
         self.links.swap_remove(name)
     }
 
-    /// The name of a link that is over.
-    pub(crate) fn ended_name(&self, links: &Slab<Link, A>) -> Option<NodeName> {
+    /// The name of a link that is over, and why that is so.
+    pub(crate) fn ended_link(&self, links: &Slab<Link, A>) -> Option<(NodeName, LinkError)> {
         for (name, place) in &self.links {
-            match links.get(*place) {
-                Some(link) if link.is_over() => return Some(*name),
-                _ => {}
+            if let Some(error) = links.get(*place).and_then(Link::error) {
+                return Some((*name, error));
             }
         }
         None

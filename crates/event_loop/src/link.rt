@@ -1,4 +1,5 @@
 //! A link that was dialled.
+use crate::link_error::LinkError;
 use crate::loop_node::LoopNode;
 use mio::event::Event;
 use mio::net::TcpStream;
@@ -16,8 +17,8 @@ pub(crate) struct Link {
     name: NodeName,
     /// Whether a write may take bytes. The poll tells only of changes, so this stays until a write takes none.
     is_ready: bool,
-    /// Whether dialling failed, or it has ended.
-    is_over: bool,
+    /// Why the name cannot be reached, if dialling failed or the link has ended.
+    error: Option<LinkError>,
     /// The tick of the loop in which it was dialled, or took bytes last.
     used: u64,
 }
@@ -40,6 +41,14 @@ fn write_first<N: LoopNode<A>, A: Allocator + Copy>(
     ])
 }
 
+/// Why a stream has ended of which the poll tells that.
+fn error_of(stream: &mut TcpStream) -> LinkError {
+    match stream.take_error() {
+        Ok(Some(error)) | Err(error) => LinkError::System(error),
+        Ok(None) => LinkError::Closed,
+    }
+}
+
 impl Link {
     /// Makes a link to the name that is being dialled in this tick. A write tells whether it is connected already.
     pub(crate) fn new(stream: TcpStream, owner: usize, name: NodeName, now: u64) -> Link {
@@ -48,7 +57,7 @@ impl Link {
             owner,
             name,
             is_ready: true,
-            is_over: false,
+            error: None,
             used: now,
         }
     }
@@ -65,7 +74,12 @@ impl Link {
 
     /// Whether the node is to be told that the name cannot be reached.
     pub(crate) fn is_over(&self) -> bool {
-        self.is_over
+        self.error.is_some()
+    }
+
+    /// Why the name cannot be reached, if it is so.
+    pub(crate) fn error(&self) -> Option<LinkError> {
+        self.error
     }
 
     /// Whether it took no bytes when that was tried last, and no change was noted since.
@@ -78,15 +92,18 @@ impl Link {
         self.used.saturating_add(ticks) < now
     }
 
-    /// Has the node be told that the name cannot be reached.
-    pub(crate) fn end(&mut self) {
-        self.is_over = true;
+    /// Has the node be told that the name cannot be reached, and why. What ended the link first is told.
+    pub(crate) fn end(&mut self, error: LinkError) {
+        if self.error.is_none() {
+            self.error = Some(error);
+        }
     }
 
     /// Notes what the poll tells of it.
     pub(crate) fn note(&mut self, event: &Event) {
         if event.is_error() || event.is_read_closed() || event.is_write_closed() {
-            self.is_over = true;
+            let error = error_of(&mut self.stream);
+            self.end(error);
         }
         if event.is_writable() {
             self.is_ready = true;
@@ -99,7 +116,7 @@ impl Link {
         node: &mut N,
         now: u64,
     ) -> bool {
-        if !self.is_ready || self.is_over {
+        if !self.is_ready || self.is_over() {
             return false;
         }
         match write_first(&self.stream, node, &self.name) {
@@ -109,16 +126,16 @@ impl Link {
                 self.used = now;
                 true
             }
-            Err(error) => self.may_write_after(error.kind()),
+            Err(error) => self.may_write_after(error),
         }
     }
 
     /// Notes why a write took nothing. Returns whether the next may take some.
-    fn may_write_after(&mut self, kind: ErrorKind) -> bool {
-        match kind {
+    fn may_write_after(&mut self, error: io::Error) -> bool {
+        match error.kind() {
             ErrorKind::WouldBlock => self.is_ready = false,
             ErrorKind::Interrupted => return true,
-            _ => self.is_over = true,
+            _ => self.end(LinkError::System(error)),
         }
         false
     }

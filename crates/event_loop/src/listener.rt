@@ -52,10 +52,9 @@ impl Listener {
         self.next = Some(id);
     }
 
-    /// Takes a connection that waits.
-    pub(crate) fn accept(&self) -> io::Result<TcpStream> {
-        let (stream, _) = self.socket.accept()?;
-        Ok(stream)
+    /// Takes a connection that waits, and returns where it comes from too.
+    pub(crate) fn accept(&self) -> io::Result<(TcpStream, SocketAddr)> {
+        self.socket.accept()
     }
 
     /// Counts a connection that was opened under the next number. Returns whether there was room for it.

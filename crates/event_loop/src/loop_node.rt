@@ -1,11 +1,13 @@
 //! A node that an event loop runs.
+use crate::link_error::LinkError;
 use node_names::{Dice, NodeName};
 use rand_core::Rng;
 use std::alloc::{AllocError, Allocator};
+use std::net::SocketAddr;
 use wire_node::{ConnectionId, ReceiveError, WireError};
 
 /// A node that an event loop runs: what the loop calls of it. Each call does what the one of the same name of a
-/// `WireNode` does.
+/// `WireNode` does. The last six are about its connections and links themselves, of which a `WireNode` keeps nothing.
 ///
 /// The loop is generic in it, since each function that owns a node takes the prover a minute if its type is named.
 pub trait LoopNode<A: Allocator + Copy>: Drop {
@@ -51,6 +53,26 @@ pub trait LoopNode<A: Allocator + Copy>: Drop {
     /// Whether the name is in the active view.
     fn is_peer(&self, name: &NodeName) -> bool;
 
-    /// Whether the active view is empty.
+    /// Whether it is to join by one of its contacts: its active view is empty, or it has another reason.
     fn is_alone(&self) -> bool;
+
+    /// Whether over each connection something comes now and then, so that one over which nothing came for longer than
+    /// may be is of a node that is gone.
+    fn hears_pulses(&self) -> bool;
+
+    /// Notes where a connection that was accepted comes from.
+    fn came(&mut self, id: ConnectionId, from: SocketAddr);
+
+    /// Where the name takes connections, if the node knows it. Else the loop's resolver is asked.
+    fn address_of(&self, name: &NodeName) -> Option<SocketAddr>;
+
+    /// Notes that a link to the name is about to be dialled: its first bytes are the first that `transmit` gives then. If
+    /// this is refused, it is not dialled.
+    fn opens(&mut self, name: NodeName) -> Result<(), AllocError>;
+
+    /// Notes that there is no link to the name any more.
+    fn closed(&mut self, name: &NodeName);
+
+    /// Notes why the name cannot be reached, of which `unreachable` told just before.
+    fn failed(&mut self, name: NodeName, error: LinkError);
 }

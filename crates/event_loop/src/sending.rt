@@ -1,7 +1,9 @@
 //! Sending what waits.
+use crate::dialling::Reached;
 use crate::error::LoopError;
 use crate::event_loop::EventLoop;
 use crate::link::Link;
+use crate::link_error::LinkError;
 use crate::loop_node::LoopNode;
 use crate::resolve::Resolve;
 use node_names::{Dice, NodeName};
@@ -57,31 +59,32 @@ impl<N: LoopNode<A>, S: Resolve + Drop, A: Allocator + Copy> EventLoop<N, S, A> 
     /// Tells the node at this place of its links that are over, and closes them.
     fn end_links(&mut self, place: usize) -> Result<(), LoopError> {
         for _ in 0..self.links.len() {
-            let Some(name) = self.ended_name(place) else {
+            let Some((name, error)) = self.ended_link(place) else {
                 return Ok(());
             };
-            self.give_up(place, name)?;
+            self.give_up(place, name, error)?;
             self.close_link(place, &name);
         }
         Ok(())
     }
 
-    /// The name of a link that is over of the node at this place.
-    fn ended_name(&mut self, place: usize) -> Option<NodeName> {
+    /// The name of a link that is over of the node at this place, and why that is so.
+    fn ended_link(&mut self, place: usize) -> Option<(NodeName, LinkError)> {
         let hosted = self.nodes.get_mut(place)?;
         if !hosted.may_have_ended {
             return None;
         }
-        let name = hosted.ended_name(&self.links);
-        hosted.may_have_ended = name.is_some();
-        name
+        let ended = hosted.ended_link(&self.links);
+        hosted.may_have_ended = ended.is_some();
+        ended
     }
 
-    /// Tells the node at this place that the name cannot be reached.
-    fn give_up(&mut self, place: usize, name: NodeName) -> Result<(), LoopError> {
+    /// Tells the node at this place that the name cannot be reached, and why.
+    fn give_up(&mut self, place: usize, name: NodeName, error: LinkError) -> Result<(), LoopError> {
         if let Some(hosted) = self.nodes.get_mut(place) {
             let dice = Dice::draw(&mut self.generator);
             hosted.node.unreachable(name, &dice)?;
+            hosted.node.failed(name, error);
         }
         Ok(())
     }
@@ -89,6 +92,7 @@ impl<N: LoopNode<A>, S: Resolve + Drop, A: Allocator + Copy> EventLoop<N, S, A> 
     /// Closes the link to the name of the node at this place.
     pub(crate) fn close_link(&mut self, place: usize, name: &NodeName) {
         if let Some(hosted) = self.nodes.get_mut(place) {
+            hosted.node.closed(name);
             if let Some(link) = hosted.forget(name) {
                 self.links.try_remove(link);
             }
@@ -106,24 +110,31 @@ impl<N: LoopNode<A>, S: Resolve + Drop, A: Allocator + Copy> EventLoop<N, S, A> 
         }
     }
 
-    /// Sends what waits for the name. If it cannot be dialled, the node is told so. Returns whether the next turn may
-    /// go on.
+    /// Sends what waits for the name. If it cannot be dialled, the node is told so; if its address is looked up, that is
+    /// waited for. Returns whether the next turn may go on.
     fn send_to<R: Net>(&mut self, rt: &R, place: usize, name: NodeName) -> Result<bool, LoopError> {
-        let Some(link_place) = self.reach(rt, place, name)? else {
-            self.give_up(place, name)?;
-            return Ok(true);
-        };
+        match self.reach(rt, place, name)? {
+            Reached::Link(link) => Ok(self.write_to(place, link)),
+            Reached::Awaited => Ok(false),
+            Reached::Unreachable(error) => {
+                self.give_up(place, name, error)?;
+                Ok(true)
+            }
+        }
+    }
+
+    /// Writes to the link what waits for its name in the node at this place. Returns whether the next turn may go on.
+    fn write_to(&mut self, place: usize, link_place: usize) -> bool {
         let Some(link) = self.links.get_mut(link_place) else {
-            return Ok(false);
+            return false;
         };
         let Some(hosted) = self.nodes.get_mut(place) else {
-            return Ok(false);
+            return false;
         };
         let is_behind = write_some(link, &mut hosted.node, self.now);
         if link.is_over() {
             hosted.may_have_ended = true;
-            return Ok(true);
         }
-        Ok(is_behind)
+        is_behind || link.is_over()
     }
 }

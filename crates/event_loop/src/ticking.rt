@@ -1,6 +1,7 @@
 //! Letting time pass.
 use crate::error::LoopError;
 use crate::event_loop::EventLoop;
+use crate::link_error::LinkError;
 use crate::loop_node::LoopNode;
 use crate::resolve::Resolve;
 use node_names::Dice;
@@ -45,11 +46,16 @@ impl<N: LoopNode<A>, S: Resolve + Drop, A: Allocator + Copy> EventLoop<N, S, A> 
         if self.connections.is_queued(place) {
             return;
         }
-        if let Some(connection) = self.connections.get_mut(place) {
-            if connection.is_stalled(self.now, self.patience) {
-                connection.end();
-                self.connections.queue(place);
-            }
+        let Some(connection) = self.connections.get_mut(place) else {
+            return;
+        };
+        let hears_pulses = match self.nodes.get(connection.owner()) {
+            Some(hosted) => hosted.node.hears_pulses(),
+            None => false,
+        };
+        if connection.is_stalled(self.now, self.patience, hears_pulses) {
+            connection.end();
+            self.connections.queue(place);
         }
     }
 
@@ -68,7 +74,7 @@ impl<N: LoopNode<A>, S: Resolve + Drop, A: Allocator + Copy> EventLoop<N, S, A> 
         };
         if hosted.node.waiting(&name) > 0 {
             if link.is_blocked() {
-                link.end();
+                link.end(LinkError::Stalled);
                 hosted.may_have_ended = true;
             }
         } else if !hosted.node.is_peer(&name) {

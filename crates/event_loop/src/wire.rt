@@ -1,8 +1,10 @@
 //! A node of bytes in an event loop.
+use crate::link_error::LinkError;
 use crate::loop_node::LoopNode;
 use node_names::{Dice, NodeName};
 use rand_core::Rng;
 use std::alloc::{AllocError, Allocator};
+use std::net::SocketAddr;
 use wire_node::{ConnectionId, DiceSource, ReceiveError, Record, WireError, WireNode};
 use world::Core;
 
@@ -75,4 +77,22 @@ impl<A: Allocator + Copy, R: Record<A> + Drop> LoopNode<A> for WireNode<A, R> {
     fn is_alone(&self) -> bool {
         self.core().active().is_empty()
     }
+
+    fn hears_pulses(&self) -> bool {
+        false
+    }
+
+    fn came(&mut self, _id: ConnectionId, _from: SocketAddr) {}
+
+    fn address_of(&self, _name: &NodeName) -> Option<SocketAddr> {
+        None
+    }
+
+    fn opens(&mut self, _name: NodeName) -> Result<(), AllocError> {
+        Ok(())
+    }
+
+    fn closed(&mut self, _name: &NodeName) {}
+
+    fn failed(&mut self, _name: NodeName, _fault: LinkError) {}
 }

@@ -1,6 +1,12 @@
 mod Agree
+mod Connections
 mod FaultsTold
 mod HelloAgrees
+mod IntroductionAgrees
+mod Judged
 mod NameReading
 mod PartsAgree
+mod Runs
 mod SocketBytes
+mod Strangers
+mod Strides

@@ -1,5 +1,11 @@
 pub mod Answer
+pub mod Connection
 pub mod Faults
+pub mod Inbound
+pub mod Judging
+pub mod Place
 pub mod Reading
+pub mod Records
 pub mod Socket
+pub mod State
 pub mod Text

@@ -1,4 +1,4 @@
--- Reading a Hello from left to right, up to the first error. This defines the order of the errors.
+-- Reading a Hello or an Introduction from left to right, up to the first error. This defines the order of the errors.
 use Rattle.std.specs.Prelude.{ℕ, ◌-◌, Bool, ◌&&◌, List, [], ◌∷◌, length, take, drop, Result, Ok, Err, nat_lt, nat_le, nat_eq, ◌==◌, if◌then◌else◌}
 use Rattle.std.specs.List.{list_all}
 use Rattle.std.specs.Int.{w16, from_be_bytes}
@@ -9,6 +9,7 @@ use Rattle.handshake.specs.declared.address.Address.TheVariants.{V4, V6}
 use Rattle.handshake.specs.declared.error.HelloError.{HelloError}
 use Rattle.handshake.specs.declared.error.HelloError.TheVariants.{Short, NotPlumtree, OtherVersion, BadLabel, BadName, BadAddress}
 use Rattle.handshake.specs.declared.hello.Hello.{Hello}
+use Rattle.handshake.specs.declared.introduction.Introduction.{Introduction}
 use Rattle.handshake.specs.Text.{plum}
 
 -- What reading from the front of the bytes gives: a value and the bytes after it, or an error.
@@ -99,6 +100,13 @@ hello = do
   n ← name BadName
   a ← address
   done (record { label = l; name = n; at = a })
+
+-- the name and the address of an Introduction
+unfoldable pub introduction : Reader Introduction
+introduction = do
+  n ← name BadName
+  a ← address
+  done (record { name = n; at = a })
 
 -- what was read, with the number of bytes that were read in place of the bytes after it
 abbrev pub with_length : ℕ → Result (Hello × List ℕ) HelloError → Result (Hello × ℕ) HelloError

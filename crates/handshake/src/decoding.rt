@@ -25,7 +25,7 @@ fn hello(parts: &mut Parts<'_>) -> Result<Hello, HelloError>
 
 /// Decodes like `decode`, in terms of `read`.
 #[tactic(auto, unfolding(crate::specs::Reading::read))]
-fn first(bytes: &[u8]) -> Result<(Hello, usize), HelloError>
+pub(crate) fn first(bytes: &[u8]) -> Result<(Hello, usize), HelloError>
     ensures { result ≡ read.read bytes.now }
 {
     let mut parts = Parts::new(bytes);

@@ -1,4 +1,4 @@
-//! Why bytes do not begin with a `Hello`.
+//! Why bytes do not begin with a `Hello`, and why a connection is refused.
 
 use thiserror::Error;
 
@@ -23,4 +23,24 @@ pub enum HelloError {
     /// The byte before the address, which is here, is neither 4 nor 6.
     #[error("{0} is no kind of address")]
     BadAddress(u8),
+}
+
+/// The reason why the bytes of a connection are refused.
+#[derive(Clone, Copy, Debug, PartialEq, Eq, Error)]
+pub enum HandshakeError {
+    /// The first byte of the connection, which is here, is not that of a hello.
+    #[error("the connection does not begin with a hello, but with byte {0}")]
+    NoHello(u8),
+    /// The first byte of a record, which is here, begins neither a frame nor an introduction.
+    #[error("record of unknown kind {0}")]
+    UnknownRecord(u8),
+    /// The length of a record, which is here, is 0 or too large for its kind, or longer than the hello within it.
+    #[error("{0} is not the length of the record")]
+    BadLength(u8),
+    /// The text of the hello is malformed. `Short` means that its stated length ends before the hello does.
+    #[error("malformed hello: {0}")]
+    Hello(HelloError),
+    /// The text of an introduction is malformed, or its stated length is not that of the introduction.
+    #[error("malformed introduction")]
+    BadIntroduction,
 }

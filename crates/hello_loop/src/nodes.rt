@@ -62,7 +62,7 @@ impl Nodes {
 }
 
 impl Resolve for Nodes {
-    fn resolve(&self, name: &NodeName) -> Option<SocketAddr> {
+    fn resolve(&mut self, name: &NodeName) -> Option<SocketAddr> {
         self.address(name)
     }
 }

@@ -25,7 +25,7 @@ impl Places {
 }
 
 impl Resolve for Places {
-    fn resolve(&self, name: &NodeName) -> Option<SocketAddr> {
+    fn resolve(&mut self, name: &NodeName) -> Option<SocketAddr> {
         match self.ports.get(name) {
             Some(port) => Some(address(*port)),
             None => None,

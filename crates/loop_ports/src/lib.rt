@@ -8,9 +8,13 @@ mod news_lane;
 mod port;
 mod port_node;
 mod ports;
+mod receiver;
+mod sender;
 mod wire;
 
 pub use error::{PortError, PortFault};
 pub use port::Port;
 pub use port_node::PortNode;
 pub use ports::Ports;
+pub use receiver::PortReceiver;
+pub use sender::PortSender;

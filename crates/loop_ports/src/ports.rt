@@ -3,6 +3,8 @@ use crate::lane::Lane;
 use crate::news_lane::NewsLane;
 use crate::port::Port;
 use crate::port_node::PortNode;
+use crate::receiver::PortReceiver;
+use crate::sender::PortSender;
 use event_loop::{EventLoop, LoopError, LoopNode, Next, Program, Resolve, Situation};
 use rtrb::RingBuffer;
 use std::alloc::{AllocError, Allocator, Global};
@@ -90,10 +92,14 @@ impl<A: Allocator + Copy> Ports<A> {
     {
         self.make_room(place)?;
         let waker = event_loop.waker(place)?;
+        let other = event_loop.waker(place)?;
         let (broadcasts, handed_in) = RingBuffer::new(self.alloc, capacity)?;
         let (handed_out, deliveries) = RingBuffer::new(self.alloc, capacity)?;
         let (told, news) = RingBuffer::new(self.alloc, news)?;
-        let port = Port::new(broadcasts, deliveries, news, waker);
+        let port = Port::new(
+            PortSender::new(broadcasts, waker),
+            PortReceiver::new(deliveries, news, other),
+        );
         let lane = Lane::new(self.alloc, handed_in, handed_out);
         Ok((port, lane, NewsLane::new(self.alloc, told)))
     }

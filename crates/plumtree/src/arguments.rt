@@ -15,9 +15,10 @@ const AFTER_HELP: &str = "Examples:
   plumtree sim scenarios/hello.toml
   plumtree sim --trace scenarios/triangle.toml
   plumtree run scenarios/run/hello.toml
+  plumtree node a --listen 127.0.0.1:7101
 
 Status: 0 success, 1 an event was refused or a write failed, 2 bad arguments or a bad scenario.
-docs/scenarios.md describes the format of scenarios and of what is printed.";
+docs/scenarios.md describes the format of scenarios and of what is printed, docs/cluster.md a node.";
 
 /// What is to be done with a scenario.
 #[derive(Clone, Copy, Debug, PartialEq, Eq)]
@@ -53,11 +54,23 @@ pub struct Request<'a> {
 /// Reads the arguments, the first of which is the program's own name.
 ///
 /// An error is a mistake in the arguments or a request for help, and displays the text to print.
-pub fn parse<'a>(alloc: Global, words: &'a [String]) -> Result<Request<'a>, Error> {
-    let matches = match command(alloc)?.try_get_matches_from(words) {
-        Ok(matches) => matches,
-        Err(error) => return Err(with_tip(alloc, words, error)),
-    };
+pub fn matches<'a>(alloc: Global, words: &'a [String]) -> Result<ArgMatches<'a>, Error> {
+    match command(alloc)?.try_get_matches_from(words) {
+        Ok(matches) => Ok(matches),
+        Err(error) => Err(with_tip(alloc, words, error)),
+    }
+}
+
+/// The arguments after the subcommand `node`, if that is asked for.
+pub fn node_words<'m, 'a>(matches: &'m ArgMatches<'a>) -> Option<&'m ArgMatches<'a>> {
+    match matches.subcommand() {
+        Some(("node", words)) => Some(words),
+        _ => None,
+    }
+}
+
+/// What the arguments ask to do with a scenario.
+pub fn scenario_request<'a>(alloc: Global, matches: &ArgMatches<'a>) -> Result<Request<'a>, Error> {
     match matches.subcommand() {
         Some((name, words)) => requested(alloc, task_of(name, words.get_flag("loop")), words),
         None => Ok(Request {
@@ -318,5 +331,6 @@ fn command<'a>(alloc: Global) -> Result<Command<'a>, AllocError> {
         .version(VERSION)
         .after_help(AFTER_HELP)
         .subcommand(sim(alloc)?)?
-        .subcommand(run(alloc)?)
+        .subcommand(run(alloc)?)?
+        .subcommand(node_options::command(alloc)?)
 }

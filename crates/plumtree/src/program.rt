@@ -1,21 +1,24 @@
-//! The program over any system: its arguments, its scenario and its two streams.
+//! The program over any system: its arguments, its scenario and its two streams; or a node of a cluster.
 ghost use Rattle.std.specs.Prelude.{◌≡◌, ◌≤◌, IfSome};
 
 use crate::arguments;
 use crate::arguments::{Host, Request, Task};
 use crate::code::RunCode;
+use crate::node::run_as_told;
 use crate::progress::{Progress, is_terminal};
 use crate::run_group::{GroupError, run_group};
 use crate::unfit::{Unfit, unfit_for};
 use clap::error::ErrorKind;
 use loopback::Machine;
+use node_command::System;
 use simulation::{
     Form, ScenarioError, play_input, read_text, report, report_unknown, report_unread,
     report_value, status_after,
 };
 use std::alloc::Global;
 use std::env::Env;
-use std::io::{Input, Read, Write};
+use std::fs::File;
+use std::io::{Eprint, Input, Print, Read, StdinLock, Write};
 use std::net::{Net, TcpListener, TcpStream};
 use std::rt::Files;
 use std::sync::Wait;
@@ -25,14 +28,16 @@ use std::{env, fs, io};
 
 /// Does what the command line asks for. Returns the exit status.
 ///
-/// It names the parts of a `Machine`, since the prover does not cover a call that passes the host's runtime as a
-/// `Machine`.
+/// It names the parts of a `Machine` and a `System`, since the prover does not cover a call that passes the host's
+/// runtime as one.
 pub fn run<R, W, F>(rt: &R, out: &mut W, faults: &mut F) -> u8
 where
     R: AllocGlobal
         + Env
-        + Files
-        + Input
+        + Files<File = File>
+        + Input<Reader = StdinLock<'static>>
+        + Print
+        + Eprint
         + Threads
         + Wait
         + Clock
@@ -64,12 +69,46 @@ fn words<R: AllocGlobal + Env>(rt: &R) -> io::Result<Vec<String>> {
 
 fn obey<R, W, F>(rt: &R, words: &[String], out: &mut W, faults: &mut F) -> u8
 where
+    R: AllocGlobal
+        + Files<File = File>
+        + Input<Reader = StdinLock<'static>>
+        + Print
+        + Eprint
+        + System
+        + Machine,
+    W: Write,
+    F: Write,
+    ensures { result ≤ 2 }
+{
+    let matches = match arguments::matches(rt.alloc(), words) {
+        Ok(matches) => matches,
+        Err(error) => return explain(error, out, faults),
+    };
+    match arguments::node_words(&matches) {
+        Some(words) => run_as_told(rt, words, faults),
+        None => follow(
+            rt,
+            arguments::scenario_request(rt.alloc(), &matches),
+            out,
+            faults,
+        ),
+    }
+}
+
+/// Plays or runs the scenario that is asked for, or says what is wrong with the arguments.
+fn follow<R, W, F>(
+    rt: &R,
+    request: Result<Request<'_>, clap::Error>,
+    out: &mut W,
+    faults: &mut F,
+) -> u8
+where
     R: AllocGlobal + Files + Input + Machine,
     W: Write,
     F: Write,
     ensures { result ≤ 2 }
 {
-    match arguments::parse(rt.alloc(), words) {
+    match request {
         Ok(
             Request {
                 task,

@@ -34,7 +34,7 @@ impl Book {
 }
 
 impl Resolve for Book {
-    fn resolve(&self, name: &NodeName) -> Option<SocketAddr> {
+    fn resolve(&mut self, name: &NodeName) -> Option<SocketAddr> {
         self.places
             .iter()
             .find(|place| place.0 == *name)

@@ -20,7 +20,7 @@ pub(crate) struct Both {
 }
 
 impl Resolve for Both {
-    fn resolve(&self, name: &NodeName) -> Option<SocketAddr> {
+    fn resolve(&mut self, name: &NodeName) -> Option<SocketAddr> {
         let [first, second] = &self.places;
         if first.0 == *name { first.1 } else { second.1 }
     }

@@ -1,0 +1,87 @@
+//! A node in a cluster.
+use crate::address_book::AddressBook;
+use crate::link_text::LinkText;
+use crate::notice::{Notice, Notices};
+use crate::receiving::Arrival;
+use handshake::{Address, Hello};
+use indexmap::IndexMap;
+use node_names::NodeName;
+use std::alloc::{Allocator, Global};
+use std::hash::{BuildHasherDefault, FoldHasher};
+use std::net::SocketAddr;
+
+/// A node of bytes, with what it adds to its frames, and the addresses of other nodes that it was told.
+#[derive(Drop)]
+pub struct ClusterNode<N, A: Allocator + Copy = Global> {
+    pub(crate) alloc: A,
+    pub(crate) node: N,
+    /// What it says first over each link.
+    pub(crate) hello: Hello,
+    pub(crate) book: AddressBook<A>,
+    /// The names whose addresses the program was given. Where such a node cannot be reached at the address that it told
+    /// itself, that is forgotten, so that the resolver is asked.
+    pub(crate) given: Vec<NodeName, A>,
+    /// By whom it joins.
+    pub(crate) contacts: Vec<NodeName, A>,
+    /// Whether it may be apart from the rest of its group: it has heard of no contact since it started, or since it lost a
+    /// neighbour.
+    pub(crate) is_apart: bool,
+    /// How many ticks were made since it last sent pulses.
+    pub(crate) since_pulse: u8,
+    /// The connections that came in, by their numbers.
+    pub(crate) arrivals: IndexMap<u64, Arrival, BuildHasherDefault<FoldHasher>, A>,
+    /// The links, and those that are to be dialled, by the names that they lead to.
+    pub(crate) links: IndexMap<NodeName, LinkText<A>, BuildHasherDefault<FoldHasher>, A>,
+    pub(crate) notices: Notices<A>,
+}
+
+impl<N: Drop, A: Allocator + Copy> ClusterNode<N, A> {
+    /// Makes a node that says this hello over each link, and joins by these contacts, which its loop knows too. The
+    /// loop's resolver knows the addresses of the names that are given.
+    pub fn new(
+        alloc: A,
+        node: N,
+        hello: Hello,
+        given: Vec<NodeName, A>,
+        contacts: Vec<NodeName, A>,
+    ) -> ClusterNode<N, A> {
+        ClusterNode {
+            alloc,
+            node,
+            hello,
+            book: AddressBook::new(alloc),
+            given,
+            contacts,
+            is_apart: true,
+            since_pulse: 0,
+            arrivals: IndexMap::new(alloc),
+            links: IndexMap::new(alloc),
+            notices: Notices::new(alloc),
+        }
+    }
+
+    /// The node of bytes, to be read.
+    pub fn node(&self) -> &N {
+        &self.node
+    }
+
+    /// Takes what it tells of its links and connections since the last call, and how much of that was dropped, since too
+    /// much was to be kept.
+    pub fn take_notices(&mut self) -> (Vec<Notice, A>, usize) {
+        self.notices.take()
+    }
+
+    /// Sets what it tells others as its address, over links that are dialled from now on.
+    pub fn advertise(&mut self, at: SocketAddr) {
+        self.hello.at = Address::from(at);
+    }
+
+    /// Notes that a name cannot be reached where it was to take connections.
+    pub(crate) fn doubt(&mut self, name: &NodeName) {
+        if self.given.contains(name) {
+            self.book.forget(name);
+        } else {
+            self.book.doubt(name);
+        }
+    }
+}

@@ -1,0 +1,9 @@
+use Rattle.std.proofs.Common.{◌≡◌, ◌+◌, ◌-◌, ◌≤◌, length}
+use Rattle.handshake.specs.Place as spec
+use Rattle.handshake.proofs.place.frames.Given as goal
+
+abbrev pub invariant-loop-rest : goal.invariant-loop-rest
+invariant-loop-rest l = (length l.rest ≤ length l.bytes) × (length l.bytes - length l.rest + spec.frames l.place l.rest ≡ spec.frames l.fn.start l.bytes)
+
+abbrev pub decreases-loop-rest : goal.decreases-loop-rest
+decreases-loop-rest l = length l.rest

@@ -1,0 +1,2 @@
+mod PeerNames
+mod Somes
