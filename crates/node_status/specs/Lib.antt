@@ -1,0 +1,2 @@
+pub mod OwnHost
+pub mod Pages
