@@ -14,7 +14,12 @@ mod line;
 mod line_reader;
 mod log;
 mod lookup;
+mod member;
+mod page_server;
+mod recorder;
+mod recording;
 mod running;
+mod status;
 mod system;
 
 pub use error::NodeError;

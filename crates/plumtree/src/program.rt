@@ -20,6 +20,7 @@ use std::env::Env;
 use std::fs::File;
 use std::io::{Eprint, Input, Print, Read, StdinLock, Write};
 use std::net::{Net, TcpListener, TcpStream};
+use std::random::RandomSource;
 use std::rt::Files;
 use std::sync::Wait;
 use std::thread::Threads;
@@ -38,6 +39,7 @@ where
         + Input<Reader = StdinLock<'static>>
         + Print
         + Eprint
+        + RandomSource
         + Threads
         + Wait
         + Clock
@@ -74,6 +76,7 @@ where
         + Input<Reader = StdinLock<'static>>
         + Print
         + Eprint
+        + RandomSource
         + System
         + Machine,
     W: Write,
