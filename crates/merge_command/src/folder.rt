@@ -2,10 +2,9 @@
 use crate::error::RecordsError;
 use crate::record_file::{RecordFile, order, parts_of};
 use std::alloc::Global;
-use std::fs;
 use std::fs::File;
-use std::io;
 use std::rt::Files;
+use std::{fs, io};
 
 /// The error of a path that cannot be read.
 pub(crate) fn unread(alloc: Global, path: &str, error: io::Error) -> RecordsError {
@@ -32,7 +31,11 @@ where
 }
 
 /// The files of records in a folder, those of each record in their order. There is one at least.
-pub(crate) fn files_in<R>(rt: &R, alloc: Global, folder: &str) -> Result<Vec<RecordFile>, RecordsError>
+pub(crate) fn files_in<R>(
+    rt: &R,
+    alloc: Global,
+    folder: &str,
+) -> Result<Vec<RecordFile>, RecordsError>
 where
     R: AllocGlobal + Files<File = File> + Clone + Drop,
 {

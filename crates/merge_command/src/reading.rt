@@ -14,7 +14,10 @@ fn first_record(files: &[RecordFile]) -> (&[RecordFile], &[RecordFile]) {
     let [first, ..] = files else {
         return (files, files);
     };
-    let count = files.iter().take_while(|file| file.stem == first.stem).count();
+    let count = files
+        .iter()
+        .take_while(|file| file.stem == first.stem)
+        .count();
     files.split_at(count.min(files.len()))
 }
 

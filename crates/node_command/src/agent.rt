@@ -198,7 +198,11 @@ impl<R: System + Eprint + Files<File = File>> Agent<R> {
         {
             pages.serve(status);
         }
-        if pages.is_stopped() { Next::End } else { Next::Wait }
+        if pages.is_stopped() {
+            Next::End
+        } else {
+            Next::Wait
+        }
     }
 }
 

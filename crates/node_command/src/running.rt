@@ -262,15 +262,7 @@ where
     let parker = Parker::new(alloc)?;
     let unparker = parker.unparker().clone()?;
     let is_printing = Arc::new(alloc, AtomicBool::new(true))?;
-    let agent = Agent::new(
-        rt,
-        ports,
-        log,
-        unparker,
-        is_printing,
-        status,
-        recording,
-    );
+    let agent = Agent::new(rt, ports, log, unparker, is_printing, status, recording);
     work(rt, alloc, &mut event_loop, place, way, port, parker, agent)
 }
 

@@ -151,10 +151,7 @@ fn port(settings: &Settings<'_, '_>) -> Result<u16, OptionError>
 }
 
 /// The folder that an option names, if it is given.
-fn folder(
-    settings: &Settings<'_, '_>,
-    option: &'static str,
-) -> Result<Option<String>, OptionError>
+fn folder(settings: &Settings<'_, '_>, option: &'static str) -> Result<Option<String>, OptionError>
     ensures { IfOk result (λ folder. option_map (λ f. Some (string_bytes f)) folder
         ≡ option_map text_of (told_of settings.now option.now)) }
 {
