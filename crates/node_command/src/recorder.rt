@@ -38,7 +38,7 @@ pub(crate) struct Recorder {
     synced: u64,
 }
 
-/// Makes the file of this number.
+/// Makes the file of this number. One that is there already is not touched, and refused.
 fn make_file<R: Files<File = File>>(
     rt: &R,
     alloc: Global,
@@ -47,7 +47,7 @@ fn make_file<R: Files<File = File>>(
     number: u64,
 ) -> io::Result<File> {
     let path = format!(in alloc; "{folder}/{stem}.{number}.record")?;
-    let file = fs::create(rt, path.as_str())?;
+    let file = File::create_new(rt, path.as_str())?;
     fs::open(rt, folder)?.sync_all()?;
     Ok(file)
 }
