@@ -302,13 +302,13 @@ fn begin_record<R: Files<File = File>>(
     alloc: Global,
     plan: &RecordPlan,
     label: NodeName,
-    origin: Origin,
-    limits: Limits,
+    origin: &Origin,
+    limits: &Limits,
 ) -> Result<Option<Recording>, NodeError> {
     let Some(folder) = &plan.folder else {
         return Ok(None);
     };
-    let Some(head) = Head::new(label, origin, limits, Listed::new(alloc), None) else {
+    let Some(head) = Head::new(label, *origin, *limits, Listed::new(alloc), None) else {
         return Ok(None);
     };
     match Recorder::begin(rt, alloc, folder.as_str(), &head, plan.sync) {
@@ -410,7 +410,7 @@ where
         sync,
         on_failure: on_record_failure,
     };
-    let recording = begin_record(&rt, alloc, &plan, cluster, me, limits)?;
+    let recording = begin_record(&rt, alloc, &plan, cluster, &me, &limits)?;
     let limits = WireLimits::new(limits);
     let node = WireNode::start(alloc, me, limits, &[], None, Recorded::new(alloc))?;
     start(rt, alloc, log, hello, &way, hosts, desk, node, recording)

@@ -1,7 +1,6 @@
 //! What a node says of itself.
 use cluster_node::{ClusterNode, SteppedNode};
 use event_loop::LoopNode;
-use handshake::Hello;
 use node_core::PlumCore;
 use node_names::NodeName;
 use node_status::{Counts, Kept, Neighbor, Status};
@@ -103,14 +102,14 @@ impl StatusKeeper {
         node: &ClusterNode<N>,
         now: u64,
     ) -> Result<Status, AllocError> {
-        let Hello { label, name, at } = *node.hello();
+        let hello = node.hello();
         let core = node.node().core();
         Ok(Status {
-            name,
+            name: hello.name,
             incarnation: self.incarnation,
-            cluster: label,
+            cluster: hello.label,
             listen: self.listen,
-            advertise: SocketAddr::from(at),
+            advertise: SocketAddr::from(hello.at),
             active: neighbors_of(self.alloc, node)?,
             passive: copied(self.alloc, core.passive().iter())?,
             counts: self.counts_of(node, now),
