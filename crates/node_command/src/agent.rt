@@ -5,6 +5,7 @@ use crate::incarnation::microseconds;
 use crate::log::Log;
 use crate::member::Member;
 use crate::page_server::PageServer;
+use crate::recorded_node::RecordedNode;
 use crate::recording::Recording;
 use crate::status::StatusKeeper;
 use crate::system::System;
@@ -142,23 +143,42 @@ impl<R: System + Eprint + Files<File = File>> Agent<R> {
 }
 
 impl<R: System + Eprint + Files<File = File>> Agent<R> {
-    /// Records what the node took. Returns whether it may go on.
-    fn record<N: SteppedNode<Global>>(&mut self, node: &mut ClusterNode<N>) -> bool {
-        let Some(recording) = &mut self.recording else {
-            return true;
-        };
-        let now = microseconds(&self.rt).unwrap_or(0);
-        if let Some(error) = recording.record(&self.rt, node, now) {
-            self.log.say(Level::Error, &NodeError::Record(error));
-        }
-        recording.may_go_on()
-    }
-
     /// Records the rest of what the node took, and writes it to the disk.
     pub(crate) fn end_record<N: SteppedNode<Global>>(&mut self, node: &mut ClusterNode<N>) {
-        self.record(node);
         if let Some(recording) = &mut self.recording {
+            let now = microseconds(&self.rt).unwrap_or(0);
+            if let Some(error) = recording.record(&self.rt, node, now) {
+                self.log.say(Level::Error, &NodeError::Record(error));
+            }
             recording.end();
+        }
+    }
+
+    /// Takes messages to be broadcast, and hands deliveries out. Where the node is recorded, its steps are recorded before
+    /// that, and before their frames are sent.
+    fn turn_ports<N: SteppedNode<Global>>(
+        &mut self,
+        at: Situation,
+        node: &mut ClusterNode<N>,
+    ) -> Next {
+        let Some(recording) = &mut self.recording else {
+            return self.ports.turn(at, node);
+        };
+        let mut recorded = RecordedNode {
+            rt: self.rt,
+            node,
+            recording,
+            error: None,
+        };
+        let next = self.ports.turn(at, &mut recorded);
+        recorded.record();
+        if let Some(error) = recorded.error {
+            self.log.say(Level::Error, &NodeError::Record(error));
+        }
+        if recorded.recording.may_go_on() {
+            next
+        } else {
+            Next::End
         }
     }
 
@@ -169,13 +189,7 @@ impl<R: System + Eprint + Files<File = File>> Agent<R> {
         node: &mut ClusterNode<N>,
     ) -> Next {
         self.tell(node);
-        if !self.record(node) {
-            return Next::End;
-        }
-        let next = self.ports.turn(at, node);
-        if !self.record(node) {
-            return Next::End;
-        }
+        let next = self.turn_ports(at, node);
         self.printer.unpark();
         self.look(node);
         if self.is_printing() { next } else { Next::End }

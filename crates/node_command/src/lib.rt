@@ -16,6 +16,7 @@ mod log;
 mod lookup;
 mod member;
 mod page_server;
+mod recorded_node;
 mod recorder;
 mod recording;
 mod running;

@@ -85,6 +85,11 @@ impl Recorder {
         Ok(recorder)
     }
 
+    /// What lists are allocated by.
+    pub(crate) fn allocator(&self) -> Global {
+        self.alloc
+    }
+
     /// Writes what was appended to the text.
     fn write(&mut self) -> io::Result<()> {
         if self.text.is_empty() {

@@ -6,6 +6,7 @@ use std::alloc::Global;
 use std::fs::File;
 use std::io;
 use std::rt::Files;
+use world::Delivery;
 
 /// The record of what a node takes, and what becomes of the node if it cannot be written.
 #[derive(Drop)]
@@ -32,6 +33,11 @@ impl Recording {
             RecordFailure::Stop => self.error,
             RecordFailure::GoOn => None,
         }
+    }
+
+    /// An empty list of deliveries.
+    pub(crate) fn no_deliveries(&self) -> Vec<Delivery> {
+        Vec::new(self.recorder.allocator())
     }
 
     /// Whether the node may go on.

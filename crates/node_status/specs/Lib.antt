@@ -1,2 +1,2 @@
-pub mod Stop
+pub mod OwnHost
 pub mod Pages

@@ -1,5 +1,5 @@
 -- What the caller of the pages sees of them.
-use Rattle.std.specs.Prelude.{◌≡◌, ℕ, Bool, Option, nat_eq, option_map}
+use Rattle.std.specs.Prelude.{ℕ, Bool, Option, nat_eq, option_map}
 use Rattle.indexmap.specs.IndexMap.{get}
 use Rattle.http_server.specs.declared.connection.Connection.{Connection}
 use Rattle.node_status.specs.declared.pages.Pages.{Pages}

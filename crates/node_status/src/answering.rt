@@ -1,6 +1,6 @@
 //! The answers to requests.
-ghost use Rattle.std.specs.Prelude.{◌≡◌, ◌⊎◌, ◌↔◌, IsTrue};
-ghost use Rattle.node_status.specs.Stop.{AsksToStop};
+ghost use Rattle.std.specs.Prelude.{◌≡◌, ◌⊎◌, codes, IsTrue};
+ghost use Rattle.http.specs.Request.{head_of};
 
 use crate::dot::write_dot;
 use crate::json::write_json;
@@ -23,9 +23,9 @@ pub(crate) struct Answering<'a> {
 }
 
 impl Service for Answering<'_> {
-    // The node is asked to stop by no other request. What a response says is left open.
-    ghost answers = { λ old request response new.
-        IsTrue new.is_stopped ↔ (IsTrue old.is_stopped ⊎ AsksToStop request) };
+    // Only a `POST` has the node stop, and nothing takes that back. What a response says is left open.
+    ghost answers = { λ old request response new. (IsTrue old.is_stopped → IsTrue new.is_stopped)
+        × (IsTrue new.is_stopped → (IsTrue old.is_stopped ⊎ ((head_of request).method ≡ codes "POST"))) };
 
     fn call(
         &mut self,

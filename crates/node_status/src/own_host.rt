@@ -1,6 +1,6 @@
 //! The hosts by which a node is asked to stop.
 ghost use Rattle.std.specs.Prelude.{◌≡◌, ◌≤◌, ◌↔◌, length, IsTrue};
-ghost use Rattle.node_status.specs.Stop.{IsOwnHost, host_alone, is_bracketed, len_before};
+ghost use Rattle.node_status.specs.OwnHost.{IsOwnHost, host_alone, is_bracketed, len_before};
 
 use std::net::IpAddr;
 

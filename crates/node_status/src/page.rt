@@ -10,13 +10,12 @@ pub const PAGE: &str = "<!doctype html>
 <meta name='viewport' content='width=device-width, initial-scale=1'>
 <title>plumtree</title>
 <style>
-:root { color-scheme: light dark; }
+:root { color-scheme: light dark; background: var(--paper); }
 :root { --ink: #1d2733; --soft: #5b6875; --paper: #ffffff; --node: #e6eef7; --line: #2f6db3; --alarm: #b3261e; }
 @media (prefers-color-scheme: dark) {
   :root { --ink: #e4e9ef; --soft: #9aa7b4; --paper: #14191f; --node: #22303f; --line: #7db4ee; --alarm: #ff8a80; }
 }
-body { margin: 0 auto; max-width: 72rem; padding: 1rem; font: 1rem/1.4 sans-serif; }
-body { background: var(--paper); color: var(--ink); }
+body { margin: 0 auto; max-width: 72rem; padding: 1rem; font: 1rem/1.4 sans-serif; color: var(--ink); }
 h1 { margin: 0; font-size: 1.5rem; }
 h2 { margin: 1rem 0 .25rem; font-size: 1rem; }
 #state { margin: .25rem 0 1rem; color: var(--soft); }

