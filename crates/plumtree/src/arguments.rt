@@ -17,7 +17,7 @@ const AFTER_HELP: &str = "Examples:
   plumtree sim --trace scenarios/triangle.toml
   plumtree run scenarios/run/hello.toml
   plumtree node a --listen 127.0.0.1:7101 --status 127.0.0.1:8101
-  plumtree status 127.0.0.1:8101
+  plumtree merge /var/lib/plumtree
 
 Status: 0 success, 1 an event was refused or a write failed, 2 bad arguments or a bad scenario.
 docs/scenarios.md describes the format of scenarios and of what is printed, docs/cluster.md nodes.";
@@ -335,6 +335,5 @@ fn command<'a>(alloc: Global) -> Result<Command<'a>, AllocError> {
         .subcommand(sim(alloc)?)?
         .subcommand(run(alloc)?)?
         .subcommand(node_options::command(alloc)?)?
-        .subcommand(status_command::command(alloc)?)?
         .subcommand(merge::command(alloc, trace(alloc)?, dot(alloc))?)
 }

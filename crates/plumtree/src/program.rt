@@ -16,7 +16,6 @@ use simulation::{
     Form, ScenarioError, play_input, read_text, report, report_unknown, report_unread,
     report_value, status_after,
 };
-use status_command::run_status;
 use std::alloc::Global;
 use std::env::Env;
 use std::fs::File;
@@ -91,8 +90,6 @@ where
     };
     if let Some(words) = arguments::words_of(&matches, "node") {
         run_as_told(rt, words, faults)
-    } else if let Some(words) = arguments::words_of(&matches, "status") {
-        run_status(rt, words, out, faults)
     } else if let Some(words) = arguments::words_of(&matches, "merge") {
         merge_as_told(rt, words, out, faults)
     } else {

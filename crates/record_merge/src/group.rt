@@ -1,0 +1,98 @@
+//! The runs of a group.
+ghost use Rattle.std.specs.Prelude.{◌≡◌, [], ◌∷◌, ◌++◌, IfErr, IfOk, OnErr, OnOk};
+ghost use Rattle.trace_merge.specs.Merging.{IsMerged, Refuses};
+
+use crate::error::GroupError;
+use crate::replay::Replayed;
+use frames::Frame;
+use node_names::{Limits, NodeName, Origin};
+use std::alloc::{AllocError, Global};
+use trace_merge::{MergeFault, merge};
+use world::{Delivery, Event, Trace};
+
+/// The runs of the nodes of one cluster, all of the same limits.
+#[derive(Drop)]
+pub struct RecordedGroup {
+    /// The limits of all nodes.
+    pub limits: Limits,
+    /// What each run did, in the order in which the runs were added.
+    pub traces: Vec<Trace<Frame>>,
+    /// What the runs delivered: that of each run in the order in which it delivered.
+    pub deliveries: Vec<Delivery>,
+    /// The label of the cluster.
+    label: NodeName,
+    /// The run that was added first.
+    first: Origin,
+}
+
+/// Appends what a run delivered. If memory runs out, some of it may be appended.
+fn add_deliveries(deliveries: &mut Vec<Delivery>, trace: &Trace<Frame>) -> Result<(), AllocError> {
+    for place in 0..trace.len() {
+        if let Some(step) = trace.step(place) {
+            add_each(deliveries, step.out.deliveries.as_slice())?;
+        }
+    }
+    Ok(())
+}
+
+/// Appends copies of deliveries. If memory runs out, some of them may be appended.
+fn add_each(deliveries: &mut Vec<Delivery>, given: &[Delivery]) -> Result<(), AllocError> {
+    for delivery in given {
+        deliveries.push(delivery.copy()?)?;
+    }
+    Ok(())
+}
+
+impl RecordedGroup {
+    /// Creates a group of one run.
+    pub fn new(alloc: Global, run: Replayed) -> Result<RecordedGroup, AllocError>
+        ensures limits { IfOk result (λ group. group.limits ≡ run.head.limits) }
+        ensures traces { IfOk result (λ group. group.traces.items ≡ run.trace ∷ []) }
+    {
+        let mut group = RecordedGroup {
+            limits: run.head.limits,
+            traces: Vec::new(alloc),
+            deliveries: Vec::new(alloc),
+            label: run.head.label,
+            first: run.head.origin,
+        };
+        group.put(run.trace)?;
+        Ok(group)
+    }
+
+    /// Adds a run. If it is refused, some of its deliveries may be added.
+    pub fn add(&mut self, run: Replayed) -> Result<(), GroupError>
+        ensures limits { self.new.limits ≡ self.old.limits }
+        ensures ok { OnOk result (self.new.traces.items ≡ self.old.traces.items ++ run.trace ∷ []) }
+        ensures err { OnErr result (self.new.traces.items ≡ self.old.traces.items) }
+    {
+        let first = self.first;
+        let other = run.head.origin;
+        if run.head.label != self.label {
+            return Err(GroupError::OtherCluster { first, other });
+        }
+        if run.head.limits != self.limits {
+            return Err(GroupError::OtherLimits { first, other });
+        }
+        Ok(self.put(run.trace)?)
+    }
+
+    /// Appends a trace, and what it delivers.
+    fn put(&mut self, trace: Trace<Frame>) -> Result<(), AllocError>
+        ensures limits { self.new.limits ≡ self.old.limits }
+        ensures ok { OnOk result (self.new.traces.items ≡ self.old.traces.items ++ trace ∷ []) }
+        ensures err { OnErr result (self.new.traces.items ≡ self.old.traces.items) }
+    {
+        add_deliveries(&mut self.deliveries, &trace)?;
+        self.traces.push(trace)?;
+        Ok(())
+    }
+
+    /// The events of one run of a group that has these runs.
+    pub fn merge(&self, alloc: Global) -> Result<Vec<Event>, MergeFault>
+        ensures merged { IfOk result (λ events. IsMerged self.now.limits self.now.traces.items events.items) }
+        ensures refused { IfErr result (Refuses self.now.limits self.now.traces.items) }
+    {
+        merge(alloc, self.limits, self.traces.as_slice())
+    }
+}

@@ -1,0 +1,88 @@
+//! The steps of a core that is replayed.
+//!
+//! Only a call names the core's type, so that the prover follows a core by its trait alone.
+
+use crate::entries::Entries;
+use crate::error::ReplayError;
+use frames::Frame;
+use std::alloc::Global;
+use step_records::{Entry, Head};
+use world::{Core, CoreError, Out, Step, Stimulus, Trace};
+
+/// The error of the core at this entry.
+fn refused(entry: u64, error: CoreError) -> ReplayError {
+    match error {
+        CoreError::OutOfMemory => ReplayError::OutOfMemory,
+        _ => ReplayError::Refused { entry, error },
+    }
+}
+
+/// Has the core take a stimulus, and appends the step to its trace.
+fn take<C: Core<Global, Note = Frame>>(
+    alloc: Global,
+    core: &mut C,
+    trace: &mut Trace<Frame>,
+    stimulus: Stimulus<Frame>,
+) -> Result<(), CoreError> {
+    let mut out = Out::new(alloc);
+    core.step(&stimulus, &mut out)?;
+    trace.push(Step { stimulus, out })?;
+    Ok(())
+}
+
+/// Has the core take the stimuli of the entries that are left, and appends the steps to its trace.
+fn take_all<C: Core<Global, Note = Frame>>(
+    alloc: Global,
+    core: &mut C,
+    trace: &mut Trace<Frame>,
+    entries: &mut Entries<'_>,
+) -> Result<(), ReplayError> {
+    for _ in 0..u64::MAX {
+        let place = entries.count();
+        match entries.next()? {
+            Some(Entry::Stimulus(stimulus)) => {
+                if let Err(error) = take(alloc, core, trace, stimulus) {
+                    return Err(refused(place, error));
+                }
+            }
+            Some(Entry::Head(_)) => {}
+            None => return Ok(()),
+        }
+    }
+    Ok(())
+}
+
+/// Starts the run that began with this head, and its trace.
+fn begin<C: Core<Global, Note = Frame>>(
+    alloc: Global,
+    head: &Head,
+) -> Result<(C, Trace<Frame>), ReplayError> {
+    let peers = head.peers.copy()?;
+    let mut out = Out::new(alloc);
+    let started = C::start(
+        alloc,
+        head.origin,
+        head.limits,
+        head.peers.as_slice(),
+        head.contact,
+        &mut out,
+    );
+    match started {
+        Ok(core) => {
+            let trace = Trace::new(alloc, head.origin, peers, head.contact, out);
+            Ok((core, trace))
+        }
+        Err(_) => Err(ReplayError::OutOfMemory),
+    }
+}
+
+/// Replays the run that began with this head, and whose stimuli the entries tell.
+pub(crate) fn run_of<C: Core<Global, Note = Frame>>(
+    alloc: Global,
+    head: &Head,
+    entries: &mut Entries<'_>,
+) -> Result<Trace<Frame>, ReplayError> {
+    let (mut core, mut trace) = begin::<C>(alloc, head)?;
+    take_all(alloc, &mut core, &mut trace, entries)?;
+    Ok(trace)
+}

@@ -1,0 +1,97 @@
+//! Reading the body of an entry.
+use crate::body_writing::{ARRIVE, BROADCAST, DOWN, FIRE, FLUSH, JOIN, SHUFFLE};
+use crate::error::RecordErrorKind;
+use crate::fields::Fields;
+use bytes::Bytes;
+use frames::{Frame, FrameFault, decode};
+use node_names::{Dice, Origin};
+use std::alloc::Global;
+use world::{Stimulus, StimulusOf};
+
+/// Reads the frame that these bytes are.
+fn frame(alloc: Global, bytes: &[u8]) -> Result<Frame, RecordErrorKind> {
+    match decode(alloc, bytes) {
+        Ok((frame, len)) if len == bytes.len() => Ok(frame),
+        Ok(_) => Err(RecordErrorKind::BadFrame(FrameFault::Trailing)),
+        Err(FrameFault::OutOfMemory) => Err(RecordErrorKind::OutOfMemory),
+        Err(fault) => Err(RecordErrorKind::BadFrame(fault)),
+    }
+}
+
+/// Reads the sender and the dice of an arrival.
+fn sender(fields: &mut Fields<'_>) -> Result<(Origin, Dice), FrameFault> {
+    let sender = fields.origin()?;
+    let dice = fields.dice()?;
+    Ok((sender, dice))
+}
+
+/// Reads the sender, the dice and the frame of an arrival.
+fn arrival(alloc: Global, fields: &mut Fields<'_>) -> Result<Stimulus<Frame>, RecordErrorKind> {
+    let (sender, dice) = match sender(fields) {
+        Ok(both) => both,
+        Err(fault) => return Err(RecordErrorKind::BadEntry(fault)),
+    };
+    let note = frame(alloc, fields.rest())?;
+    Ok(StimulusOf::Arrive { sender, note, dice })
+}
+
+fn fire(fields: &mut Fields<'_>) -> Result<Stimulus<Frame>, FrameFault> {
+    let id = fields.id()?;
+    fields.end()?;
+    Ok(StimulusOf::Fire(id))
+}
+
+fn flush(fields: &mut Fields<'_>) -> Result<Stimulus<Frame>, FrameFault> {
+    fields.end()?;
+    Ok(StimulusOf::Flush)
+}
+
+fn down(fields: &mut Fields<'_>) -> Result<Stimulus<Frame>, FrameFault> {
+    let peer = fields.name()?;
+    let dice = fields.dice()?;
+    fields.end()?;
+    Ok(StimulusOf::Down { peer, dice })
+}
+
+fn shuffle(fields: &mut Fields<'_>) -> Result<Stimulus<Frame>, FrameFault> {
+    let dice = fields.dice()?;
+    fields.end()?;
+    Ok(StimulusOf::Shuffle(dice))
+}
+
+fn join(fields: &mut Fields<'_>) -> Result<Stimulus<Frame>, FrameFault> {
+    let contact = fields.name()?;
+    fields.end()?;
+    Ok(StimulusOf::Join(contact))
+}
+
+/// Reads the stimulus of a kind that has neither a payload nor a frame.
+fn short(kind: u8, fields: &mut Fields<'_>) -> Result<Stimulus<Frame>, RecordErrorKind> {
+    let read = match kind {
+        FIRE => fire(fields),
+        FLUSH => flush(fields),
+        DOWN => down(fields),
+        SHUFFLE => shuffle(fields),
+        JOIN => join(fields),
+        _ => return Err(RecordErrorKind::UnknownKind(kind)),
+    };
+    match read {
+        Ok(stimulus) => Ok(stimulus),
+        Err(fault) => Err(RecordErrorKind::BadEntry(fault)),
+    }
+}
+
+/// Reads the stimulus that the body of an entry tells.
+pub(crate) fn stimulus(alloc: Global, body: &[u8]) -> Result<Stimulus<Frame>, RecordErrorKind> {
+    let [kind, rest @ ..] = body else {
+        return Err(RecordErrorKind::BadEntry(FrameFault::BadField));
+    };
+    match *kind {
+        BROADCAST => {
+            let payload = Bytes::copy_from_slice(alloc, rest)?;
+            Ok(StimulusOf::Broadcast(payload))
+        }
+        ARRIVE => arrival(alloc, &mut Fields::new(rest)),
+        other => short(other, &mut Fields::new(rest)),
+    }
+}
