@@ -3,7 +3,7 @@ ghost use Rattle.std.specs.Prelude.{◌≡◌, [], ◌∷◌, ◌++◌, IfErr, I
 ghost use Rattle.trace_merge.specs.Merging.{IsMerged, Refuses};
 
 use crate::error::GroupError;
-use crate::replay::Replayed;
+use crate::replayed::Replayed;
 use frames::Frame;
 use node_names::{Limits, NodeName, Origin};
 use std::alloc::{AllocError, Global};

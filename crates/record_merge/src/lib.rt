@@ -7,9 +7,9 @@
 mod entries;
 mod error;
 mod group;
-mod replay;
+mod replayed;
 mod steps;
 
 pub use error::{GroupError, ReplayError};
 pub use group::RecordedGroup;
-pub use replay::{Replayed, replay};
+pub use replayed::{Replayed, replay};
