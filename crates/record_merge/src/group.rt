@@ -49,14 +49,15 @@ impl RecordedGroup {
         ensures limits { IfOk result (λ group. group.limits ≡ run.head.limits) }
         ensures traces { IfOk result (λ group. group.traces.items ≡ run.trace ∷ []) }
     {
+        let Replayed { head, trace, .. } = run;
         let mut group = RecordedGroup {
-            limits: run.head.limits,
+            limits: head.limits,
             traces: Vec::new(alloc),
             deliveries: Vec::new(alloc),
-            label: run.head.label,
-            first: run.head.origin,
+            label: head.label,
+            first: head.origin,
         };
-        group.put(run.trace)?;
+        group.put(trace)?;
         Ok(group)
     }
 
@@ -66,15 +67,16 @@ impl RecordedGroup {
         ensures ok { OnOk result (self.new.traces.items ≡ self.old.traces.items ++ run.trace ∷ []) }
         ensures err { OnErr result (self.new.traces.items ≡ self.old.traces.items) }
     {
+        let Replayed { head, trace, .. } = run;
         let first = self.first;
-        let other = run.head.origin;
-        if run.head.label != self.label {
+        let other = head.origin;
+        if head.label != self.label {
             return Err(GroupError::OtherCluster { first, other });
         }
-        if run.head.limits != self.limits {
+        if head.limits != self.limits {
             return Err(GroupError::OtherLimits { first, other });
         }
-        Ok(self.put(run.trace)?)
+        Ok(self.put(trace)?)
     }
 
     /// Appends a trace, and what it delivers.

@@ -45,7 +45,7 @@ fn take_all<C: Core<Global, Note = Frame>>(
                     return Err(refused(place, error));
                 }
             }
-            Some(Entry::Head(_)) => {}
+            Some(Entry::Head(_head)) => {}
             None => return Ok(()),
         }
     }
