@@ -8,7 +8,6 @@ use crate::page_server::PageServer;
 use crate::recorded_node::RecordedNode;
 use crate::recording::Recording;
 use crate::status::StatusKeeper;
-use crate::system::System;
 use cluster_node::{ClusterNode, Notice, SteppedNode};
 use crossbeam_utils::sync::Unparker;
 use event_loop::{Next, Program, Situation};
@@ -19,6 +18,7 @@ use std::fs::File;
 use std::io::Eprint;
 use std::rt::Files;
 use std::sync::atomic::Ordering;
+use std::time::Clock;
 use std::{fmt, io};
 use wire_node::{News, Parting};
 
@@ -83,7 +83,7 @@ pub(crate) struct Agent<R> {
     recording: Option<Recording>,
 }
 
-impl<R: System + Eprint + Files<File = File>> Agent<R> {
+impl<R: Clock + Eprint + Files<File = File> + Copy + Drop> Agent<R> {
     /// Makes the program of a node whose port is open.
     pub(crate) fn new(
         rt: R,
@@ -142,7 +142,7 @@ impl<R: System + Eprint + Files<File = File>> Agent<R> {
     }
 }
 
-impl<R: System + Eprint + Files<File = File>> Agent<R> {
+impl<R: Clock + Eprint + Files<File = File> + Copy + Drop> Agent<R> {
     /// Records the rest of what the node took, and writes it to the disk.
     pub(crate) fn end_record<N: SteppedNode<Global>>(&mut self, node: &mut ClusterNode<N>) {
         if let Some(recording) = &mut self.recording {
@@ -222,7 +222,7 @@ impl<R: System + Eprint + Files<File = File>> Agent<R> {
 
 impl<R, N> Program<Member<N>> for Agent<R>
 where
-    R: System + Eprint + Files<File = File>,
+    R: Clock + Eprint + Files<File = File> + Copy + Drop,
     N: SteppedNode<Global>,
 {
     fn turn(&mut self, at: Situation, member: &mut Member<N>) -> Next {

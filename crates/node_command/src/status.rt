@@ -20,16 +20,13 @@ pub(crate) struct StatusKeeper {
     latest: Option<Status>,
 }
 
-/// The names of a list.
-fn copied<'a, I: Iterator<Item = &'a NodeName>>(
-    alloc: Global,
-    names: I,
-) -> Result<Vec<NodeName>, AllocError> {
-    let mut list = Vec::new(alloc);
-    for name in names {
-        list.push(*name)?;
+/// The names that it knows besides its neighbours.
+fn others_of(alloc: Global, core: &PlumCore) -> Result<Vec<NodeName>, AllocError> {
+    let mut names = Vec::with_capacity(alloc, core.passive().len())?;
+    for name in core.passive() {
+        names.push(*name)?;
     }
-    Ok(list)
+    Ok(names)
 }
 
 /// Its neighbours.
@@ -111,7 +108,7 @@ impl StatusKeeper {
             listen: self.listen,
             advertise: SocketAddr::from(hello.at),
             active: neighbors_of(self.alloc, node)?,
-            passive: copied(self.alloc, core.passive().iter())?,
+            passive: others_of(self.alloc, core)?,
             counts: self.counts_of(node, now),
             kept: kept_of(core),
             connections: node.connections(),
