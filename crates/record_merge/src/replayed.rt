@@ -1,4 +1,9 @@
 //! From a record to the trace of its run.
+ghost use Rattle.std.specs.Prelude.{IfOk};
+ghost use Rattle.world.specs.Replay.{Replays};
+ghost use Rattle.node_core.specs.Plum.{Plum};
+ghost use Rattle.node_core.specs.Steps.{PlumStarts, PlumSteps};
+
 use crate::entries::Entries;
 use crate::error::ReplayError;
 use crate::steps::run_of;
@@ -29,7 +34,9 @@ fn first_head(entries: &mut Entries<'_>) -> Result<Head, ReplayError> {
 
 /// Replays a record whose files are these, in order. Where the last of them is cut, the run ends with its last whole
 /// entry.
-pub fn replay(alloc: Global, files: &[Vec<u8>]) -> Result<Replayed, ReplayError> {
+pub fn replay(alloc: Global, files: &[Vec<u8>]) -> Result<Replayed, ReplayError>
+    ensures { IfOk result (λ run. (last : Plum) × Replays PlumStarts PlumSteps run.head.limits run.trace last) }
+{
     let mut entries = Entries::new(alloc, files);
     let head = first_head(&mut entries)?;
     let trace = run_of::<PlumCore>(alloc, &head, &mut entries)?;

@@ -1,6 +1,9 @@
 //! The steps of a core that is replayed.
 //!
 //! Only a call names the core's type, so that the prover follows a core by its trait alone.
+ghost use Rattle.std.specs.Prelude.{IfOk, OnOk};
+ghost use Rattle.node_names.specs.Limits.{Limits as Sizes};
+ghost use Rattle.world.specs.Replay.{Replays};
 
 use crate::entries::Entries;
 use crate::error::ReplayError;
@@ -18,12 +21,15 @@ fn refused(entry: u64, error: CoreError) -> ReplayError {
 }
 
 /// Has the core take a stimulus, and appends the step to its trace.
+#[tactic(auto, using(crate::proofs::Leading::stepped_on))]
 fn take<C: Core<Global, Note = Frame>>(
     alloc: Global,
     core: &mut C,
     trace: &mut Trace<Frame>,
     stimulus: Stimulus<Frame>,
-) -> Result<(), CoreError> {
+) -> Result<(), CoreError>
+    ensures { (limits : Sizes) → Replays C.starts C.steps limits trace.old core.old → OnOk result (Replays C.starts C.steps limits trace.new core.new) }
+{
     let mut out = Out::new(alloc);
     core.step(&stimulus, &mut out)?;
     trace.push(Step { stimulus, out })?;
@@ -36,7 +42,9 @@ fn take_all<C: Core<Global, Note = Frame>>(
     core: &mut C,
     trace: &mut Trace<Frame>,
     entries: &mut Entries<'_>,
-) -> Result<(), ReplayError> {
+) -> Result<(), ReplayError>
+    ensures { (limits : Sizes) → Replays C.starts C.steps limits trace.old core.old → OnOk result (Replays C.starts C.steps limits trace.new core.new) }
+{
     for _ in 0..u64::MAX {
         let place = entries.count();
         match entries.next()? {
@@ -53,10 +61,13 @@ fn take_all<C: Core<Global, Note = Frame>>(
 }
 
 /// Starts the run that began with this head, and its trace.
+#[tactic(auto, using(crate::proofs::Leading::begun))]
 fn begin<C: Core<Global, Note = Frame>>(
     alloc: Global,
     head: &Head,
-) -> Result<(C, Trace<Frame>), ReplayError> {
+) -> Result<(C, Trace<Frame>), ReplayError>
+    ensures { IfOk result (λ run. Replays C.starts C.steps head.now.limits run.1 run.0) }
+{
     let peers = head.peers.copy()?;
     let mut out = Out::new(alloc);
     let started = C::start(
@@ -77,11 +88,14 @@ fn begin<C: Core<Global, Note = Frame>>(
 }
 
 /// Replays the run that began with this head, and whose stimuli the entries tell.
+#[tactic(auto, using(crate::proofs::Leading::ended))]
 pub(crate) fn run_of<C: Core<Global, Note = Frame>>(
     alloc: Global,
     head: &Head,
     entries: &mut Entries<'_>,
-) -> Result<Trace<Frame>, ReplayError> {
+) -> Result<Trace<Frame>, ReplayError>
+    ensures { IfOk result (λ trace. (last : C) × Replays C.starts C.steps head.now.limits trace last) }
+{
     let (mut core, mut trace) = begin::<C>(alloc, head)?;
     take_all(alloc, &mut core, &mut trace, entries)?;
     Ok(trace)
