@@ -5,7 +5,8 @@ use std::alloc::{AllocError, Allocator, Global};
 use std::hash::{BuildHasherDefault, FoldHasher};
 use std::net::SocketAddr;
 
-/// Of how many names the addresses are kept at most. Then each new one takes the place of another.
+/// Of how many names the addresses are kept at most. Then each new one takes the place of the one of whom nothing was
+/// heard for longest.
 pub const MAX_ADDRESSES: usize = 1_024;
 
 /// Where a node takes connections, and by whom that was told.
@@ -22,6 +23,7 @@ struct Known {
 /// not say so itself, or could not be reached there.
 #[derive(Drop)]
 pub struct AddressBook<A: Allocator + Copy = Global> {
+    /// The names in the order in which they were heard of last.
     known: IndexMap<NodeName, Known, BuildHasherDefault<FoldHasher>, A>,
 }
 
@@ -75,13 +77,15 @@ impl<A: Allocator + Copy> AddressBook<A> {
 
     /// Forgets where the node of this name takes connections.
     pub fn forget(&mut self, name: &NodeName) {
-        self.known.swap_remove(name);
+        self.known.shift_remove(name);
     }
 
-    /// Notes where a node takes connections. Where there are as many as may be, the first one makes room.
+    /// Notes where a node takes connections. Where memory is refused, nothing changes.
     fn put(&mut self, name: NodeName, known: Known) -> Result<(), AllocError> {
-        if self.known.len() >= MAX_ADDRESSES && !self.known.contains_key(&name) {
-            self.known.swap_remove_index(0);
+        self.known.reserve(1)?;
+        self.known.shift_remove(&name);
+        if self.known.len() >= MAX_ADDRESSES {
+            self.known.shift_remove_index(0);
         }
         self.known.insert(name, known)?;
         Ok(())

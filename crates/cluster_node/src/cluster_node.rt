@@ -3,6 +3,7 @@ use crate::address_book::AddressBook;
 use crate::link_text::LinkText;
 use crate::notice::{Notice, Notices};
 use crate::receiving::Arrival;
+use crate::step_log::StepLog;
 use handshake::{Address, Hello};
 use indexmap::IndexMap;
 use node_names::NodeName;
@@ -33,6 +34,7 @@ pub struct ClusterNode<N, A: Allocator + Copy = Global> {
     /// The links, and those that are to be dialled, by the names that they lead to.
     pub(crate) links: IndexMap<NodeName, LinkText<A>, BuildHasherDefault<FoldHasher>, A>,
     pub(crate) notices: Notices<A>,
+    pub(crate) log: StepLog<A>,
 }
 
 impl<N: Drop, A: Allocator + Copy> ClusterNode<N, A> {
@@ -57,7 +59,23 @@ impl<N: Drop, A: Allocator + Copy> ClusterNode<N, A> {
             arrivals: IndexMap::new(alloc),
             links: IndexMap::new(alloc),
             notices: Notices::new(alloc),
+            log: StepLog::new(alloc),
         }
+    }
+
+    /// What it says first over each link.
+    pub fn hello(&self) -> &Hello {
+        &self.hello
+    }
+
+    /// How many connections came in that are open.
+    pub fn connections(&self) -> usize {
+        self.arrivals.len()
+    }
+
+    /// How many links there are, with those that are to be dialled.
+    pub fn links(&self) -> usize {
+        self.links.len()
     }
 
     /// The node of bytes, to be read.

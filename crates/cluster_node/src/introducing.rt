@@ -9,8 +9,8 @@ use std::alloc::{AllocError, Allocator};
 use std::net::SocketAddr;
 
 impl<N: SteppedNode<A>, A: Allocator + Copy> ClusterNode<N, A> {
-    /// Introduces those of whom the frames speak that the last steps sent. They go out after this, so each name is
-    /// introduced in front of the frame. An introduction for which memory is refused is left out.
+    /// Introduces those of whom the frames speak that the last steps sent, and notes these steps. The frames go out after
+    /// this, so each name is introduced in front of the frame. An introduction for which memory is refused is left out.
     pub(crate) fn introduce(&mut self) {
         let made = self.node.take_steps();
         for step in made.steps.as_slice() {
@@ -18,6 +18,7 @@ impl<N: SteppedNode<A>, A: Allocator + Copy> ClusterNode<N, A> {
                 self.introduce_for(to, frame);
             }
         }
+        self.log.note(made);
     }
 
     /// Introduces those of whom the frame speaks to its receiver.

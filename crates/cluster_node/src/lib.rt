@@ -14,9 +14,11 @@ mod notice;
 mod port_node;
 mod pulse;
 mod receiving;
+mod step_log;
 mod stepped_node;
 
 pub use address_book::{AddressBook, MAX_ADDRESSES};
 pub use cluster_node::ClusterNode;
 pub use notice::{Notice, Notices};
+pub use step_log::Counts;
 pub use stepped_node::SteppedNode;

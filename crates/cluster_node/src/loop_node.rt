@@ -83,6 +83,10 @@ impl<N: SteppedNode<A>, A: Allocator + Copy> LoopNode<A> for ClusterNode<N, A> {
     }
 
     fn receivers(&self) -> Result<Vec<NodeName, A>, AllocError> {
+        // What follows from a step that is to be recorded leaves only once the step was taken for that.
+        if self.log.has_kept() {
+            return Ok(Vec::new(self.alloc));
+        }
         let mut names = self.node.receivers()?;
         for (name, text) in &self.links {
             if text.waiting() > 0 && self.node.waiting(name) == 0 {

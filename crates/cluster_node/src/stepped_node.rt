@@ -2,6 +2,7 @@
 use event_loop::LoopNode;
 use frames::Frame;
 use loop_ports::PortNode;
+use node_core::PlumCore;
 use std::alloc::Allocator;
 use wire_node::{Recorded, WireNode};
 use world::Segment;
@@ -12,10 +13,24 @@ use world::Segment;
 pub trait SteppedNode<A: Allocator + Copy>: LoopNode<A> + PortNode<A> {
     /// Takes the steps that were made since the last call, in order.
     fn take_steps(&mut self) -> Segment<Frame<A>, A>;
+
+    /// Its core, to be read.
+    fn core(&self) -> &PlumCore<A>;
+
+    /// How many ticks it made.
+    fn ticks(&self) -> u64;
 }
 
 impl<A: Allocator + Copy> SteppedNode<A> for WireNode<A, Recorded<A>> {
     fn take_steps(&mut self) -> Segment<Frame<A>, A> {
         self.take_steps()
+    }
+
+    fn core(&self) -> &PlumCore<A> {
+        self.core()
+    }
+
+    fn ticks(&self) -> u64 {
+        self.ticks()
     }
 }

@@ -97,6 +97,7 @@ impl<N: LoopNode<A>, S: Resolve + Drop, A: Allocator + Copy> EventLoop<N, S, A> 
         id: ConnectionId,
         from: SocketAddr,
     ) -> Result<(), LoopError> {
+        let interest = self.interest_of(owner);
         let mut stream = stream;
         let Some(token) = Source::Connection(self.connections.next_place()).token() else {
             return Ok(());
@@ -104,7 +105,7 @@ impl<N: LoopNode<A>, S: Resolve + Drop, A: Allocator + Copy> EventLoop<N, S, A> 
         if self
             .poll
             .registry()
-            .register(&mut stream, token, Interest::READABLE)
+            .register(&mut stream, token, interest)
             .is_err()
         {
             return Ok(());
@@ -118,6 +119,15 @@ impl<N: LoopNode<A>, S: Resolve + Drop, A: Allocator + Copy> EventLoop<N, S, A> 
             hosted.node.came(id, from);
         }
         Ok(())
+    }
+
+    /// What the poll is to tell of a connection of the node at this place.
+    fn interest_of(&self, owner: usize) -> Interest {
+        if self.answers(owner) {
+            Interest::READABLE.add(Interest::WRITABLE)
+        } else {
+            Interest::READABLE
+        }
     }
 
     /// Counts a connection of the node at this place. Returns whether there is room for it.

@@ -1,9 +1,10 @@
 //! A connection that came in.
 use crate::buffer::Buffer;
 use crate::frame_place::FramePlace;
+use crate::loop_node::LoopNode;
 use mio::net::TcpStream;
 use std::alloc::Allocator;
-use std::io::ErrorKind;
+use std::io::{ErrorKind, Write};
 use wire_node::ConnectionId;
 
 /// What a read of a connection found.
@@ -19,7 +20,7 @@ pub(crate) enum Found {
     End,
 }
 
-/// A connection that came in, which is only read.
+/// A connection that came in. It is only read, unless its node answers over it.
 #[derive(Drop)]
 pub(crate) struct Connection {
     stream: TcpStream,
@@ -116,6 +117,45 @@ impl Connection {
                 Found::Bytes(count)
             }
             Err(error) => self.found(error.kind()),
+        }
+    }
+
+    /// Writes once what its node answers over it. Returns whether the next write may take more.
+    pub(crate) fn write<N: LoopNode<A>, A: Allocator + Copy>(
+        &mut self,
+        node: &mut N,
+        now: u64,
+    ) -> bool {
+        if node.is_through(self.id) {
+            self.is_over = true;
+        }
+        let bytes = node.answer(self.id);
+        if self.is_over || bytes.is_empty() {
+            return false;
+        }
+        match self.stream.write(bytes) {
+            Ok(0) => {
+                self.is_over = true;
+                false
+            }
+            Ok(count) => {
+                node.answered(self.id, count);
+                self.since = now;
+                true
+            }
+            Err(error) => self.may_write_after(error.kind()),
+        }
+    }
+
+    /// Notes why a write took nothing. Returns whether the next may take some.
+    fn may_write_after(&mut self, kind: ErrorKind) -> bool {
+        match kind {
+            ErrorKind::WouldBlock => false,
+            ErrorKind::Interrupted => true,
+            _ => {
+                self.is_over = true;
+                false
+            }
         }
     }
 

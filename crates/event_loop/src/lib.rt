@@ -6,6 +6,7 @@
 #![tactic(auto)]
 
 mod accepting;
+mod answering;
 mod buffer;
 mod connection;
 mod dialling;

@@ -7,7 +7,8 @@ use std::net::SocketAddr;
 use wire_node::{ConnectionId, ReceiveError, WireError};
 
 /// A node that an event loop runs: what the loop calls of it. Each call does what the one of the same name of a
-/// `WireNode` does. The last six are about its connections and links themselves, of which a `WireNode` keeps nothing.
+/// `WireNode` does. Those from
+/// `hears_pulses` on are about its connections and links themselves, of which a `WireNode` keeps nothing.
 ///
 /// The loop is generic in it, since each function that owns a node takes the prover a minute if its type is named.
 pub trait LoopNode<A: Allocator + Copy>: Drop {
@@ -75,4 +76,23 @@ pub trait LoopNode<A: Allocator + Copy>: Drop {
 
     /// Notes why the name cannot be reached, of which `unreachable` told just before.
     fn failed(&mut self, name: NodeName, error: LinkError);
+
+    /// Whether it answers over the connections that came in, as a server of pages does. A node of a group does not: what it
+    /// sends goes over links.
+    fn answers(&self) -> bool {
+        false
+    }
+
+    /// The bytes that wait to go back over the connection.
+    fn answer(&self, _id: ConnectionId) -> &[u8] {
+        &[]
+    }
+
+    /// Takes the first `count` of the bytes that wait to go back over the connection: they went out.
+    fn answered(&mut self, _id: ConnectionId, _count: usize) {}
+
+    /// Whether the connection is to be closed, since nothing more is to come over it, either way.
+    fn is_through(&self, _id: ConnectionId) -> bool {
+        false
+    }
 }

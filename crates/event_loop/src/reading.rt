@@ -80,8 +80,12 @@ impl<N: LoopNode<A>, S: Resolve + Drop, A: Allocator + Copy> EventLoop<N, S, A> 
             connection.hold();
             return Ok(Found::Nothing);
         }
+        let owner = connection.owner();
         let found = connection.read(&mut self.buffer, place, self.now);
         self.give()?;
+        if found == Found::Nothing && self.answers(owner) {
+            self.nodes.queue(owner);
+        }
         Ok(found)
     }
 

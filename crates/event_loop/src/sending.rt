@@ -28,8 +28,9 @@ fn write_some<N: LoopNode<A>, A: Allocator + Copy>(
 }
 
 impl<N: LoopNode<A>, S: Resolve + Drop, A: Allocator + Copy> EventLoop<N, S, A> {
-    /// Sends what waits in the node at this place. Returns whether more may wait that can be sent.
+    /// Sends what waits in the node at this place, and what it answers. Returns whether more may wait that can be sent.
     pub(crate) fn send_of<R: Net>(&mut self, rt: &R, place: usize) -> Result<bool, LoopError> {
+        self.answer_all(place);
         self.end_links(place)?;
         self.close_lost(place);
         let names = match self.nodes.get(place) {

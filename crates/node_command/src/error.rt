@@ -24,6 +24,9 @@ pub enum NodeError {
     /// There is no incarnation above the last one.
     #[error("all incarnations are used up")]
     Spent,
+    /// What it takes cannot be recorded.
+    #[error("cannot write the record: {0}")]
+    Record(io::Error),
     /// The system refused its clock or a thread.
     #[error("{0}")]
     System(io::Error),

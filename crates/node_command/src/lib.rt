@@ -14,7 +14,13 @@ mod line;
 mod line_reader;
 mod log;
 mod lookup;
+mod member;
+mod page_server;
+mod recorded_node;
+mod recorder;
+mod recording;
 mod running;
+mod status;
 mod system;
 
 pub use error::NodeError;

@@ -5,24 +5,32 @@ use crate::hosts::Hosts;
 use crate::incarnation::begin;
 use crate::log::Log;
 use crate::lookup::{Desk, Lookup};
+use crate::member::Member;
+use crate::page_server::PageServer;
+use crate::recorder::Recorder;
+use crate::recording::Recording;
+use crate::status::StatusKeeper;
 use crate::system::System;
-use crate::{deliveries, input, lookup};
+use crate::{deliveries, incarnation, input, lookup};
 use cluster_node::{ClusterNode, SteppedNode};
 use crossbeam_utils::sync::Parker;
 use event_loop::{EventLoop, LoopError};
 use handshake::{Address, Hello};
 use loop_ports::{Port, PortNode, Ports};
-use node_names::{Incarnation, NodeName, Origin};
-use node_options::{Format, Level, NodeOptions, Peer};
+use node_names::{Incarnation, Limits, Listed, NodeName, Origin};
+use node_options::{Format, Level, NodeOptions, Peer, RecordFailure, RecordSync};
 use std::alloc::{AllocError, Global};
 use std::fs::File;
+use std::hash::RandomState;
 use std::io::{Eprint, Input, Print, StdinLock};
 use std::net::SocketAddr;
+use std::random::RandomSource;
 use std::rt::Files;
 use std::sync::Arc;
 use std::sync::atomic::AtomicBool;
 use std::time::{Clock, Duration};
 use std::{fmt, thread};
+use step_records::Head;
 use wire_node::{Recorded, WireLimits, WireNode};
 
 /// How many messages may wait on each way between the loop and a thread.
@@ -31,6 +39,13 @@ const ROOM: usize = 1_024;
 /// For how many milliseconds a node pauses that was refused memory.
 const PAUSE: u64 = 100;
 
+/// Where the node answers requests for its status.
+#[derive(Clone, Copy)]
+struct PagePlace {
+    at: SocketAddr,
+    keys: RandomState,
+}
+
 /// How the node runs.
 #[derive(Drop)]
 struct Way {
@@ -38,6 +53,8 @@ struct Way {
     incarnation: Incarnation,
     listen: SocketAddr,
     advertise: SocketAddr,
+    /// Where it answers requests for its status, if it does.
+    pages: Option<PagePlace>,
     contacts: Vec<NodeName>,
     tick: Duration,
     grace: Duration,
@@ -68,6 +85,18 @@ impl fmt::Display for Listening {
     }
 }
 
+/// What the node says once it answers requests for its status.
+#[derive(Clone, Copy, Drop)]
+struct Answering {
+    at: SocketAddr,
+}
+
+impl fmt::Display for Answering {
+    fn fmt<W: fmt::Write>(&self, f: &mut fmt::Formatter<W>) -> fmt::Result {
+        write!(f, "answers at http://{}/", self.at)
+    }
+}
+
 /// The names of the peers of which the program was told.
 fn names_of(alloc: Global, peers: &[Peer]) -> Result<Vec<NodeName>, AllocError> {
     let mut names = Vec::with_capacity(alloc, peers.len())?;
@@ -78,17 +107,16 @@ fn names_of(alloc: Global, peers: &[Peer]) -> Result<Vec<NodeName>, AllocError> 
 }
 
 /// Runs the loop until its program ends it. Where memory is refused, it goes on after a pause.
-fn run_on<R: System + Eprint, N: SteppedNode<Global>>(
+fn run_on<R: System + Eprint + Files<File = File>, N: SteppedNode<Global>>(
     rt: &R,
-    log: &Log<R>,
-    event_loop: &mut EventLoop<ClusterNode<N>, Hosts>,
+    event_loop: &mut EventLoop<Member<N>, Hosts>,
     tick: Duration,
     agent: &mut Agent<R>,
 ) -> Result<(), LoopError> {
     for _ in rt.forever() {
         match event_loop.run(rt, tick, agent) {
             Err(LoopError::OutOfMemory) => {
-                log.say(Level::Error, &LoopError::OutOfMemory);
+                agent.log().say(Level::Error, &LoopError::OutOfMemory);
                 thread::sleep(rt, Duration::from_millis(PAUSE));
             }
             ended => return ended,
@@ -97,25 +125,54 @@ fn run_on<R: System + Eprint, N: SteppedNode<Global>>(
     unreachable!()
 }
 
+/// Adds a member to the loop, which takes connections there. Returns its place.
+fn add<R: System, N: SteppedNode<Global>>(
+    rt: &R,
+    event_loop: &mut EventLoop<Member<N>, Hosts>,
+    at: SocketAddr,
+    member: Member<N>,
+) -> Result<usize, NodeError> {
+    match event_loop.add(rt, at, member) {
+        Ok(place) => Ok(place),
+        Err(LoopError::System(error)) => Err(NodeError::Listen { at, error }),
+        Err(error) => Err(NodeError::Loop(error)),
+    }
+}
+
+/// Adds the server of the node's pages to the loop, if it is to have one, and says where that answers. Returns what keeps
+/// the node's status.
+fn add_pages<R: System + Eprint, N: SteppedNode<Global>>(
+    rt: &R,
+    alloc: Global,
+    log: &Log<R>,
+    event_loop: &mut EventLoop<Member<N>, Hosts>,
+    way: &Way,
+    listen: SocketAddr,
+) -> Result<Option<StatusKeeper>, NodeError> {
+    let Some(PagePlace { at, keys }) = way.pages else {
+        return Ok(None);
+    };
+    let server = PageServer::new(alloc, keys);
+    let place = add(rt, event_loop, at, Member::Pages(server))?;
+    let at = event_loop.address(place)?;
+    log.say(Level::Info, &Answering { at });
+    let started = incarnation::microseconds(rt)?;
+    let incarnation = way.incarnation.0;
+    Ok(Some(StatusKeeper::new(alloc, incarnation, listen, started)))
+}
+
 /// Adds the node to the loop, with those by whom it joins. Returns its place. A port that the system chose is told to
 /// others.
 fn add_node<R: System, N: SteppedNode<Global>>(
     rt: &R,
-    event_loop: &mut EventLoop<ClusterNode<N>, Hosts>,
+    event_loop: &mut EventLoop<Member<N>, Hosts>,
     way: &Way,
     node: ClusterNode<N>,
 ) -> Result<usize, NodeError> {
-    let place = match event_loop.add(rt, way.listen, node) {
-        Ok(place) => place,
-        Err(LoopError::System(error)) => {
-            let at = way.listen;
-            return Err(NodeError::Listen { at, error });
-        }
-        Err(error) => return Err(NodeError::Loop(error)),
-    };
+    let place = add(rt, event_loop, way.listen, Member::Node(node))?;
     event_loop.set_contacts(place, way.contacts.as_slice())?;
     let at = event_loop.address(place)?;
-    if let Some(node) = event_loop.node_mut(place) {
+    if let Some(Member::Node(node)) = event_loop.node_mut(place) {
         node.tell_news(true);
         if way.advertise.port() == 0 {
             node.advertise(SocketAddr::new(way.advertise.ip(), at.port()));
@@ -124,32 +181,50 @@ fn add_node<R: System, N: SteppedNode<Global>>(
     Ok(place)
 }
 
+/// Sends what waits, unless the node ends since its record cannot be written, and records the rest.
+fn finish<R: System + Eprint + Files<File = File>, N: SteppedNode<Global>>(
+    rt: &R,
+    event_loop: &mut EventLoop<Member<N>, Hosts>,
+    place: usize,
+    grace: Duration,
+    agent: &mut Agent<R>,
+) -> Result<(), NodeError> {
+    if agent.record_error().is_none() {
+        event_loop.finish(rt, grace)?;
+    }
+    if let Some(Member::Node(node)) = event_loop.node_mut(place) {
+        agent.end_record(node);
+    }
+    match agent.record_error() {
+        Some(error) => Err(NodeError::Record(error)),
+        None => Ok(()),
+    }
+}
+
 /// Runs the loop with a port's threads, until the program ends or standard output fails, and sends then what waits.
 fn work<R, N: SteppedNode<Global>>(
     rt: R,
     alloc: Global,
-    log: Log<R>,
-    event_loop: &mut EventLoop<ClusterNode<N>, Hosts>,
+    event_loop: &mut EventLoop<Member<N>, Hosts>,
+    place: usize,
     way: &Way,
-    ports: Ports,
     port: Port,
+    parker: Parker,
+    mut agent: Agent<R>,
 ) -> Result<(), NodeError>
 where
-    R: Input<Reader = StdinLock<'static>> + Print + Eprint + System,
+    R: Files<File = File> + Input<Reader = StdinLock<'static>> + Print + Eprint + System,
 {
     let (sender, receiver) = port.split();
-    let parker = Parker::new(alloc)?;
-    let unparker = parker.unparker().clone()?;
-    let is_printing = Arc::new(alloc, AtomicBool::new(true))?;
-    let theirs = is_printing.clone()?;
+    let theirs = agent.printing().clone()?;
     let printer = deliveries::start(rt, alloc, receiver, parker, theirs, way.format)?;
-    let _reader = input::start(rt, alloc, log, sender, way.ends_with_input)?;
-    let mut agent = Agent::new(ports, log, unparker, is_printing);
-    let ended = run_on(&rt, &log, event_loop, way.tick, &mut agent);
-    event_loop.finish(&rt, way.grace)?;
+    let _reader = input::start(rt, alloc, *agent.log(), sender, way.ends_with_input)?;
+    let ended = run_on(&rt, event_loop, way.tick, &mut agent);
+    let finished = finish(&rt, event_loop, place, way.grace, &mut agent);
     drop(agent);
     let has_printed = printer.join(&rt);
     ended?;
+    finished?;
     if has_printed {
         Ok(())
     } else {
@@ -166,9 +241,10 @@ fn serve<R, N: SteppedNode<Global>>(
     hosts: Hosts,
     desk: Desk,
     node: ClusterNode<N>,
+    recording: Option<Recording>,
 ) -> Result<(), NodeError>
 where
-    R: Input<Reader = StdinLock<'static>> + Print + Eprint + System,
+    R: Files<File = File> + Input<Reader = StdinLock<'static>> + Print + Eprint + System,
 {
     let mut event_loop = EventLoop::new(&rt, alloc, hosts, way.incarnation.0)?;
     let place = add_node(&rt, &mut event_loop, way, node)?;
@@ -182,7 +258,12 @@ where
         at,
     };
     log.say(Level::Info, &listening);
-    work(rt, alloc, log, &mut event_loop, way, ports, port)
+    let status = add_pages(&rt, alloc, &log, &mut event_loop, way, at)?;
+    let parker = Parker::new(alloc)?;
+    let unparker = parker.unparker().clone()?;
+    let is_printing = Arc::new(alloc, AtomicBool::new(true))?;
+    let agent = Agent::new(rt, ports, log, unparker, is_printing, status, recording);
+    work(rt, alloc, &mut event_loop, place, way, port, parker, agent)
 }
 
 /// Begins the node in its cluster, and runs it.
@@ -195,14 +276,45 @@ fn start<R, N: SteppedNode<Global>>(
     hosts: Hosts,
     desk: Desk,
     node: N,
+    recording: Option<Recording>,
 ) -> Result<(), NodeError>
 where
-    R: Input<Reader = StdinLock<'static>> + Print + Eprint + System,
+    R: Files<File = File> + Input<Reader = StdinLock<'static>> + Print + Eprint + System,
 {
     let given = names_of(alloc, hosts.peers())?;
     let contacts = way.contacts.clone()?;
-    let node = ClusterNode::new(alloc, node, hello, given, contacts);
-    serve(rt, alloc, log, way, hosts, desk, node)
+    let mut node = ClusterNode::new(alloc, node, hello, given, contacts);
+    node.keep_steps(recording.is_some());
+    serve(rt, alloc, log, way, hosts, desk, node, recording)
+}
+
+/// How the node is recorded.
+#[derive(Drop)]
+struct RecordPlan {
+    folder: Option<String>,
+    sync: RecordSync,
+    on_failure: RecordFailure,
+}
+
+/// Begins the record of the node, if there is to be one.
+fn begin_record<R: Files<File = File>>(
+    rt: &R,
+    alloc: Global,
+    plan: &RecordPlan,
+    label: NodeName,
+    origin: &Origin,
+    limits: &Limits,
+) -> Result<Option<Recording>, NodeError> {
+    let Some(folder) = &plan.folder else {
+        return Ok(None);
+    };
+    let Some(head) = Head::new(label, *origin, *limits, Listed::new(alloc), None) else {
+        return Ok(None);
+    };
+    match Recorder::begin(rt, alloc, folder.as_str(), &head, plan.sync) {
+        Ok(recorder) => Ok(Some(Recording::new(recorder, plan.on_failure))),
+        Err(error) => Err(NodeError::Record(error)),
+    }
 }
 
 /// The incarnation of this start. Says so if none is kept.
@@ -220,7 +332,22 @@ fn incarnation_of<R: AllocGlobal + Files<File = File> + Clock + Eprint>(
     }
 }
 
-/// Runs a node as it is told, until it ends: with its input, if it is to, or where standard output fails.
+/// Where the node answers requests for its status, with keys of its own, if it does.
+fn page_place<R: RandomSource>(
+    rt: &R,
+    status: Option<SocketAddr>,
+) -> Result<Option<PagePlace>, NodeError> {
+    match status {
+        Some(at) => Ok(Some(PagePlace {
+            at,
+            keys: RandomState::new(rt)?,
+        })),
+        None => Ok(None),
+    }
+}
+
+/// Runs a node as it is told, until it ends: with its input, if it is to, where it is asked to, or where standard output
+/// fails.
 ///
 /// Without a folder for its state, its incarnation is the clock's microseconds: where the clock is set back between two
 /// starts, the others take the later one for the earlier.
@@ -231,6 +358,7 @@ where
         + Input<Reader = StdinLock<'static>>
         + Print
         + Eprint
+        + RandomSource
         + System,
 {
     let alloc = rt.alloc();
@@ -244,6 +372,10 @@ where
         domain,
         port,
         state,
+        record_folder,
+        sync,
+        on_record_failure,
+        status,
         limits,
         tick,
         grace,
@@ -263,6 +395,7 @@ where
         incarnation,
         listen,
         advertise,
+        pages: page_place(&rt, status)?,
         contacts,
         tick,
         grace,
@@ -271,8 +404,14 @@ where
     };
     let (lookup, desk) = Lookup::new(alloc)?;
     let hosts = Hosts::new(alloc, peers, domain, port, lookup);
-    let limits = WireLimits::new(limits);
     let me = Origin { name, incarnation };
+    let plan = RecordPlan {
+        folder: record_folder,
+        sync,
+        on_failure: on_record_failure,
+    };
+    let recording = begin_record(&rt, alloc, &plan, cluster, &me, &limits)?;
+    let limits = WireLimits::new(limits);
     let node = WireNode::start(alloc, me, limits, &[], None, Recorded::new(alloc))?;
-    start(rt, alloc, log, hello, &way, hosts, desk, node)
+    start(rt, alloc, log, hello, &way, hosts, desk, node, recording)
 }

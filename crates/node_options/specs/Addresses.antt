@@ -1,5 +1,5 @@
 -- The addresses of a node, as words and a file tell them.
-use Rattle.std.specs.Prelude.{◌≡◌, List, [], ◌∷◌, ℕ, Option, Some, None}
+use Rattle.std.specs.Prelude.{◌≡◌, ⊤, List, [], ◌∷◌, ℕ, Option, Some, None}
 use Rattle.std.specs.Net.Addr.{MatchIp, IsUnspecifiedV4, IsUnspecifiedV6, ipv4_octets}
 use Rattle.std.specs.Net.Grammar.{IsSocketText}
 use Rattle.std.specs.Net.Socket.{socket_ip, socket_port}
@@ -24,3 +24,10 @@ IsSpelled (Some text) address = IsSocketText text address
 abbrev pub IsAddressOr : (SocketAddr → Type 0) → Option Said → SocketAddr → Type 0
 IsAddressOr Default None address = Default address
 IsAddressOr Default (Some said) address = IsSpelled (text_of said) address
+
+-- the address that was given, or none if no value was given
+abbrev pub IsAddressIfGiven : Option Said → Option SocketAddr → Type 0
+IsAddressIfGiven None None = ⊤
+IsAddressIfGiven None (Some address) = ⊥
+IsAddressIfGiven (Some said) None = ⊥
+IsAddressIfGiven (Some said) (Some address) = IsSpelled (text_of said) address

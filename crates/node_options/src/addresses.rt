@@ -1,6 +1,6 @@
 //! Where a node takes connections, and what it tells others of that.
 ghost use Rattle.std.specs.Prelude.{◌≡◌, true, IfOk, codes};
-ghost use Rattle.node_options.specs.Addresses.{IsAddressOr, IsLocal, IsSpecified, IsSpelled};
+ghost use Rattle.node_options.specs.Addresses.{IsAddressIfGiven, IsAddressOr, IsLocal, IsSpecified, IsSpelled};
 ghost use Rattle.node_options.specs.Given.{said_by};
 ghost use Rattle.node_options.specs.Settings.{told_of};
 ghost use Rattle.node_options.specs.Told.{text_of};
@@ -48,6 +48,16 @@ pub(crate) fn advertise(
         Ok(address)
     } else {
         Err(given.refused(settings.alloc, Wanted::Reachable))
+    }
+}
+
+/// Where the node answers requests for its status, if it does.
+pub(crate) fn status(settings: &Settings<'_, '_>) -> Result<Option<SocketAddr>, OptionError>
+    ensures { IfOk result (IsAddressIfGiven (told_of settings.now (codes "status"))) }
+{
+    match settings.one("status") {
+        Some(given) => Ok(Some(address_of(settings.alloc, &given)?)),
+        None => Ok(None),
     }
 }
 

@@ -125,6 +125,12 @@ pub enum Wanted {
     /// The word of a `Level`.
     #[error("none of error, info and debug")]
     Level,
+    /// The word of a `RecordSync`.
+    #[error("none of always, second and never")]
+    RecordSync,
+    /// The word of a `RecordFailure`.
+    #[error("neither stop nor go-on")]
+    RecordFailure,
     /// `true` or `false`.
     #[error("neither true nor false")]
     Truth,

@@ -3,6 +3,7 @@
 use crate::format::Format;
 use crate::level::Level;
 use crate::peer::Peer;
+use crate::recording::{RecordFailure, RecordSync};
 use node_names::{Limits, NodeName};
 use std::net::SocketAddr;
 use std::time::Duration;
@@ -28,6 +29,14 @@ pub struct NodeOptions {
     pub port: u16,
     /// The folder that keeps its last incarnation, if there is one.
     pub state: Option<String>,
+    /// The folder that keeps what it takes, if there is one.
+    pub record_folder: Option<String>,
+    /// When its record is written to the disk. Each second unless told.
+    pub sync: RecordSync,
+    /// What becomes of it if its record cannot be written. It stops unless told.
+    pub on_record_failure: RecordFailure,
+    /// Where it answers requests for its status, if it does.
+    pub status: Option<SocketAddr>,
     /// Its limits: the standard ones but for what is told, and 10,000 payloads to keep.
     pub limits: Limits,
     /// The time from one tick to the next: 1 ms to 60 s. 100 ms unless told.

@@ -8,12 +8,12 @@ ghost use Rattle.node_names.specs.NodeName.{Name};
 ghost use Rattle.node_names.specs.Same.{has_name};
 ghost use Rattle.node_options.specs.Told.{IsNumberOr, at_key, file_of, text_of, text_or, told, truth_or};
 ghost use Rattle.node_options.specs.Limits.{AreLimits};
-ghost use Rattle.node_options.specs.Addresses.{IsAddressOr, IsLocal, IsSpecified};
+ghost use Rattle.node_options.specs.Addresses.{IsAddressIfGiven, IsAddressOr, IsLocal, IsSpecified};
 ghost use Rattle.node_options.specs.Settings.{members_of, told_of};
 ghost use Rattle.node_options.specs.Peers.{AreApart};
-ghost use Rattle.node_options.specs.Words.{format_word, level_word};
+ghost use Rattle.node_options.specs.Words.{failure_word, format_word, level_word, sync_word};
 
-use crate::addresses::{PORT, advertise, listen};
+use crate::addresses::{PORT, advertise, listen, status};
 use crate::config::Config;
 use crate::domain::is_host;
 use crate::error::{OptionError, Wanted};
@@ -23,6 +23,7 @@ use crate::limits::limits;
 use crate::names::{cluster, contacts, own_name};
 use crate::options::NodeOptions;
 use crate::peer::peers;
+use crate::recording::{RecordFailure, RecordSync};
 use crate::settings::Settings;
 use clap::ArgMatches;
 use std::alloc::Global;
@@ -51,6 +52,15 @@ pub fn read(
         ≡ option_map text_of (told (found_of words.now) (file_of config.entry) (codes "domain"))) }
     ensures state { IfOk result (λ o. option_map (λ folder. Some (string_bytes folder)) o.state
         ≡ option_map text_of (told (found_of words.now) (file_of config.entry) (codes "state"))) }
+    ensures record_folder { IfOk result (λ o. option_map (λ folder. Some (string_bytes folder)) o.record_folder
+        ≡ option_map text_of (told (found_of words.now) (file_of config.entry) (codes "record"))) }
+    ensures sync { IfOk result (λ o. text_or (codes "second")
+        (told (found_of words.now) (file_of config.entry) (codes "sync")) ≡ Some (sync_word o.sync)) }
+    ensures on_record_failure { IfOk result (λ o. text_or (codes "stop")
+        (told (found_of words.now) (file_of config.entry) (codes "on-record-failure"))
+        ≡ Some (failure_word o.on_record_failure)) }
+    ensures status { IfOk result (λ o. IsAddressIfGiven
+        (told (found_of words.now) (file_of config.entry) (codes "status")) o.status) }
     ensures port { IfOk result (λ o.
         IsNumberOr 7101 (told (found_of words.now) (file_of config.entry) (codes "port")) o.port) }
     ensures limits { IfOk result (λ o. AreLimits (found_of words.now) (file_of config.entry) o.limits) }
@@ -105,7 +115,11 @@ pub fn read(
         peers: peers(&settings)?,
         domain: domain(&settings)?,
         port: port(&settings)?,
-        state: state(&settings)?,
+        state: folder(&settings, "state")?,
+        record_folder: folder(&settings, "record")?,
+        sync: sync(&settings)?,
+        on_record_failure: on_record_failure(&settings)?,
+        status: status(&settings)?,
         limits: limits(&settings)?,
         tick: tick(&settings)?,
         grace: grace(&settings)?,
@@ -136,17 +150,48 @@ fn port(settings: &Settings<'_, '_>) -> Result<u16, OptionError>
     Ok(port as u16)
 }
 
-fn state(settings: &Settings<'_, '_>) -> Result<Option<String>, OptionError>
+/// The folder that an option names, if it is given.
+fn folder(settings: &Settings<'_, '_>, option: &'static str) -> Result<Option<String>, OptionError>
     ensures { IfOk result (λ folder. option_map (λ f. Some (string_bytes f)) folder
-        ≡ option_map text_of (told_of settings.now (codes "state"))) }
+        ≡ option_map text_of (told_of settings.now option.now)) }
 {
-    let Some(given) = settings.one("state") else {
+    let Some(given) = settings.one(option) else {
         return Ok(None);
     };
     match given.text() {
         Some(text) if !text.is_empty() => Ok(Some(String::from_str(settings.alloc, text)?)),
         _ => Err(given.refused(settings.alloc, Wanted::Folder)),
     }
+}
+
+fn sync(settings: &Settings<'_, '_>) -> Result<RecordSync, OptionError>
+    ensures { IfOk result (λ sync. text_or (codes "second") (told_of settings.now (codes "sync"))
+        ≡ Some (sync_word sync)) }
+{
+    let Some(given) = settings.one("sync") else {
+        return Ok(RecordSync::Second);
+    };
+    if let Some(text) = given.text()
+        && let Some(sync) = RecordSync::of_word(text)
+    {
+        return Ok(sync);
+    }
+    Err(given.refused(settings.alloc, Wanted::RecordSync))
+}
+
+fn on_record_failure(settings: &Settings<'_, '_>) -> Result<RecordFailure, OptionError>
+    ensures { IfOk result (λ failure. text_or (codes "stop")
+        (told_of settings.now (codes "on-record-failure")) ≡ Some (failure_word failure)) }
+{
+    let Some(given) = settings.one("on-record-failure") else {
+        return Ok(RecordFailure::Stop);
+    };
+    if let Some(text) = given.text()
+        && let Some(failure) = RecordFailure::of_word(text)
+    {
+        return Ok(failure);
+    }
+    Err(given.refused(settings.alloc, Wanted::RecordFailure))
 }
 
 fn tick(settings: &Settings<'_, '_>) -> Result<Duration, OptionError>

@@ -26,7 +26,7 @@ pub(crate) const CONFIG: Row = Row {
 };
 
 /// The options that are keys of the file as well.
-pub(crate) static ROWS: [Row; 21] = [
+pub(crate) static ROWS: [Row; 25] = [
     Row {
         word: "cluster",
         takes: Takes::One("LABEL"),
@@ -66,6 +66,26 @@ pub(crate) static ROWS: [Row; 21] = [
         word: "state",
         takes: Takes::One("FOLDER"),
         help: "Keeps the node's last incarnation in this folder",
+    },
+    Row {
+        word: "record",
+        takes: Takes::One("FOLDER"),
+        help: "Keeps what the node takes in this folder, for plumtree merge",
+    },
+    Row {
+        word: "sync",
+        takes: Takes::One("WHEN"),
+        help: "When the record is written to the disk: always, second or never [default: second]",
+    },
+    Row {
+        word: "on-record-failure",
+        takes: Takes::One("WHAT"),
+        help: "What it does if it cannot be written: stop or go-on [default: stop]",
+    },
+    Row {
+        word: "status",
+        takes: Takes::One("ADDRESS:PORT"),
+        help: "Answers GET /, /status, /metrics and /tree there, and POST /stop",
     },
     Row {
         word: "active",

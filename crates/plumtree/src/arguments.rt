@@ -3,6 +3,7 @@ ghost use Rattle.std.specs.Prelude.{◌≡◌, true, false, Option, Some, IfOk, 
 ghost use Rattle.node_names.specs.declared.ids.MsgId.{MsgId};
 ghost use Rattle.clap.specs.Matches.{first_value, found_of, one_text};
 
+use crate::merge;
 use crate::version::VERSION;
 use clap::error::ErrorKind;
 use clap::{Arg, ArgAction, ArgMatches, Command, Error};
@@ -15,10 +16,11 @@ const AFTER_HELP: &str = "Examples:
   plumtree sim scenarios/hello.toml
   plumtree sim --trace scenarios/triangle.toml
   plumtree run scenarios/run/hello.toml
-  plumtree node a --listen 127.0.0.1:7101
+  plumtree node a --listen 127.0.0.1:7101 --status 127.0.0.1:8101
+  plumtree status 127.0.0.1:8101
 
 Status: 0 success, 1 an event was refused or a write failed, 2 bad arguments or a bad scenario.
-docs/scenarios.md describes the format of scenarios and of what is printed, docs/cluster.md a node.";
+docs/scenarios.md describes the format of scenarios and of what is printed, docs/cluster.md nodes.";
 
 /// What is to be done with a scenario.
 #[derive(Clone, Copy, Debug, PartialEq, Eq)]
@@ -61,10 +63,10 @@ pub fn matches<'a>(alloc: Global, words: &'a [String]) -> Result<ArgMatches<'a>,
     }
 }
 
-/// The arguments after the subcommand `node`, if that is asked for.
-pub fn node_words<'m, 'a>(matches: &'m ArgMatches<'a>) -> Option<&'m ArgMatches<'a>> {
+/// The arguments after this subcommand, if it is asked for.
+pub fn words_of<'m, 'a>(matches: &'m ArgMatches<'a>, name: &str) -> Option<&'m ArgMatches<'a>> {
     match matches.subcommand() {
-        Some(("node", words)) => Some(words),
+        Some((asked, words)) if asked == name => Some(words),
         _ => None,
     }
 }
@@ -332,5 +334,7 @@ fn command<'a>(alloc: Global) -> Result<Command<'a>, AllocError> {
         .after_help(AFTER_HELP)
         .subcommand(sim(alloc)?)?
         .subcommand(run(alloc)?)?
-        .subcommand(node_options::command(alloc)?)
+        .subcommand(node_options::command(alloc)?)?
+        .subcommand(status_command::command(alloc)?)?
+        .subcommand(merge::command(alloc, trace(alloc)?, dot(alloc))?)
 }

@@ -5,6 +5,7 @@ mod arguments;
 mod code;
 mod group;
 mod member;
+mod merge;
 mod node;
 mod output;
 mod program;

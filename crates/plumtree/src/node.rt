@@ -7,6 +7,7 @@ use node_options::{NodeOptions, OptionError, config_path, read};
 use simulation::report;
 use std::fs::File;
 use std::io::{Eprint, Input, Print, StdinLock, Write};
+use std::random::RandomSource;
 use std::rt::Files;
 use std::{fs, io};
 use thiserror::Error;
@@ -76,6 +77,7 @@ where
         + Input<Reader = StdinLock<'static>>
         + Print
         + Eprint
+        + RandomSource
         + System,
 {
     let options = options_of(rt, words)?;
@@ -93,6 +95,7 @@ where
         + Input<Reader = StdinLock<'static>>
         + Print
         + Eprint
+        + RandomSource
         + System,
     F: Write,
     ensures { result ≤ 2 }

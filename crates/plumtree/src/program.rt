@@ -4,6 +4,7 @@ ghost use Rattle.std.specs.Prelude.{◌≡◌, ◌≤◌, IfSome};
 use crate::arguments;
 use crate::arguments::{Host, Request, Task};
 use crate::code::RunCode;
+use crate::merge::merge_as_told;
 use crate::node::run_as_told;
 use crate::progress::{Progress, is_terminal};
 use crate::run_group::{GroupError, run_group};
@@ -15,11 +16,13 @@ use simulation::{
     Form, ScenarioError, play_input, read_text, report, report_unknown, report_unread,
     report_value, status_after,
 };
+use status_command::run_status;
 use std::alloc::Global;
 use std::env::Env;
 use std::fs::File;
 use std::io::{Eprint, Input, Print, Read, StdinLock, Write};
 use std::net::{Net, TcpListener, TcpStream};
+use std::random::RandomSource;
 use std::rt::Files;
 use std::sync::Wait;
 use std::thread::Threads;
@@ -38,6 +41,7 @@ where
         + Input<Reader = StdinLock<'static>>
         + Print
         + Eprint
+        + RandomSource
         + Threads
         + Wait
         + Clock
@@ -74,6 +78,7 @@ where
         + Input<Reader = StdinLock<'static>>
         + Print
         + Eprint
+        + RandomSource
         + System
         + Machine,
     W: Write,
@@ -84,14 +89,15 @@ where
         Ok(matches) => matches,
         Err(error) => return explain(error, out, faults),
     };
-    match arguments::node_words(&matches) {
-        Some(words) => run_as_told(rt, words, faults),
-        None => follow(
-            rt,
-            arguments::scenario_request(rt.alloc(), &matches),
-            out,
-            faults,
-        ),
+    if let Some(words) = arguments::words_of(&matches, "node") {
+        run_as_told(rt, words, faults)
+    } else if let Some(words) = arguments::words_of(&matches, "status") {
+        run_status(rt, words, out, faults)
+    } else if let Some(words) = arguments::words_of(&matches, "merge") {
+        merge_as_told(rt, words, out, faults)
+    } else {
+        let request = arguments::scenario_request(rt.alloc(), &matches);
+        follow(rt, request, out, faults)
     }
 }
 

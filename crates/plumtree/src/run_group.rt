@@ -1,9 +1,11 @@
 //! Runs a group, and writes the outcome.
 use crate::arguments::Host;
 use crate::group::GroupScenario;
+use frames::Frame;
 use loopback::{Machine, Member, Plan, RunError, RunReport, Watch};
 use node_core::PlumCore;
 use node_names::{Limits, MsgId};
+use record_merge::RecordedGroup;
 use simulation::{
     Form, OutputError, ScenarioError, Stop, broadcasts, deliveries, read_document, shown, sort,
     write_graph, write_lines, write_trace, write_trees,
@@ -11,7 +13,7 @@ use simulation::{
 use std::alloc::{AllocError, Global};
 use std::io::Write;
 use trace_merge::{MergeFault, merge};
-use world::{Delivery, Event, World, WorldError};
+use world::{Delivery, Event, Trace, World, WorldError};
 
 /// The room for a line: the longest payload in hexadecimal, and what comes before it.
 const LINE_ROOM: usize = 66_000;
@@ -76,7 +78,12 @@ where
 {
     let GroupScenario { plan, members } = read_group(alloc, text)?;
     let ran = run_by(rt, alloc, host, &plan, members, watch)?;
-    write_run(alloc, form, plan.limits, &ran, out)
+    let did = Did {
+        limits: plan.limits,
+        deliveries: ran.deliveries.as_slice(),
+        traces: ran.traces.as_slice(),
+    };
+    write_run(alloc, form, &did, out)
 }
 
 /// Runs a group by the host that was asked for.
@@ -104,41 +111,58 @@ fn read_group(alloc: Global, text: &[u8]) -> Result<GroupScenario, ScenarioError
     GroupScenario::from_document(alloc, &document)
 }
 
+/// What the nodes of a group did.
+#[derive(Clone, Copy)]
+struct Did<'a> {
+    limits: Limits,
+    deliveries: &'a [Delivery],
+    traces: &'a [Trace<Frame>],
+}
+
+/// Writes what recorded nodes delivered, whether their records are those of one run, and what that run is.
+pub fn write_records<W: Write>(
+    alloc: Global,
+    form: Form,
+    group: &RecordedGroup,
+    out: &mut W,
+) -> Result<(), GroupError> {
+    let did = Did {
+        limits: group.limits,
+        deliveries: group.deliveries.as_slice(),
+        traces: group.traces.as_slice(),
+    };
+    write_run(alloc, form, &did, out)
+}
+
 /// Writes what a group delivered, and its histories as one run.
 fn write_run<W: Write>(
     alloc: Global,
     form: Form,
-    limits: Limits,
-    ran: &RunReport,
+    did: &Did<'_>,
     out: &mut W,
 ) -> Result<(), GroupError> {
     match form {
-        Form::Lines => write_as_lines(alloc, limits, ran, out),
+        Form::Lines => write_as_lines(alloc, did, out),
         Form::Graph(only) => {
-            let group = group_of(alloc, limits, merge(alloc, limits, ran.traces.as_slice()))?;
+            let group = merged_group(alloc, did)?;
             draw_group(alloc, &group, &only, out)
         }
         Form::Trace => {
-            let group = group_of(alloc, limits, merge(alloc, limits, ran.traces.as_slice()))?;
+            let group = merged_group(alloc, did)?;
             Ok(write_trace(alloc, &group, &[], &Stop::none(), out)?)
         }
     }
 }
 
 /// Writes what a group delivered, and only then merges its histories, which may take long, and writes their run.
-fn write_as_lines<W: Write>(
-    alloc: Global,
-    limits: Limits,
-    ran: &RunReport,
-    out: &mut W,
-) -> Result<(), GroupError> {
+fn write_as_lines<W: Write>(alloc: Global, did: &Did<'_>, out: &mut W) -> Result<(), GroupError> {
     let mut text = String::with_capacity(alloc, LINE_ROOM)?;
-    write_deliveries(alloc, &mut text, ran.deliveries.as_slice(), out)?;
-    let merged = merge(alloc, limits, ran.traces.as_slice());
-    if !ran.traces.is_empty() {
+    write_deliveries(alloc, &mut text, did.deliveries, out)?;
+    let merged = merge(alloc, did.limits, did.traces);
+    if !did.traces.is_empty() {
         write_verdict(&mut text, &merged, out)?;
     }
-    let group = group_of(alloc, limits, merged)?;
+    let group = group_of(alloc, did.limits, merged)?;
     write_group(alloc, &mut text, &group, out)
 }
 
@@ -177,6 +201,11 @@ fn write_verdict<W: Write>(
     }
     out.write_all(text.as_bytes())?;
     Ok(out.flush()?)
+}
+
+/// The group at the end of the run into which the histories are merged.
+fn merged_group(alloc: Global, did: &Did<'_>) -> Result<World<PlumCore>, GroupError> {
+    group_of(alloc, did.limits, merge(alloc, did.limits, did.traces))
 }
 
 /// The group at the end of the merged run.
