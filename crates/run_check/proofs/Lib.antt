@@ -1,0 +1,4 @@
+mod Flights
+mod Following
+mod Posting
+mod Refusing

@@ -1,0 +1,25 @@
+-- Which frame a packet carries, and what `==` computes for that.
+use Rattle.std.specs.Prelude.{◌≡◌, ◌&&◌, Bool, nat_eq}
+use Rattle.std.specs.Bool.{Decides}
+use Rattle.std.specs.Cmp.{unsigned_Decides}
+use Rattle.std.proofs.Common.{ap}
+use Rattle.std.proofs.lemmas.Bool.Decides.{Decides-like, Decides-and}
+use Rattle.node_names.specs.Same.{same_origin, same_origin-Decides}
+use Rattle.world.specs.declared.packet.Packet.{Packet}
+use Rattle.frames.specs.Frame.{Frame}
+use Rattle.run_check.specs.declared.frame_id.FrameId.{FrameId}
+
+-- whether two frame ids have the same sender and number
+abbrev pub same_frame_id : FrameId → FrameId → Bool
+same_frame_id a b = same_origin a.sender b.sender && nat_eq a.number b.number
+
+pub same_frame_id-Decides : (a b : FrameId) → Decides (same_frame_id a b) (a ≡ b)
+same_frame_id-Decides a b =
+    Decides-like (same_frame_id a b)
+    (λ e i. record { sender = e.0 i; number = e.1 i })
+    (λ e. (ap (λ (id : FrameId). id.sender) e, ap (λ (id : FrameId). id.number) e))
+    (Decides-and _ _ (same_origin-Decides a.sender b.sender) (unsigned_Decides a.number b.number))
+
+-- the frame id of a packet
+abbrev pub id_of : Packet Frame → FrameId
+id_of packet = record { sender = packet.sender; number = packet.note.number }

@@ -1,0 +1,4 @@
+-- What the contracts of this crate cite.
+pub mod Following
+pub mod FrameIds
+pub mod Refusals
