@@ -1,4 +1,5 @@
 //! Why records are not read.
+use crate::sink::SinkError;
 use record_merge::{GroupError, ReplayError};
 use std::alloc::{AllocError, AllocFailed};
 use std::io;
@@ -19,6 +20,9 @@ pub enum RecordsError {
     /// The records are not of one cluster.
     #[error("{0}")]
     Group(GroupError),
+    /// What the records deliver cannot be written.
+    #[error("the deliveries cannot be written")]
+    Unwritten,
     /// There was no memory left for them.
     #[error("out of memory")]
     OutOfMemory,
@@ -41,6 +45,15 @@ impl From<GroupError> for RecordsError {
         match error {
             GroupError::OutOfMemory => RecordsError::OutOfMemory,
             error => RecordsError::Group(error),
+        }
+    }
+}
+
+impl From<SinkError> for RecordsError {
+    fn from(error: SinkError) -> RecordsError {
+        match error {
+            SinkError::Unwritten => RecordsError::Unwritten,
+            SinkError::OutOfMemory => RecordsError::OutOfMemory,
         }
     }
 }

@@ -1,10 +1,23 @@
-//! Reads the records of nodes from folders, and replays them (docs/cluster.md).
+//! Reads the records of nodes from folders, and replays them or follows their runs (docs/cluster.md).
 #![tactic(auto)]
 
+mod cut;
 mod error;
 mod folder;
+mod following;
+mod halt;
+mod order;
 mod reading;
 mod record_file;
+mod record_files;
+mod record_stream;
+mod roster;
+mod run;
+mod share;
+mod sink;
+mod source;
 
 pub use error::RecordsError;
+pub use following::follow_records;
 pub use reading::read_group;
+pub use sink::{DeliverySink, SinkError};

@@ -1,25 +1,14 @@
 //! Reading and replaying records.
+use crate::cut::say_cut;
 use crate::error::RecordsError;
 use crate::folder::{files_in, unread};
-use crate::record_file::RecordFile;
+use crate::record_file::{RecordFile, first_record};
 use record_merge::{RecordedGroup, Replayed, replay};
 use std::alloc::{AllocError, Global};
 use std::fs;
 use std::fs::File;
 use std::io::Write;
 use std::rt::Files;
-
-/// The first files of a list, which are of one record, and the rest.
-fn first_record(files: &[RecordFile]) -> (&[RecordFile], &[RecordFile]) {
-    let [first, ..] = files else {
-        return (files, files);
-    };
-    let count = files
-        .iter()
-        .take_while(|file| file.stem == first.stem)
-        .count();
-    files.split_at(count.min(files.len()))
-}
 
 /// The texts of the files of one record.
 fn texts_of<R: AllocGlobal + Files<File = File>>(
@@ -55,13 +44,7 @@ fn replay_files<R: AllocGlobal + Files<File = File>, F: Write>(
     let path = format!(in alloc; "{folder}/{}", first.stem)?;
     match replay(alloc, texts.as_slice()) {
         Ok(run) => {
-            if run.left > 0 {
-                let left = run.left;
-                let _ = writeln!(
-                    faults,
-                    "plumtree: {path}: the last {left} bytes are no whole entry, as after a crash"
-                );
-            }
+            say_cut(path.as_str(), run.left, faults);
             Ok(Some(run))
         }
         Err(error) => Err(RecordsError::Replay { path, error }),

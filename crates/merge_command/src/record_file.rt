@@ -29,3 +29,15 @@ pub(crate) fn order(one: &RecordFile, other: &RecordFile) -> Ordering {
         order => order,
     }
 }
+
+/// The first files of a list, which are of one record, and the rest.
+pub(crate) fn first_record(files: &[RecordFile]) -> (&[RecordFile], &[RecordFile]) {
+    let [first, ..] = files else {
+        return (files, files);
+    };
+    let count = files
+        .iter()
+        .take_while(|file| file.stem == first.stem)
+        .count();
+    files.split_at(count.min(files.len()))
+}

@@ -11,6 +11,7 @@ mod output;
 mod program;
 mod progress;
 mod run_group;
+mod stream;
 mod unfit;
 mod version;
 

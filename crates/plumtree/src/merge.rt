@@ -2,6 +2,7 @@
 ghost use Rattle.std.specs.Prelude.{◌≤◌};
 
 use crate::run_group::{GroupError, write_records};
+use crate::stream::{StreamError, write_stream};
 use clap::{Arg, ArgAction, ArgMatches, Command};
 use merge_command::{RecordsError, read_group};
 use simulation::{Form, ScenarioError, report};
@@ -20,11 +21,20 @@ pub fn command<'a>(alloc: Global, trace: Arg<'a>, dot: Arg<'a>) -> Result<Comman
         .num_args(1..)
         .action(ArgAction::Append)
         .help("A folder with the records of nodes, as --record of plumtree node keeps them");
+    let stream = Arg::new(alloc, "stream")
+        .long("stream")
+        .action(ArgAction::SetTrue)
+        .help(
+            "Takes memory for what is in flight alone, however long the records are, and prints no trees",
+        )
+        .conflicts_with("trace")?
+        .conflicts_with("dot")?;
     Command::new(alloc, "merge")
         .about("Replays the records of a cluster's nodes and joins them into one run of a group")
         .after_help(AFTER_HELP)
         .arg(trace)?
         .arg(dot)?
+        .arg(stream)?
         .arg(folders)
 }
 
@@ -62,6 +72,18 @@ fn conclude<F: Write>(is_plain: bool, ended: Result<(), GroupError>, faults: &mu
     }
 }
 
+/// Writes why records were not followed to their end, if they were not. Returns the exit status.
+fn conclude_stream<F: Write>(ended: Result<(), StreamError>, faults: &mut F) -> u8
+    ensures { result ≤ 2 }
+{
+    match ended {
+        Ok(()) => 0,
+        Err(StreamError::Records(error)) => refuse(error, faults),
+        Err(StreamError::OutOfMemory) => report(faults, ScenarioError::OutOfMemory, 1),
+        Err(StreamError::Unmerged(_) | StreamError::Unwritten) => 1,
+    }
+}
+
 /// Reads, replays and merges the records of the folders that the words name, and writes their run. Returns the exit
 /// status.
 pub fn merge_as_told<R, W, F>(rt: &R, words: &ArgMatches<'_>, out: &mut W, faults: &mut F) -> u8
@@ -71,9 +93,13 @@ where
     F: Write,
     ensures { result ≤ 2 }
 {
+    let folders = words.get_raw("FOLDER").unwrap_or(&[]);
+    if words.get_flag("stream") {
+        return conclude_stream(write_stream(rt, folders, out, faults), faults);
+    }
     let form = form_of(words);
     let is_plain = form == Form::Lines;
-    match read_group(rt, words.get_raw("FOLDER").unwrap_or(&[]), faults) {
+    match read_group(rt, folders, faults) {
         Ok(group) => {
             let ended = write_records(rt.alloc(), form, &group, out);
             conclude(is_plain, ended, faults)

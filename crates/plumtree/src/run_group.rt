@@ -160,14 +160,17 @@ fn write_as_lines<W: Write>(alloc: Global, did: &Did<'_>, out: &mut W) -> Result
     write_deliveries(alloc, &mut text, did.deliveries, out)?;
     let merged = merge(alloc, did.limits, did.traces);
     if !did.traces.is_empty() {
-        write_verdict(&mut text, &merged, out)?;
+        write_verdict(&mut text, merged.as_ref().err(), out)?;
     }
     let group = group_of(alloc, did.limits, merged)?;
     write_group(alloc, &mut text, &group, out)
 }
 
 /// References to deliveries, in their order.
-fn references(alloc: Global, deliveries: &[Delivery]) -> Result<Vec<&Delivery>, AllocError> {
+pub(crate) fn references(
+    alloc: Global,
+    deliveries: &[Delivery],
+) -> Result<Vec<&Delivery>, AllocError> {
     let mut references = Vec::new(alloc);
     for delivery in deliveries {
         references.push(delivery)?;
@@ -187,17 +190,17 @@ fn write_deliveries<W: Write>(
     write_lines(text, sorted.as_slice(), out)
 }
 
-/// Writes whether the histories are those of one run.
-fn write_verdict<W: Write>(
+/// Writes whether histories are those of one run, which they are unless there is a fault.
+pub(crate) fn write_verdict<W: Write>(
     text: &mut String,
-    merged: &Result<Vec<Event>, MergeFault>,
+    fault: Option<&MergeFault>,
     out: &mut W,
 ) -> Result<(), OutputError> {
     text.clear();
-    match merged {
-        Ok(_) => text.push_str("merge ok\n")?,
-        Err(MergeFault::OutOfMemory) => return Err(OutputError::OutOfMemory),
-        Err(fault) => write!(text, "merge {fault}\n")?,
+    match fault {
+        None => text.push_str("merge ok\n")?,
+        Some(MergeFault::OutOfMemory) => return Err(OutputError::OutOfMemory),
+        Some(fault) => write!(text, "merge {fault}\n")?,
     }
     out.write_all(text.as_bytes())?;
     Ok(out.flush()?)
