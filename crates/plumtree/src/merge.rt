@@ -38,6 +38,11 @@ pub fn command<'a>(alloc: Global, trace: Arg<'a>, dot: Arg<'a>) -> Result<Comman
         .arg(folders)
 }
 
+/// The folders that the words name.
+pub(crate) fn folders_of<'w>(words: &'w ArgMatches<'_>) -> &'w [&'w str] {
+    words.get_raw("FOLDER").unwrap_or(&[])
+}
+
 /// The form of the output.
 fn form_of(words: &ArgMatches<'_>) -> Form {
     if words.get_flag("trace") {
@@ -93,13 +98,12 @@ where
     F: Write,
     ensures { result ≤ 2 }
 {
-    let folders = words.get_raw("FOLDER").unwrap_or(&[]);
     if words.get_flag("stream") {
-        return conclude_stream(write_stream(rt, folders, out, faults), faults);
+        return conclude_stream(write_stream(rt, words, out, faults), faults);
     }
     let form = form_of(words);
     let is_plain = form == Form::Lines;
-    match read_group(rt, folders, faults) {
+    match read_group(rt, folders_of(words), faults) {
         Ok(group) => {
             let ended = write_records(rt.alloc(), form, &group, out);
             conclude(is_plain, ended, faults)

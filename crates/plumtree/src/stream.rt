@@ -1,5 +1,7 @@
 //! `plumtree merge --stream`.
+use crate::merge::folders_of;
 use crate::run_group::{references, write_verdict};
+use clap::ArgMatches;
 use merge_command::{DeliverySink, RecordsError, SinkError, follow_records};
 use simulation::{OutputError, write_lines};
 use std::alloc::{AllocError, Global};
@@ -78,6 +80,11 @@ impl<W: Write> Lines<'_, W> {
         self.waiting.clear();
         Ok(())
     }
+
+    /// Writes whether the records are those of one run, which they are unless there is a fault.
+    fn tell(&mut self, fault: Option<&MergeFault>) -> Result<(), OutputError> {
+        write_verdict(&mut self.text, fault, self.out)
+    }
 }
 
 impl<W: Write> DeliverySink for Lines<'_, W> {
@@ -95,11 +102,28 @@ impl<W: Write> DeliverySink for Lines<'_, W> {
     }
 }
 
-/// Follows the records of the folders in little memory, and writes what they deliver, in the order of their run, and
-/// whether they are those of one run.
+/// Follows the records of the folders that the words name, and writes what they deliver, up to where they are no run.
+fn follow<R, W, F>(
+    rt: &R,
+    words: &ArgMatches<'_>,
+    lines: &mut Lines<'_, W>,
+    faults: &mut F,
+) -> Result<Option<MergeFault>, StreamError>
+where
+    R: AllocGlobal + Files<File = File> + Clone + Drop,
+    W: Write,
+    F: Write,
+{
+    let followed = follow_records(rt, folders_of(words), lines, faults);
+    lines.write()?;
+    Ok(followed?)
+}
+
+/// Follows the records of the folders that the words name in little memory, and writes what they deliver, in the order of
+/// their run, and whether they are those of one run.
 pub fn write_stream<R, W, F>(
     rt: &R,
-    folders: &[&str],
+    words: &ArgMatches<'_>,
     out: &mut W,
     faults: &mut F,
 ) -> Result<(), StreamError>
@@ -115,12 +139,9 @@ where
         text: String::new(alloc),
         waiting: Vec::new(alloc),
     };
-    let followed = follow_records(rt, folders, &mut lines, faults);
-    lines.write()?;
-    let fault = followed?;
-    write_verdict(&mut lines.text, fault.as_ref(), lines.out)?;
+    let fault = follow(rt, words, &mut lines, faults)?;
+    lines.tell(fault.as_ref())?;
     match fault {
-        Some(MergeFault::OutOfMemory) => Err(StreamError::OutOfMemory),
         Some(fault) => Err(StreamError::Unmerged(fault)),
         None => Ok(()),
     }
