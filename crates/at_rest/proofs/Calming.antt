@@ -6,8 +6,8 @@ use Rattle.std.specs.Prelude.{◌&&◌, ◌||◌, Bool, Option, Some, None, is_n
 use Rattle.std.proofs.lemmas.Bool.{false≢true}
 use Rattle.node_names.specs.NodeName.{Name}
 use Rattle.node_names.specs.declared.ids.MsgId.{MsgId}
-use Rattle.world.specs.Content.{Content}
-use Rattle.world.specs.CoreState.{CoreState}
+use Rattle.protocol.specs.Content.{Content}
+use Rattle.protocol.specs.CoreState.{CoreState}
 use Rattle.world.specs.Group.{Group, core_in, node_of}
 use Rattle.world.specs.Links.{IsRunning, IsSymmetric}
 use Rattle.world.specs.declared.node_state.NodeState.{NodeState}

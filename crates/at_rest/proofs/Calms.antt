@@ -8,16 +8,16 @@ use Rattle.std.proofs.lemmas.List.{length-map}
 use Rattle.node_names.specs.NodeName.{Name}
 use Rattle.node_names.specs.Limits.{Limits}
 use Rattle.node_names.specs.Same.{has_name, same_name, same_name-Decides}
+use Rattle.protocol.specs.Laws.{Laws}
+use Rattle.protocol.specs.Lists.{IsOneOf, places}
+use Rattle.protocol.specs.Stimulus.{Stimulus}
+use Rattle.protocol.proofs.Segments.{get_left}
 use Rattle.world.specs.Entry.{Entry}
 use Rattle.world.specs.Group.{Group, node_of, origin_of, packets}
-use Rattle.world.specs.Laws.{Laws}
 use Rattle.world.specs.Links.{IsRunning, IsSymmetric, Linked, Runs}
-use Rattle.world.specs.Lists.{IsOneOf, places}
-use Rattle.world.specs.Stimulus.{Stimulus}
 use Rattle.world.specs.declared.node_state.NodeState.{NodeState}
 use Rattle.world.specs.declared.packet.Packet.{Packet}
 use Rattle.world.proofs.FindLemmas.{found_name, name_is, put_cases, put_other, put_same, tells_apart}
-use Rattle.world.proofs.Segments.{get_left}
 use Rattle.world.proofs.Steps.{IsStep}
 use Rattle.world.proofs.Weights.{AreSent}
 use Rattle.frames.specs.Body.{Body}

@@ -6,17 +6,17 @@ use Rattle.node_names.specs.NodeName.{Name}
 use Rattle.node_names.specs.Limits.{Limits}
 use Rattle.node_names.specs.declared.dice.Dice.{Dice}
 use Rattle.node_names.specs.declared.ids.Origin.{Origin}
+use Rattle.protocol.specs.Laws.{Laws}
+use Rattle.protocol.specs.Stimulus.{Stimulus}
+use Rattle.protocol.specs.declared.stimulus.StimulusOf.TheVariants as stimulus
 use Rattle.world.specs.Entry.{Entry}
 use Rattle.world.specs.Event.{Event}
 use Rattle.world.specs.Group.{Group, node_of, origin_of, packets, put_node}
-use Rattle.world.specs.Laws.{Laws}
 use Rattle.world.specs.Links.{Runs}
 use Rattle.world.specs.Run.{Effect, Run, Starts}
-use Rattle.world.specs.Stimulus.{Stimulus}
 use Rattle.world.specs.declared.event.EventOf.TheVariants.{Start, Broadcast, Arrive, Lose, Again, Fire, Flush, Down, Shuffle, Join, Stop}
 use Rattle.world.specs.declared.node_state.NodeState.{NodeState}
 use Rattle.world.specs.declared.packet.Packet.{Packet}
-use Rattle.world.specs.declared.stimulus.StimulusOf.TheVariants as stimulus
 use Rattle.world.proofs.FindLemmas.{put_cases}
 use Rattle.world.proofs.Kept.{Keeps, each-append, each-at}
 use Rattle.world.proofs.Runs.{run_keeps}

@@ -7,7 +7,7 @@ use Rattle.std.proofs.lemmas.Bool.{false≢true}
 use Rattle.node_names.specs.Same.{same_id, same_id-Decides}
 use Rattle.node_names.specs.declared.ids.MsgId.{MsgId}
 use Rattle.node_names.specs.declared.ids.Origin.{Origin}
-use Rattle.world.specs.Delivery.{Delivery}
+use Rattle.protocol.specs.Delivery.{Delivery}
 use Rattle.world.specs.Entry.{Entry}
 use Rattle.world.specs.declared.packet.Packet.{Packet}
 use Rattle.at_rest.specs.Forest.{branches_at}

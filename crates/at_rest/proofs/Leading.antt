@@ -8,11 +8,11 @@ use Rattle.std.proofs.lemmas.List.Elements.{filter-append}
 use Rattle.node_names.specs.Same.{same_id, same_id-Decides}
 use Rattle.node_names.specs.declared.ids.MsgId.{MsgId}
 use Rattle.node_names.specs.declared.ids.Origin.{Origin}
-use Rattle.world.specs.Delivery.{Delivery}
+use Rattle.protocol.specs.Delivery.{Delivery}
+use Rattle.protocol.specs.Lists.{IsOneOf}
 use Rattle.world.specs.Entry.{Entry}
 use Rattle.world.specs.Event.{Event}
 use Rattle.world.specs.History.{Delivered, HasDelivery, deliveries}
-use Rattle.world.specs.Lists.{IsOneOf}
 use Rattle.world.specs.Parents.{HasParent, HaveParents}
 use Rattle.world.specs.Rest.{GaveFrom, IsParent}
 use Rattle.world.specs.declared.event.EventOf.TheVariants.{Start, Broadcast, Arrive, Lose, Again, Fire, Flush, Down, Shuffle, Join, Stop}

@@ -17,10 +17,10 @@ use Rattle.std.proofs.lemmas.Map.Views.{any-filter_same}
 use Rattle.node_names.specs.NodeName.{Name}
 use Rattle.node_names.specs.Order.{name_cmp}
 use Rattle.node_names.specs.Same.{has_name, same_name, same_name-Decides}
-use Rattle.world.specs.CoreState.{CoreState}
+use Rattle.protocol.specs.CoreState.{CoreState}
+use Rattle.protocol.specs.Lists.{IsOneOf}
 use Rattle.world.specs.Group.{Group, core_of}
 use Rattle.world.specs.Links.{IsRunning}
-use Rattle.world.specs.Lists.{IsOneOf}
 use Rattle.world.specs.declared.node_state.NodeState.{NodeState}
 use Rattle.at_rest.specs.Linking.{all_new_links, has_link, is_new, new_links, runs}
 use Rattle.at_rest.specs.Reach.{AreByDistance, AreInReach, IsDistance, IsNearer}

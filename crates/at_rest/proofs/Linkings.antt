@@ -6,10 +6,10 @@ use Rattle.std.specs.Prelude.{◌↔◌, Option, Some, None}
 use Rattle.std.proofs.lemmas.Bool.{false≢true}
 use Rattle.node_names.specs.NodeName.{Name}
 use Rattle.node_names.specs.Same.{has_name, same_name, same_name-Decides}
-use Rattle.world.specs.CoreState.{CoreState}
+use Rattle.protocol.specs.CoreState.{CoreState}
+use Rattle.protocol.specs.Lists.{IsOneOf}
 use Rattle.world.specs.Group.{Group, core_of}
 use Rattle.world.specs.Links.{IsSymmetric, Linked, Runs}
-use Rattle.world.specs.Lists.{IsOneOf}
 use Rattle.world.specs.declared.node_state.NodeState.{NodeState}
 use Rattle.at_rest.specs.Linking.{all_link_back, has_link, links_back}
 use Rattle.at_rest.proofs.Lists.{all_pass, any_passes, each_of_one, each_one, each_passes, one_passes}

@@ -3,7 +3,7 @@ use Rattle.std.proofs.Common.{◌≡◌, ◌∙◌, List, [], ◌∷◌, true, f
 use Rattle.std.specs.List.{AllByRecursion as Each, list_all, list_any}
 use Rattle.std.specs.Prelude.{◌&&◌, ◌||◌, Bool, not}
 use Rattle.std.proofs.lemmas.Bool.{false≢true}
-use Rattle.world.specs.Lists.{IsOneOf}
+use Rattle.protocol.specs.Lists.{IsOneOf}
 
 -- a test that cannot hold fails
 pub fails : (b : Bool) → (b ≡ true → ⊥) → b ≡ false

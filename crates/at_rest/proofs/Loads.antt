@@ -9,15 +9,15 @@ use Rattle.node_names.specs.NodeName.{Name}
 use Rattle.node_names.specs.Limits.{Limits}
 use Rattle.node_names.specs.Same.{has_name, same_name, same_name-Decides}
 use Rattle.node_names.specs.declared.ids.MsgId.{MsgId}
-use Rattle.world.specs.CoreState.{CoreState}
-use Rattle.world.specs.Delivery.{Delivery}
-use Rattle.world.specs.DeliveryLaw.{ids}
+use Rattle.protocol.specs.CoreState.{CoreState}
+use Rattle.protocol.specs.Delivery.{Delivery}
+use Rattle.protocol.specs.DeliveryLaw.{ids}
+use Rattle.protocol.specs.Laws.{Laws}
+use Rattle.protocol.specs.Lists.{IsOneOf}
+use Rattle.protocol.specs.Stimulus.{Stimulus}
 use Rattle.world.specs.Entry.{Entry}
 use Rattle.world.specs.Group.{Group, core_in, core_of, node_of, origin_of, packets, put_node}
-use Rattle.world.specs.Laws.{Laws}
 use Rattle.world.specs.Links.{IsSymmetric, Runs}
-use Rattle.world.specs.Lists.{IsOneOf}
-use Rattle.world.specs.Stimulus.{Stimulus}
 use Rattle.world.specs.declared.node_state.NodeState.{NodeState}
 use Rattle.world.proofs.FindLemmas.{found_name, name_is, put_other, put_same, tells_apart}
 use Rattle.world.proofs.Steps.{IsStep}

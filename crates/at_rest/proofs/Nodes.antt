@@ -3,9 +3,9 @@ use Rattle.std.proofs.Common.{◌≡◌, ◌∙◌, List, [], ◌∷◌, true, f
 use Rattle.std.specs.Prelude.{Bool, Option, Some, None, cond}
 use Rattle.node_names.specs.NodeName.{Name}
 use Rattle.node_names.specs.Same.{same_name, same_name-Decides}
+use Rattle.protocol.specs.Lists.{IsOneOf}
 use Rattle.world.specs.Group.{Group, core_in, core_of, node_of}
 use Rattle.world.specs.Links.{Runs}
-use Rattle.world.specs.Lists.{IsOneOf}
 use Rattle.world.specs.declared.node_state.NodeState.{NodeState}
 
 -- a node that is found is one of the list, under its name

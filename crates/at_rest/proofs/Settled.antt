@@ -9,20 +9,20 @@ use Rattle.node_names.specs.Limits.{Limits}
 use Rattle.node_names.specs.Same.{has_id, has_name, same_id-Decides}
 use Rattle.node_names.specs.declared.dice.Dice.{Dice}
 use Rattle.node_names.specs.declared.ids.MsgId.{MsgId}
-use Rattle.world.specs.Delivery.{Delivery}
-use Rattle.world.specs.DeliveryLaw.{ids}
+use Rattle.protocol.specs.Delivery.{Delivery}
+use Rattle.protocol.specs.DeliveryLaw.{ids}
+use Rattle.protocol.specs.Laws.{Laws}
+use Rattle.protocol.specs.Lists.{IsOneOf}
+use Rattle.protocol.specs.declared.stimulus.StimulusOf.TheVariants as stimulus
 use Rattle.world.specs.Entry.{Entry}
 use Rattle.world.specs.Event.{Event}
 use Rattle.world.specs.Group.{Group, core_in, core_of}
 use Rattle.world.specs.History.{Said, Says}
-use Rattle.world.specs.Laws.{Laws}
 use Rattle.world.specs.Links.{IsRunning}
-use Rattle.world.specs.Lists.{IsOneOf}
 use Rattle.world.specs.Run.{Acts, Arrives, Effect, Run}
 use Rattle.world.specs.declared.event.EventOf.TheVariants.{Start, Broadcast, Arrive, Lose, Again, Fire, Flush, Down, Shuffle, Join, Stop}
 use Rattle.world.specs.declared.node_state.NodeState.{NodeState}
 use Rattle.world.specs.declared.packet.Packet.{Packet}
-use Rattle.world.specs.declared.stimulus.StimulusOf.TheVariants as stimulus
 use Rattle.world.proofs.Kept.{Keeps, each-at}
 use Rattle.world.proofs.Runs.{run_keeps}
 use Rattle.world.proofs.Steps.{arrive_step, fire_step, flush_step}

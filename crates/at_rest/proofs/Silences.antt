@@ -7,13 +7,13 @@ use Rattle.std.proofs.lemmas.Bool.{false≢true}
 use Rattle.node_names.specs.NodeName.{Name}
 use Rattle.node_names.specs.Same.{has_id, same_id, same_id-Decides}
 use Rattle.node_names.specs.declared.ids.MsgId.{MsgId}
-use Rattle.world.specs.Content.{Content}
-use Rattle.world.specs.CoreState.{CoreState}
+use Rattle.protocol.specs.Content.{Content}
+use Rattle.protocol.specs.CoreState.{CoreState}
+use Rattle.protocol.specs.Lists.{IsOneOf}
+use Rattle.protocol.specs.SpreadLaw.{is_carried}
 use Rattle.world.specs.Group.{Group, core_of}
 use Rattle.world.specs.Links.{Runs}
-use Rattle.world.specs.Lists.{IsOneOf}
 use Rattle.world.specs.Rest.{IsAtRest, IsQuiet, IsSilentOn}
-use Rattle.world.specs.SpreadLaw.{is_carried}
 use Rattle.world.specs.declared.node_state.NodeState.{NodeState}
 use Rattle.world.specs.declared.packet.Packet.{Packet}
 use Rattle.at_rest.specs.Silence.{are_quiet, is_announced, is_asked, is_queued, is_quiet, is_quiet_at, is_silent, is_silent_at, is_silent_flight}

@@ -7,11 +7,11 @@ use Rattle.std.proofs.lemmas.List.{reverse-append}
 use Rattle.node_names.specs.NodeName.{Name}
 use Rattle.node_names.specs.Same.{same_name, same_name-Decides}
 use Rattle.node_names.specs.declared.ids.MsgId.{MsgId}
-use Rattle.world.specs.Delivery.{Delivery}
+use Rattle.protocol.specs.Delivery.{Delivery}
+use Rattle.protocol.specs.Laws.{Laws}
 use Rattle.world.specs.Event.{Event}
 use Rattle.world.specs.Group.{Group, Logged, node_of, put_node}
 use Rattle.world.specs.Honest.{Honest}
-use Rattle.world.specs.Laws.{Laws}
 use Rattle.world.specs.Plan.{names_of}
 use Rattle.world.specs.Refusals.{sent_under}
 use Rattle.world.specs.Rest.{SaidAndCalm, IsCalm as IsCalmEvent}

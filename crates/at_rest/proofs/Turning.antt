@@ -7,7 +7,7 @@ use Rattle.node_names.specs.Same.{has_id, same_name}
 use Rattle.node_names.specs.declared.dice.Dice.{Dice}
 use Rattle.node_names.specs.declared.ids.MsgId.{MsgId}
 use Rattle.node_names.specs.declared.ids.Origin.{Origin}
-use Rattle.world.specs.declared.stimulus.StimulusOf.TheVariants as stimulus
+use Rattle.protocol.specs.declared.stimulus.StimulusOf.TheVariants as stimulus
 use Rattle.frames.specs.Body.{Body}
 use Rattle.frames.specs.Content.{body_content}
 use Rattle.frames.specs.Frame.{Frame, has_good_counts}

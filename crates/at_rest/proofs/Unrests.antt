@@ -7,11 +7,11 @@ use Rattle.std.proofs.lemmas.List.Folds.{list_any-append}
 use Rattle.node_names.specs.NodeName.{Name}
 use Rattle.node_names.specs.Same.{has_id, same_id}
 use Rattle.node_names.specs.declared.ids.MsgId.{MsgId}
-use Rattle.world.specs.Content.{Content}
-use Rattle.world.specs.CoreState.{CoreState}
+use Rattle.protocol.specs.Content.{Content}
+use Rattle.protocol.specs.CoreState.{CoreState}
+use Rattle.protocol.specs.SpreadLaw.{is_carried}
 use Rattle.world.specs.Group.{Group, core_of}
 use Rattle.world.specs.Rest.{IsAtRest}
-use Rattle.world.specs.SpreadLaw.{is_carried}
 use Rattle.world.specs.declared.node_state.NodeState.{NodeState}
 use Rattle.world.specs.declared.packet.Packet.{Packet}
 use Rattle.at_rest.specs.Silence.{are_quiet, is_announced, is_asked, is_quiet, is_quiet_at, is_silent, is_silent_at, is_silent_flight}

@@ -3,8 +3,8 @@ use Rattle.std.specs.Prelude.{◌≡◌, ◌≢◌, ◌&&◌, ◌||◌, Bool, Op
 use Rattle.std.specs.List.{AllByRecursion as Each, list_all}
 use Rattle.std.specs.Option.{IfSome}
 use Rattle.node_names.specs.NodeName.{Name}
-use Rattle.world.specs.Content.{Content}
-use Rattle.world.specs.CoreState.{CoreState}
+use Rattle.protocol.specs.Content.{Content}
+use Rattle.protocol.specs.CoreState.{CoreState}
 use Rattle.world.specs.Group.{Group, core_of}
 use Rattle.world.specs.Links.{IsRunning, IsSymmetric}
 use Rattle.world.specs.declared.packet.Packet.{Packet}

@@ -3,7 +3,7 @@ use Rattle.std.specs.Prelude.{◌≡◌, ℕ, Bool, List, Option, Some, None, fa
 use Rattle.std.specs.BTreeSet.{BTreeSet, contains}
 use Rattle.std.specs.Ordering.{nat_cmp}
 use Rattle.node_names.specs.NodeName.{Name}
-use Rattle.world.specs.CoreState.{CoreState}
+use Rattle.protocol.specs.CoreState.{CoreState}
 use Rattle.world.specs.Group.{core_of}
 use Rattle.world.specs.Plan.{names_of}
 use Rattle.world.specs.declared.node_state.NodeState.{NodeState}

@@ -5,7 +5,7 @@ use Rattle.std.specs.declared.cmp.Ordering.TheVariants.{Less}
 use Rattle.node_names.specs.NodeName.{Name}
 use Rattle.node_names.specs.Order.{name_cmp}
 use Rattle.node_names.specs.Same.{has_name}
-use Rattle.world.specs.CoreState.{CoreState}
+use Rattle.protocol.specs.CoreState.{CoreState}
 use Rattle.world.specs.Group.{Group}
 use Rattle.world.specs.Links.{Path, Reaches}
 

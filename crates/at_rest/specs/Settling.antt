@@ -6,15 +6,15 @@ use Rattle.node_names.specs.Limits.{Limits}
 use Rattle.node_names.specs.declared.dice.Dice.{Dice}
 use Rattle.node_names.specs.declared.ids.MsgId.{MsgId}
 use Rattle.node_names.specs.declared.ids.Origin.{Origin}
-use Rattle.world.specs.CoreState.{CoreState}
-use Rattle.world.specs.Delivery.{Delivery}
+use Rattle.protocol.specs.CoreState.{CoreState}
+use Rattle.protocol.specs.Delivery.{Delivery}
+use Rattle.protocol.specs.Stimulus.{Stimulus}
 use Rattle.world.specs.Event.{Event}
 use Rattle.world.specs.Group.{Group, Logged, core_of}
 use Rattle.world.specs.History.{deliveries}
 use Rattle.world.specs.Links.{Reaches}
 use Rattle.world.specs.Rest.{AreFewSince, DeliveredAt, SaidAndCalm}
 use Rattle.world.specs.Run.{Applied}
-use Rattle.world.specs.Stimulus.{Stimulus}
 use Rattle.world.specs.declared.event.EventOf.TheVariants.{Start, Broadcast, Arrive, Lose, Again, Fire, Flush, Down, Shuffle, Join, Stop}
 use Rattle.world.specs.declared.node_state.NodeState.{NodeState}
 

@@ -4,8 +4,9 @@ ghost use Rattle.at_rest.specs.Calm.{IsCalm, all_fly_calm, flies_calm, is_calm_p
 
 use crate::links::is_symmetric;
 use node_names::NodeName;
+use protocol::{Core, Wire};
 use std::alloc::Allocator;
-use world::{Core, Packet, Wire, World};
+use world::{Packet, World};
 
 /// Whether only broadcasting is under way, and only between running nodes: no packet in flight is about membership,
 /// each goes to a running node, each request comes from a running node, links go both ways, and every active member of

@@ -8,10 +8,11 @@ use crate::branch::Branch;
 use crate::trees::parent_of;
 use indexmap::IndexMap;
 use node_names::{Listed, MsgId, Origin};
+use protocol::{Core, Delivery};
 use std::alloc::{AllocError, Allocator, Global};
 use std::hash::{BuildHasherDefault, FoldHasher};
 use std::marker::Model;
-use world::{Core, Delivery, Entry, Packet, World};
+use world::{Entry, Packet, World};
 
 /// The branches of each message.
 type Lists<A> = IndexMap<MsgId, Listed<Branch, A>, BuildHasherDefault<FoldHasher>, A>;

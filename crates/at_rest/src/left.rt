@@ -9,9 +9,10 @@ ghost use Rattle.at_rest.specs.Left.{AreLeft, is_left, is_left_at};
 ghost use Rattle.at_rest.specs.declared.left.Kind.TheVariants.{Announcements, Timers};
 
 use node_core::armed_at;
+use protocol::Core;
 use std::alloc::{AllocError, Allocator};
 use std::collections::BTreeSet;
-use world::{Core, World};
+use world::World;
 
 /// What may be left to do at a node.
 #[derive(Clone, Copy)]

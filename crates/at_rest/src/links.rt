@@ -5,8 +5,9 @@ ghost use Rattle.world.specs.Links.{IsSymmetric};
 ghost use Rattle.at_rest.specs.Linking.{all_link_back, has_link, links_back};
 
 use node_names::NodeName;
+use protocol::Core;
 use std::alloc::Allocator;
-use world::{Core, World};
+use world::World;
 
 /// Whether links go both ways: each active member of a running node runs, and has that node as an active member.
 pub fn is_symmetric<C: Core<A>, A: Allocator + Copy>(world: &World<C, A>) -> bool

@@ -11,8 +11,9 @@ ghost use Rattle.at_rest.specs.declared.left.Kind.TheVariants.{Announcements, Ti
 use crate::left::Left;
 use node_core::armed_at;
 use node_names::{Dice, NodeName};
+use protocol::Core;
 use std::alloc::Allocator;
-use world::{Core, Event, EventOf, World};
+use world::{Event, EventOf, World};
 
 /// An event, and the name of the node whose core it steps.
 #[derive(Drop)]

@@ -10,8 +10,9 @@ ghost use Rattle.at_rest.specs.Reach.{AreInReach};
 
 use indexmap::IndexSet;
 use node_names::{NameSet, NodeName};
+use protocol::Core;
 use std::alloc::{AllocError, Allocator};
-use world::{Core, World};
+use world::World;
 
 /// Returns the names that can be reached over links, by the length of the shortest path and then by name, with the name
 /// itself first.

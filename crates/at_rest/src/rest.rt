@@ -1,12 +1,13 @@
 //! Whether a group is at rest for a message.
 ghost use Rattle.std.specs.Prelude.{◌≡◌, ◌↔◌, ◌&&◌, IsTrue};
+ghost use Rattle.protocol.specs.SpreadLaw.{is_carried};
 ghost use Rattle.world.specs.Rest.{IsAtRest};
-ghost use Rattle.world.specs.SpreadLaw.{is_carried};
 ghost use Rattle.at_rest.specs.Silence.{are_quiet, is_announced, is_asked, is_queued, is_quiet, is_quiet_at, is_silent, is_silent_at, is_silent_flight};
 
 use node_names::{MsgId, NodeName};
+use protocol::{Core, Wire};
 use std::alloc::Allocator;
-use world::{Core, Packet, Wire, World};
+use world::{Packet, World};
 
 /// Whether the group is at rest for the message: no packet in flight carries it, announces it or asks for it, and no
 /// running node has an announcement of it queued or a timer for it.

@@ -6,8 +6,9 @@ ghost use Rattle.at_rest.specs.Tree.{LeadToOrigin, branches_from, branches_of, p
 
 use crate::branch::Branch;
 use node_names::{MsgId, Origin};
+use protocol::{Core, Delivery};
 use std::alloc::{AllocError, Allocator};
-use world::{Core, Delivery, Entry, EventOf, Packet, World};
+use world::{Entry, EventOf, Packet, World};
 
 /// Returns the deliveries of a message, in their order, each with the node that it came from.
 ///

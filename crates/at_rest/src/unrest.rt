@@ -10,10 +10,11 @@ ghost use Rattle.at_rest.specs.Unrest.{Adds, asked_ids, carried_ids, content_ids
 
 use indexmap::IndexSet;
 use node_names::{MsgId, NodeName};
+use protocol::{Core, Wire};
 use std::alloc::{AllocError, Allocator, Global};
 use std::hash::{BuildHasherDefault, FoldHasher};
 use std::marker::Model;
-use world::{Core, Packet, Wire, World};
+use world::{Packet, World};
 
 /// A set of ids.
 type Ids<A> = IndexSet<MsgId, BuildHasherDefault<FoldHasher>, A>;

@@ -14,10 +14,11 @@ use crate::simulated::started;
 use anyhow::Result;
 use bytes::Bytes;
 use node_names::Limits;
+use protocol::Core;
 use std::alloc::Global;
 use std::io::Print;
 use std::time::{Clock, Instant};
-use world::{Core, World};
+use world::World;
 
 /// How many nodes there are, in a ring.
 const NODES: usize = 64;

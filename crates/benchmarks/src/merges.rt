@@ -12,11 +12,12 @@ use crate::plumtree::Measured;
 use anyhow::Result;
 use frames::Frame;
 use node_names::Limits;
+use protocol::Trace;
 use std::alloc::Global;
 use std::io::Print;
 use std::time::{Clock, Instant};
 use trace_merge::merge;
-use world::{Trace, World};
+use world::World;
 
 /// The plan of what is merged when nothing is measured.
 const SMALL: Plan = Plan {

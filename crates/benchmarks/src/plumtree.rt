@@ -6,9 +6,10 @@ use frames::Frame;
 use node_core::PlumCore;
 use node_names::{Limits, NodeName, Origin};
 use node_threads::{Host, NodeCell, NodeCore, Outlet, Port};
+use protocol::{Core, Out, Trace};
 use std::alloc::Global;
 use trace_merge::project;
-use world::{Core, Out, Trace, World};
+use world::World;
 
 /// The name of the node that is measured alone.
 pub(crate) const ME: &str = "a";

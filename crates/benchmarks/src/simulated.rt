@@ -5,8 +5,9 @@ use crate::ring::peers_of;
 use anyhow::Result;
 use bytes::Bytes;
 use node_names::{Dice, Incarnation, Limits, Listed};
+use protocol::Core;
 use std::alloc::Global;
-use world::{Core, Event, EventOf, World, WorldError};
+use world::{Event, EventOf, World, WorldError};
 
 /// Plays an event, and returns how many messages were delivered.
 pub(crate) fn play<C: Core<Global>>(

@@ -3,9 +3,9 @@ use crate::cluster_node::ClusterNode;
 use crate::stepped_node::SteppedNode;
 use bytes::Bytes;
 use loop_ports::PortNode;
+use protocol::Delivery;
 use std::alloc::{AllocError, Allocator};
 use wire_node::{News, WireError};
-use world::Delivery;
 
 impl<N: SteppedNode<A>, A: Allocator + Copy> PortNode<A> for ClusterNode<N, A> {
     fn broadcast(&mut self, payload: &Bytes<A>) -> Result<(), WireError> {

@@ -1,9 +1,9 @@
 //! What a node notes of its steps.
 use crate::cluster_node::ClusterNode;
 use frames::Frame;
+use protocol::{Segment, Step, Stimulus};
 use std::alloc::Allocator;
 use std::mem;
-use world::{Segment, Step, Stimulus};
 
 /// How much a node did since it started.
 #[derive(Clone, Copy, Debug, PartialEq, Eq)]

@@ -3,9 +3,9 @@ use event_loop::LoopNode;
 use frames::Frame;
 use loop_ports::PortNode;
 use node_core::PlumCore;
+use protocol::Segment;
 use std::alloc::Allocator;
 use wire_node::{Recorded, WireNode};
-use world::Segment;
 
 /// A node that an event loop runs, and that keeps its steps until they are taken.
 ///

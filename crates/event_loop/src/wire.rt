@@ -2,11 +2,11 @@
 use crate::link_error::LinkError;
 use crate::loop_node::LoopNode;
 use node_names::{Dice, NodeName};
+use protocol::Core;
 use rand_core::Rng;
 use std::alloc::{AllocError, Allocator};
 use std::net::SocketAddr;
 use wire_node::{ConnectionId, DiceSource, ReceiveError, Record, WireError, WireNode};
-use world::Core;
 
 /// Draws the dice of frames from a generator.
 #[derive(Drop)]

@@ -14,13 +14,13 @@ use node_threads::{
     Dialler, Handed, Host, NodeCore, OpenGate, Outlet, Port, Ticker, hand_out, read_link, tick,
     write_link,
 };
+use protocol::{Core, Delivery, Out, are_peers};
 use std::alloc::Global;
 use std::net::{Net, SocketAddr, TcpListener, TcpStream};
 use std::sync::Wait;
 use std::thread::Threads;
 use std::time::{Clock, Duration};
 use std::{env, thread};
-use world::{Core, Delivery, Out, are_peers};
 
 /// A node's name, and where it takes connections.
 type Place = (NodeName, SocketAddr);

@@ -9,12 +9,12 @@ use Rattle.node_names.specs.Limits.{Limits}
 use Rattle.node_names.specs.Same.{same_name, same_origin, same_id, has_name, is_left_out}
 use Rattle.node_names.specs.declared.ids.MsgId.{MsgId}
 use Rattle.node_names.specs.declared.ids.Origin.{Origin}
-use Rattle.world.specs.Content.{Content}
-use Rattle.world.specs.CoreState.{CoreState}
-use Rattle.world.specs.Delivery.{Delivery}
-use Rattle.world.specs.Stimulus.{Stimulus}
-use Rattle.world.specs.declared.TheConstants.{MAX_PAYLOAD}
-use Rattle.world.specs.declared.stimulus.StimulusOf.TheVariants.{Broadcast, Arrive, Fire, Flush, Down, Shuffle, Join}
+use Rattle.protocol.specs.Content.{Content}
+use Rattle.protocol.specs.CoreState.{CoreState}
+use Rattle.protocol.specs.Delivery.{Delivery}
+use Rattle.protocol.specs.Stimulus.{Stimulus}
+use Rattle.protocol.specs.declared.TheConstants.{MAX_PAYLOAD}
+use Rattle.protocol.specs.declared.stimulus.StimulusOf.TheVariants.{Broadcast, Arrive, Fire, Flush, Down, Shuffle, Join}
 
 -- A message, which is what a packet of the flooding core is.
 pub record Message : Type 0 where

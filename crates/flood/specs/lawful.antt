@@ -1,6 +1,5 @@
+pub mod Counted
 pub mod FloodDelivers
 pub mod FloodLaws
-pub mod NameLists
 pub mod FloodSpread
 pub mod FloodTakes
-pub mod Held

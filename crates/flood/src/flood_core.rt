@@ -3,18 +3,14 @@ ghost use Rattle.std.specs.Prelude.{◌≡◌, ◌↔◌, ◌<◌, ◌≤◌, �
 ghost use Rattle.std.specs.Map.{lookup};
 ghost use Rattle.indexmap.specs.IndexMap.{spare};
 ghost use Rattle.node_names.specs.Same.{same_id};
-ghost use Rattle.world.specs.Output.{Stepped};
-ghost use Rattle.world.specs.FloodCore.{FloodSteps, flood_after, is_news, note_to, others, with_news};
+ghost use Rattle.protocol.specs.Output.{Stepped};
+ghost use Rattle.flood.specs.FloodCore.{FloodSteps, flood_after, is_news, note_to, others, with_news};
 
-use crate::MAX_PAYLOAD;
-use crate::delivery::Delivery;
 use crate::flood_note::FloodNote;
-use crate::out::Out;
-use crate::protocol::{Core, CoreError, Prepared};
-use crate::stimulus::{StimulusOf, StimulusRef};
 use bytes::Bytes;
 use indexmap::{IndexMap, IndexSet};
 use node_names::{Limits, MsgId, NameSet, NodeName, Origin, has_name, is_left_out, set_of};
+use protocol::{Core, CoreError, Delivery, MAX_PAYLOAD, Out, Prepared, StimulusOf, StimulusRef};
 use std::alloc::{AllocError, Allocator, Global};
 use std::hash::{BuildHasherDefault, FoldHasher};
 use std::marker::Model;
@@ -37,7 +33,7 @@ pub struct FloodCore<A: Allocator = Global> {
 
 impl<A: Allocator> Model for FloodCore<A> {
     ghost use Rattle.std.specs.Prelude.{◌≡◌, []};
-    ghost use Rattle.world.specs.FloodCore.{Flooding, HoldsCounted};
+    ghost use Rattle.flood.specs.FloodCore.{Flooding, HoldsCounted};
 
     ghost Value = { Flooding };
 
@@ -227,9 +223,9 @@ impl<A: Allocator + Copy> FloodCore<A> {
 }
 
 impl<A: Allocator + Copy> Core<A> for FloodCore<A> {
-    ghost use Rattle.world.specs.FloodCore.{flood_after, flood_state, FloodStarts, FloodSteps, FloodIsSpent, IsFloodTurn, IsSoundFlooding};
-    ghost use Rattle.world.specs.lawful.FloodDelivers.{flood_delivers_one};
-    ghost use Rattle.world.specs.lawful.FloodLaws.{flood_lawful};
+    ghost use Rattle.flood.specs.FloodCore.{flood_after, flood_state, FloodStarts, FloodSteps, FloodIsSpent, IsFloodTurn, IsSoundFlooding};
+    ghost use Rattle.flood.specs.lawful.FloodDelivers.{flood_delivers_one};
+    ghost use Rattle.flood.specs.lawful.FloodLaws.{flood_lawful};
 
     type Note = FloodNote<A>;
 

@@ -1,9 +1,9 @@
 //! The packet of the flooding core.
 ghost use Rattle.std.specs.Prelude.{◌≡◌};
 
-use crate::wire::Wire;
 use bytes::Bytes;
 use node_names::MsgId;
+use protocol::Wire;
 use std::alloc::{AllocError, Allocator, Global};
 use std::marker::Model;
 
@@ -18,7 +18,7 @@ pub struct FloodNote<A: Allocator = Global> {
 
 impl<A: Allocator> Model for FloodNote<A> {
     ghost use Rattle.std.specs.Prelude.{refl};
-    ghost use Rattle.world.specs.FloodCore.{Message};
+    ghost use Rattle.flood.specs.FloodCore.{Message};
 
     ghost Value = { Message };
 
@@ -30,7 +30,7 @@ impl<A: Allocator> Model for FloodNote<A> {
 }
 
 impl<A: Allocator> Wire<A> for FloodNote<A> {
-    ghost use Rattle.world.specs.FloodCore.{note_content};
+    ghost use Rattle.flood.specs.FloodCore.{note_content};
 
     ghost content = { note_content };
 

@@ -6,7 +6,7 @@ use Rattle.std.specs.List.{list_all}
 use Rattle.std.proofs.lemmas.Bool.{cases_lt}
 use Rattle.std.proofs.lemmas.List.{length-drop}
 use Rattle.node_names.specs.NodeName.{is_name_byte}
-use Rattle.world.specs.declared.TheConstants.{MAX_PAYLOAD}
+use Rattle.protocol.specs.declared.TheConstants.{MAX_PAYLOAD}
 use Rattle.frames.specs.declared.TheConstants.{MAX_BODY, MAX_NAMES, MAX_ANNOUNCEMENTS}
 use Rattle.frames.specs.declared.body.BodyOf.TheVariants as body
 use Rattle.frames.specs.declared.fault.FrameFault.{FrameFault}

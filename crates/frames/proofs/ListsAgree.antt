@@ -7,7 +7,7 @@ use Rattle.std.proofs.lemmas.Bool.Decides.{nat_tests}
 use Rattle.std.proofs.lemmas.List.Concat.{flat_map-cons}
 use Rattle.node_names.specs.NodeName.{Name, IsNodeName}
 use Rattle.node_names.specs.declared.ids.MsgId.{MsgId}
-use Rattle.world.specs.declared.TheConstants.{MAX_PAYLOAD}
+use Rattle.protocol.specs.declared.TheConstants.{MAX_PAYLOAD}
 use Rattle.frames.specs.declared.TheConstants.{MAX_NAMES, MAX_ANNOUNCEMENTS}
 use Rattle.frames.specs.declared.fault.FrameFault.TheVariants.{BadField, BadCount}
 use Rattle.frames.specs.Field.{name_octets, announcement_octets, IsAnnouncement, octets, Holds}

@@ -1,7 +1,7 @@
 -- The content of a frame, in terms that do not depend on the frame format: the content of a packet.
 use Rattle.std.specs.Prelude.{ℕ, true, false, List, [], Option, Some, None}
 use Rattle.node_names.specs.declared.ids.MsgId.{MsgId}
-use Rattle.world.specs.Content.{Content}
+use Rattle.protocol.specs.Content.{Content}
 use Rattle.frames.specs.declared.body.BodyOf.TheVariants.{Join, ForwardJoin, Neighbor, NeighborReply, Disconnect, Shuffle, ShuffleReply, Gossip, IHave, Graft, Prune, GraftPeer}
 use Rattle.frames.specs.Body.{Body}
 use Rattle.frames.specs.Frame.{Frame}

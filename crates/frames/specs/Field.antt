@@ -5,7 +5,7 @@ use Rattle.std.specs.Int.{w16, w32, w64, to_be_bytes}
 use Rattle.node_names.specs.NodeName.{Name, IsNodeName}
 use Rattle.node_names.specs.declared.ids.Origin.{Origin}
 use Rattle.node_names.specs.declared.ids.MsgId.{MsgId}
-use Rattle.world.specs.declared.TheConstants.{MAX_PAYLOAD}
+use Rattle.protocol.specs.declared.TheConstants.{MAX_PAYLOAD}
 use Rattle.frames.specs.declared.TheConstants.{MAX_NAMES, MAX_ANNOUNCEMENTS}
 
 -- A field with its value.

@@ -3,7 +3,7 @@ use Rattle.std.specs.Prelude.{ℕ, ◌<◌, Bool, true, IsTrue, ◌&&◌, List, 
 use Rattle.std.specs.List.{list_all}
 use Rattle.node_names.specs.declared.ids.Origin.{Origin}
 use Rattle.node_names.specs.declared.ids.MsgId.{MsgId}
-use Rattle.world.specs.declared.TheConstants.{MAX_PAYLOAD}
+use Rattle.protocol.specs.declared.TheConstants.{MAX_PAYLOAD}
 use Rattle.frames.specs.declared.TheConstants.{MAX_NAMES, MAX_ANNOUNCEMENTS}
 use Rattle.frames.specs.declared.body.BodyOf.TheVariants.{Join, ForwardJoin, Neighbor, NeighborReply, Disconnect, Shuffle, ShuffleReply, Gossip, IHave, Graft, Prune, GraftPeer}
 use Rattle.frames.specs.declared.fault.FrameFault.{FrameFault}

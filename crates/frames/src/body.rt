@@ -5,8 +5,8 @@ ghost use Rattle.frames.specs.Frame.{are_numbered, has_good_fields, has_good_cou
 use crate::{MAX_ANNOUNCEMENTS, MAX_NAMES};
 use bytes::Bytes;
 use node_names::{Listed, MsgId, NodeName};
+use protocol::MAX_PAYLOAD;
 use std::alloc::{AllocError, Allocator, Global};
-use world::MAX_PAYLOAD;
 
 /// A body whose payload and lists are in the memory of the allocator `A`.
 pub type Body<A = Global> = BodyOf<Bytes<A>, Listed<NodeName, A>, Listed<(MsgId, u32), A>>;

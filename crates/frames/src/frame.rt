@@ -6,9 +6,9 @@ use crate::body::{Body, BodyOf, copy_body, has_good_counts, has_good_fields};
 use crate::fault::FrameFault;
 use bytes::Bytes;
 use node_names::{MsgId, Origin};
+use protocol::Wire;
 use std::alloc::{AllocError, Allocator, Global};
 use std::marker::Model;
-use world::Wire;
 
 /// A frame whose parts are within their limits.
 #[derive_where(Debug, PartialEq)]

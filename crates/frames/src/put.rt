@@ -2,7 +2,7 @@
 ghost use Rattle.std.specs.Prelude.{◌≡◌, ◌<◌, ◌≤◌, ◌++◌, length, IsTrue, OnOk};
 ghost use Rattle.std.specs.List.{flat_map, AllByRecursion};
 ghost use Rattle.node_names.specs.NodeName.{IsNodeName};
-ghost use Rattle.world.specs.declared.TheConstants.{MAX_PAYLOAD};
+ghost use Rattle.protocol.specs.declared.TheConstants.{MAX_PAYLOAD};
 ghost use Rattle.frames.specs.Field.{name_octets, announcement_octets, IsAnnouncement};
 ghost use Rattle.frames.specs.Field.Field.{byte as byte_field, flag as flag_field, round as round_field, number as number_field, name as name_field, origin as origin_field, id as id_field, names as names_field, payload as payload_field, announcements as announcements_field};
 ghost use Rattle.frames.specs.Frame.{are_numbered};

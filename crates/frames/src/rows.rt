@@ -12,8 +12,8 @@ use crate::list::list;
 use crate::{MAX_ANNOUNCEMENTS, MAX_NAMES};
 use bytes::Bytes;
 use node_names::{Listed, MsgId, NodeName};
+use protocol::MAX_PAYLOAD;
 use std::alloc::Allocator;
-use world::MAX_PAYLOAD;
 
 #[tactic(auto, unfolding(crate::specs::Reading::names, crate::specs::Reading::alone))]
 fn names<A: Allocator>(alloc: A, fields: &mut Fields<'_>) -> Result<Listed<NodeName, A>, FrameFault>

@@ -2,9 +2,9 @@
 use bytes::Bytes;
 use frames::Frame;
 use node_names::{Dice, Incarnation, Limits, MsgId, NodeName, Origin};
+use protocol::{Delivery, Segment};
 use std::alloc::{AllocError, Global};
 use wire_node::{ConnectionId, ReceiveError, Recorded, WireError, WireLimits, WireNode};
-use world::{Delivery, Segment};
 
 /// A node of bytes that notes its steps. Each call does what the one of the same name of a `WireNode` does, with dice
 /// of zeros.

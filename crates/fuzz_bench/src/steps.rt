@@ -2,8 +2,8 @@
 use crate::text::push_frame;
 use anyhow::Result;
 use frames::{Frame, encode};
+use protocol::{Step, StimulusOf};
 use std::alloc::{AllocError, Global};
-use world::{Step, StimulusOf};
 
 /// Appends a frame that arrived.
 fn push_arrival(alloc: Global, text: &mut String, frame: &Frame) -> Result<(), AllocError> {

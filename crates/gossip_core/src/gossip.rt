@@ -24,9 +24,9 @@ use message_store::MessageStore;
 use missing::Missing;
 use node_names::{MsgId, NodeName, Origin};
 use peer_sets::{PeerKind, PeerSets};
+use protocol::MAX_PAYLOAD;
 use std::alloc::{AllocError, Allocator, Global};
 use std::marker::Model;
-use world::MAX_PAYLOAD;
 
 /// The gossip of one run of one node: which messages it has, to whom it sends them, and how it repairs what it lacks.
 ///

@@ -2,9 +2,9 @@
 use anyhow::Result;
 use bytes::Bytes;
 use event_loop::{Next, Program, Situation};
+use protocol::{Core, Delivery};
 use std::io::Print;
 use wire_node::WireNode;
-use world::{Core, Delivery};
 
 /// Greets the group once it is not alone in it, and prints the greetings.
 #[derive(Drop)]

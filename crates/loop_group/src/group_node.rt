@@ -3,9 +3,9 @@ use bytes::Bytes;
 use event_loop::LoopNode;
 use frames::Frame;
 use node_names::{Limits, MsgId, NodeName, Origin};
+use protocol::{Delivery, Trace};
 use std::alloc::{AllocError, Global};
 use wire_node::WireError;
-use world::{Delivery, Trace};
 
 /// A node of a group that one event loop runs: a `WireNode`, which records its steps or not. Each call does what the one of the
 /// same name of a `WireNode` does.

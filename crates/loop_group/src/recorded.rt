@@ -5,12 +5,12 @@ use bytes::Bytes;
 use frames::Frame;
 use loopback::{Member, Plan, RunError, RunReport, Watch};
 use node_names::{Limits, Listed, MsgId, NodeName, Origin};
+use protocol::{Delivery, Segment, Trace};
 use std::alloc::{AllocError, Global};
 use std::net::Net;
 use std::sync::Wait;
 use std::time::Clock;
 use wire_node::{Recorded, WireError, WireLimits, WireNode};
-use world::{Delivery, Segment, Trace};
 
 /// Appends the steps of a segment to a trace.
 fn append(trace: &mut Trace<Frame>, segment: Segment<Frame>) -> Result<(), AllocError> {

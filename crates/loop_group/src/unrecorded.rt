@@ -5,12 +5,12 @@ use bytes::Bytes;
 use frames::Frame;
 use loopback::{Member, Plan, RunError, RunReport, Watch};
 use node_names::{Limits, MsgId, NodeName, Origin};
+use protocol::{Delivery, Trace};
 use std::alloc::{AllocError, Global};
 use std::net::Net;
 use std::sync::Wait;
 use std::time::Clock;
 use wire_node::{Unrecorded, WireError, WireLimits, WireNode};
-use world::{Delivery, Trace};
 
 impl GroupNode for WireNode {
     fn start(

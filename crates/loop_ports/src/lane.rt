@@ -3,11 +3,11 @@ use crate::news_lane::NewsLane;
 use crate::port_node::PortNode;
 use bytes::Bytes;
 use event_loop::Next;
+use protocol::Delivery;
 use rtrb::{Consumer, Producer, PushError};
 use std::alloc::Allocator;
 use std::vec::IntoIter;
 use wire_node::WireError;
-use world::Delivery;
 
 /// How many messages a turn broadcasts at most: the more these are, the longer each waits on its way for those that were
 /// broadcast with it.

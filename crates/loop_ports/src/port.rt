@@ -1,15 +1,15 @@
 //! The end of a node for another thread.
 ghost use Rattle.std.specs.Prelude.{◌≡◌, ◌<◌, ◌≤◌, ◌∷◌, ◌++◌, [], length, IfErr, IfNone, IfSome, OnOk};
 ghost use Rattle.rtrb.specs.Ring.{received, sent};
-ghost use Rattle.world.specs.declared.TheConstants.{MAX_PAYLOAD};
+ghost use Rattle.protocol.specs.declared.TheConstants.{MAX_PAYLOAD};
 
 use crate::error::{PortError, PortFault};
 use crate::receiver::PortReceiver;
 use crate::sender::PortSender;
 use bytes::Bytes;
+use protocol::Delivery;
 use std::alloc::{Allocator, Global};
 use wire_node::News;
-use world::Delivery;
 
 /// The end of a node for another thread. No call waits.
 ///

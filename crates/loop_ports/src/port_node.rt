@@ -1,8 +1,8 @@
 //! A node that other threads use.
 use bytes::Bytes;
+use protocol::Delivery;
 use std::alloc::{AllocError, Allocator};
 use wire_node::{News, WireError};
-use world::Delivery;
 
 /// A node that other threads use. Each call does what the one of the same name of a `WireNode` does.
 ///

@@ -3,10 +3,10 @@ ghost use Rattle.std.specs.Prelude.{◌≡◌, ◌∷◌, ◌++◌, [], IfNone, 
 ghost use Rattle.rtrb.specs.Ring.{received};
 
 use mio::Waker;
+use protocol::Delivery;
 use rtrb::Consumer;
 use std::alloc::{Allocator, Global};
 use wire_node::News;
-use world::Delivery;
 
 /// The end of a port that takes what its node delivers, and its news. No call waits.
 #[derive(Drop)]

@@ -1,14 +1,14 @@
 //! The end of a port that broadcasts.
 ghost use Rattle.std.specs.Prelude.{◌≡◌, ◌<◌, ◌≤◌, ◌∷◌, ◌++◌, [], length, IfErr, OnOk};
 ghost use Rattle.rtrb.specs.Ring.{sent};
-ghost use Rattle.world.specs.declared.TheConstants.{MAX_PAYLOAD};
+ghost use Rattle.protocol.specs.declared.TheConstants.{MAX_PAYLOAD};
 
 use crate::error::{PortError, PortFault};
 use bytes::Bytes;
 use mio::Waker;
+use protocol::MAX_PAYLOAD;
 use rtrb::{Producer, PushError};
 use std::alloc::{Allocator, Global};
-use world::MAX_PAYLOAD;
 
 /// The end of a port that broadcasts. No call waits.
 ///

@@ -1,9 +1,9 @@
 //! A node of bytes with ports.
 use crate::port_node::PortNode;
 use bytes::Bytes;
+use protocol::Delivery;
 use std::alloc::{AllocError, Allocator};
 use wire_node::{News, Record, WireError, WireNode};
-use world::Delivery;
 
 impl<A: Allocator + Copy, R: Record<A> + Drop> PortNode<A> for WireNode<A, R> {
     fn broadcast(&mut self, payload: &Bytes<A>) -> Result<(), WireError> {

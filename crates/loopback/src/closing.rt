@@ -12,12 +12,12 @@ use frames::Frame;
 use node_names::NodeName;
 use node_threads::NodeCore;
 use plumtree_node::{Past, Shortage, StopError, keep};
+use protocol::{Delivery, Trace};
 use std::alloc::{AllocError, Global};
 use std::net::{Net, TcpListener, TcpStream};
 use std::sync::Wait;
 use std::thread::Threads;
 use std::time::{Clock, Duration};
-use world::{Delivery, Trace};
 
 /// What the nodes of a group leave, in the order of the members.
 #[derive(Drop)]

@@ -1,11 +1,11 @@
 //! What the nodes of a group handed out.
 use crate::since::since;
 use node_threads::Handed;
+use protocol::Delivery;
 use std::alloc::{AllocError, Global};
 use std::mem;
 use std::sync::{Arc, Mutex, Wait};
 use std::time::{Clock, Duration, Instant};
-use world::Delivery;
 
 /// Deliveries, and when each was handed out, since the run began.
 #[derive(Drop)]

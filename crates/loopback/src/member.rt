@@ -1,10 +1,10 @@
 //! A node that is to run, and where it is reached.
 ghost use Rattle.std.specs.Prelude.{◌≡◌};
-ghost use Rattle.world.specs.Peers.{are_peers};
+ghost use Rattle.protocol.specs.Peers.{are_peers};
 
 use bytes::Bytes;
 use node_names::{Limits, NodeName, Origin};
-use world::are_peers;
+use protocol::are_peers;
 
 /// A node that is to run.
 #[derive(Drop)]

@@ -10,13 +10,13 @@ use crate::sink::DeliverySink;
 use crate::source::Source;
 use frames::Frame;
 use node_core::PlumCore;
+use protocol::Core;
 use run_check::RunCheck;
 use std::alloc::Global;
 use std::fs::File;
 use std::io::Write;
 use std::rt::Files;
 use trace_merge::MergeFault;
-use world::Core;
 
 /// Whether the run at this index is over.
 fn is_over(runs: &[Run], at: usize) -> bool {

@@ -4,13 +4,13 @@ use crate::folder::unread;
 use crate::record_files::RecordFiles;
 use crate::source::Source;
 use frames::Frame;
+use protocol::Stimulus;
 use record_merge::ReplayError;
 use std::alloc::Global;
 use std::fs::File;
 use std::io;
 use std::rt::Files;
 use step_records::{Entry, Head, RecordError, RecordErrorKind, RecordReader};
-use world::Stimulus;
 
 /// A record that is read in pieces, one file after the other. At most one of its files is open.
 #[derive(Drop)]

@@ -8,13 +8,13 @@ use crate::sink::DeliverySink;
 use crate::source::Source;
 use frames::Frame;
 use node_names::{Limits, NodeName, Origin};
+use protocol::Core;
 use record_merge::GroupError;
 use run_check::RunCheck;
 use std::alloc::Global;
 use std::fs::File;
 use std::rt::Files;
 use step_records::{Head, RecordError, RecordErrorKind};
-use world::Core;
 
 /// How far a run is followed.
 #[derive(Clone, Copy, Debug, PartialEq, Eq)]

@@ -1,8 +1,8 @@
 //! What a run may take in one round.
 use frames::Frame;
+use protocol::{Core, Stimulus, StimulusOf};
 use run_check::RunCheck;
 use std::alloc::Global;
-use world::{Core, Stimulus, StimulusOf};
 
 /// How many stimuli that are no arrivals a run takes in one round, so that what it sends does not pile up while others
 /// lag behind.

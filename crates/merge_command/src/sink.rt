@@ -1,7 +1,7 @@
 //! Where deliveries go.
+use protocol::Delivery;
 use std::alloc::{AllocError, AllocFailed};
 use thiserror::Error;
-use world::Delivery;
 
 /// Why a sink does not take deliveries.
 #[derive(Clone, Copy, Debug, PartialEq, Eq, Error)]

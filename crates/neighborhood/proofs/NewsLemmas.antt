@@ -6,8 +6,8 @@ use Rattle.std.proofs.lemmas.Bool.{false≢true, or_left, or_right}
 use Rattle.std.proofs.lemmas.List.{append-nil}
 use Rattle.node_names.specs.NodeName.{Name}
 use Rattle.node_names.specs.Same.{has_name, same_name, same_name-Decides}
-use Rattle.world.specs.Run.{SameNames}
-use Rattle.world.specs.Stimulus.{Stimulus}
+use Rattle.protocol.specs.SameNames.{SameNames}
+use Rattle.protocol.specs.Stimulus.{Stimulus}
 use Rattle.frames.specs.Frame.{Frame}
 use Rattle.neighborhood.specs.News.{Change, Telling, all_news, arrival_of, changes, departure_of, farewell_of, last_news, news_of, turn_of}
 use Rattle.neighborhood.specs.declared.news.Farewell.{Farewell}

@@ -3,8 +3,8 @@ use Rattle.std.specs.Prelude.{◌++◌, Bool, true, false, List, [], ◌∷◌, 
 use Rattle.std.specs.List.{flat_map}
 use Rattle.node_names.specs.NodeName.{Name}
 use Rattle.node_names.specs.Same.{has_name, same_name}
-use Rattle.world.specs.Stimulus.{Stimulus}
-use Rattle.world.specs.declared.stimulus.StimulusOf.TheVariants.{Broadcast, Arrive, Fire, Flush, Down, Shuffle, Join}
+use Rattle.protocol.specs.Stimulus.{Stimulus}
+use Rattle.protocol.specs.declared.stimulus.StimulusOf.TheVariants.{Broadcast, Arrive, Fire, Flush, Down, Shuffle, Join}
 use Rattle.frames.specs.Body.{Body}
 use Rattle.frames.specs.Frame.{Frame}
 use Rattle.frames.specs.declared.body.BodyOf.TheVariants as body

@@ -5,8 +5,8 @@ ghost use Rattle.neighborhood.specs.News.{arrival_of, changes, departure_of, far
 
 use frames::{BodyOf, Frame};
 use node_names::{NameSet, NodeName, has_name};
+use protocol::{Stimulus, StimulusOf};
 use std::alloc::{AllocError, Allocator};
-use world::{Stimulus, StimulusOf};
 
 /// Why a neighbour went.
 #[derive(Clone, Copy, Debug, PartialEq, Eq)]

@@ -5,10 +5,10 @@ ghost use Rattle.neighborhood.specs.News.{all_news, farewell_of};
 use crate::news::{Farewell, News, changes_of, farewell_of};
 use frames::Frame;
 use node_names::{Listed, NameSet, NodeName};
+use protocol::Stimulus;
 use std::alloc::{AllocError, Allocator};
 use std::marker::Model;
 use std::mem;
-use world::Stimulus;
 
 /// A step that changed the active view, whose news are not worked out yet.
 #[derive(Drop)]

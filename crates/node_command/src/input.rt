@@ -4,12 +4,12 @@ use crate::log::Log;
 use bytes::Bytes;
 use loop_ports::{PortError, PortFault, PortSender};
 use node_options::Level;
+use protocol::MAX_PAYLOAD;
 use std::alloc::{AllocError, Global};
 use std::io::{BufReader, Eprint, Input, StdinLock};
 use std::thread::{JoinHandle, Threads};
 use std::time::{Clock, Duration};
 use std::{fmt, io, thread};
-use world::MAX_PAYLOAD;
 
 /// For how many milliseconds the thread waits before it hands in a line again for which there was no room.
 const PAUSE: u64 = 5;

@@ -1,10 +1,10 @@
 //! A delivery as a line.
 use hex::encode;
 use node_options::Format;
+use protocol::Delivery;
 use std::alloc::Global;
 use std::io;
 use std::io::Write;
-use world::Delivery;
 
 /// Writes bytes as text: those that are no printable ASCII, and backslashes, as `\x` and two digits.
 fn write_text<W: Write>(out: &mut W, bytes: &[u8]) -> io::Result<()> {

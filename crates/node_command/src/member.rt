@@ -5,11 +5,11 @@ use cluster_node::{ClusterNode, SteppedNode};
 use event_loop::{LinkError, LoopNode};
 use loop_ports::PortNode;
 use node_names::{Dice, NodeName};
+use protocol::Delivery;
 use rand_core::Rng;
 use std::alloc::{AllocError, Global};
 use std::net::SocketAddr;
 use wire_node::{ConnectionId, News, ReceiveError, WireError};
-use world::Delivery;
 
 /// What the loop runs: the node, or the server of its pages, which has no links and answers over its connections.
 #[derive(Drop)]

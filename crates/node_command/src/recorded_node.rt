@@ -4,13 +4,13 @@ use crate::recording::Recording;
 use bytes::Bytes;
 use cluster_node::{ClusterNode, SteppedNode};
 use loop_ports::PortNode;
+use protocol::Delivery;
 use std::alloc::{AllocError, Global};
 use std::fs::File;
 use std::io;
 use std::rt::Files;
 use std::time::Clock;
 use wire_node::{News, WireError};
-use world::Delivery;
 
 /// A node whose steps are recorded before what they deliver is handed out.
 #[derive(Drop)]

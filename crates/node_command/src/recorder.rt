@@ -2,13 +2,13 @@
 use cluster_node::{ClusterNode, SteppedNode};
 use frames::Frame;
 use node_options::RecordSync;
+use protocol::Segment;
 use std::alloc::Global;
 use std::fs::File;
 use std::io::{ErrorKind, Write};
 use std::rt::Files;
 use std::{fs, io};
 use step_records::{Head, RecordWriter};
-use world::Segment;
 
 /// From how many bytes on a file of a record is followed by another.
 const FILE_SIZE: u64 = 67_108_864;

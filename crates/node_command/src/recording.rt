@@ -2,11 +2,11 @@
 use crate::recorder::Recorder;
 use cluster_node::{ClusterNode, SteppedNode};
 use node_options::RecordFailure;
+use protocol::Delivery;
 use std::alloc::Global;
 use std::fs::File;
 use std::io;
 use std::rt::Files;
-use world::Delivery;
 
 /// The record of what a node takes, and what becomes of the node if it cannot be written.
 #[derive(Drop)]

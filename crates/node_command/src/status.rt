@@ -4,9 +4,9 @@ use event_loop::LoopNode;
 use node_core::PlumCore;
 use node_names::NodeName;
 use node_status::{Counts, Kept, Neighbor, Status};
+use protocol::Core;
 use std::alloc::{AllocError, Global};
 use std::net::SocketAddr;
-use world::Core;
 
 /// What a node says of itself: what does not change, and how it was at its last tick.
 #[derive(Drop)]

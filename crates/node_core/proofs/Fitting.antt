@@ -10,12 +10,12 @@ use Rattle.node_names.specs.NodeName.{Name}
 use Rattle.node_names.specs.Same.{same_id, same_id-Decides, same_name, has_id}
 use Rattle.node_names.specs.declared.dice.Dice.{Dice}
 use Rattle.node_names.specs.declared.ids.MsgId.{MsgId}
-use Rattle.world.specs.lawful.NameLists.{and_left, and_right}
-use Rattle.world.specs.lawful.Held.{same_inside}
-use Rattle.world.specs.Lists.{IsOneOf}
-use Rattle.world.specs.Stimulus.{Stimulus}
-use Rattle.world.specs.declared.TheConstants.{MAX_PAYLOAD}
-use Rattle.world.specs.declared.stimulus.StimulusOf.TheVariants as on
+use Rattle.protocol.specs.lawful.NameLists.{and_left, and_right}
+use Rattle.protocol.specs.lawful.Held.{same_inside}
+use Rattle.protocol.specs.Lists.{IsOneOf}
+use Rattle.protocol.specs.Stimulus.{Stimulus}
+use Rattle.protocol.specs.declared.TheConstants.{MAX_PAYLOAD}
+use Rattle.protocol.specs.declared.stimulus.StimulusOf.TheVariants as on
 use Rattle.frames.specs.Body.{Body}
 use Rattle.frames.specs.Frame.{Frame, are_numbered, has_good_counts}
 use Rattle.frames.specs.declared.TheConstants.{MAX_ANNOUNCEMENTS, MAX_NAMES}

@@ -10,9 +10,9 @@ use Rattle.node_names.specs.declared.dice.Dice.{Dice}
 use Rattle.node_names.specs.declared.ids.Origin.{Origin}
 use Rattle.frames.specs.Body.{Body}
 use Rattle.frames.specs.Frame.{Frame}
-use Rattle.world.specs.Output.{Output}
-use Rattle.world.specs.declared.protocol.CoreError.{CoreError}
-use Rattle.world.specs.declared.protocol.CoreError.TheVariants.{PayloadTooLong, SeqSpent, OutOfMemory}
+use Rattle.protocol.specs.Output.{Output}
+use Rattle.protocol.specs.declared.protocol.CoreError.{CoreError}
+use Rattle.protocol.specs.declared.protocol.CoreError.TheVariants.{PayloadTooLong, SeqSpent, OutOfMemory}
 use Rattle.membership.specs.declared.event.EventOf.TheVariants as on
 use Rattle.membership.specs.Membership.{Membership, Moves, Ends, still}
 use Rattle.membership.specs.Table.{table}

@@ -7,11 +7,11 @@ use Rattle.node_names.specs.NodeName.{Name}
 use Rattle.node_names.specs.Same.{same_name}
 use Rattle.node_names.specs.declared.dice.Dice.{Dice}
 use Rattle.node_names.specs.declared.ids.Origin.{Origin}
-use Rattle.world.specs.IdentityLaw.{IsOutOfNumbers, IsTooLong}
-use Rattle.world.specs.Stimulus.{Stimulus}
-use Rattle.world.specs.declared.protocol.CoreError.{CoreError}
-use Rattle.world.specs.declared.protocol.CoreError.TheVariants.{PayloadTooLong}
-use Rattle.world.specs.declared.stimulus.StimulusOf.TheVariants.{Broadcast, Arrive, Fire, Flush, Down, Shuffle, Join}
+use Rattle.protocol.specs.IdentityLaw.{IsOutOfNumbers, IsTooLong}
+use Rattle.protocol.specs.Stimulus.{Stimulus}
+use Rattle.protocol.specs.declared.protocol.CoreError.{CoreError}
+use Rattle.protocol.specs.declared.protocol.CoreError.TheVariants.{PayloadTooLong}
+use Rattle.protocol.specs.declared.stimulus.StimulusOf.TheVariants.{Broadcast, Arrive, Fire, Flush, Down, Shuffle, Join}
 use Rattle.frames.specs.Body.{Body}
 use Rattle.frames.specs.Frame.{Frame}
 use Rattle.frames.specs.declared.body.BodyOf.TheVariants as body

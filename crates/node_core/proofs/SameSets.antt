@@ -3,7 +3,7 @@ use Rattle.std.proofs.Common.{◌≡◌, List, true, false, sym, refl}
 use Rattle.std.specs.Prelude.{Bool, not}
 use Rattle.node_names.specs.NodeName.{Name}
 use Rattle.node_names.specs.Same.{has_name}
-use Rattle.world.specs.Run.{SameNames}
+use Rattle.protocol.specs.SameNames.{SameNames}
 
 -- two tests that imply each other are equal
 equal_from_both : (a b : Bool) → (a ≡ true → b ≡ true) → (b ≡ true → a ≡ true) → a ≡ b

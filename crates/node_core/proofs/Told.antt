@@ -5,8 +5,8 @@ use Rattle.std.specs.declared.result.Result.TheVariants.{Ok, Err}
 use Rattle.std.proofs.Common.{ap}
 use Rattle.std.proofs.lemmas.Bool.{true≢false}
 use Rattle.gossip_core.specs.Effects.{Effects}
-use Rattle.world.specs.Output.{Output, Stepped}
-use Rattle.world.specs.Stimulus.{Stimulus}
+use Rattle.protocol.specs.Output.{Output, Stepped}
+use Rattle.protocol.specs.Stimulus.{Stimulus}
 use Rattle.frames.specs.Frame.{Frame}
 use Rattle.node_core.specs.Plum.{Plum}
 use Rattle.node_core.specs.Steps.{IsAllowed, PlumSteps, delivered_at, numbered, plum_after, turned}

@@ -9,7 +9,7 @@ use Rattle.node_names.specs.Order.{id_cmp}
 use Rattle.node_names.specs.Same.{same_id, has_name}
 use Rattle.node_names.specs.declared.ids.MsgId.{MsgId}
 use Rattle.node_names.specs.declared.ids.Origin.{Origin}
-use Rattle.world.specs.CoreState.{CoreState}
+use Rattle.protocol.specs.CoreState.{CoreState}
 use Rattle.views.specs.Views.{AreSound}
 use Rattle.membership.specs.Membership.{Membership}
 use Rattle.peer_sets.specs.Members.{names}

@@ -3,7 +3,7 @@ use Rattle.std.specs.Prelude.{◌≡◌, ℕ, List}
 use Rattle.node_names.specs.NodeName.{Name}
 use Rattle.node_names.specs.Limits.{Limits}
 use Rattle.node_names.specs.declared.ids.Origin.{Origin}
-use Rattle.world.specs.Laws.{StartLaws}
+use Rattle.protocol.specs.Laws.{StartLaws}
 use Rattle.frames.specs.Content.{frame_content}
 use Rattle.frames.specs.Frame.{Frame}
 use Rattle.node_core.specs.Plum.{Plum, IsSoundPlum, plum_state}

@@ -8,11 +8,11 @@ use Rattle.node_names.specs.Same.{same_name, has_name}
 use Rattle.node_names.specs.declared.dice.Dice.{Dice}
 use Rattle.node_names.specs.declared.ids.MsgId.{MsgId}
 use Rattle.node_names.specs.declared.ids.Origin.{Origin}
-use Rattle.world.specs.Delivery.{Delivery}
-use Rattle.world.specs.IdentityLaw.{IsOutOfNumbers}
-use Rattle.world.specs.Stimulus.{Stimulus}
-use Rattle.world.specs.declared.TheConstants.{MAX_PAYLOAD}
-use Rattle.world.specs.declared.stimulus.StimulusOf.TheVariants.{Broadcast, Arrive, Fire, Flush, Down, Shuffle, Join}
+use Rattle.protocol.specs.Delivery.{Delivery}
+use Rattle.protocol.specs.IdentityLaw.{IsOutOfNumbers}
+use Rattle.protocol.specs.Stimulus.{Stimulus}
+use Rattle.protocol.specs.declared.TheConstants.{MAX_PAYLOAD}
+use Rattle.protocol.specs.declared.stimulus.StimulusOf.TheVariants.{Broadcast, Arrive, Fire, Flush, Down, Shuffle, Join}
 use Rattle.frames.specs.Body.{Body}
 use Rattle.frames.specs.Frame.{Frame}
 use Rattle.frames.specs.declared.body.BodyOf.TheVariants as body

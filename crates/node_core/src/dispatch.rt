@@ -1,6 +1,6 @@
 //! Which part of a node handles a stimulus: the membership, the gossip or neither, for a JOIN to a contact.
 ghost use Rattle.std.specs.Prelude.{◌≡◌};
-ghost use Rattle.world.specs.Stimulus.{lent as told};
+ghost use Rattle.protocol.specs.Stimulus.{lent as told};
 ghost use Rattle.node_core.specs.Parts.{lent, part_heard, part_of};
 ghost use Rattle.node_core.specs.Steps.{is_joined};
 
@@ -8,8 +8,8 @@ use frames::{Body, BodyOf, Frame};
 use gossip_core::{Call, CallOf};
 use membership::{Event, EventOf, Membership};
 use node_names::{Dice, NodeName, Origin, has_name};
+use protocol::{StimulusOf, StimulusRef};
 use std::alloc::Allocator;
-use world::{StimulusOf, StimulusRef};
 
 /// The part of a node that handles a stimulus. `E` is an event of the membership, `C` a call of the gossip, and `D` the
 /// dice.

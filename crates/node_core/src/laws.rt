@@ -1,6 +1,6 @@
 //! What holds of every start and step of the core. Nothing runs here: callers call these functions for their `ensures`.
-ghost use Rattle.world.specs.Laws.{Laws};
-ghost use Rattle.world.specs.Stimulus.{Stimulus};
+ghost use Rattle.protocol.specs.Laws.{Laws};
+ghost use Rattle.protocol.specs.Stimulus.{Stimulus};
 ghost use Rattle.frames.specs.Content.{frame_content};
 ghost use Rattle.frames.specs.Frame.{Frame};
 ghost use Rattle.views.specs.Views.{AreSound};

@@ -1,6 +1,6 @@
 //! Sets of names.
 ghost use Rattle.std.specs.Prelude.{◌↔◌, IsTrue};
-ghost use Rattle.world.specs.Run.{SameNames};
+ghost use Rattle.protocol.specs.SameNames.{SameNames};
 
 use node_names::NameSet;
 use std::alloc::Allocator;

@@ -9,8 +9,8 @@ use bytes::Bytes;
 use frames::{Body, Frame};
 use gossip_core::Answer;
 use node_names::{Listed, MsgId, NodeName, Origin};
+use protocol::{CoreError, Delivery, Out};
 use std::alloc::{AllocError, Allocator};
-use world::{CoreError, Delivery, Out};
 
 /// Appends the delivery, if there is one.
 fn deliver<A: Allocator + Copy>(

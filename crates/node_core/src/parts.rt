@@ -5,7 +5,7 @@ ghost use Rattle.gossip_core.specs.Table.{lent as lent_call, outcome};
 ghost use Rattle.membership.specs.Event.{lent as lent_event};
 ghost use Rattle.membership.specs.Membership.{still};
 ghost use Rattle.membership.specs.Table.{table};
-ghost use Rattle.world.specs.Run.{SameNames};
+ghost use Rattle.protocol.specs.SameNames.{SameNames};
 ghost use Rattle.node_core.specs.Parts.{IsSpentPart, IsTooLongPart, Takes, by_part, lent, moved_by, unboxed};
 
 use crate::dispatch::{Part, PartOf};
@@ -15,9 +15,9 @@ use frames::BodyOf;
 use gossip_core::{Answer, Call, Gossip, GossipFault};
 use membership::{Event, Membership, Moves};
 use node_names::Dice;
+use protocol::CoreError;
 use std::alloc::{AllocError, Allocator};
 use std::boxed::Box;
-use world::CoreError;
 
 /// What a part of the node will do.
 #[derive(Drop)]

@@ -2,10 +2,10 @@
 ghost use Rattle.std.specs.Prelude.{◌≡◌, ◌+◌, ◌≤◌, ◌⊎◌, ◌↔◌, ◌++◌, false, None, List, length, IsSome, IsTrue, IfOk, IfErr, OnOk, OnErr, IsErrOf};
 ghost use Rattle.node_names.specs.NodeName.{Name};
 ghost use Rattle.frames.specs.Frame.{Frame as Plain};
-ghost use Rattle.world.specs.IdentityLaw.{IsOutOfNumbers, IsTooLong};
-ghost use Rattle.world.specs.Peers.{are_peers};
-ghost use Rattle.world.specs.Run.{SameNames};
-ghost use Rattle.world.specs.Stimulus.{lent};
+ghost use Rattle.protocol.specs.IdentityLaw.{IsOutOfNumbers, IsTooLong};
+ghost use Rattle.protocol.specs.Peers.{are_peers};
+ghost use Rattle.protocol.specs.SameNames.{SameNames};
+ghost use Rattle.protocol.specs.Stimulus.{lent};
 ghost use Rattle.node_core.specs.Fits.{AreFit, ComesFit};
 ghost use Rattle.node_core.specs.Parts.{Takes, part_of, unboxed};
 ghost use Rattle.node_core.specs.Plum.{plum_state};
@@ -22,9 +22,9 @@ use gossip_core::{Answer, Gossip};
 use membership::{Membership, Moves};
 use node_names::{Limits, MsgId, NameSet, NodeName, Origin};
 use peer_sets::PeerSets;
+use protocol::{Core, CoreError, Out, Prepared, StimulusOf, StimulusRef};
 use std::alloc::{AllocError, Allocator, Global};
 use std::marker::Model;
-use world::{Core, CoreError, Out, Prepared, StimulusOf, StimulusRef};
 
 /// One run of one node.
 ///

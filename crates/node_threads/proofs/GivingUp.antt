@@ -8,7 +8,7 @@ use Rattle.std.proofs.Math.Seq.{take-add}
 use Rattle.std.proofs.lemmas.Bool.{eqb-true, false_from_ne_true}
 use Rattle.node_names.specs.NodeName.{Name}
 use Rattle.node_names.specs.Same.{same_name}
-use Rattle.world.specs.Trace.{Step, Trace}
+use Rattle.protocol.specs.Trace.{Step, Trace}
 use Rattle.frames.specs.Frame.{Frame}
 use Rattle.node_threads.specs.Applying.{mail_for}
 use Rattle.node_threads.specs.Forgetting.{CameOut, GivesUp}

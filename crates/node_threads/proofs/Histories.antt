@@ -4,9 +4,9 @@ use Rattle.std.proofs.Common.{◌∙◌, ap, arith, subst, sym}
 use Rattle.node_names.specs.NodeName.{Name}
 use Rattle.node_names.specs.Limits.{Limits}
 use Rattle.node_names.specs.declared.ids.Origin.{Origin}
-use Rattle.world.specs.Delivery.{Delivery}
-use Rattle.world.specs.Stimulus.{Stimulus}
-use Rattle.world.specs.Trace.{Step, Trace, delivered}
+use Rattle.protocol.specs.Delivery.{Delivery}
+use Rattle.protocol.specs.Stimulus.{Stimulus}
+use Rattle.protocol.specs.Trace.{Step, Trace, delivered}
 use Rattle.frames.specs.Frame.{Frame}
 use Rattle.node_threads.specs.Cell.{Cell, IsKept, after, lost}
 use Rattle.node_threads.specs.Closing.{IsLeft}

@@ -9,15 +9,15 @@ use Rattle.node_names.specs.NodeName.{Name}
 use Rattle.node_names.specs.Limits.{Limits}
 use Rattle.node_names.specs.Same.{same_name, same_name-Decides, same_name-laws}
 use Rattle.node_names.specs.declared.ids.Origin.{Origin}
-use Rattle.world.specs.CoreState.{CoreState}
-use Rattle.world.specs.Delivery.{Delivery}
-use Rattle.world.specs.lawful.NameLists.{either_way}
-use Rattle.world.specs.OneDelivery.{OneDelivery}
-use Rattle.world.specs.Output.{Output}
-use Rattle.world.specs.Peers.{are_peers}
-use Rattle.world.specs.Replay.{Leads, Replays}
-use Rattle.world.specs.Stimulus.{Stimulus}
-use Rattle.world.specs.Trace.{Step, Trace, delivered}
+use Rattle.protocol.specs.CoreState.{CoreState}
+use Rattle.protocol.specs.Delivery.{Delivery}
+use Rattle.protocol.specs.lawful.NameLists.{either_way}
+use Rattle.protocol.specs.OneDelivery.{OneDelivery}
+use Rattle.protocol.specs.Output.{Output}
+use Rattle.protocol.specs.Peers.{are_peers}
+use Rattle.protocol.specs.Replay.{Leads, Replays}
+use Rattle.protocol.specs.Stimulus.{Stimulus}
+use Rattle.protocol.specs.Trace.{Step, Trace, delivered}
 use Rattle.frames.specs.Frame.{Frame}
 use Rattle.node_threads.specs.Cell.{Cell, FollowsText, IsKept, IsKeptAfter, IsPlace, Link, after, is_linked, lost, peers_of, steps_made}
 use Rattle.node_threads.specs.Forgetting.{forgetting}

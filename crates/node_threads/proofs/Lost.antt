@@ -2,7 +2,7 @@
 use Rattle.std.specs.Prelude.{◌≡◌, ◌≤◌, ◌-◌, ◌==◌, ℕ, List, [], ◌∷◌, ◌++◌, drop, length, if◌then◌else◌}
 use Rattle.std.proofs.Common.{◌∙◌, ap, arith, sym, zero, suc}
 use Rattle.node_names.specs.NodeName.{Name}
-use Rattle.world.specs.Trace.{Step, Trace}
+use Rattle.protocol.specs.Trace.{Step, Trace}
 use Rattle.frames.specs.Frame.{Frame}
 use Rattle.node_threads.specs.Cell.{after}
 use Rattle.node_threads.specs.LinkText.{link_text, sent_to, text_of, text_since}

@@ -7,7 +7,7 @@ use Rattle.std.proofs.lemmas.List.{append-nil, drop_at, get_or-replicate, get_or
 use Rattle.std.proofs.lemmas.List.Elements.{All-append, All-cons, All-contains, All-drop, All-head, All-nil, All-push, All-take, All-tail, Contains-push}
 use Rattle.std.proofs.lemmas.List.Sums.{sum_by-append, sum_by-cons}
 use Rattle.std.proofs.lemmas.Option.{slice_get_within}
-use Rattle.world.specs.Trace.{Step}
+use Rattle.protocol.specs.Trace.{Step}
 use Rattle.frames.specs.Frame.{Frame}
 use Rattle.node_threads.specs.Marks.{Fits, FitsAt, HasMarks, LacksMark, Marks, marks_at}
 use Rattle.node_threads.specs.Receipts.{AllAlike, Call, IsFirstUnlike, IsRight, PortsFit, Rises, all_calls, broadcasts_at, broadcasts_in, broadcasts_of, calls_at}

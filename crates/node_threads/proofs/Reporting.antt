@@ -5,7 +5,7 @@ use Rattle.std.proofs.Common.{◌∙◌, ap, append_assoc, get_or, subst, sym}
 use Rattle.std.proofs.lemmas.List.{append-nil, drop_more, map-append, take-append-drop, take_all, take_more}
 use Rattle.std.proofs.lemmas.List.Concat.{flat_map-append}
 use Rattle.std.proofs.lemmas.List.Elements.{All-append, All-map, All-nil, All-weaker}
-use Rattle.world.specs.Trace.{Trace}
+use Rattle.protocol.specs.Trace.{Trace}
 use Rattle.frames.specs.Frame.{Frame}
 use Rattle.node_threads.specs.Cell.{lost}
 use Rattle.node_threads.specs.Closing.{AreAlike, IsWithin, Matches, Mismatches, Tears}

@@ -9,7 +9,7 @@ use Rattle.std.proofs.lemmas.Option.{get_or_from_slice_get, slice_get_cases, sli
 use mathlib.Core.List.{IsPrefix}
 use Rattle.node_names.specs.NodeName.{Name}
 use Rattle.node_names.specs.Same.{same_name, same_name-Decides}
-use Rattle.world.specs.Trace.{Step, Trace}
+use Rattle.protocol.specs.Trace.{Step, Trace}
 use Rattle.frames.specs.Frame.{Frame}
 use Rattle.node_threads.specs.Applying.{mail_for}
 use Rattle.node_threads.specs.LinkText.{sent_to, spelling, text_of, text_since}

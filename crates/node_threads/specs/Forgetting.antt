@@ -1,7 +1,7 @@
 -- What a node and its outlets give up while the node runs.
 use Rattle.std.specs.Prelude.{◌≡◌, ◌⊎◌, ◌≤◌, ◌+◌, ℕ, List, ◌++◌, drop, length, map, option_map, take}
 use Rattle.node_names.specs.NodeName.{Name}
-use Rattle.world.specs.Trace.{Trace}
+use Rattle.protocol.specs.Trace.{Trace}
 use Rattle.frames.specs.Frame.{Frame}
 use Rattle.node_threads.specs.Cell.{Cell}
 use Rattle.node_threads.specs.LinkText.{spelling, text_since}

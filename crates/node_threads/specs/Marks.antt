@@ -1,7 +1,7 @@
 -- How the receipts of one port are compared with the trace: each place that has a receipt is marked.
 use Rattle.std.specs.Prelude.{◌≡◌, ◌≤◌, ◌+◌, ℕ, Bool, false, List, All, if◌then◌else◌}
 use Rattle.std.specs.List.{slice_index_or}
-use Rattle.world.specs.Trace.{Step}
+use Rattle.protocol.specs.Trace.{Step}
 use Rattle.frames.specs.Frame.{Frame}
 use Rattle.node_threads.specs.Receipts.{Call, IsRight, Rises, broadcasts_at, calls_at}
 

@@ -3,9 +3,9 @@ use Rattle.std.specs.Prelude.{◌≡◌, List, [], ◌∷◌, Option, None, Some
 use Rattle.node_names.specs.NodeName.{Name}
 use Rattle.node_names.specs.Limits.{Limits}
 use Rattle.node_names.specs.declared.ids.Origin.{Origin}
-use Rattle.world.specs.CoreState.{CoreState}
-use Rattle.world.specs.Output.{Output}
-use Rattle.world.specs.Peers.{are_peers}
+use Rattle.protocol.specs.CoreState.{CoreState}
+use Rattle.protocol.specs.Output.{Output}
+use Rattle.protocol.specs.Peers.{are_peers}
 use Rattle.frames.specs.Frame.{Frame}
 
 -- the receiver of the first of these frames: of an opening, it is the contact

@@ -1,8 +1,8 @@
 -- When a running node refuses a step.
 use Rattle.std.specs.Prelude.{◌≡◌, ◌⊎◌, ◌<◌, ◌≤◌, ◌+◌, ◌^◌, ℕ, List, true, false, length}
-use Rattle.world.specs.IdentityLaw.{IsTooLong}
-use Rattle.world.specs.Stimulus.{Stimulus}
-use Rattle.world.specs.declared.protocol.CoreError.TheVariants.{PayloadTooLong, SeqSpent, OutOfMemory}
+use Rattle.protocol.specs.IdentityLaw.{IsTooLong}
+use Rattle.protocol.specs.Stimulus.{Stimulus}
+use Rattle.protocol.specs.declared.protocol.CoreError.TheVariants.{PayloadTooLong, SeqSpent, OutOfMemory}
 use Rattle.frames.specs.Frame.{Frame}
 use Rattle.node_threads.specs.Cell.{Cell, steps_made}
 use Rattle.node_threads.specs.declared.error.HostError.{HostError}

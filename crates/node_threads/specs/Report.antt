@@ -2,7 +2,7 @@
 use Rattle.std.specs.Prelude.{◌≡◌, ℕ, ◌≤◌, ◌+◌, ◌↔◌, List, ◌∷◌, ◌++◌, Option, Some, None, All, length, map}
 use Rattle.node_names.specs.NodeName.{Name}
 use mathlib.Core.List.{IsPrefix}
-use Rattle.world.specs.Trace.{Trace}
+use Rattle.protocol.specs.Trace.{Trace}
 use Rattle.frames.specs.Frame.{Frame}
 use Rattle.node_threads.specs.LinkText.{spelling, text_since}
 use Rattle.node_threads.specs.Outlet.{Outlet}

@@ -1,6 +1,6 @@
 //! The state that a running node keeps under its lock.
 ghost use Rattle.std.specs.Prelude.{◌≡◌, ◌⊎◌, ◌<◌, ◌≤◌, ◌+◌, ◌^◌, [], true, false, IfOk, IfErr, OnOk, OnErr, None, Some, length};
-ghost use Rattle.world.specs.IdentityLaw.{IsTooLong};
+ghost use Rattle.protocol.specs.IdentityLaw.{IsTooLong};
 ghost use Rattle.node_threads.specs.Applying.{Applies, id_given};
 ghost use Rattle.node_threads.specs.Cell.{lost, steps_made};
 ghost use Rattle.node_threads.specs.Closing.{IsLeft};
@@ -17,10 +17,10 @@ use crate::recording::record;
 use frames::Frame;
 use node_core::PreparedStep;
 use node_names::{Listed, MsgId, NameSet, NodeName};
+use protocol::{CoreError, Delivery, Out, Prepared, Step, Stimulus, StimulusOf, Trace};
 use std::alloc::{AllocError, Allocator, Global};
 use std::marker::Model;
 use std::mem;
-use world::{CoreError, Delivery, Out, Prepared, Step, Stimulus, StimulusOf, Trace};
 
 /// A running node: its core, its trace, the open links, and the deliveries that wait for the application.
 ///

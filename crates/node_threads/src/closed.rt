@@ -6,9 +6,9 @@ use crate::report::LinkReport;
 use crate::worker::Worker;
 use frames::Frame;
 use node_names::NodeName;
+use protocol::Trace;
 use std::alloc::{Allocator, Global};
 use thiserror::Error;
-use world::Trace;
 
 /// What a closed node leaves.
 #[derive(Drop)]

@@ -1,6 +1,6 @@
 //! Closing a running node.
 ghost use Rattle.std.specs.Prelude.{◌≡◌, ◌≤◌, true, None, List, ◌∷◌, [], ◌++◌, IfOk, IfErr, length};
-ghost use Rattle.world.specs.Trace.{delivered};
+ghost use Rattle.protocol.specs.Trace.{delivered};
 ghost use Rattle.node_threads.specs.Closing.{Fails, Finds, IsClosed, IsLeft, Matches, Mismatches};
 ghost use Rattle.node_threads.specs.Leaving.{AreLeft, outlets_of};
 ghost use Rattle.node_threads.specs.Outlet.{Outlet};
@@ -17,10 +17,10 @@ use crate::report::LinkReport;
 use crate::worker::{Outlets, Worker};
 use frames::Frame;
 use node_names::Listed;
+use protocol::Trace;
 use std::alloc::{AllocError, Allocator};
 use std::sync::Wait;
 use std::thread::Threads;
-use world::Trace;
 
 /// Appends the outlets that a worker left. Returns whether there was room for these and for all before.
 fn keep<A: Allocator>(kept: bool, given: &mut Vec<Outlets<A>, A>, outlets: Outlets<A>) -> bool

@@ -18,8 +18,8 @@ use crate::report::LinkReport;
 use crate::worker::Outlets;
 use frames::Frame;
 use node_names::{Listed, NodeName};
+use protocol::Trace;
 use std::alloc::{AllocError, Allocator};
-use world::Trace;
 
 /// What is not as in the trace, or why this is not known.
 #[derive(Clone, Copy)]

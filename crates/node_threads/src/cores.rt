@@ -4,12 +4,12 @@ ghost use Rattle.node_names.specs.NodeName.{Name};
 ghost use Rattle.node_names.specs.Limits.{Limits};
 ghost use Rattle.node_names.specs.Slots.{somes};
 ghost use Rattle.node_names.specs.declared.ids.Origin.{Origin};
-ghost use Rattle.world.specs.CoreState.{CoreState};
-ghost use Rattle.world.specs.Delivery.{Delivery};
-ghost use Rattle.world.specs.IdentityLaw.{IsTooLong};
-ghost use Rattle.world.specs.OneDelivery.{OneDelivery};
-ghost use Rattle.world.specs.Output.{Stepped};
-ghost use Rattle.world.specs.Stimulus.{Stimulus, lent};
+ghost use Rattle.protocol.specs.CoreState.{CoreState};
+ghost use Rattle.protocol.specs.Delivery.{Delivery};
+ghost use Rattle.protocol.specs.IdentityLaw.{IsTooLong};
+ghost use Rattle.protocol.specs.OneDelivery.{OneDelivery};
+ghost use Rattle.protocol.specs.Output.{Stepped};
+ghost use Rattle.protocol.specs.Stimulus.{Stimulus, lent};
 ghost use Rattle.frames.specs.Frame.{Frame as Sent};
 ghost use Rattle.node_core.specs.Parts.{PreparedStep as Kept};
 ghost use Rattle.node_threads.specs.Opening.{TellsItsStart};
@@ -17,10 +17,10 @@ ghost use Rattle.node_threads.specs.Opening.{TellsItsStart};
 use frames::Frame;
 use node_core::{PlumCore, PreparedStep};
 use node_names::{MsgId, NameSet, Origin};
+use protocol::{Core, CoreError, Out, Prepared, StimulusRef};
 use std::alloc::{AllocError, Allocator};
-use world::{Core, CoreError, Out, Prepared, StimulusRef};
 
-/// A core whose packets are frames. Its functions are those of `world::Core` that a node calls, and are explained
+/// A core whose packets are frames. Its functions are those of `protocol::Core` that a node calls, and are explained
 /// there.
 pub trait NodeCore<A: Allocator>: Sized {
     /// The state that it shows.

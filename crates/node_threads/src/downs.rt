@@ -10,9 +10,9 @@ use crate::error::HostError;
 use crate::learning::{Learnt, open_unlinked};
 use frames::Frame;
 use node_names::{Dice, Listed, NodeName};
+use protocol::{Stimulus, StimulusOf};
 use rand_core::Rng;
 use std::alloc::Allocator;
-use world::{Stimulus, StimulusOf};
 
 /// Applies the stimulus, and opens links to receivers of the step that have none, each from that step on.
 ///

@@ -1,7 +1,7 @@
 //! Why a running node refuses a call.
+use protocol::CoreError;
 use std::alloc::AllocError;
 use thiserror::Error;
-use world::CoreError;
 
 /// Why a call of a node was refused. The node is then as it was.
 #[derive(Clone, Copy, Debug, PartialEq, Eq, Error)]

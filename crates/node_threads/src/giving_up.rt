@@ -11,8 +11,8 @@ use crate::outlet::Outlet;
 use crate::remainder::opening_of;
 use frames::Frame;
 use node_names::NodeName;
+use protocol::Trace;
 use std::alloc::Allocator;
-use world::Trace;
 
 /// How many of the frames are those of the packets so far, if the next one goes on with this packet's.
 fn with_packet<A: Allocator + Copy>(

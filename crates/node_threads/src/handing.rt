@@ -5,10 +5,10 @@ use crate::gate::Gate;
 use crate::host::Host;
 use crate::stepper::Stepper;
 use crate::worker::{Worker, start};
+use protocol::Delivery;
 use std::alloc::Allocator;
 use std::sync::Wait;
 use std::thread::Threads;
-use world::Delivery;
 
 /// Where a node's deliveries go, in batches of type `B`.
 ///

@@ -15,10 +15,10 @@ use crate::stepper::Stepper;
 use crate::worker::{Outlets, Worker};
 use frames::Frame;
 use node_names::NodeName;
+use protocol::Out;
 use std::alloc::{AllocError, Allocator, Global};
 use std::marker::Model;
 use std::sync::{Arc, Wait};
-use world::Out;
 
 /// A running node. Its ports belong to the application, and its workers move frames and deliveries.
 ///

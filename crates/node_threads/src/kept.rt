@@ -8,9 +8,9 @@ use crate::outlet::Outlet;
 use crate::telling::Teller;
 use neighborhood::{News, Rejoining};
 use node_names::{Dice, NodeName};
+use protocol::StimulusOf;
 use rand_pcg::Lcg128Xsl64;
 use std::alloc::{AllocError, Allocator};
-use world::StimulusOf;
 
 /// A cell, and what goes along with its steps: the links that they open, the news that they make, and by whom the node
 /// joins again.

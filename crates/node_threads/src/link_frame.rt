@@ -4,9 +4,9 @@ ghost use Rattle.node_threads.specs.LinkText.{spelling};
 
 use bytes::Bytes;
 use frames::{Frame, encode, same_frame};
+use protocol::Wire;
 use std::alloc::{AllocError, Allocator};
 use std::marker::Model;
-use world::Wire;
 
 /// A frame that goes over a link. Contracts see it as its bytes. These are encoded only when it comes out, so the node
 /// encodes nothing under its lock, and the payload is shared and not copied before that.

@@ -17,9 +17,9 @@ use crate::outlet::Outlet;
 use crate::posting::{has_link, mail_for};
 use frames::Frame;
 use node_names::{Listed, NameSet, NodeName};
+use protocol::Trace;
 use rtrb::{Producer, RingBuffer};
 use std::alloc::{AllocError, Allocator};
-use world::Trace;
 
 /// Puts the frames into a ring that has room for them.
 fn fill<A: Allocator>(ring: &mut Producer<LinkFrame<A>, A>, mail: Mail<A>)

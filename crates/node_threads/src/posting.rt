@@ -12,9 +12,9 @@ use crate::link::{Link, Mail};
 use crate::link_frame::LinkFrame;
 use frames::Frame;
 use node_names::{Listed, NameSet, NodeName, has_name};
+use protocol::{Delivery, Out, copy_deliveries};
 use std::alloc::{AllocError, Allocator};
 use std::mem;
-use world::{Delivery, Out, copy_deliveries};
 
 /// A frame for an open link: the name that the link goes to, and the link's place.
 pub(crate) type Letter<A> = (NodeName, usize, LinkFrame<A>);

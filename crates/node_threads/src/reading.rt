@@ -9,12 +9,12 @@ use crate::worker::{Worker, start};
 use frames::{Cutter, Frame};
 use links::{LinkEnd, MeteredRead, pump};
 use node_names::{Dice, NodeName};
+use protocol::StimulusOf;
 use rand_core::SeedableRng;
 use rand_pcg::Lcg128Xsl64;
 use std::alloc::Allocator;
 use std::sync::Wait;
 use std::thread::Threads;
-use world::StimulusOf;
 
 /// What a reader knows of its link.
 #[derive(Drop)]

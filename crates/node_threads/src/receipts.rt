@@ -7,8 +7,8 @@ ghost use Rattle.node_threads.specs.Receipts.{AllAlike, Broadcasts, IsFirstUnlik
 use crate::receipt::Call;
 use frames::Frame;
 use node_names::Listed;
+use protocol::{Step, StimulusOf, Trace};
 use std::alloc::{AllocError, Allocator};
-use world::{Step, StimulusOf, Trace};
 
 /// Whether the step is a broadcast.
 fn is_broadcast<A: Allocator>(step: &Step<Frame<A>, A>) -> bool

@@ -5,8 +5,8 @@ use crate::cores::NodeCore;
 use frames::Frame;
 use node_core::PreparedStep;
 use node_names::Listed;
+use protocol::{Delivery, Step, Trace};
 use std::alloc::{AllocError, Allocator};
-use world::{Delivery, Step, Trace};
 
 /// Records the step, and makes it. It is recorded first, since a step of the core cannot be taken back.
 fn make<C: NodeCore<A>, A: Allocator>(

@@ -8,8 +8,8 @@ ghost use Rattle.node_threads.specs.Report.{Leaves};
 use crate::link_frame::LinkFrame;
 use frames::{Frame, encode};
 use node_names::NodeName;
+use protocol::Trace;
 use std::alloc::{AllocError, Allocator};
-use world::Trace;
 
 /// Whether what came out is the frame. Only if it is not, the bytes of both are encoded, compared and freed again.
 /// Different frames have different bytes, but comparing the bytes saves a proof of that.

@@ -1,7 +1,7 @@
 //! Hands out the history of a running node in parts.
 ghost use Rattle.std.specs.Prelude.{◌≡◌, None, IfErr, IfOk};
 ghost use Rattle.std.specs.Arc.{arc_value};
-ghost use Rattle.world.specs.Segments.{Ends};
+ghost use Rattle.protocol.specs.Segments.{Ends};
 ghost use Rattle.node_threads.specs.Cell.{lost};
 ghost use Rattle.node_threads.specs.History.{IsEndTo, IsHistoryTo};
 
@@ -9,9 +9,9 @@ use crate::cell::NodeCell;
 use crate::cores::NodeCore;
 use crate::error::HostError;
 use frames::Frame;
+use protocol::Segment;
 use std::alloc::{Allocator, Global};
 use std::sync::Arc;
-use world::Segment;
 
 /// A part of a node's history, and the core that it leads to.
 #[derive(Drop)]

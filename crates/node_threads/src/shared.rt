@@ -19,11 +19,11 @@ use crossbeam_utils::CachePadded;
 use frames::Frame;
 use node_core::armed_ids;
 use node_names::{MsgId, NodeName};
+use protocol::{Delivery, Stimulus, StimulusOf};
 use rand_pcg::Lcg128Xsl64;
 use std::alloc::{AllocError, Allocator};
 use std::sync::atomic::{AtomicBool, AtomicUsize, Ordering};
 use std::sync::{Condvar, Mutex, Wait};
-use world::{Delivery, Stimulus, StimulusOf};
 
 /// A running node. The lock holds the cell, and what goes along with it, until the node is closed.
 ///

@@ -4,11 +4,11 @@ use crate::error::HostError;
 use crate::gate::{Gate, passes, passes_later};
 use crate::shared::Shared;
 use frames::Frame;
+use protocol::Stimulus;
 use rand_pcg::Lcg128Xsl64;
 use std::alloc::{AllocError, Allocator};
 use std::mem;
 use std::sync::{Arc, Wait};
-use world::Stimulus;
 
 /// Appends a frame.
 fn add<A: Allocator>(frames: &mut Vec<Frame<A>, A>, frame: Frame<A>) -> Result<(), AllocError> {

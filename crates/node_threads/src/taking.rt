@@ -9,9 +9,9 @@ use crate::error::HostError;
 use crate::learning::Learnt;
 use frames::Frame;
 use node_names::Dice;
+use protocol::StimulusOf;
 use rand_core::Rng;
 use std::alloc::Allocator;
-use world::StimulusOf;
 
 /// Has the cell take a frame: one step with its Downs. All dice are the generator's next.
 fn take_frame<C: NodeCore<A> + Drop, A: Allocator + Copy, R: Rng>(

@@ -2,9 +2,9 @@
 use frames::Frame;
 use neighborhood::{News, Parting, farewell_of};
 use node_names::{NameSet, NodeName, has_name};
+use protocol::{Step, Trace};
 use std::alloc::{AllocError, Allocator};
 use std::mem;
-use world::{Step, Trace};
 
 /// The changes of an active view that its program did not take yet.
 ///

@@ -6,12 +6,12 @@ use crate::host::Host;
 use crate::stepper::Stepper;
 use crate::worker::{Worker, start};
 use node_names::Dice;
+use protocol::StimulusOf;
 use rand_core::SeedableRng;
 use rand_pcg::Lcg128Xsl64;
 use std::alloc::Allocator;
 use std::sync::Wait;
 use std::thread::Threads;
-use world::StimulusOf;
 
 /// The source of a node's time.
 pub trait Ticker {

@@ -2,9 +2,9 @@
 use crate::writer_place::WriterPlace;
 use frames::Frame;
 use node_names::{NameSet, NodeName};
+use protocol::Out;
 use std::alloc::{AllocError, Allocator};
 use std::sync::{Condvar, Mutex, Wait};
-use world::Out;
 
 /// The threads that steps are to wake.
 #[derive(Clone, Copy)]

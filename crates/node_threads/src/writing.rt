@@ -12,11 +12,11 @@ use crate::stepper::Stepper;
 use crate::worker::{LinksTo, Outlets, Worker, start_promised};
 use links::{LinkEnd, MeteredWrite};
 use node_names::Dice;
+use protocol::StimulusOf;
 use std::alloc::Allocator;
 use std::mem;
 use std::sync::Wait;
 use std::thread::Threads;
-use world::StimulusOf;
 
 /// What makes the connections of one link.
 pub trait Dialler {

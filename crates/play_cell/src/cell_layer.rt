@@ -8,9 +8,9 @@ use play_script::frame_words::stimulus;
 use play_script::layer::{Layer, Outcome, Turn};
 use play_script::lists::{push_payload, yes_or_no};
 use play_script::words::{after, name, names, number_of, origin};
+use protocol::{Core, CoreError, Out, Stimulus, are_peers};
 use std::alloc::{AllocError, Allocator};
 use std::fmt::Write;
-use world::{Core, CoreError, Out, Stimulus, are_peers};
 
 /// A node of Plumtree with its links.
 pub(crate) type Cell<A> = NodeCell<PlumCore<A>, A>;

@@ -4,9 +4,9 @@ use frames::decode;
 use node_threads::{Applied, Outlet};
 use play_script::bodies::push_body;
 use play_script::lists::{push_ids, push_names};
+use protocol::Core;
 use std::alloc::{AllocError, Allocator};
 use std::fmt::Write;
-use world::Core;
 
 /// Appends what a step answered: its place, the message that it broadcast, and the links that had no room or are
 /// missing.

@@ -2,7 +2,7 @@
 ghost use Rattle.std.specs.Prelude.{◌≡◌, true};
 ghost use Rattle.std.specs.List.{IsDistinct};
 ghost use Rattle.node_names.specs.Same.{same_name};
-ghost use Rattle.world.specs.Peers.{are_distinct};
+ghost use Rattle.protocol.specs.Peers.{are_distinct};
 
 use node_names::{NodeName, has_name};
 

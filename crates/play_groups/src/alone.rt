@@ -5,9 +5,10 @@ use crate::texts::{push_core, push_known, push_out};
 use node_names::MsgId;
 use play_script::layer::{Outcome, Turn};
 use play_script::words::{id, name, payload};
+use protocol::{Core, CoreError, Out, Prepared, Stimulus, StimulusOf, Wire};
 use std::alloc::{AllocError, Allocator};
 use std::fmt::Write;
-use world::{Core, CoreError, Out, Prepared, Stimulus, StimulusOf, Wire, World};
+use world::World;
 
 /// A core, and what its steps gave.
 #[derive(Drop)]

@@ -1,13 +1,15 @@
 //! The cores whose groups are played, and what the commands need of a core besides its contract.
 use at_rest::{SettleError, settle};
+use flood::{FloodCore, FloodNote};
 use frames::Frame;
 use node_core::PlumCore;
 use node_names::{Limits, NodeName, Origin};
 use play_script::bodies::push_body;
 use play_script::lists::push_payload;
+use protocol::{Core, CoreError, Out, are_peers};
 use std::alloc::{AllocError, Allocator};
 use std::fmt::Write;
-use world::{Core, CoreError, FloodCore, FloodNote, Out, World, are_peers};
+use world::World;
 
 /// The start of a core outside a group.
 #[derive(Clone, Copy)]

@@ -8,14 +8,16 @@ use crate::events::{event_of, events_of, peers_and_contact};
 use crate::readers::read;
 use crate::rest::{ask, settle_group};
 use crate::texts::{push_deliveries, push_delivery, push_group, push_log, push_out, push_packets};
+use flood::FloodCore;
 use node_core::PlumCore;
 use node_names::{Limits, MsgId};
 use play_script::layer::{Layer, Outcome, Turn, fill};
 use play_script::limits::{limits_of, push_limits};
 use play_script::words::{after, id, name, names, number_of, origin};
+use protocol::{Core, Out};
 use std::alloc::{AllocError, Allocator, Global};
 use std::fmt::Write;
-use world::{Core, FloodCore, Given, Out, RunFault, World, WorldError};
+use world::{Given, RunFault, World, WorldError};
 
 /// Groups of flooding nodes.
 pub type FloodLayer<A> = GroupLayer<FloodCore<A>, A>;

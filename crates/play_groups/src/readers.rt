@@ -6,8 +6,9 @@ use node_names::MsgId;
 use play_script::layer::Outcome;
 use play_script::lists::push_names;
 use play_script::words::{id, name};
+use protocol::Core;
 use std::alloc::{AllocError, Allocator};
-use world::{Core, World};
+use world::World;
 
 /// Appends which nodes know a message: `known a/1/1`.
 fn push_knowing<C: Core<A>, A: Allocator + Copy>(

@@ -9,9 +9,10 @@ use node_names::MsgId;
 use play_script::layer::{Outcome, Turn};
 use play_script::lists::{push_names, yes_or_no};
 use play_script::words::{id, name};
+use protocol::Core;
 use std::alloc::{AllocError, Allocator};
 use std::fmt::Write;
-use world::{Core, World};
+use world::World;
 
 /// Appends a tree: its message, and a line for each branch.
 fn push_tree(text: &mut String, id: &MsgId, branches: &[Branch]) -> Result<(), AllocError> {

@@ -4,9 +4,10 @@ use crate::events::push_event;
 use at_rest::is_at_rest;
 use node_names::{MsgId, NodeName};
 use play_script::lists::{push_ids, push_names, push_payload};
+use protocol::{Core, Delivery, Out};
 use std::alloc::{AllocError, Allocator};
 use std::fmt::Write;
-use world::{Core, Delivery, Entry, NodeState, Out, Packet, World};
+use world::{Entry, NodeState, Packet, World};
 
 /// Appends names behind a heading, if there are any.
 fn push_name_part(text: &mut String, heading: &str, names: &[NodeName]) -> Result<(), AllocError> {

@@ -5,8 +5,8 @@ ghost use Rattle.views.specs.Views.{ArePeers};
 use node_names::{Limits, NodeName};
 use play_script::limits::limits_of;
 use play_script::words::{after, name, names};
+use protocol::are_peers;
 use std::alloc::{AllocError, Allocator};
-use world::are_peers;
 
 /// The name of a node, its limits, and the peers that it starts with.
 #[derive(Drop)]

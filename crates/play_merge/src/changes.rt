@@ -6,8 +6,8 @@ use play_groups::events::{peers_and_contact, place};
 use play_script::frame_words::{body, stimulus};
 use play_script::layer::Outcome;
 use play_script::words::{name, names, number};
+use protocol::{Out, Step, Stimulus, StimulusOf, Trace, Wire, copy_deliveries};
 use std::alloc::{AllocError, Allocator};
-use world::{Out, Step, Stimulus, StimulusOf, Trace, Wire, copy_deliveries};
 
 /// A step of a Plumtree node.
 type PlumStep<A> = Step<Frame<A>, A>;

@@ -8,10 +8,11 @@ use play_groups::texts::{push_deliveries, push_flight};
 use play_script::bodies::push_body;
 use play_script::layer::Outcome;
 use play_script::lists::push_payload;
+use protocol::{Out, Step, Stimulus, StimulusOf, Trace};
 use std::alloc::{AllocError, Allocator, Global};
 use std::fmt::Write;
 use trace_merge::{MergeFault, project};
-use world::{Event, Out, Step, Stimulus, StimulusOf, Trace, World};
+use world::{Event, World};
 
 /// A group of Plumtree nodes.
 pub(crate) type Group<A> = World<PlumCore<A>, A>;

@@ -2,8 +2,8 @@
 use crate::words::{entries, id, name, names, number, origin, payload, short};
 use frames::{Body, BodyOf, Frame};
 use node_names::{Dice, Listed, NodeName};
+use protocol::{Stimulus, StimulusOf};
 use std::alloc::{AllocError, Allocator};
-use world::{Stimulus, StimulusOf};
 
 fn gossip<A: Allocator + Copy>(
     alloc: A,

@@ -8,9 +8,9 @@ use play_script::frame_words::body;
 use play_script::hexes::bytes_of;
 use play_script::layer::{Layer, Outcome, Turn};
 use play_script::words::{id, number, origin, short};
+use protocol::Wire;
 use std::alloc::{AllocError, Allocator, Global};
 use std::fmt::Write;
-use world::Wire;
 
 /// The frame that was made last, until it is taken apart.
 #[derive(Drop)]

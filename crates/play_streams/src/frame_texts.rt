@@ -5,9 +5,9 @@ use play_script::bodies::push_body;
 use play_script::hexes::push_hex;
 use play_script::layer::Turn;
 use play_script::lists::push_payload;
+use protocol::Wire;
 use std::alloc::{AllocError, Allocator};
 use std::fmt::Write;
-use world::Wire;
 
 /// Appends a frame: its sender, its number and its body, as `a/1#2 PRUNE`.
 pub(crate) fn push_frame<A: Allocator>(

@@ -2,10 +2,10 @@
 use node_names::NodeName;
 use play_script::hexes::push_hex;
 use play_script::lists::push_names;
+use protocol::Core;
 use std::alloc::{AllocError, Allocator};
 use std::fmt::Write;
 use wire_node::{Recorded, WireNode};
-use world::Core;
 
 /// A node of bytes that keeps its steps.
 pub(crate) type Node<A> = WireNode<A, Recorded<A>>;

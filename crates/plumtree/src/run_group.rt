@@ -5,6 +5,7 @@ use frames::Frame;
 use loopback::{Machine, Member, Plan, RunError, RunReport, Watch};
 use node_core::PlumCore;
 use node_names::{Limits, MsgId};
+use protocol::{Delivery, Trace};
 use record_merge::RecordedGroup;
 use simulation::{
     Form, OutputError, ScenarioError, Stop, broadcasts, deliveries, read_document, shown, sort,
@@ -13,7 +14,7 @@ use simulation::{
 use std::alloc::{AllocError, Global};
 use std::io::Write;
 use trace_merge::{MergeFault, merge};
-use world::{Delivery, Event, Trace, World, WorldError};
+use world::{Event, World, WorldError};
 
 /// The room for a line: the longest payload in hexadecimal, and what comes before it.
 const LINE_ROOM: usize = 66_000;

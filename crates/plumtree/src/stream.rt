@@ -3,13 +3,13 @@ use crate::merge::folders_of;
 use crate::run_group::{references, write_verdict};
 use clap::ArgMatches;
 use merge_command::{DeliverySink, RecordsError, SinkError, follow_records};
+use protocol::Delivery;
 use simulation::{OutputError, write_lines};
 use std::alloc::{AllocError, Global};
 use std::fs::File;
 use std::io::Write;
 use std::rt::Files;
 use trace_merge::MergeFault;
-use world::Delivery;
 
 /// How many deliveries wait at most until they are written.
 const ROOM: usize = 256;

@@ -3,8 +3,8 @@ use Rattle.std.proofs.Common.{◌≡◌, ◌<◌, ◌+◌, ℕ, List, [], ◌∷
 use Rattle.std.specs.Prelude.{get_or}
 use Rattle.std.proofs.lemmas.List.{map-append, take_more}
 use Rattle.node_names.specs.declared.ids.MsgId.{MsgId}
-use Rattle.world.specs.declared.stimulus.StimulusOf.TheVariants.{Fire}
-use Rattle.world.specs.Stimulus.{Stimulus}
+use Rattle.protocol.specs.declared.stimulus.StimulusOf.TheVariants.{Fire}
+use Rattle.protocol.specs.Stimulus.{Stimulus}
 use Rattle.frames.specs.Frame.{Frame}
 use Rattle.plumtree_c.specs.State.{NodeState, Steps, Runs}
 

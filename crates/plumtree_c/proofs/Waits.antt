@@ -4,7 +4,7 @@ use Rattle.std.proofs.lemmas.List.{append-nil, length-drop, nil_from_length}
 use Rattle.std.specs.Prelude.{IfNone, None, Option, Some}
 use Rattle.node_names.specs.NodeName.{Name}
 use Rattle.node_names.specs.declared.ids.MsgId.{MsgId}
-use Rattle.world.specs.Delivery.{Delivery}
+use Rattle.protocol.specs.Delivery.{Delivery}
 use Rattle.neighborhood.specs.declared.news.News.{News}
 use Rattle.wire_node.specs.Node.{NodeState}
 use Rattle.plumtree_c.specs.State.{Gives}

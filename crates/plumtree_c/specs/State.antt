@@ -5,10 +5,10 @@ use Rattle.node_names.specs.Limits.{Limits}
 use Rattle.node_names.specs.declared.dice.Dice.{Dice}
 use Rattle.node_names.specs.declared.ids.MsgId.{MsgId}
 use Rattle.node_names.specs.declared.ids.Origin.{Origin}
-use Rattle.world.specs.Delivery.{Delivery}
-use Rattle.world.specs.Output.{Output, Stepped}
-use Rattle.world.specs.Stimulus.{Stimulus}
-use Rattle.world.specs.declared.stimulus.StimulusOf.TheVariants.{Arrive, Broadcast, Fire, Flush, Shuffle}
+use Rattle.protocol.specs.Delivery.{Delivery}
+use Rattle.protocol.specs.Output.{Output, Stepped}
+use Rattle.protocol.specs.Stimulus.{Stimulus}
+use Rattle.protocol.specs.declared.stimulus.StimulusOf.TheVariants.{Arrive, Broadcast, Fire, Flush, Shuffle}
 use Rattle.frames.specs.Frame.{Frame}
 use Rattle.frames.specs.Grammar.{IsSpelling}
 use Rattle.node_core.specs.Plum.{Plum, plum_state}

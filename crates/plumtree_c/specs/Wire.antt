@@ -8,8 +8,8 @@ use Rattle.node_names.specs.Same.{same_name}
 use Rattle.node_names.specs.declared.dice.Dice.{Dice}
 use Rattle.node_names.specs.declared.ids.MsgId.{MsgId}
 use Rattle.node_names.specs.declared.ids.Origin.{Origin}
-use Rattle.world.specs.Delivery.{Delivery}
-use Rattle.world.specs.declared.stimulus.StimulusOf.TheVariants.{Join}
+use Rattle.protocol.specs.Delivery.{Delivery}
+use Rattle.protocol.specs.declared.stimulus.StimulusOf.TheVariants.{Join}
 use Rattle.wire_node.specs.Moving.{Broadcasts, GoesAway, Moves}
 use Rattle.wire_node.specs.Node.{Closes, Hears, NodeState, Starts}
 use Rattle.wire_node.specs.Receiving.{IsPartial}

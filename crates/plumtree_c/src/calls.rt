@@ -1,6 +1,6 @@
 //! The calls that make a node step.
 ghost use Rattle.std.specs.Prelude.{◌≡◌};
-ghost use Rattle.world.specs.declared.stimulus.StimulusOf.TheVariants as stimulus;
+ghost use Rattle.protocol.specs.declared.stimulus.StimulusOf.TheVariants as stimulus;
 ghost use Rattle.plumtree_c.specs.Answers.{IsDone};
 ghost use Rattle.plumtree_c.specs.Plain.{dice_of, id_of};
 ghost use Rattle.plumtree_c.specs.Slots.{Both};

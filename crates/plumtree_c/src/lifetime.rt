@@ -13,10 +13,10 @@ use crate::refusal::{DONE, NONE, Refusal};
 use crate::slot::Slot;
 use crate::wire::Wire;
 use node_names::{Incarnation, Limits, Listed, NodeName, Origin};
+use protocol::are_peers;
 use std::alloc::Global;
 use std::boxed::Box;
 use wire_node::WireLimits;
-use world::are_peers;
 
 /// Reads names.
 fn read_names(alloc: Global, names: &[Name]) -> Result<Listed<NodeName>, Refusal>

@@ -1,11 +1,11 @@
 //! A node: its core, and what it sends and delivers, until the caller takes that.
 ghost use Rattle.std.specs.Prelude.{◌≡◌, ◌≢◌, ◌+◌, ◌++◌, ◌%◌, List, [], ◌∷◌, length, map, slice_get, take, IfOk, IfSome, IfNone, IsTrue, OnOk, OnErr};
 ghost use Rattle.node_core.specs.Plum.{plum_state};
-ghost use Rattle.world.specs.Delivery.{Delivery};
-ghost use Rattle.world.specs.Peers.{are_peers};
+ghost use Rattle.protocol.specs.Delivery.{Delivery};
+ghost use Rattle.protocol.specs.Peers.{are_peers};
 ghost use Rattle.plumtree_c.specs.Plain.{id_of, name_of};
 ghost use Rattle.plumtree_c.specs.State.{AreCounts, Given, Hears, Runs, Sent, Starts, Steps, Ticks};
-ghost use Rattle.world.specs.declared.stimulus.StimulusOf.TheVariants as stimulus;
+ghost use Rattle.protocol.specs.declared.stimulus.StimulusOf.TheVariants as stimulus;
 
 use crate::plain::{Counts, Id, Name};
 use crate::refusal::Refusal;
@@ -14,9 +14,9 @@ use bytes::Bytes;
 use frames::{Frame, FrameFault, decode, encode};
 use node_core::{PlumCore, armed_at, armed_ids};
 use node_names::{Dice, Limits, MsgId, NodeName, Origin};
+use protocol::{Core, CoreError, MAX_PAYLOAD, Out, Stimulus, StimulusOf};
 use std::alloc::Global;
 use std::marker::Model;
-use world::{Core, CoreError, MAX_PAYLOAD, Out, Stimulus, StimulusOf};
 
 /// At every tenth tick the node shuffles its passive view.
 const SHUFFLE_EVERY: u64 = 10;

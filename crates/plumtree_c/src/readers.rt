@@ -16,8 +16,8 @@ use crate::wire::Wire;
 use node_core::armed_at;
 use node_names::MsgId;
 use peer_sets::PeerKind;
+use protocol::Core;
 use std::alloc::Global;
-use world::Core;
 
 /// The answer of a call that has put `length` names into a room.
 fn fits(room: &[Name], length: usize) -> i32 {

@@ -3,9 +3,9 @@ ghost use Rattle.plumtree_c.specs.Answers.{IsRefusal};
 
 use frames::FrameFault;
 use node_names::{LimitsFault, NameFault};
+use protocol::CoreError;
 use std::alloc::AllocError;
 use wire_node::WireError;
-use world::CoreError;
 
 /// The call was made.
 pub(crate) const DONE: i32 = 1;

@@ -9,9 +9,9 @@ use crate::plain::{Id, Name, PlainNews};
 use crate::refusal::Refusal;
 use node_names::{Listed, NodeName};
 use peer_sets::{Member, PeerKind};
+use protocol::Delivery;
 use std::mem;
 use wire_node::News;
-use world::Delivery;
 
 /// Puts the bytes at the front of the room, or answers `false` if they are too many.
 pub(crate) fn put(room: &mut [u8], bytes: &[u8]) -> bool

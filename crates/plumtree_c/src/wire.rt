@@ -13,10 +13,10 @@ use crate::stirred::Stirred;
 use bytes::Bytes;
 use node_core::PlumCore;
 use node_names::{Dice, Listed, NodeName, Origin};
+use protocol::{Core, Delivery, MAX_PAYLOAD};
 use std::alloc::Global;
 use std::marker::Model;
 use wire_node::{ConnectionId, News, Unrecorded, WireError, WireLimits, WireNode};
-use world::{Core, Delivery, MAX_PAYLOAD};
 
 /// A node of bytes, with what it gave and its caller has not got yet.
 #[derive(Drop)]

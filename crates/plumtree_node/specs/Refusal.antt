@@ -3,7 +3,7 @@ use Rattle.std.specs.Prelude.{◌≡◌, ◌<◌, ◌||◌, List, Option, IsTrue
 use Rattle.node_names.specs.NodeName.{Name}
 use Rattle.node_names.specs.Limits.{Limits}
 use Rattle.node_names.specs.Same.{has_name}
-use Rattle.world.specs.Peers.{are_distinct, is_contact}
+use Rattle.protocol.specs.Peers.{are_distinct, is_contact}
 use Rattle.plumtree_node.specs.declared.error.StartError.{StartError}
 use Rattle.plumtree_node.specs.declared.error.StartError.TheVariants as start
 

@@ -1,6 +1,6 @@
 //! What a node is started with.
 ghost use Rattle.std.specs.Prelude.{◌≡◌, false, true, IfErr, IsNone, IsSome, IsTrue, OnOk};
-ghost use Rattle.world.specs.Peers.{are_distinct, are_peers};
+ghost use Rattle.protocol.specs.Peers.{are_distinct, are_peers};
 ghost use Rattle.plumtree_node.specs.Refusal.{RefusesPeers};
 
 use crate::address::{Address, address_of};
@@ -9,10 +9,10 @@ use crate::error::StartError;
 use crate::list::keep;
 use crate::starting::{RING, STEPS};
 use node_names::{Incarnation, Limits, NodeName, Origin, has_name};
+use protocol::are_peers;
 use std::alloc::{AllocError, Global};
 use std::net::SocketAddr;
 use std::time::Duration;
-use world::are_peers;
 
 /// How long a tick takes, in milliseconds, if nothing else is said.
 const TICK: u64 = 100;

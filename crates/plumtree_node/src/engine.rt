@@ -18,12 +18,12 @@ use crate::ticks::Ticks;
 use neighborhood::News;
 use node_names::NodeName;
 use node_threads::{Handed, Host, NodeCore, Outlet, Port};
+use protocol::Delivery;
 use std::alloc::{AllocError, Global};
 use std::net::{Net, SocketAddr, TcpListener, TcpStream};
 use std::sync::{Arc, Wait};
 use std::thread::Threads;
 use std::time::Clock;
-use world::Delivery;
 
 /// What an engine's threads share, before any of them runs.
 #[derive(Drop)]

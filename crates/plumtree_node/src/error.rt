@@ -2,10 +2,10 @@
 use crate::shortage::Shortage;
 use node_names::NodeName;
 use node_threads::HostError;
+use protocol::CoreError;
 use std::alloc::{AllocError, AllocFailed};
 use std::net::SocketAddr;
 use thiserror::Error;
-use world::CoreError;
 
 /// Why a node was not started. Nothing of it is left then. The errors of the configuration come first, in this order.
 #[derive(Clone, Copy, Debug, PartialEq, Eq, Error)]

@@ -3,11 +3,11 @@ use crate::shortage::Shortage;
 use crate::shortages::Shortages;
 use neighborhood::News;
 use node_threads::Handed;
+use protocol::Delivery;
 use std::alloc::{AllocError, Global};
 use std::collections::VecDeque;
 use std::mem;
 use std::sync::{Arc, Condvar, Mutex, Wait};
-use world::Delivery;
 
 /// The deliveries that wait, and whether no more will come.
 #[derive(Drop)]

@@ -22,13 +22,13 @@ use neighborhood::News;
 use node_core::PlumCore;
 use node_names::{MsgId, NodeName};
 use node_threads::{NodeCore, Port};
+use protocol::Delivery;
 use std::alloc::{AllocError, Global};
 use std::mem;
 use std::net::{Net, SocketAddr, TcpListener, TcpStream};
 use std::sync::{Arc, Wait};
 use std::thread::Threads;
 use std::time::Clock;
-use world::Delivery;
 
 /// A node that runs by itself: it listens at its address, has links to the nodes whose addresses it was given, and
 /// collects what it delivers.

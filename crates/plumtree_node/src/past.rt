@@ -1,6 +1,6 @@
 //! What a node leaves that was stopped.
 use frames::Frame;
-use world::Trace;
+use protocol::Trace;
 
 /// What a node leaves that was stopped.
 #[derive(Drop)]

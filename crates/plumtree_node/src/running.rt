@@ -13,12 +13,12 @@ use node_threads::{
     CloseError, Closed, Handed, Host, HostError, NodeCore, OpenGate, Outlet, Port, Worker,
     hand_out, read_link, tick, write_link,
 };
+use protocol::Delivery;
 use std::alloc::{AllocError, Global};
 use std::net::{Net, TcpListener, TcpStream};
 use std::sync::Wait;
 use std::thread::Threads;
 use std::time::Clock;
-use world::Delivery;
 
 /// A node's host, and the workers that it employs.
 #[derive(Drop)]

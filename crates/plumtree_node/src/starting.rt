@@ -1,12 +1,12 @@
 //! The start of a node's core and its host.
 ghost use Rattle.std.specs.Prelude.{IsTrue};
-ghost use Rattle.world.specs.Peers.{are_peers};
+ghost use Rattle.protocol.specs.Peers.{are_peers};
 
 use node_core::PlumCore;
 use node_names::{Limits, NodeName, Origin};
 use node_threads::{Host, NodeCore, Outlet, Port};
+use protocol::{Core, Out};
 use std::alloc::{AllocError, Global};
-use world::{Core, Out};
 
 /// How many frames the ring of a link has room for, if nothing else is said.
 pub const RING: usize = 1_024;

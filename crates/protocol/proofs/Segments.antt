@@ -7,8 +7,8 @@ use Rattle.std.proofs.Math.Dec.{ltb}
 use Rattle.std.proofs.lemmas.Bool.{ltb-false, ltb-true}
 use Rattle.std.proofs.lemmas.List.{append-nil, get_or-take, take-append-le, length-append, length-take-le}
 use Rattle.std.proofs.Math.Seq.{drop-append_seam, take-append-add, take-nil}
-use Rattle.world.specs.Segments.{Abut, BeginBefore, Ends, Segment, joined}
-use Rattle.world.specs.Trace.{Step}
+use Rattle.protocol.specs.Segments.{Abut, BeginBefore, Ends, Segment, joined}
+use Rattle.protocol.specs.Trace.{Step}
 
 behind : {N : Type 0} (t : ℕ) (x : Segment N) (xs : List (Segment N)) (k : ℕ) → BeginBefore t (x ∷ xs) (suc k) → BeginBefore t xs k
 behind t x xs k c = record { bound = omega (arith, c.bound); before = λ i d l. c.before (suc i) d (omega arith); behind = λ i d l m. c.behind (suc i) d (omega arith) (omega arith) }

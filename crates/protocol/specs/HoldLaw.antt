@@ -3,14 +3,14 @@ use Rattle.std.specs.Prelude.{◌≡◌, ◌⊎◌, ◌↔◌, ◌<◌, ◌≤�
 use Rattle.std.specs.List.{AllByRecursion as Each}
 use Rattle.node_names.specs.NodeName.{Name}
 use Rattle.node_names.specs.declared.ids.MsgId.{MsgId}
-use Rattle.world.specs.Content.{Content}
-use Rattle.world.specs.CoreState.{CoreState}
-use Rattle.world.specs.Delivery.{Delivery}
-use Rattle.world.specs.DeliveryLaw.{ids}
-use Rattle.world.specs.Lists.{IsOneOf}
-use Rattle.world.specs.SpreadLaw.{is_carried, packets_carrying}
-use Rattle.world.specs.Stimulus.{Stimulus}
-use Rattle.world.specs.declared.stimulus.StimulusOf.TheVariants.{Broadcast, Arrive, Fire, Flush, Down, Shuffle, Join}
+use Rattle.protocol.specs.Content.{Content}
+use Rattle.protocol.specs.CoreState.{CoreState}
+use Rattle.protocol.specs.Delivery.{Delivery}
+use Rattle.protocol.specs.DeliveryLaw.{ids}
+use Rattle.protocol.specs.Lists.{IsOneOf}
+use Rattle.protocol.specs.SpreadLaw.{is_carried, packets_carrying}
+use Rattle.protocol.specs.Stimulus.{Stimulus}
+use Rattle.protocol.specs.declared.stimulus.StimulusOf.TheVariants.{Broadcast, Arrive, Fire, Flush, Down, Shuffle, Join}
 
 -- What a core has, it holds.
 abbrev pub HoldsWhatItHas : CoreState → Type 0

@@ -5,21 +5,21 @@ use Rattle.node_names.specs.NodeName.{Name}
 use Rattle.node_names.specs.Limits.{Limits}
 use Rattle.node_names.specs.declared.ids.MsgId.{MsgId}
 use Rattle.node_names.specs.declared.ids.Origin.{Origin}
-use Rattle.world.specs.AskLaw.{AskLaw}
-use Rattle.world.specs.Content.{Content}
-use Rattle.world.specs.CoreState.{CoreState}
-use Rattle.world.specs.Delivery.{Delivery}
-use Rattle.world.specs.DeliveryLaw.{DeliveryLaw, HasCountedIds, ids}
-use Rattle.world.specs.HoldLaw.{HoldLaw, HoldsWhatItHas, HoldsWhatItLists, KeepsLast}
-use Rattle.world.specs.IdentityLaw.{IdentityLaw}
-use Rattle.world.specs.PayloadLaw.{PayloadLaw}
-use Rattle.world.specs.Peers.{are_peers}
-use Rattle.world.specs.QueueLaw.{QueueLaw, SoundQueue}
-use Rattle.world.specs.SoundViews.{SoundViews}
-use Rattle.world.specs.SpreadLaw.{SpreadLaw}
-use Rattle.world.specs.Stimulus.{Stimulus, IsNotFrom}
-use Rattle.world.specs.ViewLaw.{ViewLaw}
-use Rattle.world.specs.WantLaw.{WantLaw, SoundWants}
+use Rattle.protocol.specs.AskLaw.{AskLaw}
+use Rattle.protocol.specs.Content.{Content}
+use Rattle.protocol.specs.CoreState.{CoreState}
+use Rattle.protocol.specs.Delivery.{Delivery}
+use Rattle.protocol.specs.DeliveryLaw.{DeliveryLaw, HasCountedIds, ids}
+use Rattle.protocol.specs.HoldLaw.{HoldLaw, HoldsWhatItHas, HoldsWhatItLists, KeepsLast}
+use Rattle.protocol.specs.IdentityLaw.{IdentityLaw}
+use Rattle.protocol.specs.PayloadLaw.{PayloadLaw}
+use Rattle.protocol.specs.Peers.{are_peers}
+use Rattle.protocol.specs.QueueLaw.{QueueLaw, SoundQueue}
+use Rattle.protocol.specs.SoundViews.{SoundViews}
+use Rattle.protocol.specs.SpreadLaw.{SpreadLaw}
+use Rattle.protocol.specs.Stimulus.{Stimulus, IsNotFrom}
+use Rattle.protocol.specs.ViewLaw.{ViewLaw}
+use Rattle.protocol.specs.WantLaw.{WantLaw, SoundWants}
 
 -- The packet carries nothing, announces nothing and asks for nothing.
 pub record IsSilent (content : Content) : Type 0 where

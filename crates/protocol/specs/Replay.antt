@@ -3,10 +3,10 @@ use Rattle.std.specs.Prelude.{◌≡◌, List, [], ◌∷◌, Option, IsTrue}
 use Rattle.node_names.specs.NodeName.{Name}
 use Rattle.node_names.specs.Limits.{Limits}
 use Rattle.node_names.specs.declared.ids.Origin.{Origin}
-use Rattle.world.specs.Delivery.{Delivery}
-use Rattle.world.specs.Peers.{are_peers}
-use Rattle.world.specs.Stimulus.{Stimulus}
-use Rattle.world.specs.Trace.{Step, Trace}
+use Rattle.protocol.specs.Delivery.{Delivery}
+use Rattle.protocol.specs.Peers.{are_peers}
+use Rattle.protocol.specs.Stimulus.{Stimulus}
+use Rattle.protocol.specs.Trace.{Step, Trace}
 
 -- The steps lead, one after the other, from the first core to the last.
 abbrev pub Leads : {C N : Type 0} → (C → Stimulus N → List (Name × N) → List Delivery → C → Type 0) → C → List (Step N) → C → Type 0

@@ -1,7 +1,7 @@
 -- The steps of a trace, part by part.
 use Rattle.std.specs.Prelude.{◌≡◌, ◌<◌, ◌≤◌, ◌+◌, ℕ, List, [], ◌∷◌, drop, get_or, length}
 use Rattle.std.specs.List.{flat_map}
-use Rattle.world.specs.Trace.{Step}
+use Rattle.protocol.specs.Trace.{Step}
 
 -- Steps of a trace, of which the first is at this place.
 pub record Segment (N : Type 0) : Type 0 where

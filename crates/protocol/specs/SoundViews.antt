@@ -2,7 +2,7 @@
 use Rattle.std.specs.Prelude.{◌≡◌, ◌≤◌, false, length}
 use Rattle.std.specs.List.{IsDistinct}
 use Rattle.node_names.specs.Limits.{Limits}
-use Rattle.world.specs.CoreState.{CoreState}
+use Rattle.protocol.specs.CoreState.{CoreState}
 use Rattle.node_names.specs.Same.{same_name, has_name}
 
 -- Each view is within its bound, names no node twice, and does not name its owner.

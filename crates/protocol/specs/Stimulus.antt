@@ -2,8 +2,8 @@
 use denote.Ref.{Bor}
 use Rattle.std.specs.Prelude.{◌≢◌, ℕ, List}
 use Rattle.node_names.specs.NodeName.{Name}
-use Rattle.world.specs.declared.stimulus.StimulusOf.{StimulusOf}
-use Rattle.world.specs.declared.stimulus.StimulusOf.TheVariants.{Broadcast, Arrive, Fire, Flush, Down, Shuffle, Join}
+use Rattle.protocol.specs.declared.stimulus.StimulusOf.{StimulusOf}
+use Rattle.protocol.specs.declared.stimulus.StimulusOf.TheVariants.{Broadcast, Arrive, Fire, Flush, Down, Shuffle, Join}
 
 -- A stimulus whose packet is of the type N.
 abbrev pub Stimulus : Type 0 → Type 0

@@ -3,9 +3,9 @@ use Rattle.std.specs.Prelude.{List, Option}
 use Rattle.std.specs.List.{flat_map}
 use Rattle.node_names.specs.NodeName.{Name}
 use Rattle.node_names.specs.declared.ids.Origin.{Origin}
-use Rattle.world.specs.Delivery.{Delivery}
-use Rattle.world.specs.Output.{Output}
-use Rattle.world.specs.Stimulus.{Stimulus}
+use Rattle.protocol.specs.Delivery.{Delivery}
+use Rattle.protocol.specs.Output.{Output}
+use Rattle.protocol.specs.Stimulus.{Stimulus}
 
 -- What made the core step, and what it then sent and delivered.
 pub record Step (N : Type 0) : Type 0 where

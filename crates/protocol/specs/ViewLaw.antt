@@ -2,7 +2,7 @@
 use Rattle.std.specs.Prelude.{◌≢◌, List}
 use Rattle.std.specs.List.{AllByRecursion as Each}
 use Rattle.node_names.specs.NodeName.{Name}
-use Rattle.world.specs.CoreState.{CoreState}
+use Rattle.protocol.specs.CoreState.{CoreState}
 
 -- No packet goes to the name of its sender.
 abbrev pub ViewLaw : {N : Type 0} → CoreState → List (Name × N) → Type 0

@@ -19,7 +19,7 @@ pub struct Delivery<A: Allocator = Global> {
 
 impl<A: Allocator> Model for Delivery<A> {
     ghost use Rattle.std.specs.Prelude.{refl};
-    ghost use Rattle.world.specs.Delivery.{Delivery};
+    ghost use Rattle.protocol.specs.Delivery.{Delivery};
 
     ghost Value = { Delivery };
 

@@ -1,6 +1,6 @@
 //! The check of the peers and the contact that a node starts with.
 ghost use Rattle.std.specs.Prelude.{◌≡◌, length};
-ghost use Rattle.world.specs.Peers.{are_distinct, are_peers, is_contact};
+ghost use Rattle.protocol.specs.Peers.{are_distinct, are_peers, is_contact};
 
 use node_names::{Limits, NodeName, has_name};
 

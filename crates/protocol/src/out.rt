@@ -17,7 +17,7 @@ pub struct Out<N: Drop, A: Allocator = Global> {
 
 impl<N: Drop, A: Allocator> Model for Out<N, A> {
     ghost use Rattle.std.specs.Prelude.{refl};
-    ghost use Rattle.world.specs.Output.{Output};
+    ghost use Rattle.protocol.specs.Output.{Output};
 
     ghost Value = { Output N };
 
@@ -41,7 +41,7 @@ impl<N: Drop, A: Allocator + Copy> Out<N, A> {
     }
 
     /// Appends packets and one delivery. If an allocation is refused, nothing changes.
-    pub(crate) fn extend(
+    pub fn extend(
         &mut self,
         sends: Vec<(NodeName, N), A>,
         delivery: Delivery<A>,

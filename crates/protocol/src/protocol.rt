@@ -5,15 +5,15 @@ ghost use Rattle.node_names.specs.Limits.{Limits};
 ghost use Rattle.node_names.specs.Same.{has_id};
 ghost use Rattle.node_names.specs.Slots.{somes};
 ghost use Rattle.node_names.specs.declared.ids.Origin.{Origin};
-ghost use Rattle.world.specs.CoreState.{CoreState};
-ghost use Rattle.world.specs.Delivery.{Delivery};
-ghost use Rattle.world.specs.IdentityLaw.{IsOutOfNumbers, IsTooLong};
-ghost use Rattle.world.specs.Laws.{Laws};
-ghost use Rattle.world.specs.OneDelivery.{OneDelivery};
-ghost use Rattle.world.specs.Output.{Stepped};
-ghost use Rattle.world.specs.Peers.{are_peers};
-ghost use Rattle.world.specs.Run.{SameNames};
-ghost use Rattle.world.specs.Stimulus.{Stimulus, lent};
+ghost use Rattle.protocol.specs.CoreState.{CoreState};
+ghost use Rattle.protocol.specs.Delivery.{Delivery};
+ghost use Rattle.protocol.specs.IdentityLaw.{IsOutOfNumbers, IsTooLong};
+ghost use Rattle.protocol.specs.Laws.{Laws};
+ghost use Rattle.protocol.specs.OneDelivery.{OneDelivery};
+ghost use Rattle.protocol.specs.Output.{Stepped};
+ghost use Rattle.protocol.specs.Peers.{are_peers};
+ghost use Rattle.protocol.specs.SameNames.{SameNames};
+ghost use Rattle.protocol.specs.Stimulus.{Stimulus, lent};
 
 use crate::out::Out;
 use crate::stimulus::{Stimulus, StimulusRef};
@@ -37,7 +37,7 @@ pub enum CoreError {
 
 impl fmt::Display for CoreError {
     ghost use Rattle.std.specs.Prelude.{Some};
-    ghost use Rattle.world.specs.ErrorText.{core_error_text};
+    ghost use Rattle.protocol.specs.ErrorText.{core_error_text};
 
     ghost output = { λ e. Some (core_error_text e) };
 
@@ -54,7 +54,7 @@ impl Error for CoreError {}
 
 impl From<AllocError> for CoreError {
     ghost use Rattle.std.specs.Prelude.{◌≡◌};
-    ghost use Rattle.world.specs.declared.protocol.CoreError.TheVariants.{OutOfMemory};
+    ghost use Rattle.protocol.specs.declared.protocol.CoreError.TheVariants.{OutOfMemory};
 
     ghost from_gives = { λ _ e. e ≡ OutOfMemory };
 

@@ -20,7 +20,7 @@ pub struct Segment<N: Drop, A: Allocator = Global> {
 
 impl<N: Drop, A: Allocator> Model for Segment<N, A> {
     ghost use Rattle.std.specs.Prelude.{refl};
-    ghost use Rattle.world.specs.Segments.{Segment};
+    ghost use Rattle.protocol.specs.Segments.{Segment};
 
     ghost Value = { Segment N };
 
@@ -42,7 +42,7 @@ pub(crate) struct Part<N: Drop, A: Allocator> {
 impl<N: Drop, A: Allocator> Model for Part<N, A> {
     ghost use Rattle.std.specs.Prelude.{◌≤◌, length, take};
     ghost use Rattle.std.specs.Arc.{arc_value};
-    ghost use Rattle.world.specs.Segments.{Segment};
+    ghost use Rattle.protocol.specs.Segments.{Segment};
 
     ghost Value = { Segment N };
 

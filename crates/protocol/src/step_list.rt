@@ -2,7 +2,7 @@
 ghost use Rattle.std.specs.Prelude.{◌≡◌, ◌<◌, ◌≤◌, ◌^◌, [], ◌∷◌, ◌++◌, length, drop, take, option_copied, vec_len, vec_capacity, OnOk, OnErr, IfOk};
 ghost use Rattle.std.specs.List.{slice_get};
 ghost use Rattle.std.specs.Arc.{arc_value};
-ghost use Rattle.world.specs.Segments.{Abut, BeginBefore, Ends, joined};
+ghost use Rattle.protocol.specs.Segments.{Abut, BeginBefore, Ends, joined};
 
 use crate::segment::{Part, Segment};
 use crate::trace::Step;
@@ -22,8 +22,8 @@ pub(crate) struct StepList<N: Drop, A: Allocator> {
 
 impl<N: Drop, A: Allocator> Model for StepList<N, A> {
     ghost use Rattle.std.specs.Prelude.{List, ◌++◌, ◌<◌, ◌^◌, length};
-    ghost use Rattle.world.specs.Segments.{Abut, joined};
-    ghost use Rattle.world.specs.Trace.{Step};
+    ghost use Rattle.protocol.specs.Segments.{Abut, joined};
+    ghost use Rattle.protocol.specs.Trace.{Step};
 
     ghost Value = { List (Step N) };
 

@@ -1,6 +1,6 @@
 //! The stimuli that make a core step.
 ghost use Rattle.std.specs.Prelude.{◌≡◌};
-ghost use Rattle.world.specs.Stimulus.{lent};
+ghost use Rattle.protocol.specs.Stimulus.{lent};
 
 use bytes::Bytes;
 use node_names::{Dice, MsgId, NodeName, Origin};

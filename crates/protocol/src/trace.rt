@@ -2,7 +2,7 @@
 ghost use Rattle.std.specs.Prelude.{◌≡◌, ◌≤◌, [], ◌∷◌, ◌++◌, ◌↔◌, length, drop, take, IfOk, IsTrue, OnOk, OnErr, option_copied};
 ghost use Rattle.std.specs.List.{slice_get};
 ghost use Rattle.std.specs.Arc.{arc_value};
-ghost use Rattle.world.specs.Segments.{Ends};
+ghost use Rattle.protocol.specs.Segments.{Ends};
 
 use crate::out::Out;
 use crate::segment::Segment;
@@ -24,7 +24,7 @@ pub struct Step<N: Drop, A: Allocator = Global> {
 
 impl<N: Drop, A: Allocator> Model for Step<N, A> {
     ghost use Rattle.std.specs.Prelude.{refl};
-    ghost use Rattle.world.specs.Trace.{Step};
+    ghost use Rattle.protocol.specs.Trace.{Step};
 
     ghost Value = { Step N };
 
@@ -48,7 +48,7 @@ pub struct Trace<N: Drop, A: Allocator = Global> {
 }
 
 impl<N: Drop, A: Allocator> Model for Trace<N, A> {
-    ghost use Rattle.world.specs.Trace.{Trace};
+    ghost use Rattle.protocol.specs.Trace.{Trace};
 
     ghost Value = { Trace N };
 

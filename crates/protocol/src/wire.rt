@@ -1,6 +1,6 @@
 //! The content of a packet, as its receiver reads it.
 ghost use Rattle.std.specs.Prelude.{◌≡◌, IfOk, option_map};
-ghost use Rattle.world.specs.Content.{Content};
+ghost use Rattle.protocol.specs.Content.{Content};
 
 use bytes::Bytes;
 use node_names::MsgId;

@@ -4,12 +4,12 @@ use Rattle.std.specs.Prelude.{IsTrue, Option}
 use Rattle.node_names.specs.NodeName.{Name}
 use Rattle.node_names.specs.Limits.{Limits}
 use Rattle.node_names.specs.declared.ids.Origin.{Origin}
-use Rattle.world.specs.Delivery.{Delivery}
-use Rattle.world.specs.Output.{Output, Stepped}
-use Rattle.world.specs.Peers.{are_peers}
-use Rattle.world.specs.Replay.{Leads, Replays}
-use Rattle.world.specs.Stimulus.{Stimulus}
-use Rattle.world.specs.Trace.{Step, Trace}
+use Rattle.protocol.specs.Delivery.{Delivery}
+use Rattle.protocol.specs.Output.{Output, Stepped}
+use Rattle.protocol.specs.Peers.{are_peers}
+use Rattle.protocol.specs.Replay.{Leads, Replays}
+use Rattle.protocol.specs.Stimulus.{Stimulus}
+use Rattle.protocol.specs.Trace.{Step, Trace}
 
 module _ {C N : Type 0} (starts : Origin → Limits → List Name → Option Name → List (Name × N) → C → Type 0) (steps : C → Stimulus N → List (Name × N) → List Delivery → C → Type 0) where
   -- one step more

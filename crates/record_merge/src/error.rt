@@ -1,9 +1,9 @@
 //! Why a record is not replayed, and why runs make no group.
 use node_names::Origin;
+use protocol::CoreError;
 use std::alloc::AllocError;
 use step_records::RecordError;
 use thiserror::Error;
-use world::CoreError;
 
 /// The reason why a record is not replayed.
 #[derive(Clone, Copy, Debug, PartialEq, Eq, Error)]

@@ -6,9 +6,10 @@ use crate::error::GroupError;
 use crate::replayed::Replayed;
 use frames::Frame;
 use node_names::{Limits, NodeName, Origin};
+use protocol::{Delivery, Trace};
 use std::alloc::{AllocError, Global};
 use trace_merge::{MergeFault, merge};
-use world::{Delivery, Event, Trace};
+use world::Event;
 
 /// The runs of the nodes of one cluster, all of the same limits.
 #[derive(Drop)]

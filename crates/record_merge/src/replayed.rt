@@ -1,6 +1,6 @@
 //! From a record to the trace of its run.
 ghost use Rattle.std.specs.Prelude.{IfOk};
-ghost use Rattle.world.specs.Replay.{Replays};
+ghost use Rattle.protocol.specs.Replay.{Replays};
 ghost use Rattle.node_core.specs.Plum.{Plum};
 ghost use Rattle.node_core.specs.Steps.{PlumStarts, PlumSteps};
 
@@ -9,9 +9,9 @@ use crate::error::ReplayError;
 use crate::steps::run_of;
 use frames::Frame;
 use node_core::PlumCore;
+use protocol::Trace;
 use std::alloc::Global;
 use step_records::{Entry, Head};
-use world::Trace;
 
 /// A run of a node that was replayed from its record.
 #[derive(Drop)]

@@ -3,14 +3,14 @@
 //! Only a call names the core's type, so that the prover follows a core by its trait alone.
 ghost use Rattle.std.specs.Prelude.{IfOk, OnOk};
 ghost use Rattle.node_names.specs.Limits.{Limits as Sizes};
-ghost use Rattle.world.specs.Replay.{Replays};
+ghost use Rattle.protocol.specs.Replay.{Replays};
 
 use crate::entries::Entries;
 use crate::error::ReplayError;
 use frames::Frame;
+use protocol::{Core, CoreError, Out, Step, Stimulus, Trace};
 use std::alloc::Global;
 use step_records::{Entry, Head};
-use world::{Core, CoreError, Out, Step, Stimulus, Trace};
 
 /// The error of the core at this entry.
 fn refused(entry: u64, error: CoreError) -> ReplayError {

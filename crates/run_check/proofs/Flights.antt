@@ -4,10 +4,10 @@ use Rattle.std.specs.Prelude.{Some, remove, slice_get}
 use Rattle.std.proofs.lemmas.List.{length-map}
 use Rattle.node_names.specs.NodeName.{Name}
 use Rattle.node_names.specs.declared.ids.Origin.{Origin}
+use Rattle.protocol.specs.Lists.{IsOneOf, places}
+use Rattle.protocol.proofs.Segments.{get_left, get_right}
 use Rattle.world.specs.Group.{packets}
-use Rattle.world.specs.Lists.{IsOneOf, places}
 use Rattle.world.specs.declared.packet.Packet.{Packet}
-use Rattle.world.proofs.Segments.{get_left, get_right}
 use Rattle.world.proofs.PlanLemmas.{found_within}
 
 -- one of the first list or of the second is one of both

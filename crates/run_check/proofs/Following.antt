@@ -8,21 +8,21 @@ use Rattle.node_names.specs.Limits.{Limits}
 use Rattle.node_names.specs.Same.{same_name, same_name-Decides}
 use Rattle.node_names.specs.declared.dice.Dice.{Dice}
 use Rattle.node_names.specs.declared.ids.Origin.{Origin}
-use Rattle.world.specs.CoreState.{CoreState}
-use Rattle.world.specs.Delivery.{Delivery}
+use Rattle.protocol.specs.CoreState.{CoreState}
+use Rattle.protocol.specs.Delivery.{Delivery}
+use Rattle.protocol.specs.Lists.{IsOneOf, places}
+use Rattle.protocol.specs.Output.{Output}
+use Rattle.protocol.specs.Peers.{are_peers}
+use Rattle.protocol.specs.Stimulus.{Stimulus}
+use Rattle.protocol.specs.declared.stimulus.StimulusOf.TheVariants as stimulus
 use Rattle.world.specs.Entry.{Entry}
 use Rattle.world.specs.Event.{Event}
 use Rattle.world.specs.Group.{Group, node_of, origin_of, packets, put_node}
-use Rattle.world.specs.Lists.{IsOneOf, places}
-use Rattle.world.specs.Output.{Output}
-use Rattle.world.specs.Peers.{are_peers}
 use Rattle.world.specs.Plan.{arrival, stimulus_by}
 use Rattle.world.specs.Run.{Acts, Effect, Happens}
-use Rattle.world.specs.Stimulus.{Stimulus}
 use Rattle.world.specs.declared.event.EventOf.TheVariants.{Start, Broadcast, Arrive, Fire, Flush, Down, Shuffle, Join}
 use Rattle.world.specs.declared.node_state.NodeState.{NodeState}
 use Rattle.world.specs.declared.packet.Packet.{Packet}
-use Rattle.world.specs.declared.stimulus.StimulusOf.TheVariants as stimulus
 use Rattle.world.proofs.FindLemmas.{found_name, put_other, put_same}
 use Rattle.frames.specs.Frame.{Frame}
 use Rattle.run_check.specs.Following.{AreFlying, AreNodes, Flies, Follows, GoesOn, Kept, Posts, Puts, Receives, Steps, TakesOn, TakesOut, event_of}

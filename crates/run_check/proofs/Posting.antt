@@ -4,8 +4,8 @@ use Rattle.std.specs.Prelude.{◌⊎◌, Bool, Option, Some, if◌then◌else◌
 use Rattle.std.proofs.lemmas.List.{map-append}
 use Rattle.node_names.specs.NodeName.{Name}
 use Rattle.node_names.specs.declared.ids.Origin.{Origin}
+use Rattle.protocol.specs.Lists.{IsOneOf}
 use Rattle.world.specs.Group.{packets}
-use Rattle.world.specs.Lists.{IsOneOf}
 use Rattle.world.specs.declared.packet.Packet.{Packet}
 use Rattle.frames.specs.Frame.{Frame}
 use Rattle.run_check.specs.Following.{Posts}

@@ -2,7 +2,7 @@
 use Rattle.std.proofs.Common.{◌≡◌, inl, inr, subst, sym}
 use Rattle.std.specs.Prelude.{Result, Ok, Err, IfErr, IsErrAnd}
 use Rattle.node_names.specs.declared.ids.Origin.{Origin}
-use Rattle.world.specs.Stimulus.{Stimulus}
+use Rattle.protocol.specs.Stimulus.{Stimulus}
 use Rattle.frames.specs.Frame.{Frame}
 use Rattle.run_check.specs.Following.{Kept}
 use Rattle.run_check.specs.Refusals.{IsNoStep, IsRefused}

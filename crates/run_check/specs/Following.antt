@@ -5,19 +5,20 @@ use Rattle.node_names.specs.NodeName.{Name}
 use Rattle.node_names.specs.Limits.{Limits}
 use Rattle.node_names.specs.Same.{same_name}
 use Rattle.node_names.specs.declared.ids.Origin.{Origin}
-use Rattle.world.specs.CoreState.{CoreState}
-use Rattle.world.specs.Delivery.{Delivery}
+use Rattle.protocol.specs.CoreState.{CoreState}
+use Rattle.protocol.specs.Delivery.{Delivery}
+use Rattle.protocol.specs.Lists.{IsOneOf}
+use Rattle.protocol.specs.SameNames.{SameNames}
+use Rattle.protocol.specs.Stimulus.{Stimulus}
+use Rattle.protocol.specs.declared.stimulus.StimulusOf.TheVariants as stimulus
 use Rattle.world.specs.Entry.{Entry}
 use Rattle.world.specs.Event.{Event}
 use Rattle.world.specs.Group.{Group, node_of}
-use Rattle.world.specs.Lists.{IsOneOf}
 use Rattle.world.specs.Plan.{stimulus_by}
-use Rattle.world.specs.Run.{Happens, Run, SameNames}
-use Rattle.world.specs.Stimulus.{Stimulus}
+use Rattle.world.specs.Run.{Happens, Run}
 use Rattle.world.specs.declared.event.EventOf.TheVariants.{Broadcast, Arrive, Fire, Flush, Down, Shuffle, Join}
 use Rattle.world.specs.declared.node_state.NodeState.{NodeState}
 use Rattle.world.specs.declared.packet.Packet.{Packet}
-use Rattle.world.specs.declared.stimulus.StimulusOf.TheVariants as stimulus
 use Rattle.frames.specs.Frame.{Frame}
 use Rattle.run_check.specs.FrameIds.{id_of, same_frame_id}
 use Rattle.run_check.specs.declared.frame_id.FrameId.{FrameId}

@@ -4,14 +4,14 @@ use Rattle.std.specs.Map.{lookup}
 use Rattle.node_names.specs.NodeName.{Name}
 use Rattle.node_names.specs.Same.{same_name}
 use Rattle.node_names.specs.declared.ids.Origin.{Origin}
-use Rattle.world.specs.IdentityLaw.{IsTooLong}
-use Rattle.world.specs.Peers.{are_peers}
-use Rattle.world.specs.Stimulus.{Stimulus}
+use Rattle.protocol.specs.IdentityLaw.{IsTooLong}
+use Rattle.protocol.specs.Peers.{are_peers}
+use Rattle.protocol.specs.Stimulus.{Stimulus}
+use Rattle.protocol.specs.declared.protocol.CoreError.{CoreError}
+use Rattle.protocol.specs.declared.protocol.CoreError.TheVariants as core
+use Rattle.protocol.specs.declared.stimulus.StimulusOf.TheVariants as stimulus
 use Rattle.world.specs.declared.node_state.NodeState.{NodeState}
 use Rattle.world.specs.declared.packet.Packet.{Packet}
-use Rattle.world.specs.declared.protocol.CoreError.{CoreError}
-use Rattle.world.specs.declared.protocol.CoreError.TheVariants as core
-use Rattle.world.specs.declared.stimulus.StimulusOf.TheVariants as stimulus
 use Rattle.frames.specs.Frame.{Frame}
 use Rattle.run_check.specs.Following.{Kept}
 use Rattle.run_check.specs.FrameIds.{same_frame_id}

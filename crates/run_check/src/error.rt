@@ -1,8 +1,8 @@
 //! Why a check refuses what a node took.
 use node_names::{Incarnation, Origin};
+use protocol::CoreError;
 use std::alloc::{AllocError, AllocFailed};
 use thiserror::Error;
-use world::CoreError;
 
 /// The reason why a check refuses a start or a stimulus. What it accepted before stays accepted. After `OutOfMemory` it
 /// is of no more use.

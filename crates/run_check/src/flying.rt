@@ -1,8 +1,8 @@
 //! The packets of a group that may still arrive.
 ghost use Rattle.std.specs.Prelude.{◌≡◌, [], ◌∷◌, IfErr, OnOk, is_some, length};
 ghost use Rattle.std.specs.Bool.{Decides};
+ghost use Rattle.protocol.specs.Stimulus.{lent};
 ghost use Rattle.world.specs.Group.{packets};
-ghost use Rattle.world.specs.Stimulus.{lent};
 ghost use Rattle.run_check.specs.Following.{Posts, Receives, TakesOut};
 ghost use Rattle.run_check.specs.Refusals.{IsNotThere, IsUnreceived, packet_of};
 
@@ -11,9 +11,10 @@ use crate::frame_id::FrameId;
 use frames::{Frame, same_frame};
 use indexmap::IndexMap;
 use node_names::{NodeName, Origin};
+use protocol::{StimulusOf, StimulusRef};
 use std::alloc::Global;
 use std::hash::{BuildHasherDefault, FoldHasher};
-use world::{Packet, StimulusOf, StimulusRef};
+use world::Packet;
 
 /// The packets that were sent and have not arrived, each under the id of its frame.
 #[derive(Drop)]

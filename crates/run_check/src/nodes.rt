@@ -2,8 +2,8 @@
 ghost use Rattle.std.specs.Prelude.{◌≡◌, ◌↔◌, ◌<◌, [], false, IfErr, IfOk, IfSome, OnOk};
 ghost use Rattle.std.specs.Map.{lookup};
 ghost use Rattle.node_names.specs.Same.{same_name};
-ghost use Rattle.world.specs.Run.{SameNames};
-ghost use Rattle.world.specs.Stimulus.{lent};
+ghost use Rattle.protocol.specs.SameNames.{SameNames};
+ghost use Rattle.protocol.specs.Stimulus.{lent};
 ghost use Rattle.run_check.specs.Following.{Puts, Steps};
 ghost use Rattle.run_check.specs.Refusals.{IsCoreRefusal, IsNoStep, IsStale, refusal_of};
 
@@ -11,9 +11,10 @@ use crate::error::CheckError;
 use frames::Frame;
 use indexmap::IndexMap;
 use node_names::{NodeName, Origin};
+use protocol::{Core, CoreError, Delivery, Out, Prepared, StimulusRef};
 use std::alloc::Global;
 use std::hash::{BuildHasherDefault, FoldHasher};
-use world::{Core, CoreError, Delivery, NodeState, Out, Prepared, StimulusRef};
+use world::NodeState;
 
 /// What a step sent and delivered, and whether it changed the active view as a set.
 #[derive(Drop)]

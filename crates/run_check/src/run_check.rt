@@ -14,9 +14,10 @@ use crate::flying::Flying;
 use crate::nodes::{Nodes, Outcome};
 use frames::Frame;
 use node_names::{Limits, NodeName, Origin};
+use protocol::{Core, Delivery, Out, Stimulus, StimulusOf, are_peers};
 use std::alloc::Global;
 use std::marker::Model;
-use world::{Core, Delivery, NodeState, Out, Stimulus, StimulusOf, are_peers};
+use world::NodeState;
 
 /// A group of nodes that is followed as its nodes start and take one stimulus after another.
 #[derive(Drop)]

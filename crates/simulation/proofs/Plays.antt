@@ -4,9 +4,9 @@ use Rattle.std.proofs.lemmas.List.{take_more}
 use Rattle.node_names.specs.NodeName.{Name}
 use Rattle.node_names.specs.Limits.{Limits}
 use Rattle.node_names.specs.declared.ids.Origin.{Origin}
-use Rattle.world.specs.CoreState.{CoreState}
-use Rattle.world.specs.Delivery.{Delivery}
-use Rattle.world.specs.Stimulus.{Stimulus}
+use Rattle.protocol.specs.CoreState.{CoreState}
+use Rattle.protocol.specs.Delivery.{Delivery}
+use Rattle.protocol.specs.Stimulus.{Stimulus}
 use Rattle.simulation.specs.Play.{PlaysAction, PlaysActions, Standing}
 use Rattle.simulation.specs.declared.scenario.action.Action.{Action}
 

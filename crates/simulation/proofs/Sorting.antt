@@ -11,7 +11,7 @@ use Rattle.std.proofs.lemmas.List.Sorted.{ranks_by, ties_stay_sorted}
 use Rattle.node_names.specs.Same.{same_id, same_id-Decides, same_id-laws, same_origin, same_origin-Decides, same_origin-laws}
 use Rattle.node_names.specs.declared.ids.Origin.{Origin}
 use Rattle.node_names.specs.declared.ids.MsgId.{MsgId}
-use Rattle.world.specs.Delivery.{Delivery}
+use Rattle.protocol.specs.Delivery.{Delivery}
 use Rattle.simulation.specs.Lines.{line_cmp, msg_id_cmp, origin_cmp}
 use Rattle.simulation.specs.Ranks.{rank_in}
 use Rattle.simulation.proofs.Orders.{msg_id_total, origin_antisymmetric, origin_total}

@@ -7,7 +7,7 @@ use Rattle.std.specs.declared.cmp.Ordering.{Ordering}
 use Rattle.node_names.specs.Ids.{origin_text, msg_id_text}
 use Rattle.node_names.specs.declared.ids.Origin.{Origin}
 use Rattle.node_names.specs.declared.ids.MsgId.{MsgId}
-use Rattle.world.specs.Delivery.{Delivery}
+use Rattle.protocol.specs.Delivery.{Delivery}
 
 -- a digit from 0 to 15, as `0` to `9` and `a` to `f`
 abbrev pub hex_digit : ℕ → ℕ

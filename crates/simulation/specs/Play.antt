@@ -7,15 +7,15 @@ use Rattle.node_names.specs.Limits.{Limits}
 use Rattle.node_names.specs.Order.{id_cmp}
 use Rattle.node_names.specs.declared.ids.MsgId.{MsgId}
 use Rattle.node_names.specs.declared.ids.Origin.{Origin}
-use Rattle.world.specs.Content.{Content}
-use Rattle.world.specs.CoreState.{CoreState}
-use Rattle.world.specs.Delivery.{Delivery}
+use Rattle.protocol.specs.Content.{Content}
+use Rattle.protocol.specs.CoreState.{CoreState}
+use Rattle.protocol.specs.Delivery.{Delivery}
+use Rattle.protocol.specs.Stimulus.{Stimulus}
 use Rattle.world.specs.Event.{Event}
 use Rattle.world.specs.Group.{Group, Logged, core_of}
 use Rattle.world.specs.History as history
 use Rattle.world.specs.Refusals.{IsRefusal}
 use Rattle.world.specs.Run.{Applied}
-use Rattle.world.specs.Stimulus.{Stimulus}
 use Rattle.world.specs.declared.error.WorldError.{WorldError}
 use Rattle.world.specs.declared.error.WorldError.TheVariants as world
 use Rattle.world.specs.declared.event.EventOf.TheVariants as event

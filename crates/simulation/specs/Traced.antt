@@ -14,7 +14,7 @@ use Rattle.rand_core.specs.Stream.{Stream}
 use Rattle.trace_text.specs.Events.{touched_parts}
 use Rattle.trace_text.specs.Step.{step_text}
 use Rattle.trace_text.specs.Ends.{message_text, nodes_text}
-use Rattle.world.specs.Delivery.{Delivery}
+use Rattle.protocol.specs.Delivery.{Delivery}
 use Rattle.world.specs.Entry.{Entry}
 use Rattle.world.specs.Event.{Event}
 use Rattle.world.specs.Group.{Logged}

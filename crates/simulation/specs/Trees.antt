@@ -4,9 +4,9 @@ use Rattle.node_names.specs.Ids.{origin_text, msg_id_text}
 use Rattle.node_names.specs.Same.{same_origin}
 use Rattle.node_names.specs.declared.ids.MsgId.{MsgId}
 use Rattle.node_names.specs.declared.ids.Origin.{Origin}
-use Rattle.world.specs.Content.{Content}
-use Rattle.world.specs.CoreState.{CoreState}
-use Rattle.world.specs.Delivery.{Delivery}
+use Rattle.protocol.specs.Content.{Content}
+use Rattle.protocol.specs.CoreState.{CoreState}
+use Rattle.protocol.specs.Delivery.{Delivery}
 use Rattle.world.specs.Group.{Logged}
 use Rattle.world.specs.Rest.{IsAtRest}
 use Rattle.at_rest.specs.Tree.{tree_of}

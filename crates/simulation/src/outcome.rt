@@ -21,10 +21,11 @@ use crate::tracing::{Stop, write_trace};
 use crate::{graph, output, trees};
 use node_core::PlumCore;
 use node_names::MsgId;
+use protocol::Core;
 use std::alloc::{AllocError, Allocator, Global};
 use std::io::Write;
 use std::mem;
-use world::{Core, World};
+use world::World;
 
 /// The capacity for a line: the longest payload in hexadecimal, and what precedes it.
 const LINE_ROOM: usize = 66_000;

@@ -5,12 +5,13 @@ ghost use Rattle.world.specs.History.{deliveries as all_deliveries};
 ghost use Rattle.simulation.specs.Lines.{hex_digit, hexadecimal, payload_text, line_of, lines_of, line_cmp};
 
 use crate::ranks::{messages, nodes, rank_of_message, rank_of_node};
+use protocol::Delivery;
 use std::alloc::{AllocError, Allocator};
 use std::io::Write;
 use std::{io, str};
 use thiserror::Error;
 use trace_text::{push_id, push_origin};
-use world::{Delivery, Entry};
+use world::Entry;
 
 /// Why lines were not all written.
 #[derive(Clone, Copy, Debug, PartialEq, Eq, Error)]

@@ -14,10 +14,11 @@ use at_rest::SettleError;
 use bytes::Bytes;
 use node_core::PlumCore;
 use node_names::{Limits, Listed, MsgId, NodeName};
+use protocol::Core;
 use std::alloc::{AllocError, Allocator};
 use std::fmt;
 use thiserror::Error;
-use world::{Core, Event, World, WorldError};
+use world::{Event, World, WorldError};
 
 /// The maximum number of arrivals that one action plays.
 pub const MAX_ARRIVALS: usize = 10_000;

@@ -7,9 +7,9 @@ ghost use Rattle.node_names.specs.Same.{same_id, same_origin};
 
 use indexmap::IndexSet;
 use node_names::{MsgId, Origin};
+use protocol::Delivery;
 use std::alloc::{AllocError, Allocator};
 use std::hash::{BuildHasherDefault, FoldHasher};
-use world::Delivery;
 
 /// Distinct values in ascending order, so that a value's index is its rank.
 pub type Ranks<T, A> = IndexSet<T, BuildHasherDefault<FoldHasher>, A>;

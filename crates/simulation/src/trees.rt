@@ -7,10 +7,11 @@ ghost use Rattle.simulation.specs.Trees.{branch_line, branch_lines, broadcasts_o
 use crate::output::OutputError;
 use at_rest::{Branch, Forest, Unrest};
 use node_names::MsgId;
+use protocol::{Core, Delivery};
 use std::alloc::{AllocError, Allocator};
 use std::io::Write;
 use trace_text::push_origin;
-use world::{Core, Delivery, World};
+use world::World;
 
 /// Returns the messages that were broadcast, that is, delivered by their own origin, in the order of their ids.
 pub fn broadcasts<A: Allocator + Copy>(

@@ -4,8 +4,8 @@ use crate::group::NODES;
 use crate::view_watch::Views;
 use bytes::Bytes;
 use node_names::NodeName;
+use protocol::Delivery;
 use std::alloc::{AllocError, Global};
-use world::Delivery;
 
 /// The lengths of messages, by their numbers.
 const LENGTHS: [usize; 8] = [0, 1, 100, 100, 100, 100, 1_000, 5_000];
@@ -36,7 +36,7 @@ pub(crate) struct Board {
 /// How many bytes the message of this number has.
 fn length_of(seq: u64) -> usize {
     if seq % LONG == 0 {
-        return world::MAX_PAYLOAD;
+        return protocol::MAX_PAYLOAD;
     }
     LENGTHS.get((seq % 8) as usize).copied().unwrap_or(0)
 }

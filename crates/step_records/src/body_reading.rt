@@ -5,8 +5,8 @@ use crate::fields::Fields;
 use bytes::Bytes;
 use frames::{Frame, FrameFault, decode};
 use node_names::{Dice, Origin};
+use protocol::{Stimulus, StimulusOf};
 use std::alloc::Global;
-use world::{Stimulus, StimulusOf};
 
 /// Reads the frame that these bytes are.
 fn frame(alloc: Global, bytes: &[u8]) -> Result<Frame, RecordErrorKind> {

@@ -7,8 +7,8 @@ ghost use Rattle.step_records.specs.Text.{dice_text};
 use crate::put::{put_dice, put_id, put_name, put_origin};
 use frames::{Frame, encode};
 use node_names::{Dice, NodeName, Origin};
+use protocol::{Stimulus, StimulusOf};
 use std::alloc::{AllocError, Global};
-use world::{Stimulus, StimulusOf};
 
 /// The kinds of entries.
 pub(crate) const BROADCAST: u8 = 1;

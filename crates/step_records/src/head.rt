@@ -1,10 +1,10 @@
 //! What a record begins with.
 ghost use Rattle.std.specs.Prelude.{◌≡◌, IfSome, IsTrue};
 ghost use Rattle.node_names.specs.Limits.{Limits as Sizes};
-ghost use Rattle.world.specs.Peers.{are_peers};
+ghost use Rattle.protocol.specs.Peers.{are_peers};
 
 use node_names::{Limits, Listed, NodeName, Origin};
-use world::are_peers;
+use protocol::are_peers;
 
 /// What a run of a node started with.
 #[derive(Drop)]

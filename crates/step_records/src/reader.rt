@@ -9,8 +9,8 @@ use crate::opening::{Opening, read_opening};
 use crate::place::Place;
 use crate::unread::Unread;
 use frames::Frame;
+use protocol::Stimulus;
 use std::alloc::{AllocError, Global};
-use world::Stimulus;
 
 /// What a record tells next.
 #[derive(Drop)]

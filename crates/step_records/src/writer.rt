@@ -6,8 +6,8 @@ use crate::head::Head;
 use crate::head_writing::{head_body, head_bytes};
 use crate::place::Place;
 use frames::Frame;
+use protocol::Stimulus;
 use std::alloc::{AllocError, Global};
-use world::Stimulus;
 
 /// Writes a record, as bytes that are appended to its files.
 ///

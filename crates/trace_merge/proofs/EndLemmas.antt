@@ -4,9 +4,9 @@ use Rattle.std.specs.List.{AllByRecursion as Each}
 use Rattle.std.specs.Prelude.{Option, Some, None, replicate, slice_get}
 use Rattle.std.proofs.Math.Seq.{take-length}
 use Rattle.node_names.specs.Limits.{Limits}
+use Rattle.protocol.specs.Trace.{Trace}
 use Rattle.world.specs.Group.{Logged}
 use Rattle.world.specs.Headline.{Headline}
-use Rattle.world.specs.Trace.{Trace}
 use Rattle.frames.specs.Content.{frame_content}
 use Rattle.frames.specs.Frame.{Frame}
 use Rattle.node_core.specs.Plum.{Plum, plum_state}

@@ -15,7 +15,7 @@ use Rattle.std.proofs.lemmas.Option.{slice_get_read}
 use Rattle.node_names.specs.Order.{name_cmp, origin_cmp}
 use Rattle.node_names.specs.Same.{same_origin-Decides}
 use Rattle.node_names.specs.declared.ids.Origin.{Origin}
-use Rattle.world.specs.Trace.{Trace}
+use Rattle.protocol.specs.Trace.{Trace}
 use Rattle.frames.specs.Frame.{Frame}
 use Rattle.trace_merge.specs.Held.{IsEarlier}
 use Rattle.trace_merge.specs.Left.{AreLeft}

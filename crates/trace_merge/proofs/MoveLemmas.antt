@@ -1,7 +1,7 @@
 -- What is played on is played on from where it began.
 use Rattle.std.proofs.Common.{◌≡◌, ◌∙◌, ◌<◌, List, arith, false, refl, subst, sym, true}
 use Rattle.std.specs.Prelude.{Bool}
-use Rattle.world.specs.Trace.{Trace}
+use Rattle.protocol.specs.Trace.{Trace}
 use Rattle.frames.specs.Frame.{Frame}
 use Rattle.trace_merge.specs.Merging.{IsMerging, Merge, Refuses, remaining}
 use Rattle.trace_merge.specs.Steps.{Advances, Moves}

@@ -8,8 +8,8 @@ use Rattle.std.proofs.lemmas.Grind.{flat_map-append}
 use Rattle.std.proofs.lemmas.List.{append-nil, get_or-set_other, get_or-set_same}
 use Rattle.node_names.specs.NodeName.{Name}
 use Rattle.node_names.specs.declared.ids.Origin.{Origin}
-use Rattle.world.specs.Lists.{IsOneOf}
-use Rattle.world.specs.Trace.{Step, Trace}
+use Rattle.protocol.specs.Lists.{IsOneOf}
+use Rattle.protocol.specs.Trace.{Step, Trace}
 use Rattle.world.specs.declared.packet.Packet.{Packet}
 use Rattle.frames.specs.Frame.{Frame}
 use Rattle.trace_merge.specs.Merging.{IsSentBy, IsStarted, place_at, sent_within}

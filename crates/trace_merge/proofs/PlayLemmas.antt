@@ -8,21 +8,21 @@ use Rattle.node_names.specs.Limits.{Limits}
 use Rattle.node_names.specs.Same.{same_name, same_name-Decides, same_origin, same_origin-Decides}
 use Rattle.node_names.specs.declared.ids.Incarnation.{Incarnation}
 use Rattle.node_names.specs.declared.ids.Origin.{Origin}
-use Rattle.world.specs.CoreState.{CoreState}
-use Rattle.world.specs.Delivery.{Delivery}
+use Rattle.protocol.specs.CoreState.{CoreState}
+use Rattle.protocol.specs.Delivery.{Delivery}
+use Rattle.protocol.specs.Output.{Output}
+use Rattle.protocol.specs.Stimulus.{Stimulus}
+use Rattle.protocol.specs.Trace.{Trace}
+use Rattle.protocol.specs.declared.stimulus.StimulusOf.TheVariants as stimulus
 use Rattle.world.specs.Entry.{Entry}
 use Rattle.world.specs.Event.{Event}
 use Rattle.world.specs.Group.{Group, Logged}
 use Rattle.world.specs.History.{incarnation_of}
-use Rattle.world.specs.Output.{Output}
 use Rattle.world.specs.Plan.{arrival, stimulus_by}
 use Rattle.world.specs.Refusals.{sent_under}
 use Rattle.world.specs.Run.{Acts, Applied, Effect, Happens, Run}
-use Rattle.world.specs.Stimulus.{Stimulus}
-use Rattle.world.specs.Trace.{Trace}
 use Rattle.world.specs.declared.event.EventOf.TheVariants.{Start, Broadcast, Arrive, Lose, Again, Fire, Flush, Down, Shuffle, Join, Stop}
 use Rattle.world.specs.declared.packet.Packet.{Packet}
-use Rattle.world.specs.declared.stimulus.StimulusOf.TheVariants as stimulus
 use Rattle.trace_merge.specs.Projection.{is_last, projection, projection_in, receiver, started_on, stepped_name, traced_on}
 use Rattle.trace_merge.proofs.Stable.{projection-after}
 

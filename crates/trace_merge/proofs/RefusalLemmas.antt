@@ -5,13 +5,13 @@ use Rattle.std.proofs.Math.Seq.{drop-append_seam}
 use Rattle.std.proofs.lemmas.Bool.Decides.{Decides-ltb}
 use Rattle.node_names.specs.Limits.{Limits}
 use Rattle.node_names.specs.declared.ids.Origin.{Origin}
-use Rattle.world.specs.Delivery.{Delivery}
+use Rattle.protocol.specs.Delivery.{Delivery}
+use Rattle.protocol.specs.Peers.{are_peers}
+use Rattle.protocol.specs.Replay.{Replays}
+use Rattle.protocol.specs.Trace.{Trace}
 use Rattle.world.specs.Group.{Logged, node_of, origin_of, packets}
-use Rattle.world.specs.Peers.{are_peers}
 use Rattle.world.specs.Refusals.{IsRefusal, first_of, refusal, stale, unless}
-use Rattle.world.specs.Replay.{Replays}
 use Rattle.world.specs.Run.{Applied, Effect, Starts}
-use Rattle.world.specs.Trace.{Trace}
 use Rattle.world.specs.declared.error.WorldError.{WorldError}
 use Rattle.world.specs.declared.error.WorldError.TheVariants.{UnknownNode, NotRunning, StaleIncarnation, BadPeers, NoPacket, PayloadTooLong, SeqSpent, OutOfMemory}
 use Rattle.world.specs.declared.node_state.NodeState.{NodeState}

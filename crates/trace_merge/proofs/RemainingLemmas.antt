@@ -1,7 +1,7 @@
 -- How much is left to be played falls.
 use Rattle.std.proofs.Common.{◌≡◌, ◌+◌, ◌<◌, ℕ, List, [], ◌∷◌, ap, arith, length, set, subst, suc, zero}
 use Rattle.std.specs.Prelude.{Option, Some, None, slice_get}
-use Rattle.world.specs.Trace.{Trace}
+use Rattle.protocol.specs.Trace.{Trace}
 use Rattle.frames.specs.Frame.{Frame}
 use Rattle.trace_merge.specs.Merging.{left, place_at, remaining}
 

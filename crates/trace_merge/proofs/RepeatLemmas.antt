@@ -5,15 +5,15 @@ use Rattle.std.proofs.lemmas.List.{map-append}
 use Rattle.node_names.specs.NodeName.{Name}
 use Rattle.node_names.specs.Limits.{Limits}
 use Rattle.node_names.specs.declared.ids.Origin.{Origin}
-use Rattle.world.specs.Delivery.{Delivery}
+use Rattle.protocol.specs.Delivery.{Delivery}
+use Rattle.protocol.specs.Lists.{IsOneOf}
+use Rattle.protocol.specs.Trace.{Trace}
 use Rattle.world.specs.Entry.{Entry}
 use Rattle.world.specs.Event.{Event}
 use Rattle.world.specs.Group.{Logged, node_of}
 use Rattle.world.specs.History.{incarnation_of, started_by}
-use Rattle.world.specs.Lists.{IsOneOf}
 use Rattle.world.specs.Plan.{stimulus_by}
 use Rattle.world.specs.Run.{Applied, Effect, Repeats}
-use Rattle.world.specs.Trace.{Trace}
 use Rattle.world.specs.declared.event.EventOf.TheVariants.{Again}
 use Rattle.frames.specs.Frame.{Frame}
 use Rattle.node_core.specs.Plum.{Plum, plum_state}

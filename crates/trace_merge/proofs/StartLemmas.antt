@@ -9,15 +9,15 @@ use Rattle.node_names.specs.NodeName.{Name}
 use Rattle.node_names.specs.Limits.{Limits}
 use Rattle.node_names.specs.Same.{same_name, same_name-Decides, same_origin, same_origin-Decides}
 use Rattle.node_names.specs.declared.ids.Origin.{Origin}
-use Rattle.world.specs.Delivery.{Delivery}
+use Rattle.protocol.specs.Delivery.{Delivery}
+use Rattle.protocol.specs.Lists.{IsOneOf}
+use Rattle.protocol.specs.Trace.{Trace}
 use Rattle.world.specs.Entry.{Entry}
 use Rattle.world.specs.Event.{Event}
 use Rattle.world.specs.Group.{Logged, node_of, origin_of, packets}
 use Rattle.world.specs.History.{incarnation_of, started_by}
-use Rattle.world.specs.Lists.{IsOneOf}
 use Rattle.world.specs.Plan.{stimulus_by}
 use Rattle.world.specs.Run.{Applied, Effect, Starts}
-use Rattle.world.specs.Trace.{Trace}
 use Rattle.world.specs.declared.node_state.NodeState.{NodeState}
 use Rattle.world.specs.declared.packet.Packet.{Packet}
 use Rattle.frames.specs.Frame.{Frame}

@@ -10,15 +10,15 @@ use Rattle.node_names.specs.Limits.{Limits}
 use Rattle.node_names.specs.Same.{same_name, same_name-Decides}
 use Rattle.node_names.specs.declared.ids.Incarnation.{Incarnation}
 use Rattle.node_names.specs.declared.ids.Origin.{Origin}
-use Rattle.world.specs.Delivery.{Delivery}
+use Rattle.protocol.specs.Delivery.{Delivery}
+use Rattle.protocol.specs.Lists.{IsOneOf}
+use Rattle.protocol.specs.Trace.{Step, Trace}
 use Rattle.world.specs.Entry.{Entry}
 use Rattle.world.specs.Event.{Event}
 use Rattle.world.specs.Group.{Logged, node_of, origin_of, packets}
 use Rattle.world.specs.History.{incarnation_of, started_by}
-use Rattle.world.specs.Lists.{IsOneOf}
 use Rattle.world.specs.Plan.{stimulus_by}
 use Rattle.world.specs.Run.{Acts, Applied, Happens}
-use Rattle.world.specs.Trace.{Step, Trace}
 use Rattle.world.specs.declared.event.EventOf.TheVariants.{Start, Broadcast, Arrive, Lose, Again, Fire, Flush, Down, Shuffle, Join, Stop}
 use Rattle.world.specs.declared.node_state.NodeState.{NodeState}
 use Rattle.world.specs.declared.packet.Packet.{Packet}

@@ -6,23 +6,23 @@ use Rattle.std.proofs.lemmas.Bool.{le-leb}
 use Rattle.std.proofs.lemmas.Option.{slice_get_within}
 use Rattle.node_names.specs.NodeName.{Name}
 use Rattle.node_names.specs.Limits.{Limits}
-use Rattle.world.specs.Delivery.{Delivery}
+use Rattle.protocol.specs.Delivery.{Delivery}
+use Rattle.protocol.specs.Replay.{Replays}
+use Rattle.protocol.specs.Stimulus.{Stimulus}
+use Rattle.protocol.specs.Trace.{Step, Trace}
+use Rattle.protocol.specs.declared.TheConstants.{MAX_PAYLOAD}
+use Rattle.protocol.specs.declared.stimulus.StimulusOf.TheVariants as stimulus
 use Rattle.world.specs.Entry.{Entry}
 use Rattle.world.specs.Event.{Event}
 use Rattle.world.specs.Group.{Group, Logged, node_of, origin_of, packets}
 use Rattle.world.specs.Plan.{arrival, stimulus_by}
 use Rattle.world.specs.Refusals.{IsRefusal, IsSpentAt, IsSpentBy, absent, first_of, packet_at, refusal, sent_under, undeliverable, unless}
-use Rattle.world.specs.Replay.{Replays}
 use Rattle.world.specs.Run.{Acts, Applied, Effect, Happens}
-use Rattle.world.specs.Stimulus.{Stimulus}
-use Rattle.world.specs.Trace.{Step, Trace}
-use Rattle.world.specs.declared.TheConstants.{MAX_PAYLOAD}
 use Rattle.world.specs.declared.error.WorldError.{WorldError}
 use Rattle.world.specs.declared.error.WorldError.TheVariants.{NotRunning, OutOfMemory, PayloadTooLong}
 use Rattle.world.specs.declared.event.EventOf.TheVariants.{Start, Broadcast, Arrive, Lose, Again, Fire, Flush, Down, Shuffle, Join, Stop}
 use Rattle.world.specs.declared.node_state.NodeState.{NodeState}
 use Rattle.world.specs.declared.packet.Packet.{Packet}
-use Rattle.world.specs.declared.stimulus.StimulusOf.TheVariants as stimulus
 use Rattle.frames.specs.Frame.{Frame}
 use Rattle.node_core.specs.Plum.{Plum, plum_state}
 use Rattle.node_core.specs.Steps.{IsAllowed, PlumIsSpent, PlumStarts, PlumSteps}

@@ -7,8 +7,8 @@ use Rattle.std.proofs.lemmas.Bool.{false≢true}
 use Rattle.node_names.specs.NodeName.{Name}
 use Rattle.node_names.specs.Limits.{Limits}
 use Rattle.node_names.specs.declared.ids.Origin.{Origin}
-use Rattle.world.specs.Lists.{IsOneOf}
-use Rattle.world.specs.Trace.{Trace}
+use Rattle.protocol.specs.Lists.{IsOneOf}
+use Rattle.protocol.specs.Trace.{Trace}
 use Rattle.world.specs.declared.packet.Packet.{Packet}
 use Rattle.frames.specs.Frame.{Frame}
 use Rattle.trace_merge.specs.FrameIds.{id_of, same_frame_id}

@@ -6,7 +6,7 @@ use Rattle.std.specs.Cmp.{unsigned_Decides}
 use Rattle.std.proofs.Common.{ap}
 use Rattle.std.proofs.lemmas.Bool.Decides.{Decides-like, Decides-and}
 use Rattle.node_names.specs.Same.{same_origin, same_origin-Decides}
-use Rattle.world.specs.Lists.{IsOneOf}
+use Rattle.protocol.specs.Lists.{IsOneOf}
 use Rattle.world.specs.declared.packet.Packet.{Packet}
 use Rattle.frames.specs.Frame.{Frame}
 use Rattle.trace_merge.specs.declared.frame_index.FrameId.{FrameId}

@@ -1,8 +1,8 @@
 -- Numbers that have at most 64 bits.
 use Rattle.std.specs.Prelude.{◌≤◌, ℕ, List}
 use Rattle.node_names.specs.NodeName.{Name}
-use Rattle.world.specs.Delivery.{Delivery}
-use Rattle.world.specs.Lists.{IsOneOf}
+use Rattle.protocol.specs.Delivery.{Delivery}
+use Rattle.protocol.specs.Lists.{IsOneOf}
 use Rattle.frames.specs.Frame.{Frame}
 
 -- the greatest number that has 64 bits

@@ -4,15 +4,15 @@ use Rattle.node_names.specs.NodeName.{Name}
 use Rattle.node_names.specs.Same.{same_name, same_origin}
 use Rattle.node_names.specs.declared.ids.Incarnation.{Incarnation}
 use Rattle.node_names.specs.declared.ids.Origin.{Origin}
+use Rattle.protocol.specs.Output.{Output}
+use Rattle.protocol.specs.Stimulus.{Stimulus}
+use Rattle.protocol.specs.Trace.{Trace}
 use Rattle.world.specs.Entry.{Entry}
 use Rattle.world.specs.Event.{Event}
 use Rattle.world.specs.Group.{Logged}
 use Rattle.world.specs.History.{incarnation_of}
-use Rattle.world.specs.Output.{Output}
 use Rattle.world.specs.Plan.{stimulus_by}
 use Rattle.world.specs.Refusals.{sent_under}
-use Rattle.world.specs.Stimulus.{Stimulus}
-use Rattle.world.specs.Trace.{Trace}
 use Rattle.world.specs.declared.event.EventOf.TheVariants.{Start, Broadcast, Arrive, Lose, Again, Fire, Flush, Down, Shuffle, Join, Stop}
 use Rattle.world.specs.declared.packet.Packet.{Packet}
 

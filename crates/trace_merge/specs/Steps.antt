@@ -1,8 +1,8 @@
 -- Steps of a trace, and what playing them does.
 use Rattle.std.specs.Prelude.{◌≡◌, ◌<◌, ℕ, Bool, true, false, List, Some, set, slice_get}
-use Rattle.world.specs.Stimulus.{Stimulus}
-use Rattle.world.specs.Trace.{Trace}
-use Rattle.world.specs.declared.stimulus.StimulusOf.TheVariants.{Broadcast, Arrive, Fire, Flush, Down, Shuffle, Join}
+use Rattle.protocol.specs.Stimulus.{Stimulus}
+use Rattle.protocol.specs.Trace.{Trace}
+use Rattle.protocol.specs.declared.stimulus.StimulusOf.TheVariants.{Broadcast, Arrive, Fire, Flush, Down, Shuffle, Join}
 use Rattle.frames.specs.Frame.{Frame}
 use Rattle.trace_merge.specs.Merging.{IsHeld, IsMerging, Merge, place_at, remaining}
 

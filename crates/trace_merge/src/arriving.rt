@@ -13,8 +13,9 @@ use crate::frame_index::FrameId;
 use crate::merging::Merging;
 use frames::{Frame, same_frame};
 use node_names::{Dice, NodeName, Origin};
+use protocol::{Step, StimulusOf, Trace};
 use std::alloc::Allocator;
-use world::{EventOf, Packet, Step, StimulusOf, Trace};
+use world::{EventOf, Packet};
 
 /// Whether a packet carries this frame and goes to this name.
 fn is_its<A: Allocator>(packet: &Packet<Frame<A>>, to: &NodeName, note: &Frame<A>) -> bool

@@ -5,9 +5,9 @@ ghost use Rattle.trace_merge.specs.Merging.{AreDistinct, IsDoubled};
 use frames::Frame;
 use indexmap::IndexSet;
 use node_names::Origin;
+use protocol::Trace;
 use std::alloc::{AllocError, Allocator};
 use std::hash::{BuildHasherDefault, FoldHasher};
-use world::Trace;
 
 /// The runs of the traces so far.
 type Seen<A> = IndexSet<Origin, BuildHasherDefault<FoldHasher>, A>;

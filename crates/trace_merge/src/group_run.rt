@@ -1,6 +1,6 @@
 //! From the traces of running nodes to one run of a group.
 ghost use Rattle.std.specs.Prelude.{◌≡◌, List, None, IfErr, IfOk, length, replicate};
-ghost use Rattle.world.specs.Trace.{Trace as Traced};
+ghost use Rattle.protocol.specs.Trace.{Trace as Traced};
 ghost use Rattle.frames.specs.Frame.{Frame as Said};
 ghost use Rattle.trace_merge.specs.Held.{AreOut};
 ghost use Rattle.trace_merge.specs.Merging.{AreDistinct, IsMerged, IsMerging, Refuses};
@@ -12,8 +12,9 @@ use crate::merging::Merging;
 use crate::stuck::first_left;
 use frames::Frame;
 use node_names::Limits;
+use protocol::Trace;
 use std::alloc::{AllocError, Allocator};
-use world::{Event, Trace, World};
+use world::{Event, World};
 
 /// The places of so many traces, none of which is started.
 fn unstarted<A: Allocator + Copy>(

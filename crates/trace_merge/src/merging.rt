@@ -1,6 +1,6 @@
 //! Traces that are being played into one group.
 ghost use Rattle.std.specs.Prelude.{◌≡◌, ◌⊎◌, ◌<◌, ◌++◌, [], ◌∷◌, List, Some, IfErr, OnOk, drop, length, set, take};
-ghost use Rattle.world.specs.Delivery.{Delivery as Delivered};
+ghost use Rattle.protocol.specs.Delivery.{Delivery as Delivered};
 ghost use Rattle.world.specs.Refusals.{IsRefusal};
 ghost use Rattle.world.specs.Run.{Applied};
 ghost use Rattle.node_core.specs.Plum.{plum_state};

@@ -4,8 +4,9 @@ ghost use Rattle.trace_merge.specs.Projection.{output_of, said};
 
 use frames::Frame;
 use node_names::{Listed, NodeName};
+use protocol::{Out, Wire, copy_deliveries};
 use std::alloc::{AllocError, Allocator};
-use world::{Entry, Out, Packet, Wire, copy_deliveries};
+use world::{Entry, Packet};
 
 /// The packets with the numbers from `first` up to but not including `end`.
 fn between<N>(sent: &[Packet<N>], first: usize, end: usize) -> &[Packet<N>]

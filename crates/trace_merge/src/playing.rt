@@ -16,8 +16,9 @@ use crate::unfinished::Unfinished;
 use crate::visits::{Awaited, Visit, Visits};
 use frames::Frame;
 use node_names::NodeName;
+use protocol::{Step, Stimulus, StimulusOf, Trace};
 use std::alloc::{AllocError, Allocator};
-use world::{Event, EventOf, Step, Stimulus, StimulusOf, Trace};
+use world::{Event, EventOf};
 
 /// The event that gives a stimulus, which must not be an arrival, to the core of this name.
 fn event_of<A: Allocator + Copy>(

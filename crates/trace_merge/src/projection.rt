@@ -10,8 +10,9 @@ use crate::outputs::output_of;
 use frames::Frame;
 use node_core::PlumCore;
 use node_names::{Dice, Incarnation, NodeName, Origin};
+use protocol::{Step, Stimulus, StimulusOf, Trace, Wire};
 use std::alloc::{AllocError, Allocator};
-use world::{Entry, EventOf, KeptEvent, Packet, Step, Stimulus, StimulusOf, Trace, Wire, World};
+use world::{Entry, EventOf, KeptEvent, Packet, World};
 
 /// The packet that was sent with the number, if there is a number.
 fn sent_under<N>(sent: &[Packet<N>], number: Option<usize>) -> Option<&Packet<N>>

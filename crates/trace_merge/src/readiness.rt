@@ -1,7 +1,7 @@
 //! Whether a run may start.
 ghost use Rattle.std.specs.Prelude.{◌≡◌, Some, true, false, IfNone, IfSome, slice_get};
 ghost use Rattle.std.specs.Bool.{Decides};
-ghost use Rattle.world.specs.Trace.{Trace as Traced};
+ghost use Rattle.protocol.specs.Trace.{Trace as Traced};
 ghost use Rattle.frames.specs.Frame.{Frame as Said};
 ghost use Rattle.trace_merge.specs.Held.{IsEarlier};
 ghost use Rattle.trace_merge.specs.Left.{AreLeft};
@@ -11,8 +11,8 @@ use crate::stuck::{is_out, place_at};
 use crate::unfinished::Unfinished;
 use frames::Frame;
 use node_names::Origin;
+use protocol::Trace;
 use std::alloc::Allocator;
-use world::Trace;
 
 /// Whether the first run is an earlier run of the same name as the other.
 pub(crate) fn is_earlier(one: &Origin, other: &Origin) -> bool

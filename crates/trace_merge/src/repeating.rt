@@ -5,8 +5,9 @@ ghost use Rattle.trace_merge.specs.Merging.{IsMerging};
 use crate::fault::MergeFault;
 use crate::merging::Merging;
 use frames::Frame;
+use protocol::Trace;
 use std::alloc::Allocator;
-use world::{EventOf, Trace, WorldError};
+use world::{EventOf, WorldError};
 
 /// The place in flight of the packet of this number, if it is in flight. The numbers in flight are ascending as long as
 /// each packet that is put there again arrives next.

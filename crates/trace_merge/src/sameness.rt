@@ -5,8 +5,9 @@ ghost use Rattle.trace_merge.specs.Projection.{said};
 
 use frames::{Frame, same_frame};
 use node_names::NodeName;
+use protocol::Delivery;
 use std::alloc::Allocator;
-use world::{Delivery, Packet};
+use world::Packet;
 
 /// Whether a packet has the same receiver and frame as a send.
 fn is_send<A: Allocator>(packet: &Packet<Frame<A>>, send: &(NodeName, Frame<A>)) -> bool

@@ -9,8 +9,9 @@ use crate::merging::{Merging, fault_of};
 use crate::sameness::same_sends;
 use frames::Frame;
 use node_names::Listed;
+use protocol::{Out, Trace};
 use std::alloc::{AllocError, Allocator};
-use world::{Event, EventOf, Out, Packet, Trace};
+use world::{Event, EventOf, Packet};
 
 /// The event that starts the run of a trace.
 fn start_of<A: Allocator + Copy>(

@@ -11,8 +11,9 @@ use crate::merging::{Merging, fault_of};
 use crate::sameness::{same_deliveries, same_sends};
 use frames::Frame;
 use node_names::NodeName;
+use protocol::{Delivery, Out, Step, Trace};
 use std::alloc::Allocator;
-use world::{Delivery, Entry, Event, Out, Packet, Step, Trace};
+use world::{Entry, Event, Packet};
 
 /// Whether these packets and deliveries are those of an output.
 fn is_output<A: Allocator>(

@@ -6,8 +6,8 @@ ghost use Rattle.trace_merge.specs.Merging.{AreStuck, IsOut, place_at};
 
 use frames::Frame;
 use node_names::Origin;
+use protocol::Trace;
 use std::alloc::Allocator;
-use world::Trace;
 
 /// Whether a trace is finished.
 pub(crate) fn is_out<A: Allocator>(trace: &Trace<Frame<A>, A>, place: Option<usize>) -> bool

@@ -10,9 +10,9 @@ ghost use Rattle.trace_merge.specs.Left.{AreLeft};
 use crate::readiness::is_earlier;
 use frames::Frame;
 use node_names::Origin;
+use protocol::Trace;
 use std::alloc::{AllocError, Allocator};
 use std::collections::BTreeMap;
-use world::Trace;
 
 /// The runs that are not known to be finished, in the order of names and then of incarnations, each with the index of
 /// its trace.

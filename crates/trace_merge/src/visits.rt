@@ -7,10 +7,11 @@ use crate::frame_index::FrameId;
 use frames::Frame;
 use indexmap::IndexMap;
 use node_names::Origin;
+use protocol::{Step, StimulusOf};
 use std::alloc::{AllocError, Allocator};
 use std::collections::BTreeSet;
 use std::hash::{BuildHasherDefault, FoldHasher};
-use world::{Packet, Step, StimulusOf};
+use world::Packet;
 
 /// What must happen before a trace can be played on.
 #[derive(Clone, Copy, Debug, PartialEq, Eq, Hash)]

@@ -5,8 +5,8 @@ use Rattle.std.specs.Map.{lookup}
 use Rattle.node_names.specs.Ids.{msg_id_text}
 use Rattle.node_names.specs.Same.{same_id}
 use Rattle.node_names.specs.declared.ids.MsgId.{MsgId}
+use Rattle.protocol.specs.SpreadLaw.{is_carried}
 use Rattle.world.specs.Group.{Logged}
-use Rattle.world.specs.SpreadLaw.{is_carried}
 use Rattle.world.specs.declared.packet.Packet.{Packet}
 use Rattle.frames.specs.Content.{frame_content}
 use Rattle.frames.specs.Frame.{Frame}

@@ -2,16 +2,17 @@
 ghost use Rattle.std.specs.Prelude.{◌≡◌, ◌+◌, ◌^◌, ◌<◌, cond, length, IfOk, OnOk};
 ghost use Rattle.node_names.specs.Same.{same_id};
 ghost use Rattle.node_names.specs.declared.ids.MsgId.{MsgId};
-ghost use Rattle.world.specs.SpreadLaw.{is_carried};
+ghost use Rattle.protocol.specs.SpreadLaw.{is_carried};
 ghost use Rattle.frames.specs.Content.{frame_content};
 ghost use Rattle.trace_text.specs.Counts.{announcements_in, announcements_of, copies_of, count_at, is_kind, kind_count};
 
 use frames::{Frame, kind_number};
 use indexmap::IndexMap;
 use node_names::MsgId;
+use protocol::Wire;
 use std::alloc::{AllocError, Allocator};
 use std::hash::{BuildHasherDefault, FoldHasher};
-use world::{Packet, Wire};
+use world::Packet;
 
 /// A count for each message. A message that is not in it has the count 0.
 pub type Counts<A> = IndexMap<MsgId, u128, BuildHasherDefault<FoldHasher>, A>;

@@ -9,8 +9,9 @@ use crate::packets::push_sent;
 use crate::touched::{Touched, touched_by};
 use node_core::PlumCore;
 use node_names::{NodeName, Origin};
+use protocol::{Core, Delivery};
 use std::alloc::{AllocError, Allocator};
-use world::{Core, Delivery, Entry, World};
+use world::{Entry, World};
 
 /// Appends the lines of an event: the event in words, each delivery, each packet that it sent, what changed at the node
 /// that it touched, and the packets in flight after it. `before` are the parts of that node before the event.

@@ -12,9 +12,10 @@ use frames::Frame;
 use node_core::PlumCore;
 use node_names::{MsgId, NodeName};
 use peer_sets::{Member, PeerKind};
+use protocol::Core;
 use std::alloc::{AllocError, Allocator, Global};
 use std::marker::Model;
-use world::{Core, Event, EventOf, Packet, World};
+use world::{Event, EventOf, Packet, World};
 
 /// The texts of the seven parts of a node's state. A contract sees them as the record of these texts.
 #[derive(Drop)]

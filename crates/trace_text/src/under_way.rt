@@ -18,8 +18,9 @@ use frames::{BodyOf, Frame};
 use indexmap::IndexMap;
 use node_core::PlumCore;
 use node_names::{MsgId, NodeName, Origin};
+use protocol::Core;
 use std::alloc::{AllocError, Allocator};
-use world::{Core, NodeState, Packet, World};
+use world::{NodeState, Packet, World};
 
 /// Collects the lines of what is under way about each message: packets in flight, queued announcements and timers.
 pub fn under_way<A: Allocator + Copy>(

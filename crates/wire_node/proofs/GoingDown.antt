@@ -5,7 +5,7 @@ use Rattle.std.proofs.lemmas.List.{append-nil, map-append, take_more}
 use Rattle.node_names.specs.NodeName.{Name}
 use Rattle.node_names.specs.declared.dice.Dice.{Dice}
 use Rattle.node_names.specs.declared.ids.MsgId.{MsgId}
-use Rattle.world.specs.declared.stimulus.StimulusOf.TheVariants.{Fire}
+use Rattle.protocol.specs.declared.stimulus.StimulusOf.TheVariants.{Fire}
 use Rattle.wire_node.specs.Acting.{GoDown, GoesDown, Machine}
 use Rattle.wire_node.specs.Moving.{Engine, Move, Moves, MovesAll, Relieves, firing}
 use Rattle.wire_node.proofs.Taking.{moves_one, moves_then}

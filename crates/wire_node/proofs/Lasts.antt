@@ -6,9 +6,9 @@ use Rattle.std.proofs.lemmas.Option.{slice_get_read}
 use Rattle.std.proofs.Math.Seq.{get_or-append_seam}
 use Rattle.std.proofs.Math.ListN.{length-append}
 use Rattle.node_names.specs.declared.ids.MsgId.{MsgId}
-use Rattle.world.specs.Delivery.{Delivery}
-use Rattle.world.specs.DeliveryLaw.{ids}
-use Rattle.world.specs.Trace.{Step}
+use Rattle.protocol.specs.Delivery.{Delivery}
+use Rattle.protocol.specs.DeliveryLaw.{ids}
+use Rattle.protocol.specs.Trace.{Step}
 use Rattle.frames.specs.Frame.{Frame}
 use Rattle.wire_node.specs.Recording.{Noted, with_step}
 

@@ -4,9 +4,9 @@ use Rattle.std.proofs.Common.{◌∙◌, ap, subst, sym}
 use Rattle.std.proofs.lemmas.List.{append-nil}
 use Rattle.node_names.specs.NodeName.{Name}
 use Rattle.node_names.specs.Same.{same_name}
-use Rattle.world.specs.Delivery.{Delivery}
-use Rattle.world.specs.Output.{Output, Stepped}
-use Rattle.world.specs.Stimulus.{Stimulus}
+use Rattle.protocol.specs.Delivery.{Delivery}
+use Rattle.protocol.specs.Output.{Output, Stepped}
+use Rattle.protocol.specs.Stimulus.{Stimulus}
 use Rattle.frames.specs.Frame.{Frame}
 use Rattle.node_core.specs.Plum.{Plum, plum_state}
 use Rattle.node_core.specs.Steps.{PlumSteps}

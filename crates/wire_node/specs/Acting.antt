@@ -3,11 +3,11 @@ use Rattle.std.specs.Prelude.{◌≡◌, ◌++◌, Bool, List, [], ◌∷◌, Op
 use Rattle.node_names.specs.NodeName.{Name}
 use Rattle.node_names.specs.Same.{same_name}
 use Rattle.node_names.specs.declared.dice.Dice.{Dice}
-use Rattle.world.specs.Delivery.{Delivery}
-use Rattle.world.specs.Output.{Output}
-use Rattle.world.specs.Stimulus.{Stimulus}
-use Rattle.world.specs.Trace.{Step}
-use Rattle.world.specs.declared.stimulus.StimulusOf.TheVariants.{Down}
+use Rattle.protocol.specs.Delivery.{Delivery}
+use Rattle.protocol.specs.Output.{Output}
+use Rattle.protocol.specs.Stimulus.{Stimulus}
+use Rattle.protocol.specs.Trace.{Step}
+use Rattle.protocol.specs.declared.stimulus.StimulusOf.TheVariants.{Down}
 use Rattle.frames.specs.Frame.{Frame}
 use Rattle.node_core.specs.Plum.{Plum, plum_state}
 use Rattle.node_core.specs.Steps.{PlumSteps}

@@ -3,10 +3,10 @@ use Rattle.std.specs.Prelude.{◌≡◌, ◌++◌, ℕ, List, [], ◌∷◌, rep
 use Rattle.node_names.specs.NodeName.{Name}
 use Rattle.node_names.specs.declared.dice.Dice.{Dice}
 use Rattle.node_names.specs.declared.ids.MsgId.{MsgId}
-use Rattle.world.specs.DeliveryLaw.{ids}
-use Rattle.world.specs.PayloadLaw.{next_id}
-use Rattle.world.specs.Stimulus.{Stimulus}
-use Rattle.world.specs.declared.stimulus.StimulusOf.TheVariants.{Arrive, Broadcast, Fire}
+use Rattle.protocol.specs.DeliveryLaw.{ids}
+use Rattle.protocol.specs.PayloadLaw.{next_id}
+use Rattle.protocol.specs.Stimulus.{Stimulus}
+use Rattle.protocol.specs.declared.stimulus.StimulusOf.TheVariants.{Arrive, Broadcast, Fire}
 use Rattle.frames.specs.Frame.{Frame}
 use Rattle.node_core.specs.Plum.{plum_state}
 use Rattle.wire_node.specs.Acting.{Acts, GoDown, GoesDown, Machine}

@@ -1,7 +1,7 @@
 -- What a node of bytes notes of its steps.
 use Rattle.std.specs.Prelude.{◌≡◌, ◌++◌, ℕ, List, [], ◌∷◌, Option, None, Some}
-use Rattle.world.specs.Output.{Output}
-use Rattle.world.specs.Trace.{Step}
+use Rattle.protocol.specs.Output.{Output}
+use Rattle.protocol.specs.Trace.{Step}
 use Rattle.frames.specs.Frame.{Frame}
 use Rattle.node_core.specs.Plum.{Plum}
 use Rattle.node_core.specs.Steps.{PlumSteps}

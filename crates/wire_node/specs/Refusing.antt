@@ -1,9 +1,9 @@
 -- Why a node of bytes refuses a step.
 use Rattle.std.specs.Prelude.{⊤}
-use Rattle.world.specs.IdentityLaw.{IsTooLong}
-use Rattle.world.specs.Stimulus.{Stimulus}
-use Rattle.world.specs.declared.protocol.CoreError.{CoreError}
-use Rattle.world.specs.declared.protocol.CoreError.TheVariants.{OutOfMemory as NoMemory, PayloadTooLong, SeqSpent}
+use Rattle.protocol.specs.IdentityLaw.{IsTooLong}
+use Rattle.protocol.specs.Stimulus.{Stimulus}
+use Rattle.protocol.specs.declared.protocol.CoreError.{CoreError}
+use Rattle.protocol.specs.declared.protocol.CoreError.TheVariants.{OutOfMemory as NoMemory, PayloadTooLong, SeqSpent}
 use Rattle.frames.specs.Frame.{Frame}
 use Rattle.node_core.specs.Plum.{Plum}
 use Rattle.node_core.specs.Steps.{PlumIsSpent}

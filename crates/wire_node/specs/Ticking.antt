@@ -3,7 +3,7 @@ use Rattle.std.specs.Prelude.{◌≡◌, ◌≢◌, ◌<◌, ◌≤◌, ◌-◌,
 use Rattle.node_names.specs.Same.{has_id}
 use Rattle.node_names.specs.declared.dice.Dice.{Dice}
 use Rattle.node_names.specs.declared.ids.MsgId.{MsgId}
-use Rattle.world.specs.declared.stimulus.StimulusOf.TheVariants.{Flush, Shuffle}
+use Rattle.protocol.specs.declared.stimulus.StimulusOf.TheVariants.{Flush, Shuffle}
 use Rattle.node_core.specs.Plum.{plum_state}
 use Rattle.wire_node.specs.Moving.{Engine, Moves, MovesAll, firing}
 

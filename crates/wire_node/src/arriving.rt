@@ -9,8 +9,8 @@ use crate::engine::Engine;
 use crate::record::Record;
 use frames::Frame;
 use node_names::NodeName;
+use protocol::{CoreError, StimulusOf};
 use std::alloc::Allocator;
-use world::{CoreError, StimulusOf};
 
 /// Takes a frame by one step, whose sender is the connection's peer if it is the first.
 pub(crate) fn take_frame<A: Allocator + Copy, R: Record<A> + Drop, D: DiceSource>(

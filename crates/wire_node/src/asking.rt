@@ -8,10 +8,10 @@ use crate::connection::drop_front;
 use crate::engine::Engine;
 use crate::record::Record;
 use node_names::{Dice, MsgId};
+use protocol::{CoreError, StimulusOf};
 use std::alloc::{AllocError, Allocator};
 use std::marker::Model;
 use std::mem;
-use world::{CoreError, StimulusOf};
 
 /// A turn of asking begins at a fifth tick, so that a message has that long to come by itself: one that is asked for
 /// while it is on its way comes twice, and changes the tree.

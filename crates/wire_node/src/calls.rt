@@ -11,8 +11,8 @@ use crate::record::Record;
 use crate::ticking::make_tick;
 use bytes::Bytes;
 use node_names::{Dice, MsgId, NodeName};
+use protocol::StimulusOf;
 use std::alloc::Allocator;
-use world::StimulusOf;
 
 impl<A: Allocator + Copy, R: Record<A> + Drop> WireNode<A, R> {
     /// Broadcasts a message, and delivers it to its own caller too. The payload is shared with whoever else has it.

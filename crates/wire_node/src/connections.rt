@@ -11,8 +11,8 @@ use crate::node::WireNode;
 use crate::receiving::receive_on;
 use crate::record::Record;
 use node_names::{Dice, NodeName};
+use protocol::CoreError;
 use std::alloc::Allocator;
-use world::CoreError;
 
 /// A connection of a node. No other connection of the node ever has the same number.
 #[derive(Clone, Copy, Debug, PartialEq, Eq)]

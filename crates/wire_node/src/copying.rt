@@ -3,8 +3,8 @@ ghost use Rattle.std.specs.Prelude.{◌≡◌, IfOk};
 
 use frames::Frame;
 use node_names::{Listed, NodeName};
+use protocol::{Out, Stimulus, StimulusOf, Wire, copy_deliveries};
 use std::alloc::{AllocError, Allocator};
-use world::{Out, Stimulus, StimulusOf, Wire, copy_deliveries};
 
 /// Copies a stimulus.
 pub(crate) fn copy_stimulus<A: Allocator + Copy>(

@@ -1,7 +1,7 @@
 //! Names that are down: the core is told, and what waited for them is dropped.
 ghost use Rattle.std.specs.Prelude.{◌≡◌, ◌≤◌, ◌∷◌, ◌++◌, [], All, IsErrOf, IsNone, OnErr, OnOk, length, not};
 ghost use Rattle.node_names.specs.Same.{same_name};
-ghost use Rattle.world.specs.IdentityLaw.{IsTooLong};
+ghost use Rattle.protocol.specs.IdentityLaw.{IsTooLong};
 ghost use Rattle.frames.specs.Frame.{Frame as Sent};
 ghost use Rattle.node_core.specs.Steps.{PlumIsSpent};
 ghost use Rattle.wire_node.specs.Acting.{AreSettled, GoesDown, machine, without};
@@ -13,8 +13,8 @@ use crate::step::make_step;
 use neighborhood::Telling;
 use node_core::PlumCore;
 use node_names::{Dice, Listed, NodeName};
+use protocol::{CoreError, Delivery, StimulusOf};
 use std::alloc::Allocator;
-use world::{CoreError, Delivery, StimulusOf};
 
 /// Drops what waits for the name.
 pub(crate) fn forget<A: Allocator + Copy>(entries: &mut Vec<Entry<A>, A>, name: &NodeName)

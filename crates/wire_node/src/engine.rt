@@ -1,8 +1,8 @@
 //! The core of a node, with what its steps leave to be taken.
 ghost use Rattle.std.specs.Prelude.{◌≡◌, List, ◌∷◌, [], ◌++◌, Some, IfOk, IsErrOf, OnErr, OnOk, length};
 ghost use Rattle.node_names.specs.Same.{has_id};
-ghost use Rattle.world.specs.IdentityLaw.{IsTooLong};
-ghost use Rattle.world.specs.Delivery.{Delivery as Given};
+ghost use Rattle.protocol.specs.IdentityLaw.{IsTooLong};
+ghost use Rattle.protocol.specs.Delivery.{Delivery as Given};
 ghost use Rattle.frames.specs.Frame.{Frame as Sent};
 ghost use Rattle.node_core.specs.Plum.{plum_state};
 ghost use Rattle.node_core.specs.Steps.{PlumIsSpent};
@@ -20,9 +20,9 @@ use frames::Frame;
 use neighborhood::Telling;
 use node_core::{PlumCore, armed_ids};
 use node_names::{Dice, Listed, MsgId, NodeName};
+use protocol::{Core, CoreError, Delivery, Stimulus, StimulusOf};
 use std::alloc::{AllocError, Allocator};
 use std::marker::Model;
-use world::{Core, CoreError, Delivery, Stimulus, StimulusOf};
 
 /// A core, and what its steps leave to be taken: bytes by the name that they go to, deliveries, what is noted, news of the
 /// active view, and names that are down.

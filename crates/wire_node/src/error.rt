@@ -3,9 +3,9 @@ ghost use Rattle.std.specs.Prelude.{◌≡◌};
 ghost use Rattle.wire_node.specs.Refusing.{refusal_of};
 
 use frames::FrameFault;
+use protocol::CoreError;
 use std::alloc::AllocError;
 use thiserror::Error;
-use world::CoreError;
 
 /// Why a call was refused.
 #[derive(Clone, Copy, Debug, PartialEq, Eq, Error)]

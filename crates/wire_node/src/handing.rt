@@ -6,8 +6,8 @@ use crate::engine::Engine;
 use crate::node::WireNode;
 use crate::recorded::Recorded;
 use frames::Frame;
+use protocol::{Out, Segment};
 use std::alloc::Allocator;
-use world::{Out, Segment};
 
 impl<A: Allocator + Copy> Engine<A, Recorded<A>> {
     /// Takes the steps that are kept.

@@ -12,9 +12,9 @@ use crate::record::{Record, Unrecorded};
 use neighborhood::Telling;
 use node_core::PlumCore;
 use node_names::{Listed, NodeName, Origin};
+use protocol::{Out, are_peers};
 use std::alloc::{Allocator, Global};
 use std::marker::Model;
-use world::{Out, are_peers};
 
 /// For how many names it keeps bytes at first before it looks for those for whom nothing waits.
 pub(crate) const NAMES: usize = 16;

@@ -2,7 +2,7 @@
 ghost use Rattle.std.specs.Prelude.{◌≡◌, [], List, Result, IfOk, IsTrue, OnOk};
 ghost use Rattle.node_names.specs.NodeName.{Name};
 ghost use Rattle.frames.specs.Frame.{Frame as Sent};
-ghost use Rattle.world.specs.Peers.{are_peers};
+ghost use Rattle.protocol.specs.Peers.{are_peers};
 ghost use Rattle.node_core.specs.Steps.{PlumStarts};
 ghost use Rattle.wire_node.specs.Acting.{AreSettled};
 ghost use Rattle.wire_node.specs.Recording.{opened};
@@ -16,8 +16,8 @@ use crate::record::Record;
 use frames::Frame;
 use node_core::PlumCore;
 use node_names::{NodeName, Origin};
+use protocol::{Core, Out};
 use std::alloc::{AllocError, Allocator};
-use world::{Core, Out};
 
 /// Starts the core. What it sends is put into `out`, which is empty.
 pub(crate) fn start_core<A: Allocator + Copy>(

@@ -14,9 +14,9 @@ use crate::node::{NAMES, WireNode};
 use crate::record::Record;
 use neighborhood::News;
 use node_names::{Listed, NameSet, NodeName};
+use protocol::{Core, Delivery};
 use std::alloc::{AllocError, Allocator};
 use std::mem;
-use world::{Core, Delivery};
 
 /// Appends the name if bytes wait for it.
 fn add_receiver<A: Allocator + Copy>(

@@ -1,12 +1,12 @@
 //! What a node of bytes notes of its steps.
 ghost use Rattle.std.specs.Prelude.{◌≡◌, Option, OnErr, OnOk};
-ghost use Rattle.world.specs.Trace.{Step};
+ghost use Rattle.protocol.specs.Trace.{Step};
 ghost use Rattle.frames.specs.Frame.{Frame as Plain};
 ghost use Rattle.wire_node.specs.Recording.{Noted, opened, with_step};
 
 use frames::Frame;
+use protocol::{Out, Stimulus};
 use std::alloc::{AllocError, Allocator};
-use world::{Out, Stimulus};
 
 /// What notes the steps of a node. A step is noted before it is made, so that none of its frames leaves the node
 /// unnoted; where noting is refused, the step is not made.

@@ -6,13 +6,13 @@ use crate::copying::{copy_out, copy_stimulus};
 use crate::record::Record;
 use frames::Frame;
 use node_names::Listed;
+use protocol::{Out, Segment, Step, Stimulus};
 use std::alloc::{AllocError, Allocator, Global};
 use std::marker::Model;
 use std::mem;
-use world::{Out, Segment, Step, Stimulus};
 
 /// Keeps what the start of a node sends, and its steps, until they are taken: together they are the node's trace, as
-/// `world::Trace` keeps it. The payloads of what it keeps are shared with the node.
+/// `protocol::Trace` keeps it. The payloads of what it keeps are shared with the node.
 #[derive(Drop)]
 pub struct Recorded<A: Allocator = Global> {
     opening: Out<Frame<A>, A>,

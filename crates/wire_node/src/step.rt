@@ -1,6 +1,6 @@
 //! A step of the core, whose frames wait afterwards: all of it, or nothing.
 ghost use Rattle.std.specs.Prelude.{◌≡◌, ◌++◌, None, OnOk, OnErr, IsErrOf};
-ghost use Rattle.world.specs.IdentityLaw.{IsTooLong};
+ghost use Rattle.protocol.specs.IdentityLaw.{IsTooLong};
 ghost use Rattle.node_core.specs.Steps.{PlumIsSpent};
 ghost use Rattle.wire_node.specs.Acting.{Acts, AreSettled, machine};
 ghost use Rattle.wire_node.specs.Recording.{with_step};
@@ -13,8 +13,8 @@ use frames::Frame;
 use neighborhood::Telling;
 use node_core::PlumCore;
 use node_names::Listed;
+use protocol::{Core, CoreError, Delivery, Out, Prepared, Stimulus};
 use std::alloc::{AllocError, Allocator};
-use world::{Core, CoreError, Delivery, Out, Prepared, Stimulus};
 
 /// Drafts the frames of a step, and appends its deliveries: all of this, or nothing if an allocation is refused.
 #[tactic(auto, using(crate::proofs::Drafting::keeps_same, crate::proofs::Drafting::undrafted_back))]

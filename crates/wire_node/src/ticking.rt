@@ -6,8 +6,8 @@ use crate::asking::{Asking, ask};
 use crate::engine::Engine;
 use crate::record::Record;
 use node_names::Dice;
+use protocol::{CoreError, StimulusOf};
 use std::alloc::Allocator;
-use world::{CoreError, StimulusOf};
 
 /// At every tenth tick the node shuffles its passive view.
 const SHUFFLE_EVERY: u64 = 10;

@@ -9,27 +9,28 @@ use Rattle.node_names.specs.Same.{has_name, same_id, same_id-Decides, same_name,
 use Rattle.node_names.specs.declared.dice.Dice.{Dice}
 use Rattle.node_names.specs.declared.ids.MsgId.{MsgId}
 use Rattle.node_names.specs.declared.ids.Origin.{Origin}
-use Rattle.world.specs.AskLaw.{AsksFor}
-use Rattle.world.specs.Content.{Content}
-use Rattle.world.specs.CoreState.{CoreState}
-use Rattle.world.specs.Delivery.{Delivery}
-use Rattle.world.specs.DeliveryLaw.{Delivers, DeliversNews, ids}
+use Rattle.protocol.specs.AskLaw.{AsksFor}
+use Rattle.protocol.specs.Content.{Content}
+use Rattle.protocol.specs.CoreState.{CoreState}
+use Rattle.protocol.specs.Delivery.{Delivery}
+use Rattle.protocol.specs.DeliveryLaw.{Delivers, DeliversNews, ids}
+use Rattle.protocol.specs.lawful.NameLists.{and_left, and_right}
+use Rattle.protocol.specs.HoldLaw.{IsAskedBy}
+use Rattle.protocol.specs.Laws.{Laws}
+use Rattle.protocol.specs.Lists.{IsOneOf, places}
+use Rattle.protocol.specs.QueueLaw.{FlushesQueue, KeepsQueue, announcements, times_announced, times_queued}
+use Rattle.protocol.specs.SameNames.{SameNames}
+use Rattle.protocol.specs.SpreadLaw.{GetsShare, entries_queued, is_carried, is_from, packets_carrying}
+use Rattle.protocol.specs.Stimulus.{Stimulus}
+use Rattle.protocol.specs.WantLaw.{Announces, IsWanted}
+use Rattle.protocol.specs.declared.stimulus.StimulusOf.TheVariants.{Broadcast, Arrive, Fire, Flush, Down, Shuffle, Join}
 use Rattle.world.specs.Entry.{Entry}
-use Rattle.world.specs.lawful.NameLists.{and_left, and_right}
-use Rattle.world.specs.HoldLaw.{IsAskedBy}
 use Rattle.world.specs.Group.{Group, node_of, origin_of, packets}
-use Rattle.world.specs.Laws.{Laws}
 use Rattle.world.specs.Links.{IsRunning, Runs}
-use Rattle.world.specs.Lists.{IsOneOf, places}
-use Rattle.world.specs.QueueLaw.{FlushesQueue, KeepsQueue, announcements, times_announced, times_queued}
-use Rattle.world.specs.Run.{OnlyFlies, SameNames}
-use Rattle.world.specs.SpreadLaw.{GetsShare, entries_queued, is_carried, is_from, packets_carrying}
-use Rattle.world.specs.Stimulus.{Stimulus}
+use Rattle.world.specs.Run.{OnlyFlies}
 use Rattle.world.specs.UnderWay.{AnnouncesIt, AsksForIt, CarriesIt, IsCarriedOn, IsInFlight, IsQueued, IsUnderWay, Carried, Queued, Announced, Wanted, Asked}
-use Rattle.world.specs.WantLaw.{Announces, IsWanted}
 use Rattle.world.specs.declared.node_state.NodeState.{NodeState}
 use Rattle.world.specs.declared.packet.Packet.{Packet}
-use Rattle.world.specs.declared.stimulus.StimulusOf.TheVariants.{Broadcast, Arrive, Fire, Flush, Down, Shuffle, Join}
 use Rattle.world.proofs.FindLemmas.{found_name, name_is, names_differ, put_cases, put_other, put_same, tells_apart}
 use Rattle.world.proofs.Flying.{IsSent, counts_one, each_one, get-append, is_sent, one-left, one-right, one_counted, sent_or_new}
 use Rattle.world.proofs.Steps.{IsStep}

@@ -7,9 +7,9 @@ use Rattle.std.specs.Option.{unwrap_or}
 use Rattle.std.specs.Prelude.{Option, Some, OnErr, OnOk, option_map, slice_get, slice_set}
 use Rattle.std.specs.declared.result.Result.{Result}
 use Rattle.std.specs.declared.result.Result.TheVariants.{Ok, Err}
+use Rattle.protocol.specs.Stimulus.{Stimulus}
 use Rattle.world.specs.Entry.{Entry}
 use Rattle.world.specs.Plan.{CanStep, names_of, nodes_after, stepped_node, stimulus_by}
-use Rattle.world.specs.Stimulus.{Stimulus}
 use Rattle.world.specs.declared.node_state.NodeState.{NodeState}
 use Rattle.world.specs.declared.packet.Packet.{Packet}
 use Rattle.world.proofs.NodeLemmas.{put_node-at}

@@ -9,23 +9,23 @@ use Rattle.node_names.specs.Limits.{Limits}
 use Rattle.node_names.specs.Same.{has_name, same_id, same_id-Decides, same_name, same_name-Decides}
 use Rattle.node_names.specs.declared.ids.MsgId.{MsgId}
 use Rattle.node_names.specs.declared.ids.Origin.{Origin}
-use Rattle.world.specs.AskLaw.{AsksFirst, AsksNothing, Fires}
-use Rattle.world.specs.Content.{Content}
-use Rattle.world.specs.CoreState.{CoreState}
-use Rattle.world.specs.Delivery.{Delivery}
-use Rattle.world.specs.DeliveryLaw.{Delivers, ids}
-use Rattle.world.specs.lawful.NameLists.{and_left, and_right}
+use Rattle.protocol.specs.AskLaw.{AsksFirst, AsksNothing, Fires}
+use Rattle.protocol.specs.Content.{Content}
+use Rattle.protocol.specs.CoreState.{CoreState}
+use Rattle.protocol.specs.Delivery.{Delivery}
+use Rattle.protocol.specs.DeliveryLaw.{Delivers, ids}
+use Rattle.protocol.specs.lawful.NameLists.{and_left, and_right}
+use Rattle.protocol.specs.HoldLaw.{IsAskedBy}
+use Rattle.protocol.specs.Laws.{IsSilent, StateLaws, StepLaws}
+use Rattle.protocol.specs.Lists.{IsOneOf}
+use Rattle.protocol.specs.QueueLaw.{AnnouncesNothing, FlushesQueue}
+use Rattle.protocol.specs.SpreadLaw.{GetsShare, entries_queued, is_carried, is_from, packets_carrying}
+use Rattle.protocol.specs.Stimulus.{Stimulus}
+use Rattle.protocol.specs.WantLaw.{Announces, IsWanted, entries_wanted}
+use Rattle.protocol.specs.declared.stimulus.StimulusOf.TheVariants.{Broadcast, Arrive, Fire, Flush, Down, Shuffle, Join}
 use Rattle.world.specs.Group.{packets}
-use Rattle.world.specs.HoldLaw.{IsAskedBy}
-use Rattle.world.specs.Laws.{IsSilent, StateLaws, StepLaws}
-use Rattle.world.specs.Lists.{IsOneOf}
-use Rattle.world.specs.QueueLaw.{AnnouncesNothing, FlushesQueue}
-use Rattle.world.specs.SpreadLaw.{GetsShare, entries_queued, is_carried, is_from, packets_carrying}
-use Rattle.world.specs.Stimulus.{Stimulus}
 use Rattle.world.specs.Traffic.{entries_announced, goes, is_asked}
-use Rattle.world.specs.WantLaw.{Announces, IsWanted, entries_wanted}
 use Rattle.world.specs.declared.packet.Packet.{Packet}
-use Rattle.world.specs.declared.stimulus.StimulusOf.TheVariants.{Broadcast, Arrive, Fire, Flush, Down, Shuffle, Join}
 use Rattle.world.proofs.Carrying.{carrying_one, each_id, queued_one}
 use Rattle.world.proofs.FindLemmas.{name_is}
 use Rattle.world.proofs.Flying.{counts_one, each_one, one_counted}

@@ -5,8 +5,8 @@ use Rattle.std.specs.Prelude.{◌⊎◌, Bool, Some, None, cond, count_by, lengt
 use Rattle.std.proofs.lemmas.List.Sums.{sum_by-cons}
 use Rattle.node_names.specs.NodeName.{Name}
 use Rattle.node_names.specs.declared.ids.Origin.{Origin}
+use Rattle.protocol.specs.Lists.{IsOneOf, places}
 use Rattle.world.specs.Group.{packets}
-use Rattle.world.specs.Lists.{IsOneOf, places}
 use Rattle.world.specs.declared.packet.Packet.{Packet}
 
 -- what stands at a place is one of the list

@@ -4,11 +4,11 @@ use Rattle.std.specs.List.{AllByRecursion as Each}
 use Rattle.std.specs.Prelude.{◌⊎◌, Bool}
 use Rattle.node_names.specs.declared.ids.MsgId.{MsgId}
 use Rattle.node_names.specs.declared.ids.Origin.{Origin}
-use Rattle.world.specs.Delivery.{Delivery}
-use Rattle.world.specs.DeliveryLaw.{ids}
+use Rattle.protocol.specs.Delivery.{Delivery}
+use Rattle.protocol.specs.DeliveryLaw.{ids}
+use Rattle.protocol.specs.Lists.{IsOneOf}
 use Rattle.world.specs.History.{HasDelivery}
 use Rattle.world.specs.Honest.{AreOnce}
-use Rattle.world.specs.Lists.{IsOneOf}
 
 -- what two lists together have, one of them has
 pub given_either : (xs ys : List Delivery) (node : Origin) (id : MsgId) → HasDelivery (xs ++ ys) node id → HasDelivery xs node id ⊎ HasDelivery ys node id

@@ -9,20 +9,20 @@ use Rattle.node_names.specs.Limits.{Limits}
 use Rattle.node_names.specs.Same.{same_origin, same_origin-Decides}
 use Rattle.node_names.specs.declared.ids.MsgId.{MsgId}
 use Rattle.node_names.specs.declared.ids.Origin.{Origin}
-use Rattle.world.specs.Content.{Content}
-use Rattle.world.specs.CoreState.{CoreState}
-use Rattle.world.specs.Delivery.{Delivery}
-use Rattle.world.specs.DeliveryLaw.{ids}
+use Rattle.protocol.specs.Content.{Content}
+use Rattle.protocol.specs.CoreState.{CoreState}
+use Rattle.protocol.specs.Delivery.{Delivery}
+use Rattle.protocol.specs.DeliveryLaw.{ids}
+use Rattle.protocol.specs.HoldLaw.{AreLast}
+use Rattle.protocol.specs.Laws.{Laws}
+use Rattle.protocol.specs.Lists.{IsOneOf}
+use Rattle.protocol.specs.Stimulus.{Stimulus}
 use Rattle.world.specs.Entry.{Entry}
 use Rattle.world.specs.Event.{Event}
 use Rattle.world.specs.Group.{Group, node_of, put_node, origin_of}
 use Rattle.world.specs.History.{HasDelivery, deliveries, delivered_by}
-use Rattle.world.specs.HoldLaw.{AreLast}
-use Rattle.world.specs.Laws.{Laws}
-use Rattle.world.specs.Lists.{IsOneOf}
 use Rattle.world.specs.Rest.{AreFewSince}
 use Rattle.world.specs.Run.{Effect, Run, Starts}
-use Rattle.world.specs.Stimulus.{Stimulus}
 use Rattle.world.specs.declared.event.EventOf.TheVariants.{Start, Broadcast, Arrive, Lose, Again, Fire, Flush, Down, Shuffle, Join, Stop}
 use Rattle.world.specs.declared.node_state.NodeState.{NodeState}
 use Rattle.world.proofs.FindLemmas.{found_name, put_cases}

@@ -8,8 +8,8 @@ use Rattle.node_names.specs.Same.{same_name}
 use Rattle.node_names.specs.declared.ids.Incarnation.{Incarnation}
 use Rattle.node_names.specs.declared.ids.MsgId.{MsgId}
 use Rattle.node_names.specs.declared.ids.Origin.{Origin}
-use Rattle.world.specs.Content.{Content}
-use Rattle.world.specs.CoreState.{CoreState}
+use Rattle.protocol.specs.Content.{Content}
+use Rattle.protocol.specs.CoreState.{CoreState}
 use Rattle.world.specs.Entry.{Entry}
 use Rattle.world.specs.Group.{node_of, put_node, origin_of}
 use Rattle.world.specs.History.{Said, Delivered, broadcasts_of, incarnation_of}

@@ -2,7 +2,6 @@ pub mod Carrying
 pub mod Changes
 pub mod Delivering
 pub mod FindLemmas
-pub mod FloodMoves
 pub mod Flights
 mod Flying
 pub mod GivenLemmas
@@ -18,7 +17,6 @@ pub mod Resting
 pub mod RunLemmas
 pub mod Runs
 pub mod Sayings
-pub mod Segments
 pub mod StartKeeps
 pub mod StepKeeps
 pub mod Steps

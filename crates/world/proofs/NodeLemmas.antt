@@ -4,8 +4,8 @@ use Rattle.std.specs.Prelude.{Bool, Some, None, not, cond, slice_set, nat_lt, if
 use Rattle.std.specs.List.{position, position_or_len}
 use Rattle.std.proofs.lemmas.Bool.Decides.{Decides-ltb, nat_tests}
 use Rattle.node_names.specs.Same.{same_name}
+use Rattle.protocol.specs.Lists.{places}
 use Rattle.world.specs.Group.{put_node}
-use Rattle.world.specs.Lists.{places}
 use Rattle.world.specs.declared.node_state.NodeState.{NodeState}
 
 -- one more place

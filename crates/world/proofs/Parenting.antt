@@ -7,24 +7,24 @@ use Rattle.node_names.specs.Limits.{Limits}
 use Rattle.node_names.specs.declared.dice.Dice.{Dice}
 use Rattle.node_names.specs.declared.ids.MsgId.{MsgId}
 use Rattle.node_names.specs.declared.ids.Origin.{Origin}
-use Rattle.world.specs.Content.{Content}
-use Rattle.world.specs.CoreState.{CoreState}
-use Rattle.world.specs.Delivery.{Delivery}
-use Rattle.world.specs.DeliveryLaw.{DeliversNews, ids}
+use Rattle.protocol.specs.Content.{Content}
+use Rattle.protocol.specs.CoreState.{CoreState}
+use Rattle.protocol.specs.Delivery.{Delivery}
+use Rattle.protocol.specs.DeliveryLaw.{DeliversNews, ids}
+use Rattle.protocol.specs.Laws.{Laws, IsSilent}
+use Rattle.protocol.specs.Lists.{IsOneOf}
+use Rattle.protocol.specs.Stimulus.{Stimulus}
+use Rattle.protocol.specs.declared.stimulus.StimulusOf.TheVariants as stimulus
 use Rattle.world.specs.Entry.{Entry}
 use Rattle.world.specs.Event.{Event}
 use Rattle.world.specs.Group.{Group, origin_of, packets}
 use Rattle.world.specs.History.{Delivered}
-use Rattle.world.specs.Laws.{Laws, IsSilent}
-use Rattle.world.specs.Lists.{IsOneOf}
 use Rattle.world.specs.Parents.{HasParent, HaveParents}
 use Rattle.world.specs.Rest.{GaveFrom}
 use Rattle.world.specs.Run.{Effect, Run}
-use Rattle.world.specs.Stimulus.{Stimulus}
 use Rattle.world.specs.UnderWay.{CarriesIt}
 use Rattle.world.specs.declared.event.EventOf.TheVariants.{Start, Broadcast, Arrive, Lose, Again, Fire, Flush, Down, Shuffle, Join, Stop}
 use Rattle.world.specs.declared.packet.Packet.{Packet}
-use Rattle.world.specs.declared.stimulus.StimulusOf.TheVariants as stimulus
 use Rattle.world.proofs.Carrying.{found_new}
 use Rattle.world.proofs.Delivering.{HasDelivered, run_has, stays_delivered}
 use Rattle.world.proofs.Flying.{each_one, get-append, sent_or_new}

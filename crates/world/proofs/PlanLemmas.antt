@@ -8,24 +8,24 @@ use Rattle.node_names.specs.Limits.{Limits}
 use Rattle.node_names.specs.declared.dice.Dice.{Dice}
 use Rattle.node_names.specs.declared.ids.Incarnation.{Incarnation}
 use Rattle.node_names.specs.declared.ids.Origin.{Origin}
-use Rattle.world.specs.CoreState.{CoreState}
-use Rattle.world.specs.Delivery.{Delivery}
+use Rattle.protocol.specs.CoreState.{CoreState}
+use Rattle.protocol.specs.Delivery.{Delivery}
+use Rattle.protocol.specs.Lists.{places}
+use Rattle.protocol.specs.Peers.{are_peers}
+use Rattle.protocol.specs.Stimulus.{Stimulus}
+use Rattle.protocol.specs.declared.TheConstants.{MAX_PAYLOAD}
+use Rattle.protocol.specs.declared.stimulus.StimulusOf.TheVariants as stimulus
 use Rattle.world.specs.Entry.{Entry}
 use Rattle.world.specs.Event.{Event}
 use Rattle.world.specs.Group.{Group, node_of, packets}
-use Rattle.world.specs.Lists.{places}
-use Rattle.world.specs.Peers.{are_peers}
 use Rattle.world.specs.Plan.{group_after}
 use Rattle.world.specs.Refusals.{absent, refusal, packet_at, stale, unless, IsRefusal}
 use Rattle.world.specs.Run.{Acts, Effect, Tells}
-use Rattle.world.specs.Stimulus.{Stimulus}
-use Rattle.world.specs.declared.TheConstants.{MAX_PAYLOAD}
 use Rattle.world.specs.declared.error.WorldError.{WorldError}
 use Rattle.world.specs.declared.error.WorldError.TheVariants.{StaleIncarnation, SeqSpent, OutOfMemory}
 use Rattle.world.specs.declared.event.EventOf.TheVariants.{Arrive, Broadcast, Start}
 use Rattle.world.specs.declared.node_state.NodeState.{NodeState}
 use Rattle.world.specs.declared.packet.Packet.{Packet}
-use Rattle.world.specs.declared.stimulus.StimulusOf.TheVariants as stimulus
 
 -- a running node is not absent
 pub not_absent : {C : Type 0} (name : Name) (nodes : List (NodeState C)) (node : NodeState C) (core : C) → node_of name nodes ≡ Some node → node.core ≡ Some core → absent (node_of name nodes) ≡ None

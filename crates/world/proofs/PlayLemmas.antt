@@ -5,13 +5,13 @@ use Rattle.std.proofs.lemmas.List.{append-nil, take_more}
 use Rattle.node_names.specs.NodeName.{Name}
 use Rattle.node_names.specs.Limits.{Limits}
 use Rattle.node_names.specs.declared.ids.Origin.{Origin}
-use Rattle.world.specs.CoreState.{CoreState}
-use Rattle.world.specs.Delivery.{Delivery}
+use Rattle.protocol.specs.CoreState.{CoreState}
+use Rattle.protocol.specs.Delivery.{Delivery}
+use Rattle.protocol.specs.Stimulus.{Stimulus}
 use Rattle.world.specs.Event.{Event}
 use Rattle.world.specs.Group.{Logged}
 use Rattle.world.specs.Play.{Given, Plays, PlaysOn, given_at}
 use Rattle.world.specs.Run.{Applied}
-use Rattle.world.specs.Stimulus.{Stimulus}
 
 module _
     {C N : Type 0}

@@ -4,9 +4,9 @@ use Rattle.std.specs.Prelude.{Option, Some, None, IfSome}
 use Rattle.node_names.specs.NodeName.{Name}
 use Rattle.node_names.specs.Limits.{Limits}
 use Rattle.node_names.specs.declared.ids.Incarnation.{Incarnation}
-use Rattle.world.specs.Content.{Content}
-use Rattle.world.specs.CoreState.{CoreState}
-use Rattle.world.specs.Delivery.{Delivery}
+use Rattle.protocol.specs.Content.{Content}
+use Rattle.protocol.specs.CoreState.{CoreState}
+use Rattle.protocol.specs.Delivery.{Delivery}
 use Rattle.world.specs.Entry.{Entry}
 use Rattle.world.specs.Group.{node_of, put_node}
 use Rattle.world.specs.History.{Said, broadcasts_of, counted_by, incarnation_of, started_by}

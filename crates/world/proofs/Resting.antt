@@ -7,25 +7,25 @@ use Rattle.node_names.specs.Limits.{Limits}
 use Rattle.node_names.specs.Same.{has_name}
 use Rattle.node_names.specs.declared.ids.MsgId.{MsgId}
 use Rattle.node_names.specs.declared.ids.Origin.{Origin}
-use Rattle.world.specs.Content.{Content}
-use Rattle.world.specs.CoreState.{CoreState}
-use Rattle.world.specs.Delivery.{Delivery}
+use Rattle.protocol.specs.Content.{Content}
+use Rattle.protocol.specs.CoreState.{CoreState}
+use Rattle.protocol.specs.Delivery.{Delivery}
+use Rattle.protocol.specs.HoldLaw.{AreLast}
+use Rattle.protocol.specs.Laws.{Laws}
+use Rattle.protocol.specs.Lists.{IsOneOf}
+use Rattle.protocol.specs.Stimulus.{Stimulus}
+use Rattle.protocol.specs.declared.stimulus.StimulusOf.TheVariants as stimulus
 use Rattle.world.specs.Entry.{Entry}
 use Rattle.world.specs.Event.{Event}
 use Rattle.world.specs.Group.{Group, origin_of}
 use Rattle.world.specs.History.{Said, Says, broadcasts_of, deliveries, delivered_by}
-use Rattle.world.specs.HoldLaw.{AreLast}
-use Rattle.world.specs.Laws.{Laws}
 use Rattle.world.specs.Links.{IsRunning, Linked, Path, Runs}
-use Rattle.world.specs.Lists.{IsOneOf}
 use Rattle.world.specs.Rest.{AreFewSince, IsAtRest, IsCalm, IsDeliveredInReach, IsSilentOn, IsUndisturbed, SaidAndCalm}
 use Rattle.world.specs.Run.{Effect, Run}
-use Rattle.world.specs.Stimulus.{Stimulus}
 use Rattle.world.specs.UnderWay.{IsCarriedOn, IsUnderWay, Carried, Queued, Announced, Wanted, Asked}
 use Rattle.world.specs.declared.event.EventOf.TheVariants.{Start, Broadcast, Arrive, Lose, Again, Fire, Flush, Down, Shuffle, Join, Stop}
 use Rattle.world.specs.declared.node_state.NodeState.{NodeState}
 use Rattle.world.specs.declared.packet.Packet.{Packet}
-use Rattle.world.specs.declared.stimulus.StimulusOf.TheVariants as stimulus
 use Rattle.world.proofs.Carrying.{Carries, flies_carries, says_carries, step_carries}
 use Rattle.world.proofs.Delivering.{delivered_said, run_has}
 use Rattle.world.proofs.Flying.{each_one}

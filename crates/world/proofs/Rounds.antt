@@ -8,9 +8,9 @@ use Rattle.std.proofs.lemmas.List.Sums.{sum_by-cons}
 use Rattle.node_names.specs.NodeName.{Name}
 use Rattle.node_names.specs.Same.{same_id, same_name}
 use Rattle.node_names.specs.declared.ids.MsgId.{MsgId}
-use Rattle.world.specs.Content.{Content}
-use Rattle.world.specs.QueueLaw.{announcements, times_announced, times_queued}
-use Rattle.world.specs.SpreadLaw.{entries_queued}
+use Rattle.protocol.specs.Content.{Content}
+use Rattle.protocol.specs.QueueLaw.{announcements, times_announced, times_queued}
+use Rattle.protocol.specs.SpreadLaw.{entries_queued}
 use Rattle.world.specs.Traffic.{entries_announced}
 
 -- ---- lists of numbers

@@ -6,24 +6,24 @@ use Rattle.node_names.specs.Limits.{Limits}
 use Rattle.node_names.specs.declared.ids.Incarnation.{Incarnation}
 use Rattle.node_names.specs.declared.ids.MsgId.{MsgId}
 use Rattle.node_names.specs.declared.ids.Origin.{Origin}
-use Rattle.world.specs.Content.{Content}
-use Rattle.world.specs.CoreState.{CoreState}
-use Rattle.world.specs.Delivery.{Delivery}
-use Rattle.world.specs.DeliveryLaw.{count_after}
+use Rattle.protocol.specs.Content.{Content}
+use Rattle.protocol.specs.CoreState.{CoreState}
+use Rattle.protocol.specs.Delivery.{Delivery}
+use Rattle.protocol.specs.DeliveryLaw.{count_after}
+use Rattle.protocol.specs.Laws.{Laws}
+use Rattle.protocol.specs.PayloadLaw.{Brings}
+use Rattle.protocol.specs.SoundViews.{SoundViews}
+use Rattle.protocol.specs.Stimulus.{Stimulus, IsNotFrom}
+use Rattle.protocol.specs.declared.stimulus.StimulusOf.TheVariants as stimulus
 use Rattle.world.specs.Entry.{Entry}
 use Rattle.world.specs.Event.{Event}
 use Rattle.world.specs.Group.{Group, node_of, origin_of, put_node}
 use Rattle.world.specs.History.{Said, Says, broadcasts_of, counted_by, started_by}
 use Rattle.world.specs.Honest.{HasOnePayload, Honest, Once, SaidByThen}
-use Rattle.world.specs.Laws.{Laws}
 use Rattle.world.specs.Links.{ViewsAreSound}
-use Rattle.world.specs.PayloadLaw.{Brings}
 use Rattle.world.specs.Run.{Acts, Effect, OnlyFlies, Run, Starts, Stops}
-use Rattle.world.specs.SoundViews.{SoundViews}
-use Rattle.world.specs.Stimulus.{Stimulus, IsNotFrom}
 use Rattle.world.specs.declared.event.EventOf.TheVariants.{Start, Broadcast, Arrive, Lose, Again, Fire, Flush, Down, Shuffle, Join, Stop}
 use Rattle.world.specs.declared.node_state.NodeState.{NodeState}
-use Rattle.world.specs.declared.stimulus.StimulusOf.TheVariants as stimulus
 use Rattle.world.proofs.FindLemmas.{found_name, name_is, tells_apart}
 use Rattle.world.proofs.Kept.{Keeps, KeepsCore, KeepsPacket, each-at, each-weaken, greater_than-last, highest_of-found, if_some-weaken}
 use Rattle.world.proofs.RestKeeps.{quiet_keeps, stop_keeps}

@@ -8,15 +8,15 @@ use Rattle.node_names.specs.Same.{same_name, same_name-Decides}
 use Rattle.node_names.specs.declared.ids.Incarnation.{Incarnation}
 use Rattle.node_names.specs.declared.ids.MsgId.{MsgId}
 use Rattle.node_names.specs.declared.ids.Origin.{Origin}
-use Rattle.world.specs.Content.{Content}
-use Rattle.world.specs.CoreState.{CoreState}
-use Rattle.world.specs.Delivery.{Delivery}
+use Rattle.protocol.specs.Content.{Content}
+use Rattle.protocol.specs.CoreState.{CoreState}
+use Rattle.protocol.specs.Delivery.{Delivery}
+use Rattle.protocol.specs.lawful.NameLists.{each-map}
+use Rattle.protocol.specs.Laws.{IsSilent, StartLaws}
 use Rattle.world.specs.Entry.{Entry}
-use Rattle.world.specs.lawful.NameLists.{each-map}
 use Rattle.world.specs.Group.{node_of, put_node, packets}
 use Rattle.world.specs.History.{Said, Delivered, HasDelivery, broadcasts_of, counted_by, deliveries, incarnation_of, started_by}
 use Rattle.world.specs.Honest.{AreOnce, Once}
-use Rattle.world.specs.Laws.{IsSilent, StartLaws}
 use Rattle.world.specs.declared.node_state.NodeState.{NodeState}
 use Rattle.world.specs.declared.packet.Packet.{Packet}
 use Rattle.world.proofs.FindLemmas.{each-put_node, found_name, name_is, put_cases, tells_apart}

@@ -9,21 +9,21 @@ use Rattle.node_names.specs.Same.{same_name, same_name-Decides}
 use Rattle.node_names.specs.declared.ids.Incarnation.{Incarnation}
 use Rattle.node_names.specs.declared.ids.MsgId.{MsgId}
 use Rattle.node_names.specs.declared.ids.Origin.{Origin}
-use Rattle.world.specs.Content.{Content}
-use Rattle.world.specs.CoreState.{CoreState}
-use Rattle.world.specs.Delivery.{Delivery}
-use Rattle.world.specs.DeliveryLaw.{Delivers, DeliversNews, count_after, ids}
+use Rattle.protocol.specs.Content.{Content}
+use Rattle.protocol.specs.CoreState.{CoreState}
+use Rattle.protocol.specs.Delivery.{Delivery}
+use Rattle.protocol.specs.DeliveryLaw.{Delivers, DeliversNews, count_after, ids}
+use Rattle.protocol.specs.lawful.NameLists.{each-map}
+use Rattle.protocol.specs.Laws.{StepLaws}
+use Rattle.protocol.specs.PayloadLaw.{Brings, IsKnownPayload}
+use Rattle.protocol.specs.Stimulus.{Stimulus, IsNotFrom}
+use Rattle.protocol.specs.declared.stimulus.StimulusOf.TheVariants.{Broadcast, Arrive, Fire, Flush, Down, Shuffle, Join}
 use Rattle.world.specs.Entry.{Entry}
-use Rattle.world.specs.lawful.NameLists.{each-map}
 use Rattle.world.specs.Group.{node_of, put_node, origin_of, packets}
 use Rattle.world.specs.History.{Said, Delivered, HasDelivery, broadcasts_of, counted_by, deliveries, incarnation_of, started_by}
 use Rattle.world.specs.Honest.{Once}
-use Rattle.world.specs.Laws.{StepLaws}
-use Rattle.world.specs.PayloadLaw.{Brings, IsKnownPayload}
-use Rattle.world.specs.Stimulus.{Stimulus, IsNotFrom}
 use Rattle.world.specs.declared.node_state.NodeState.{NodeState}
 use Rattle.world.specs.declared.packet.Packet.{Packet}
-use Rattle.world.specs.declared.stimulus.StimulusOf.TheVariants.{Broadcast, Arrive, Fire, Flush, Down, Shuffle, Join}
 use Rattle.world.proofs.FindLemmas.{each-put_node, found_name, put_cases}
 use Rattle.world.proofs.GivenLemmas.{given_either, given_fresh, given_here, given_id, once-append, once_few}
 use Rattle.world.proofs.Kept.{IsStarted, Keeps, KeepsCore, KeepsPacket, each-append, each-both, each-weaken, highest_of, highest_of-found, highest_of-put}

@@ -6,19 +6,19 @@ use Rattle.node_names.specs.NodeName.{Name}
 use Rattle.node_names.specs.Limits.{Limits}
 use Rattle.node_names.specs.declared.dice.Dice.{Dice}
 use Rattle.node_names.specs.declared.ids.Origin.{Origin}
-use Rattle.world.specs.Content.{Content}
-use Rattle.world.specs.CoreState.{CoreState}
-use Rattle.world.specs.Delivery.{Delivery}
-use Rattle.world.specs.DeliveryLaw.{ids}
+use Rattle.protocol.specs.Content.{Content}
+use Rattle.protocol.specs.CoreState.{CoreState}
+use Rattle.protocol.specs.Delivery.{Delivery}
+use Rattle.protocol.specs.DeliveryLaw.{ids}
+use Rattle.protocol.specs.HoldLaw.{KeepsLast}
+use Rattle.protocol.specs.Laws.{Laws, StepLaws}
+use Rattle.protocol.specs.Lists.{IsOneOf}
+use Rattle.protocol.specs.Stimulus.{Stimulus, IsNotFrom}
+use Rattle.protocol.specs.declared.stimulus.StimulusOf.TheVariants as stimulus
 use Rattle.world.specs.Entry.{Entry}
 use Rattle.world.specs.Group.{Group}
-use Rattle.world.specs.HoldLaw.{KeepsLast}
-use Rattle.world.specs.Laws.{Laws, StepLaws}
-use Rattle.world.specs.Lists.{IsOneOf}
 use Rattle.world.specs.Run.{Acts, Arrives}
-use Rattle.world.specs.Stimulus.{Stimulus, IsNotFrom}
 use Rattle.world.specs.declared.packet.Packet.{Packet}
-use Rattle.world.specs.declared.stimulus.StimulusOf.TheVariants as stimulus
 use Rattle.world.proofs.FindLemmas.{found_name}
 use Rattle.world.proofs.Flying.{stays_or_leaves}
 use Rattle.world.proofs.Kept.{Keeps, KeepsCore, KeepsPacket, each-at}

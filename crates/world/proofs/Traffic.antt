@@ -9,18 +9,18 @@ use Rattle.node_names.specs.Limits.{Limits}
 use Rattle.node_names.specs.Same.{same_name, same_name-Decides}
 use Rattle.node_names.specs.declared.ids.MsgId.{MsgId}
 use Rattle.node_names.specs.declared.ids.Origin.{Origin}
-use Rattle.world.specs.Content.{Content}
-use Rattle.world.specs.CoreState.{CoreState}
-use Rattle.world.specs.Delivery.{Delivery}
-use Rattle.world.specs.DeliveryLaw.{ids}
+use Rattle.protocol.specs.Content.{Content}
+use Rattle.protocol.specs.CoreState.{CoreState}
+use Rattle.protocol.specs.Delivery.{Delivery}
+use Rattle.protocol.specs.DeliveryLaw.{ids}
+use Rattle.protocol.specs.Laws.{Laws, StateLaws}
+use Rattle.protocol.specs.Lists.{IsOneOf}
+use Rattle.protocol.specs.SpreadLaw.{entries_queued, packets_carrying}
+use Rattle.protocol.specs.Stimulus.{Stimulus}
+use Rattle.protocol.specs.WantLaw.{entries_wanted}
 use Rattle.world.specs.Entry.{Entry}
 use Rattle.world.specs.Group.{Group, core_in, core_of, node_of, origin_of, packets}
-use Rattle.world.specs.Laws.{Laws, StateLaws}
 use Rattle.world.specs.Links.{Runs}
-use Rattle.world.specs.Lists.{IsOneOf}
-use Rattle.world.specs.SpreadLaw.{entries_queued, packets_carrying}
-use Rattle.world.specs.Stimulus.{Stimulus}
-use Rattle.world.specs.WantLaw.{entries_wanted}
 use Rattle.world.specs.declared.node_state.NodeState.{NodeState}
 use Rattle.world.specs.declared.packet.Packet.{Packet}
 use Rattle.world.proofs.Crossing.{announced_less, announced_now, announcement_weight, announcements_from, announcements_not_from, answered, asked_of, copies_from, copies_not_from, copy_weight, lacks_queues, none_sent, request_weight, requests_from, requests_not_from, shared, wanted_less, was_lacked}

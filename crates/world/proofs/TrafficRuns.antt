@@ -9,21 +9,21 @@ use Rattle.node_names.specs.Limits.{Limits}
 use Rattle.node_names.specs.Same.{same_name}
 use Rattle.node_names.specs.declared.ids.MsgId.{MsgId}
 use Rattle.node_names.specs.declared.ids.Origin.{Origin}
-use Rattle.world.specs.Content.{Content}
-use Rattle.world.specs.CoreState.{CoreState}
-use Rattle.world.specs.Delivery.{Delivery}
+use Rattle.protocol.specs.Content.{Content}
+use Rattle.protocol.specs.CoreState.{CoreState}
+use Rattle.protocol.specs.Delivery.{Delivery}
+use Rattle.protocol.specs.Laws.{Laws, StartLaws}
+use Rattle.protocol.specs.SpreadLaw.{entries_queued}
+use Rattle.protocol.specs.Stimulus.{Stimulus}
+use Rattle.protocol.specs.WantLaw.{entries_wanted}
 use Rattle.world.specs.Entry.{Entry}
 use Rattle.world.specs.Event.{Event}
 use Rattle.world.specs.Group.{Group, core_in, core_of, packets, put_node}
 use Rattle.world.specs.History.{Said}
-use Rattle.world.specs.Laws.{Laws, StartLaws}
 use Rattle.world.specs.Links.{Runs}
 use Rattle.world.specs.Rest.{IsCalm, IsSaying, SaidAndCalm}
 use Rattle.world.specs.Run.{Effect, Run, Starts}
-use Rattle.world.specs.SpreadLaw.{entries_queued}
-use Rattle.world.specs.Stimulus.{Stimulus}
 use Rattle.world.specs.Traffic.{CrossesOnce, IsNoRepeat, IsUnrepeated}
-use Rattle.world.specs.WantLaw.{entries_wanted}
 use Rattle.world.specs.declared.event.EventOf.TheVariants.{Start, Broadcast, Arrive, Lose, Again, Fire, Flush, Down, Shuffle, Join, Stop}
 use Rattle.world.specs.declared.node_state.NodeState.{NodeState}
 use Rattle.world.specs.declared.packet.Packet.{Packet}

@@ -6,14 +6,14 @@ use Rattle.std.proofs.lemmas.List.{length-append, length-map}
 use Rattle.std.proofs.lemmas.List.Sums.{sum_by-append, sum_by-cons}
 use Rattle.node_names.specs.NodeName.{Name}
 use Rattle.node_names.specs.declared.ids.Origin.{Origin}
+use Rattle.protocol.specs.Lists.{IsOneOf, places}
+use Rattle.protocol.specs.Stimulus.{Stimulus}
+use Rattle.protocol.specs.declared.stimulus.StimulusOf.TheVariants.{Broadcast, Arrive, Fire, Flush, Down, Shuffle, Join}
+use Rattle.protocol.proofs.Segments.{get_left}
 use Rattle.world.specs.Group.{packets}
-use Rattle.world.specs.Lists.{IsOneOf, places}
-use Rattle.world.specs.Stimulus.{Stimulus}
 use Rattle.world.specs.declared.packet.Packet.{Packet}
-use Rattle.world.specs.declared.stimulus.StimulusOf.TheVariants.{Broadcast, Arrive, Fire, Flush, Down, Shuffle, Join}
 use Rattle.world.proofs.Flying.{get_appended}
 use Rattle.world.proofs.Kept.{each-append, each-weaken}
-use Rattle.world.proofs.Segments.{get_left}
 
 -- the weight of a packet that may be there
 abbrev pub weight_of : {N : Type 0} → (Packet N → ℕ) → Option (Packet N) → ℕ

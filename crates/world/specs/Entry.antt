@@ -1,6 +1,6 @@
 -- An accepted event and what came of it.
 use Rattle.std.specs.Prelude.{ℕ, Bool, List, Option}
-use Rattle.world.specs.Delivery.{Delivery}
+use Rattle.protocol.specs.Delivery.{Delivery}
 use Rattle.world.specs.Event.{Event}
 
 -- The event; the place among all sent packets of the packet that it named; how many packets had been sent before it;

@@ -3,14 +3,6 @@ use Rattle.std.specs.Prelude.{ℕ, List, ◌++◌, codes}
 use Rattle.std.specs.Fmt.{decimal}
 use Rattle.world.specs.declared.error.WorldError.{WorldError}
 use Rattle.world.specs.declared.error.WorldError.TheVariants as refused
-use Rattle.world.specs.declared.protocol.CoreError.{CoreError}
-use Rattle.world.specs.declared.protocol.CoreError.TheVariants as core
-
--- why a core refused a step
-abbrev pub core_error_text : CoreError → List ℕ
-core_error_text core.PayloadTooLong = codes "the payload is too long"
-core_error_text core.SeqSpent = codes "the numbers of this incarnation are used up"
-core_error_text core.OutOfMemory = codes "out of memory"
 
 -- why a group refused an event
 abbrev pub world_error_text : WorldError → List ℕ

@@ -2,8 +2,8 @@
 use Rattle.std.specs.Prelude.{◌≢◌, reverse}
 use Rattle.node_names.specs.NodeName.{Name}
 use Rattle.node_names.specs.declared.ids.MsgId.{MsgId}
-use Rattle.world.specs.Content.{Content}
-use Rattle.world.specs.CoreState.{CoreState}
+use Rattle.protocol.specs.Content.{Content}
+use Rattle.protocol.specs.CoreState.{CoreState}
 use Rattle.world.specs.Group.{Logged}
 use Rattle.world.specs.Honest.{HasOnePayload, Honest, Once}
 use Rattle.world.specs.Links.{ViewsAreSound}

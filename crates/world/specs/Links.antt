@@ -5,9 +5,9 @@ use Rattle.node_names.specs.Limits.{Limits}
 use Rattle.node_names.specs.Same.{has_name}
 use Rattle.std.specs.List.{AllByRecursion as Each}
 use Rattle.std.specs.Option.{IfSome}
-use Rattle.world.specs.CoreState.{CoreState}
+use Rattle.protocol.specs.CoreState.{CoreState}
+use Rattle.protocol.specs.SoundViews.{SoundViews}
 use Rattle.world.specs.Group.{Group, node_of}
-use Rattle.world.specs.SoundViews.{SoundViews}
 use Rattle.world.specs.declared.node_state.NodeState.{NodeState}
 
 -- The core runs under the name.

@@ -4,18 +4,18 @@ use Rattle.std.specs.List.{position}
 use Rattle.node_names.specs.NodeName.{Name}
 use Rattle.node_names.specs.Same.{same_name}
 use Rattle.node_names.specs.declared.dice.Dice.{Dice}
+use Rattle.protocol.specs.Lists.{places}
+use Rattle.protocol.specs.Stimulus.{Stimulus}
+use Rattle.protocol.specs.declared.stimulus.StimulusOf.TheVariants as stimulus
 use Rattle.world.specs.Entry.{Entry}
 use Rattle.world.specs.Event.{Event}
 use Rattle.world.specs.Group.{Group, node_of, put_node}
-use Rattle.world.specs.Lists.{places}
 use Rattle.world.specs.Refusals.{sent_under}
-use Rattle.world.specs.Stimulus.{Stimulus}
 use Rattle.world.specs.declared.event.EventOf.TheVariants.{Start, Broadcast, Arrive, Lose, Again, Fire, Flush, Down, Shuffle, Join, Stop}
 use Rattle.world.specs.declared.node_state.NodeState.{NodeState}
 use Rattle.world.specs.declared.packet.Packet.{Packet}
 use Rattle.world.specs.declared.plan.Change.{Change}
 use Rattle.world.specs.declared.plan.Change.TheVariants.{Nothing, Put, Step}
-use Rattle.world.specs.declared.stimulus.StimulusOf.TheVariants as stimulus
 
 -- the flight without the packet at this place, if a place is given
 abbrev pub staying : List ℕ → Option ℕ → List ℕ

@@ -4,19 +4,19 @@ use Rattle.node_names.specs.NodeName.{Name}
 use Rattle.node_names.specs.Limits.{Limits}
 use Rattle.node_names.specs.declared.ids.Incarnation.{Incarnation}
 use Rattle.node_names.specs.declared.ids.Origin.{Origin}
+use Rattle.protocol.specs.Peers.{are_peers}
+use Rattle.protocol.specs.Stimulus.{Stimulus}
+use Rattle.protocol.specs.declared.TheConstants.{MAX_PAYLOAD}
+use Rattle.protocol.specs.declared.protocol.CoreError.{CoreError}
+use Rattle.protocol.specs.declared.protocol.CoreError.TheVariants as core
+use Rattle.protocol.specs.declared.stimulus.StimulusOf.TheVariants as stimulus
 use Rattle.world.specs.Event.{Event}
 use Rattle.world.specs.Group.{Group, node_of}
-use Rattle.world.specs.Peers.{are_peers}
-use Rattle.world.specs.Stimulus.{Stimulus}
-use Rattle.world.specs.declared.TheConstants.{MAX_PAYLOAD}
 use Rattle.world.specs.declared.error.WorldError.{WorldError}
 use Rattle.world.specs.declared.error.WorldError.TheVariants.{UnknownNode, NotRunning, StaleIncarnation, BadPeers, NoPacket, PayloadTooLong, SeqSpent, OutOfMemory}
 use Rattle.world.specs.declared.event.EventOf.TheVariants.{Start, Broadcast, Arrive, Lose, Again, Fire, Flush, Down, Shuffle, Join, Stop}
 use Rattle.world.specs.declared.node_state.NodeState.{NodeState}
 use Rattle.world.specs.declared.packet.Packet.{Packet}
-use Rattle.world.specs.declared.protocol.CoreError.{CoreError}
-use Rattle.world.specs.declared.protocol.CoreError.TheVariants as core
-use Rattle.world.specs.declared.stimulus.StimulusOf.TheVariants as stimulus
 
 -- the refusal of an event whose step a core refuses for this reason
 abbrev pub IsRefusalOf : CoreError → WorldError → Type 0

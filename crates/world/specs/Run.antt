@@ -3,23 +3,19 @@ use Rattle.std.specs.Prelude.{◌≡◌, ◌<◌, ◌↔◌, ℕ, List, [], ◌�
 use Rattle.node_names.specs.NodeName.{Name}
 use Rattle.node_names.specs.Limits.{Limits}
 use Rattle.node_names.specs.declared.ids.Origin.{Origin}
-use Rattle.world.specs.CoreState.{CoreState}
-use Rattle.world.specs.Delivery.{Delivery}
+use Rattle.protocol.specs.CoreState.{CoreState}
+use Rattle.protocol.specs.Delivery.{Delivery}
+use Rattle.protocol.specs.Lists.{places}
+use Rattle.protocol.specs.Peers.{are_peers}
+use Rattle.protocol.specs.SameNames.{SameNames}
+use Rattle.protocol.specs.Stimulus.{Stimulus}
+use Rattle.protocol.specs.declared.stimulus.StimulusOf.TheVariants as stimulus
 use Rattle.world.specs.Entry.{Entry}
 use Rattle.world.specs.Event.{Event}
 use Rattle.world.specs.Group.{Group, Logged, IsEmptyGroup, node_of, put_node, origin_of, packets}
-use Rattle.world.specs.Lists.{places}
-use Rattle.node_names.specs.Same.{has_name}
-use Rattle.world.specs.Peers.{are_peers}
-use Rattle.world.specs.Stimulus.{Stimulus}
 use Rattle.world.specs.declared.event.EventOf.TheVariants.{Start, Broadcast, Arrive, Lose, Again, Fire, Flush, Down, Shuffle, Join, Stop}
 use Rattle.world.specs.declared.node_state.NodeState.{NodeState}
 use Rattle.world.specs.declared.packet.Packet.{Packet}
-use Rattle.world.specs.declared.stimulus.StimulusOf.TheVariants as stimulus
-
--- Two lists name the same nodes.
-abbrev pub SameNames : List Name → List Name → Type 0
-SameNames names others = (name : Name) → has_name names name ≡ has_name others name
 
 -- The sends are appended to all packets that were sent, and put into flight behind what stays in flight.
 pub record Sends {C N : Type 0} (before : Group C N) (staying : List ℕ) (sender : Origin) (sends : List (Name × N)) (after : Group C N) : Type 0 where

@@ -4,11 +4,11 @@ use Rattle.std.specs.List.{sum_by}
 use Rattle.node_names.specs.NodeName.{Name}
 use Rattle.node_names.specs.Same.{same_id, same_name}
 use Rattle.node_names.specs.declared.ids.MsgId.{MsgId}
-use Rattle.world.specs.Content.{Content}
+use Rattle.protocol.specs.Content.{Content}
+use Rattle.protocol.specs.SpreadLaw.{is_carried}
 use Rattle.world.specs.Entry.{Entry}
 use Rattle.world.specs.Event.{Event}
 use Rattle.world.specs.Rest.{IsSaying}
-use Rattle.world.specs.SpreadLaw.{is_carried}
 use Rattle.world.specs.declared.event.EventOf.TheVariants.{Start, Broadcast, Arrive, Lose, Again, Fire, Flush, Down, Shuffle, Join, Stop}
 use Rattle.world.specs.declared.packet.Packet.{Packet}
 

@@ -4,12 +4,12 @@ use Rattle.std.specs.Prelude.{◌≡◌, ℕ, List, Some, slice_get, true, false
 use Rattle.node_names.specs.NodeName.{Name}
 use Rattle.node_names.specs.Same.{has_name}
 use Rattle.node_names.specs.declared.ids.MsgId.{MsgId}
-use Rattle.world.specs.Content.{Content}
-use Rattle.world.specs.CoreState.{CoreState}
+use Rattle.protocol.specs.Content.{Content}
+use Rattle.protocol.specs.CoreState.{CoreState}
+use Rattle.protocol.specs.Lists.{IsOneOf}
+use Rattle.protocol.specs.WantLaw.{IsWanted}
 use Rattle.world.specs.Group.{Group}
 use Rattle.world.specs.Links.{Runs}
-use Rattle.world.specs.Lists.{IsOneOf}
-use Rattle.world.specs.WantLaw.{IsWanted}
 use Rattle.world.specs.declared.packet.Packet.{Packet}
 
 -- A packet with such a content is in flight from the one name to the other.

@@ -1,7 +1,7 @@
 //! The playing of events: of one, or of a whole list.
 ghost use Rattle.std.specs.Prelude.{◌≡◌, ◌<◌, [], ◌∷◌, ◌++◌, List, Some, None, IfOk, IfErr, OnOk, OnErr, MatchResult, length, slice_get, take};
 ghost use Rattle.std.specs.Option.{ForSome};
-ghost use Rattle.world.specs.Delivery.{Delivery as Delivered};
+ghost use Rattle.protocol.specs.Delivery.{Delivery as Delivered};
 ghost use Rattle.world.specs.Headline.{Headline};
 ghost use Rattle.world.specs.Play.{Plays, PlaysOn, RefusesAt, given_at};
 ghost use Rattle.world.specs.Plan.{IsReady, planned};
@@ -9,14 +9,13 @@ ghost use Rattle.world.specs.Refusals.{IsRefusal, refusal};
 ghost use Rattle.world.specs.Run.{Applied, Happens};
 
 use crate::commit::{make_change, make_room, post, put_last};
-use crate::delivery::{Delivery, copy_deliveries};
 use crate::error::WorldError;
 use crate::event::Event;
 use crate::given::{Given, RunFault};
 use crate::plan::Plan;
-use crate::protocol::Core;
 use crate::world::World;
 use node_names::Listed;
+use protocol::{Core, Delivery, copy_deliveries};
 use std::alloc::{AllocError, Allocator};
 
 impl<C: Core<A>, A: Allocator + Copy> World<C, A> {

@@ -13,8 +13,8 @@ use crate::lookup::place_of;
 use crate::node_state::NodeState;
 use crate::packet::Packet;
 use crate::plan::{Change, stimulus_by};
-use crate::protocol::Core;
 use node_names::{NameSet, NodeName};
+use protocol::Core;
 use std::alloc::{AllocError, Allocator};
 use std::boxed::Box;
 

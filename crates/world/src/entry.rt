@@ -1,7 +1,7 @@
 //! What the log keeps of an accepted event.
-use crate::delivery::Delivery;
 use crate::event::KeptEvent;
 use node_names::Listed;
+use protocol::Delivery;
 use std::alloc::{Allocator, Global};
 use std::marker::Model;
 

@@ -1,6 +1,6 @@
 //! The reasons for which a group refuses an event.
-use crate::protocol::CoreError;
 use node_names::Incarnation;
+use protocol::CoreError;
 use std::alloc::AllocError;
 use std::error::Error;
 use std::fmt;

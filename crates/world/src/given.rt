@@ -1,7 +1,7 @@
 //! The outcome of playing a list of events.
-use crate::delivery::Delivery;
 use crate::error::WorldError;
 use node_names::Listed;
+use protocol::Delivery;
 use std::alloc::{Allocator, Global};
 use std::marker::Model;
 

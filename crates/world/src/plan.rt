@@ -1,23 +1,20 @@
 //! The plan of what an event will do to a group, made before anything changes.
 ghost use Rattle.std.specs.Prelude.{◌≡◌, ◌≤◌, ◌<◌, ◌+◌, ◌⊎◌, ◌↔◌, ◌++◌, [], ◌∷◌, ℕ, false, true, Some, None, IsTrue, IfOk, IfErr, OnOk, IsErrOf, length, map, option_map, slice_get};
+ghost use Rattle.protocol.specs.IdentityLaw.{IsTooLong};
+ghost use Rattle.protocol.specs.Peers.{are_peers};
+ghost use Rattle.protocol.specs.SameNames.{SameNames};
+ghost use Rattle.protocol.specs.Stimulus.{lent};
 ghost use Rattle.world.specs.Group.{packets};
-ghost use Rattle.world.specs.IdentityLaw.{IsTooLong};
-ghost use Rattle.world.specs.Peers.{are_peers};
 ghost use Rattle.world.specs.Plan.{stimulus_by};
-ghost use Rattle.world.specs.Run.{SameNames};
-ghost use Rattle.world.specs.Stimulus.{lent};
 
-use crate::delivery::Delivery;
 use crate::entry::Entry;
 use crate::event::{Event, EventOf, KeptEvent};
 use crate::kept_dice::KeptDice;
 use crate::node_state::NodeState;
-use crate::out::Out;
 use crate::packet::Packet;
-use crate::protocol::{Core, CoreError, Prepared};
-use crate::stimulus::{StimulusOf, StimulusRef};
 use bytes::Bytes;
 use node_names::{Limits, NodeName, Origin};
+use protocol::{Core, CoreError, Delivery, Out, Prepared, StimulusOf, StimulusRef};
 use std::alloc::{AllocError, Allocator};
 use std::boxed::Box;
 

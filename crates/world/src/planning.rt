@@ -1,26 +1,23 @@
 //! The planning of what an event will do to a group, by its kind.
 ghost use Rattle.std.specs.Prelude.{◌≡◌, ◌⊎◌, ◌<◌, [], false, Some, None, IfOk, IfErr, OnOk, length};
 ghost use Rattle.std.specs.Option.{ForSome};
+ghost use Rattle.protocol.specs.IdentityLaw.{IsTooLong};
+ghost use Rattle.protocol.specs.Stimulus.{lent};
 ghost use Rattle.world.specs.Group.{node_of};
-ghost use Rattle.world.specs.IdentityLaw.{IsTooLong};
 ghost use Rattle.world.specs.Plan.{IsReady, RunsAt, planned, staying, stimulus_by};
 ghost use Rattle.world.specs.Refusals.{IsRefusal, absent, refusal, stale};
 ghost use Rattle.world.specs.Run.{Acts, Tells};
-ghost use Rattle.world.specs.Stimulus.{lent};
 
-use crate::MAX_PAYLOAD;
 use crate::entry::Entry;
 use crate::error::WorldError;
 use crate::event::{Event, EventOf};
 use crate::lookup::{Running, find_running, node_of, number_at, packet_at};
-use crate::names::are_peers;
 use crate::node_state::NodeState;
 use crate::plan::{Change, Plan, boxed, keep_event, packets_of, prepare_step, start_core};
-use crate::protocol::Core;
-use crate::stimulus::{StimulusOf, StimulusRef};
 use crate::world::World;
 use bytes::Bytes;
 use node_names::{Dice, Incarnation, Listed, MsgId, NodeName, Origin};
+use protocol::{Core, MAX_PAYLOAD, StimulusOf, StimulusRef, are_peers};
 use std::alloc::{AllocError, Allocator};
 
 impl<C: Core<A>, A: Allocator + Copy> World<C, A> {

@@ -10,9 +10,9 @@ use crate::flight::Flight;
 use crate::lookup::core_of;
 use crate::node_state::NodeState;
 use crate::packet::Packet;
-use crate::protocol::Core;
 use indexmap::IndexSet;
 use node_names::{Limits, NameSet, NodeName};
+use protocol::Core;
 use std::alloc::{Allocator, Global};
 use std::marker::Model;
 

@@ -5,9 +5,10 @@ use crate::simulated::{arrive, play, say};
 use anyhow::Result;
 use bytes::Bytes;
 use node_names::Limits;
+use protocol::Core;
 use std::alloc::Global;
 use std::io::Print;
-use world::{Core, EventOf, World, WorldError};
+use world::{EventOf, World, WorldError};
 
 /// More units of time than a broadcast takes.
 const MANY: usize = 1_000;

@@ -3,8 +3,9 @@ use crate::broadcasts::NODES;
 use crate::simulated::{arrive, play, say};
 use anyhow::Result;
 use bytes::Bytes;
+use protocol::Core;
 use std::alloc::Global;
-use world::{Core, EventOf, World, WorldError};
+use world::{EventOf, World, WorldError};
 
 /// More packets than a broadcast leaves in flight.
 const MANY: usize = 10_000;

@@ -5,10 +5,11 @@ use crate::simulated::started;
 use anyhow::Result;
 use at_rest::reach;
 use node_names::{Limits, NodeName};
+use protocol::Core;
 use std::alloc::Global;
 use std::io::Print;
 use std::time::{Clock, Instant};
-use world::{Core, World};
+use world::World;
 
 /// How often it is found.
 const TIMES: usize = 100;

@@ -7,10 +7,11 @@ use crate::plumtree::Measured;
 use anyhow::Result;
 use bytes::Bytes;
 use node_names::Limits;
+use protocol::Core;
 use std::alloc::Global;
 use std::io::Print;
 use std::time::{Clock, Instant};
-use world::{Core, EventOf, NodeState, World};
+use world::{EventOf, NodeState, World};
 
 /// More broadcasts than it takes to queue the announcements that are asked for.
 const MANY: usize = 100_000;

@@ -2,9 +2,9 @@
 use anyhow::Result;
 use loopback::{RunReport, Stamp};
 use node_names::MsgId;
+use protocol::Delivery;
 use std::alloc::{AllocError, Global};
 use std::time::Duration;
-use world::Delivery;
 
 /// What is measured of a run. Its first message makes the tree and is not counted. Times are in microseconds.
 #[derive(Clone, Copy)]

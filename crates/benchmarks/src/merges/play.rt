@@ -5,10 +5,11 @@ use crate::simulated::{arrive, say, started};
 use anyhow::Result;
 use bytes::Bytes;
 use node_names::Limits;
+use protocol::Core;
 use rand_core::{Rng, SeedableRng};
 use rand_pcg::Lcg128Xsl64;
 use std::alloc::Global;
-use world::{Core, World, WorldError};
+use world::{World, WorldError};
 
 /// More packets than arrive after a broadcast, and more broadcasts than any plan has.
 const MANY: usize = 1_000_000_000;

@@ -2,10 +2,10 @@
 use crate::running_node::tally::Tally;
 use memory_links::PipeReader;
 use node_threads::Handed;
+use protocol::Delivery;
 use std::alloc::Global;
 use std::io::Read;
 use std::sync::{Arc, Wait};
-use world::Delivery;
 
 /// The most bytes that are read at once.
 const PIECE: usize = 65_536;

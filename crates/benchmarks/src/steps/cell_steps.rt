@@ -7,10 +7,10 @@ use anyhow::Result;
 use frames::Frame;
 use node_names::NodeName;
 use node_threads::{NodeCell, NodeCore, Outlet};
+use protocol::Stimulus;
 use std::alloc::Global;
 use std::time::{Clock, Instant};
 use std::vec::IntoIter;
-use world::Stimulus;
 
 /// How many frames a link has room for.
 const RING: usize = 1 << 10;

@@ -7,9 +7,9 @@ use anyhow::Result;
 use bytes::Bytes;
 use frames::Frame;
 use node_names::{Limits, Origin};
+use protocol::{Core, Out, Stimulus};
 use std::alloc::Global;
 use std::time::{Clock, Instant};
-use world::{Core, Out, Stimulus};
 
 /// Makes a node without peers that holds the last `keep` of the messages that it delivered, or all for 0.
 pub(crate) fn start<C: Core<Global>>(alloc: Global, keep: u32) -> Result<C> {

@@ -4,8 +4,8 @@ use anyhow::Result;
 use bytes::Bytes;
 use frames::{Body, Frame};
 use node_names::{Dice, MsgId, Origin};
+use protocol::{Stimulus, StimulusOf};
 use std::alloc::Global;
-use world::{Stimulus, StimulusOf};
 
 /// The names of the node's peers.
 pub(crate) const PEERS: [&str; 4] = ["p", "q", "r", "s"];

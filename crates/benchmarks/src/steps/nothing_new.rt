@@ -5,9 +5,9 @@ use crate::steps::messages::{Taken, arrival, arrivals, message};
 use crate::steps::wanted::push_announcement;
 use anyhow::Result;
 use frames::{Body, Frame, MAX_ANNOUNCEMENTS};
+use protocol::{Core, Stimulus};
 use std::alloc::Global;
 use std::time::Clock;
-use world::{Core, Stimulus};
 
 /// Appends the second peer's copies of the first peer's messages.
 fn push_copies(alloc: Global, stimuli: &mut Vec<Stimulus<Frame>>, count: u64) -> Result<()> {

@@ -6,9 +6,9 @@ use crate::steps::messages::{Taken, arrivals};
 use anyhow::Result;
 use frames::Frame;
 use node_threads::{NodeCell, NodeCore};
+use protocol::Stimulus;
 use std::alloc::Global;
 use std::time::{Clock, Instant};
-use world::Stimulus;
 
 /// Times how long a cell takes to hand out all steps since the last part.
 fn time_part<R: Clock, C: NodeCore<Global> + Drop>(

@@ -5,9 +5,9 @@ use crate::steps::messages::{Taken, arrival, push_messages, push_requests};
 use anyhow::Result;
 use frames::{Body, Frame, MAX_ANNOUNCEMENTS};
 use node_names::{Listed, MsgId};
+use protocol::{Core, Stimulus, StimulusOf};
 use std::alloc::Global;
 use std::time::Clock;
-use world::{Core, Stimulus, StimulusOf};
 
 /// Appends the announcement of the first peer's next 64 messages behind `before`, by the second peer.
 pub(crate) fn push_announcement(

@@ -3,12 +3,12 @@ use Rattle.std.specs.Prelude.{◌≡◌, ◌≤◌, Bool, true, false, List, [],
 use Rattle.std.specs.Bool.{MatchBool}
 use Rattle.std.proofs.Common.{ap, arith}
 use Rattle.node_names.specs.NodeName.{Name}
-use Rattle.world.specs.Delivery.{Delivery}
-use Rattle.world.specs.DeliveryLaw.{ids}
-use Rattle.world.specs.FloodCore.{Flooding, Message, FloodSteps, Takes, IsIdle, flood_state, is_news, others}
-use Rattle.world.specs.OneDelivery.{OneDelivery}
-use Rattle.world.specs.Stimulus.{Stimulus}
-use Rattle.world.specs.declared.stimulus.StimulusOf.TheVariants.{Broadcast, Arrive, Fire, Flush, Down, Shuffle, Join}
+use Rattle.protocol.specs.Delivery.{Delivery}
+use Rattle.protocol.specs.DeliveryLaw.{ids}
+use Rattle.protocol.specs.OneDelivery.{OneDelivery}
+use Rattle.protocol.specs.Stimulus.{Stimulus}
+use Rattle.protocol.specs.declared.stimulus.StimulusOf.TheVariants.{Broadcast, Arrive, Fire, Flush, Down, Shuffle, Join}
+use Rattle.flood.specs.FloodCore.{Flooding, Message, FloodSteps, Takes, IsIdle, flood_state, is_news, others}
 
 none : (given : List Delivery) → given ≡ [] → length given ≤ 1
 none given is = let e : length given ≡ 0 = ap length is in omega arith

@@ -14,32 +14,29 @@ use Rattle.node_names.specs.Same.{same_name, same_id, same_origin, has_name, sam
 use Rattle.node_names.specs.declared.dice.Dice.{Dice}
 use Rattle.node_names.specs.declared.ids.MsgId.{MsgId}
 use Rattle.node_names.specs.declared.ids.Origin.{Origin}
-use Rattle.world.specs.AskLaw.{Fires}
-use Rattle.world.specs.Delivery.{Delivery}
-use Rattle.world.specs.DeliveryLaw.{Delivers, IsNews, count_after, ids}
-use Rattle.world.specs.FloodCore.{Flooding, Message, FloodStarts, FloodSteps, Takes, IsIdle, DropsPeer, IsSoundFlooding, HoldsCounted, flood_state, note_content, others, is_news, payload_of}
-use Rattle.world.specs.lawful.NameLists.{and_left, and_right, not_true, within_bound, distinct_names, distinct_none, distinct-remove_key, shorter-remove_key, lacks-remove_key}
-use Rattle.world.specs.lawful.FloodSpread.{gets_share}
-use Rattle.world.specs.lawful.FloodTakes.{taken_sends, taken_given, taken_core, by_takes, each_carries, takes_views, announces_nothing, asks_nothing, takes_payloads, takes_deliveries}
-use Rattle.world.specs.lawful.Held.{counts_others, counts_next, found_by_key, keys_after_push}
-use Rattle.world.specs.HoldLaw.{IsAskedBy, KeepsLast}
-use Rattle.world.specs.Laws.{IsSilent, Laws, StartLaws, StateLaws, StepLaws}
-use Rattle.world.specs.Lists.{IsOneOf}
-use Rattle.world.specs.PayloadLaw.{Brings}
-use Rattle.world.specs.Peers.{are_peers, are_distinct, is_contact}
-use Rattle.world.specs.QueueLaw.{FlushesQueue}
-use Rattle.world.specs.SpreadLaw.{is_from}
-use Rattle.world.specs.Stimulus.{Stimulus}
-use Rattle.world.specs.WantLaw.{Announces}
-use Rattle.world.specs.declared.stimulus.StimulusOf.TheVariants.{Broadcast, Arrive, Fire, Flush, Down, Shuffle, Join}
+use Rattle.protocol.specs.AskLaw.{Fires}
+use Rattle.protocol.specs.Delivery.{Delivery}
+use Rattle.protocol.specs.DeliveryLaw.{Delivers, IsNews, count_after, ids}
+use Rattle.protocol.specs.lawful.NameLists.{and_left, and_right, not_true, within_bound, distinct_peers, distinct_none, distinct-remove_key, shorter-remove_key, lacks-remove_key}
+use Rattle.protocol.specs.lawful.Held.{found_by_key, keys_after_push}
+use Rattle.protocol.specs.HoldLaw.{IsAskedBy, KeepsLast}
+use Rattle.protocol.specs.Laws.{IsSilent, Laws, StartLaws, StateLaws, StepLaws}
+use Rattle.protocol.specs.Lists.{IsOneOf}
+use Rattle.protocol.specs.PayloadLaw.{Brings}
+use Rattle.protocol.specs.Peers.{are_peers, are_distinct, is_contact}
+use Rattle.protocol.specs.QueueLaw.{FlushesQueue}
+use Rattle.protocol.specs.SpreadLaw.{is_from}
+use Rattle.protocol.specs.Stimulus.{Stimulus}
+use Rattle.protocol.specs.WantLaw.{Announces}
+use Rattle.protocol.specs.declared.stimulus.StimulusOf.TheVariants.{Broadcast, Arrive, Fire, Flush, Down, Shuffle, Join}
+use Rattle.flood.specs.FloodCore.{Flooding, Message, FloodStarts, FloodSteps, Takes, IsIdle, DropsPeer, IsSoundFlooding, HoldsCounted, flood_state, note_content, others, is_news, payload_of}
+use Rattle.flood.specs.lawful.FloodSpread.{gets_share}
+use Rattle.flood.specs.lawful.FloodTakes.{taken_sends, taken_given, taken_core, by_takes, each_carries, takes_views, announces_nothing, asks_nothing, takes_payloads, takes_deliveries}
+use Rattle.flood.specs.lawful.Counted.{counts_others, counts_next}
 
 -- ---- the start
 
--- peers that a node may start with are distinct
-pub distinct_peers : (limits : Limits) (owner : Name) (peers : List Name) (contact : Option Name) → IsTrue (are_peers limits owner peers contact) → IsDistinct same_name peers
-distinct_peers limits owner peers contact fit = distinct_names peers (and_left (are_distinct peers) (not (has_name peers owner) && not (is_contact contact owner)) (and_right (nat_le (length peers) limits.active) (are_distinct peers && (not (has_name peers owner) && not (is_contact contact owner))) fit))
-
--- and others
+-- peers that a node may start with are others
 peers_are_others : (limits : Limits) (owner : Name) (peers : List Name) (contact : Option Name) → IsTrue (are_peers limits owner peers contact) → has_name peers owner ≡ false
 peers_are_others limits owner peers contact fit = not_true (has_name peers owner) (and_left (not (has_name peers owner)) (not (is_contact contact owner)) (and_right (are_distinct peers) (not (has_name peers owner) && not (is_contact contact owner)) (and_right (nat_le (length peers) limits.active) (are_distinct peers && (not (has_name peers owner) && not (is_contact contact owner))) fit)))
 

@@ -10,11 +10,11 @@ use Rattle.std.proofs.lemmas.Map.Views.{any-filter_same}
 use Rattle.node_names.specs.NodeName.{Name}
 use Rattle.node_names.specs.Same.{same_name, has_name, same_name-Decides, is_left_out}
 use Rattle.node_names.specs.declared.ids.MsgId.{MsgId}
-use Rattle.world.specs.FloodCore.{Flooding, Message, flood_state, note_content, note_to, others}
-use Rattle.world.specs.lawful.NameLists.{and_true, lacks_from_each, distinct-filter}
-use Rattle.world.specs.lawful.Held.{same_id-refl}
-use Rattle.world.specs.SpreadLaw.{GetsShare, packets_carrying, entries_queued, is_carried, is_from}
-use Rattle.world.specs.Stimulus.{Stimulus}
+use Rattle.protocol.specs.lawful.NameLists.{and_true, lacks_from_each, distinct-filter}
+use Rattle.protocol.specs.lawful.Held.{same_id-refl}
+use Rattle.protocol.specs.SpreadLaw.{GetsShare, packets_carrying, entries_queued, is_carried, is_from}
+use Rattle.protocol.specs.Stimulus.{Stimulus}
+use Rattle.flood.specs.FloodCore.{Flooding, Message, flood_state, note_content, note_to, others}
 
 -- among the packets to these names, a name gets one for each time that it is there
 carries_to_each : (id : MsgId) (payload : List ℕ) (name : Name) (names : List Name) → packets_carrying note_content id name (map (note_to id payload) names) ≡ count_by (same_name name) names

@@ -6,17 +6,17 @@ use Rattle.std.proofs.Common.{inl, inr, sym, subst}
 use Rattle.node_names.specs.NodeName.{Name}
 use Rattle.node_names.specs.Same.{same_id, has_name, is_left_out}
 use Rattle.node_names.specs.declared.ids.MsgId.{MsgId}
-use Rattle.world.specs.AskLaw.{AsksNothing}
-use Rattle.world.specs.Delivery.{Delivery}
-use Rattle.world.specs.DeliveryLaw.{DeliveryLaw, Delivers, count_after}
-use Rattle.world.specs.FloodCore.{Flooding, Message, Takes, flood_state, note_content, note_to, others, payload_of}
-use Rattle.world.specs.lawful.NameLists.{each-map, each-all, each-filter, each_is_other}
-use Rattle.world.specs.lawful.Held.{same_inside, found_after_push, held_after_push, stays_after_push, pushed_is_held}
-use Rattle.world.specs.Lists.{IsOneOf}
-use Rattle.world.specs.PayloadLaw.{PayloadLaw, Brings, IsKnownPayload}
-use Rattle.world.specs.QueueLaw.{AnnouncesNothing}
-use Rattle.world.specs.Stimulus.{Stimulus}
-use Rattle.world.specs.ViewLaw.{ViewLaw}
+use Rattle.protocol.specs.AskLaw.{AsksNothing}
+use Rattle.protocol.specs.Delivery.{Delivery}
+use Rattle.protocol.specs.DeliveryLaw.{DeliveryLaw, Delivers, count_after}
+use Rattle.protocol.specs.lawful.NameLists.{each-map, each-all, each-filter, each_is_other}
+use Rattle.protocol.specs.lawful.Held.{same_inside, found_after_push, held_after_push, stays_after_push, pushed_is_held}
+use Rattle.protocol.specs.Lists.{IsOneOf}
+use Rattle.protocol.specs.PayloadLaw.{PayloadLaw, Brings, IsKnownPayload}
+use Rattle.protocol.specs.QueueLaw.{AnnouncesNothing}
+use Rattle.protocol.specs.Stimulus.{Stimulus}
+use Rattle.protocol.specs.ViewLaw.{ViewLaw}
+use Rattle.flood.specs.FloodCore.{Flooding, Message, Takes, flood_state, note_content, note_to, others, payload_of}
 
 -- the packets, the deliveries and the core that taking the message gives
 abbrev pub taken_sends : Flooding → MsgId → List ℕ → Option Name → List (Name × Message)

@@ -5,6 +5,7 @@ use frames::{Body, Frame, encode};
 use links::TapeReader;
 use node_core::PlumCore;
 use node_threads::{Gate, HostError, NodeCore, read_link};
+use protocol::{StimulusOf, Trace};
 use std::alloc::{AllocError, Global};
 use std::process::Abort;
 use std::sync::{Arc, Mutex, Wait};
@@ -13,7 +14,6 @@ use std::thread;
 use std::thread::Threads;
 use std::time::{Clock, Duration};
 use test_support::first_run;
-use world::{StimulusOf, Trace};
 
 /// How often each of two workers was reported to have made a step, and how often the first one was refused.
 #[derive(Clone, Copy)]

@@ -9,6 +9,7 @@ use node_threads::{
     Call, Closed, HostError, NodeCore, OpenGate, Port, Ticker, hand_out, read_link, tick,
     write_link,
 };
+use protocol::{Delivery, StimulusOf, Trace};
 use std::alloc::{AllocError, Global};
 use std::process::Abort;
 use std::sync::{Arc, Wait};
@@ -16,7 +17,6 @@ use std::test::Fail;
 use std::thread::{JoinHandle, Threads};
 use std::time::{Clock, Duration};
 use std::{mem, thread};
-use world::{Delivery, StimulusOf, Trace};
 
 /// How many times each port broadcasts.
 const BROADCASTS: usize = 10;

@@ -1,11 +1,11 @@
 //! The deliveries that a node handed out.
 use crate::tests::node::LOOKS;
 use node_threads::Handed;
+use protocol::Delivery;
 use std::alloc::{AllocError, Global};
 use std::sync::{Arc, Mutex, Wait};
 use std::thread;
 use std::time::{Clock, Duration};
-use world::Delivery;
 
 /// The deliveries that a node handed out, in order.
 #[derive(Drop)]

@@ -8,6 +8,7 @@ use node_core::PlumCore;
 use node_threads::{
     Closed, Dialler, Host, HostError, NodeCore, OpenGate, Outlet, Port, Sealed, write_link,
 };
+use protocol::{Segment, StimulusOf};
 use std::alloc::{AllocError, Global};
 use std::process::Abort;
 use std::sync::{Arc, Wait};
@@ -15,7 +16,6 @@ use std::test::Fail;
 use std::thread;
 use std::thread::Threads;
 use std::time::{Clock, Duration};
-use world::{Segment, StimulusOf};
 
 /// How many parts of its history a node hands out.
 const PARTS: usize = 10;

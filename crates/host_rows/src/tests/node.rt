@@ -2,19 +2,19 @@
 ghost use Rattle.std.specs.Prelude.{◌≡◌, ◌++◌, List, None, IfOk, IsTrue};
 ghost use Rattle.node_names.specs.NodeName.{Name};
 ghost use Rattle.frames.specs.Frame.{Frame as Sent};
-ghost use Rattle.world.specs.Peers.{are_peers};
+ghost use Rattle.protocol.specs.Peers.{are_peers};
 
 use crate::tests::texts::push_answer;
 use frames::Frame;
 use node_core::PlumCore;
 use node_names::{Limits, NodeName, Origin};
 use node_threads::{Host, HostError, NodeCore, Outlet, Port, Worker};
+use protocol::{Core, CoreError, Out, are_peers};
 use std::alloc::{AllocError, Allocator, Global};
 use std::process::Abort;
 use std::sync::Wait;
 use std::thread::Threads;
 use test_support::first_run;
-use world::{Core, CoreError, Out, are_peers};
 
 /// How many frames a link has room for: more than any test sends.
 const RING: usize = 10_000;

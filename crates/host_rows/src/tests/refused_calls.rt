@@ -5,6 +5,7 @@ use crate::tests::node::{Node, TestedCore, close, name, start};
 use bytes::Bytes;
 use node_core::PlumCore;
 use node_threads::{HostError, NodeCore, Port, Receipt};
+use protocol::CoreError;
 use refusing_allocator::RefusingAllocator;
 use std::alloc::{AllocError, Allocator};
 use std::process::Abort;
@@ -12,7 +13,6 @@ use std::sync::Wait;
 use std::test::Fail;
 use std::thread::Threads;
 use test_support::{message, refusal_of, retry, stop_refusing, sweep};
-use world::CoreError;
 
 /// Whether a start failed as out of memory, in the core or after it.
 fn is_out_of_memory(error: HostError) -> bool {

@@ -3,12 +3,12 @@ use bytes::Bytes;
 use frames::Frame;
 use node_names::{Dice, NodeName, Origin};
 use node_threads::{CloseError, Closed, LinkReport, NodeCore};
+use protocol::{Delivery, Out, Step, Stimulus, StimulusOf, Trace};
 use rand_core::SeedableRng;
 use rand_pcg::Lcg128Xsl64;
 use std::alloc::{AllocError, Allocator};
 use std::fmt::Write;
 use test_support::{push_frame, push_letters};
-use world::{Delivery, Out, Step, Stimulus, StimulusOf, Trace};
 
 /// The seed of the generator of a reader's dice.
 pub(crate) const SEED: u64 = 7;

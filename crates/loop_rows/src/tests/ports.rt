@@ -4,6 +4,7 @@ use crate::tests::tested_node::TestedNode;
 use anyhow::Result;
 use bytes::Bytes;
 use loop_ports::{Port, PortFault, Ports};
+use protocol::MAX_PAYLOAD;
 use std::alloc::Global;
 use std::net::Net;
 use std::sync::Wait;
@@ -11,7 +12,6 @@ use std::thread;
 use std::thread::{JoinHandle, Threads};
 use std::time::{Clock, Duration};
 use wire_node::MAX_WAITING;
-use world::MAX_PAYLOAD;
 
 /// How many messages are broadcast.
 const MESSAGES: usize = 2_000;

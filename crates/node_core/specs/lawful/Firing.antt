@@ -9,12 +9,12 @@ use Rattle.node_names.specs.NodeName.{Name}
 use Rattle.node_names.specs.Same.{same_id, same_id-Decides, has_id, has_name}
 use Rattle.node_names.specs.declared.ids.MsgId.{MsgId}
 use Rattle.node_names.specs.declared.ids.Origin.{Origin}
-use Rattle.world.specs.AskLaw.{HasNoEntry}
-use Rattle.world.specs.CoreState.{CoreState}
-use Rattle.world.specs.HoldLaw.{IsAskedBy}
-use Rattle.world.specs.Laws.{StepLaws}
-use Rattle.world.specs.Lists.{IsOneOf}
-use Rattle.world.specs.declared.stimulus.StimulusOf.TheVariants as on
+use Rattle.protocol.specs.AskLaw.{HasNoEntry}
+use Rattle.protocol.specs.CoreState.{CoreState}
+use Rattle.protocol.specs.HoldLaw.{IsAskedBy}
+use Rattle.protocol.specs.Laws.{StepLaws}
+use Rattle.protocol.specs.Lists.{IsOneOf}
+use Rattle.protocol.specs.declared.stimulus.StimulusOf.TheVariants as on
 use Rattle.frames.specs.Content.{frame_content}
 use Rattle.frames.specs.Frame.{Frame}
 use Rattle.frames.specs.declared.body.BodyOf.TheVariants.{Graft}

@@ -11,12 +11,12 @@ use Rattle.node_names.specs.NodeName.{Name}
 use Rattle.node_names.specs.Same.{same_id, same_name, same_name-Decides, has_name}
 use Rattle.node_names.specs.declared.ids.MsgId.{MsgId}
 use Rattle.node_names.specs.declared.ids.Origin.{Origin}
-use Rattle.world.specs.CoreState.{CoreState}
-use Rattle.world.specs.lawful.NameLists.{each-filter, distinct-filter}
-use Rattle.world.specs.Laws.{StepLaws}
-use Rattle.world.specs.QueueLaw.{times_announced, times_queued}
-use Rattle.world.specs.QueueLaw as law
-use Rattle.world.specs.declared.stimulus.StimulusOf.TheVariants as on
+use Rattle.protocol.specs.CoreState.{CoreState}
+use Rattle.protocol.specs.lawful.NameLists.{each-filter, distinct-filter}
+use Rattle.protocol.specs.Laws.{StepLaws}
+use Rattle.protocol.specs.QueueLaw.{times_announced, times_queued}
+use Rattle.protocol.specs.QueueLaw as law
+use Rattle.protocol.specs.declared.stimulus.StimulusOf.TheVariants as on
 use Rattle.frames.specs.Body.{Body}
 use Rattle.frames.specs.Content.{body_content, frame_content}
 use Rattle.frames.specs.Frame.{Frame}

@@ -8,9 +8,9 @@ use Rattle.std.proofs.lemmas.List.{length-drop}
 use Rattle.node_names.specs.Same.{same_id, same_id-Decides}
 use Rattle.node_names.specs.declared.ids.MsgId.{MsgId}
 use Rattle.node_names.specs.declared.ids.Origin.{Origin}
-use Rattle.world.specs.DeliveryLaw.{ids}
-use Rattle.world.specs.lawful.Held.{keys_after_push, lookup-push}
-use Rattle.world.specs.HoldLaw.{AreLast, KeepsLast}
+use Rattle.protocol.specs.DeliveryLaw.{ids}
+use Rattle.protocol.specs.lawful.Held.{keys_after_push, lookup-push}
+use Rattle.protocol.specs.HoldLaw.{AreLast, KeepsLast}
 use Rattle.message_store.specs.Held.{kept_last}
 use Rattle.node_core.specs.Plum.{HeldOnce}
 use Rattle.node_core.specs.Steps.{delivered_at}

@@ -6,7 +6,7 @@ use Rattle.std.proofs.lemmas.Bool.{true≢false}
 use Rattle.node_names.specs.NodeName.{Name}
 use Rattle.node_names.specs.Same.{same_name, same_name-laws, has_name}
 use Rattle.node_names.specs.declared.ids.MsgId.{MsgId}
-use Rattle.world.specs.Lists.{IsOneOf}
+use Rattle.protocol.specs.Lists.{IsOneOf}
 use Rattle.views.specs.Names.{others}
 use Rattle.peer_sets.specs.Members.{names, is_member, with_member, without_member}
 use Rattle.peer_sets.specs.declared.kind.PeerKind.{PeerKind}

@@ -7,9 +7,9 @@ use Rattle.node_names.specs.NodeName.{Name}
 use Rattle.node_names.specs.Same.{same_name}
 use Rattle.node_names.specs.declared.ids.MsgId.{MsgId}
 use Rattle.node_names.specs.declared.ids.Origin.{Origin}
-use Rattle.world.specs.HoldLaw.{packets_with}
-use Rattle.world.specs.QueueLaw.{announcements, times_announced}
-use Rattle.world.specs.SpreadLaw.{packets_carrying, is_carried}
+use Rattle.protocol.specs.HoldLaw.{packets_with}
+use Rattle.protocol.specs.QueueLaw.{announcements, times_announced}
+use Rattle.protocol.specs.SpreadLaw.{packets_carrying, is_carried}
 use Rattle.frames.specs.Body.{Body}
 use Rattle.frames.specs.Content.{body_content, frame_content}
 use Rattle.frames.specs.Frame.{Frame}

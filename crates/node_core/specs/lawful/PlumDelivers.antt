@@ -3,8 +3,8 @@ use Rattle.std.specs.Prelude.{◌≤◌, ℕ, List, Option, Some, None, length}
 use Rattle.std.proofs.Common.{ap, arith, sym, subst}
 use Rattle.node_names.specs.declared.ids.MsgId.{MsgId}
 use Rattle.node_names.specs.declared.ids.Origin.{Origin}
-use Rattle.world.specs.DeliveryLaw.{ids}
-use Rattle.world.specs.OneDelivery.{OneDelivery}
+use Rattle.protocol.specs.DeliveryLaw.{ids}
+use Rattle.protocol.specs.OneDelivery.{OneDelivery}
 use Rattle.node_core.specs.Plum.{plum_state}
 use Rattle.node_core.specs.Steps.{PlumSteps, delivered_at, turned}
 

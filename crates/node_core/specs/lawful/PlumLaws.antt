@@ -17,21 +17,21 @@ use Rattle.node_names.specs.Same.{same_id, same_id-Decides, same_name, same_name
 use Rattle.node_names.specs.declared.dice.Dice.{Dice}
 use Rattle.node_names.specs.declared.ids.MsgId.{MsgId}
 use Rattle.node_names.specs.declared.ids.Origin.{Origin}
-use Rattle.world.specs.AskLaw.{Fires, AsksNothing}
-use Rattle.world.specs.CoreState.{CoreState}
-use Rattle.world.specs.Delivery.{Delivery}
-use Rattle.world.specs.DeliveryLaw.{IsNews, Delivers, count_after, ids}
-use Rattle.world.specs.Content.{Content}
-use Rattle.world.specs.lawful.NameLists.{and_left, and_right}
-use Rattle.world.specs.HoldLaw.{IsAskedBy, KeepsLast, packets_with}
-use Rattle.world.specs.lawful.Held.{found_by_key}
-use Rattle.world.specs.Laws.{IsSilent, Laws, StateLaws, StepLaws}
-use Rattle.world.specs.Lists.{IsOneOf}
-use Rattle.world.specs.QueueLaw.{FlushesQueue, AnnouncesNothing, KeepsQueue}
-use Rattle.world.specs.SpreadLaw.{packets_carrying, entries_queued, is_carried}
-use Rattle.world.specs.Stimulus.{Stimulus, IsNotFrom}
-use Rattle.world.specs.WantLaw.{Announces, entries_wanted}
-use Rattle.world.specs.declared.stimulus.StimulusOf.TheVariants as on
+use Rattle.protocol.specs.AskLaw.{Fires, AsksNothing}
+use Rattle.protocol.specs.CoreState.{CoreState}
+use Rattle.protocol.specs.Delivery.{Delivery}
+use Rattle.protocol.specs.DeliveryLaw.{IsNews, Delivers, count_after, ids}
+use Rattle.protocol.specs.Content.{Content}
+use Rattle.protocol.specs.lawful.NameLists.{and_left, and_right}
+use Rattle.protocol.specs.HoldLaw.{IsAskedBy, KeepsLast, packets_with}
+use Rattle.protocol.specs.lawful.Held.{found_by_key}
+use Rattle.protocol.specs.Laws.{IsSilent, Laws, StateLaws, StepLaws}
+use Rattle.protocol.specs.Lists.{IsOneOf}
+use Rattle.protocol.specs.QueueLaw.{FlushesQueue, AnnouncesNothing, KeepsQueue}
+use Rattle.protocol.specs.SpreadLaw.{packets_carrying, entries_queued, is_carried}
+use Rattle.protocol.specs.Stimulus.{Stimulus, IsNotFrom}
+use Rattle.protocol.specs.WantLaw.{Announces, entries_wanted}
+use Rattle.protocol.specs.declared.stimulus.StimulusOf.TheVariants as on
 use Rattle.frames.specs.Body.{Body}
 use Rattle.frames.specs.Content.{body_content, frame_content, membership}
 use Rattle.frames.specs.Frame.{Frame}

@@ -7,15 +7,15 @@ use Rattle.std.proofs.lemmas.Bool.{false≢true}
 use Rattle.node_names.specs.NodeName.{Name}
 use Rattle.node_names.specs.Same.{has_name}
 use Rattle.node_names.specs.declared.ids.MsgId.{MsgId}
-use Rattle.world.specs.AskLaw.{AskLaw, Fires}
-use Rattle.world.specs.CoreState.{CoreState}
-use Rattle.world.specs.DeliveryLaw.{Delivers, count_after}
-use Rattle.world.specs.HoldLaw.{HoldLaw}
-use Rattle.world.specs.Laws.{StepLaws}
-use Rattle.world.specs.QueueLaw.{QueueLaw, FlushesQueue, KeepsQueue}
-use Rattle.world.specs.Stimulus.{Stimulus}
-use Rattle.world.specs.ViewLaw.{ViewLaw}
-use Rattle.world.specs.WantLaw.{WantLaw, Announces}
+use Rattle.protocol.specs.AskLaw.{AskLaw, Fires}
+use Rattle.protocol.specs.CoreState.{CoreState}
+use Rattle.protocol.specs.DeliveryLaw.{Delivers, count_after}
+use Rattle.protocol.specs.HoldLaw.{HoldLaw}
+use Rattle.protocol.specs.Laws.{StepLaws}
+use Rattle.protocol.specs.QueueLaw.{QueueLaw, FlushesQueue, KeepsQueue}
+use Rattle.protocol.specs.Stimulus.{Stimulus}
+use Rattle.protocol.specs.ViewLaw.{ViewLaw}
+use Rattle.protocol.specs.WantLaw.{WantLaw, Announces}
 use Rattle.frames.specs.Content.{frame_content}
 use Rattle.frames.specs.Frame.{Frame}
 use Rattle.node_core.specs.lawful.Members.{each_one}

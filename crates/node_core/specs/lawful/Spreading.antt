@@ -12,21 +12,21 @@ use Rattle.node_names.specs.Order.{id_cmp}
 use Rattle.node_names.specs.Same.{same_id, same_id-Decides, same_name, same_name-Decides, has_name, is_left_out}
 use Rattle.node_names.specs.declared.ids.MsgId.{MsgId}
 use Rattle.node_names.specs.declared.ids.Origin.{Origin}
-use Rattle.world.specs.AskLaw.{Fires, AsksNothing}
-use Rattle.world.specs.CoreState.{CoreState}
-use Rattle.world.specs.Delivery.{Delivery}
-use Rattle.world.specs.DeliveryLaw.{Delivers, count_after}
-use Rattle.world.specs.lawful.NameLists.{each-map, each-all}
-use Rattle.world.specs.lawful.Held.{found_after_push, same_inside, same_id-refl}
-use Rattle.world.specs.HoldLaw.{IsAskedBy}
-use Rattle.world.specs.Laws.{StepLaws}
-use Rattle.world.specs.Lists.{IsOneOf}
-use Rattle.world.specs.PayloadLaw.{Brings, IsKnownPayload}
-use Rattle.world.specs.QueueLaw.{FlushesQueue, AnnouncesNothing, KeepsQueue}
-use Rattle.world.specs.SpreadLaw.{GetsShare, packets_carrying, entries_queued, is_carried, is_from}
-use Rattle.world.specs.Stimulus.{Stimulus}
-use Rattle.world.specs.ViewLaw.{ViewLaw}
-use Rattle.world.specs.WantLaw.{Announces}
+use Rattle.protocol.specs.AskLaw.{Fires, AsksNothing}
+use Rattle.protocol.specs.CoreState.{CoreState}
+use Rattle.protocol.specs.Delivery.{Delivery}
+use Rattle.protocol.specs.DeliveryLaw.{Delivers, count_after}
+use Rattle.protocol.specs.lawful.NameLists.{each-map, each-all}
+use Rattle.protocol.specs.lawful.Held.{found_after_push, same_inside, same_id-refl}
+use Rattle.protocol.specs.HoldLaw.{IsAskedBy}
+use Rattle.protocol.specs.Laws.{StepLaws}
+use Rattle.protocol.specs.Lists.{IsOneOf}
+use Rattle.protocol.specs.PayloadLaw.{Brings, IsKnownPayload}
+use Rattle.protocol.specs.QueueLaw.{FlushesQueue, AnnouncesNothing, KeepsQueue}
+use Rattle.protocol.specs.SpreadLaw.{GetsShare, packets_carrying, entries_queued, is_carried, is_from}
+use Rattle.protocol.specs.Stimulus.{Stimulus}
+use Rattle.protocol.specs.ViewLaw.{ViewLaw}
+use Rattle.protocol.specs.WantLaw.{Announces}
 use Rattle.frames.specs.Body.{Body}
 use Rattle.frames.specs.Content.{body_content, frame_content}
 use Rattle.frames.specs.Frame.{Frame}

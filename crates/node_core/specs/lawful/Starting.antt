@@ -9,10 +9,9 @@ use Rattle.node_names.specs.Limits.{Limits}
 use Rattle.node_names.specs.Order.{id_cmp}
 use Rattle.node_names.specs.Same.{same_name-Decides, has_name}
 use Rattle.node_names.specs.declared.ids.Origin.{Origin}
-use Rattle.world.specs.lawful.FloodLaws.{distinct_peers}
-use Rattle.world.specs.lawful.NameLists.{and_left, and_right, not_true, within_bound, distinct_none}
-use Rattle.world.specs.Laws.{IsSilent, StartLaws}
-use Rattle.world.specs.Peers.{are_peers, are_distinct, is_contact}
+use Rattle.protocol.specs.lawful.NameLists.{distinct_peers, and_left, and_right, not_true, within_bound, distinct_none}
+use Rattle.protocol.specs.Laws.{IsSilent, StartLaws}
+use Rattle.protocol.specs.Peers.{are_peers, are_distinct, is_contact}
 use Rattle.frames.specs.Content.{frame_content}
 use Rattle.frames.specs.Frame.{Frame}
 use Rattle.views.specs.Views.{ArePeers}

@@ -9,17 +9,17 @@ use Rattle.node_names.specs.Same.{same_id, same_name, has_name}
 use Rattle.node_names.specs.declared.dice.Dice.{Dice}
 use Rattle.node_names.specs.declared.ids.MsgId.{MsgId}
 use Rattle.node_names.specs.declared.ids.Origin.{Origin}
-use Rattle.world.specs.AskLaw.{AsksFor}
-use Rattle.world.specs.CoreState.{CoreState}
-use Rattle.world.specs.Delivery.{Delivery}
-use Rattle.world.specs.DeliveryLaw.{ids}
-use Rattle.world.specs.HoldLaw.{IsAskedBy, packets_with}
-use Rattle.world.specs.Laws.{IsSilent, StepLaws}
-use Rattle.world.specs.Lists.{IsOneOf}
-use Rattle.world.specs.PayloadLaw.{IsKnownPayload}
-use Rattle.world.specs.SpreadLaw.{GetsShare, entries_queued, is_carried, packets_carrying}
-use Rattle.world.specs.Stimulus.{Stimulus}
-use Rattle.world.specs.declared.stimulus.StimulusOf.TheVariants as on
+use Rattle.protocol.specs.AskLaw.{AsksFor}
+use Rattle.protocol.specs.CoreState.{CoreState}
+use Rattle.protocol.specs.Delivery.{Delivery}
+use Rattle.protocol.specs.DeliveryLaw.{ids}
+use Rattle.protocol.specs.HoldLaw.{IsAskedBy, packets_with}
+use Rattle.protocol.specs.Laws.{IsSilent, StepLaws}
+use Rattle.protocol.specs.Lists.{IsOneOf}
+use Rattle.protocol.specs.PayloadLaw.{IsKnownPayload}
+use Rattle.protocol.specs.SpreadLaw.{GetsShare, entries_queued, is_carried, packets_carrying}
+use Rattle.protocol.specs.Stimulus.{Stimulus}
+use Rattle.protocol.specs.declared.stimulus.StimulusOf.TheVariants as on
 use Rattle.missing.specs.Wants.{first_want}
 use Rattle.frames.specs.Body.{Body}
 use Rattle.frames.specs.Content.{frame_content}

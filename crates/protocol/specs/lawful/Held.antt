@@ -1,16 +1,12 @@
 -- Lemmas on a list of messages to which one more is added: proofs, with nothing to take on trust.
-use Rattle.std.specs.Prelude.{◌≡◌, ◌⊎◌, ◌↔◌, ◌+◌, ◌<◌, ◌≤◌, ℕ, Bool, true, false, cond, List, [], ◌∷◌, ◌++◌, Option, Some, None, IsSome, is_some, if◌then◌else◌, refl}
+use Rattle.std.specs.Prelude.{◌≡◌, ◌⊎◌, ◌↔◌, Bool, true, false, cond, List, [], ◌∷◌, ◌++◌, Option, Some, None, IsSome, is_some, if◌then◌else◌, refl}
 use Rattle.std.specs.Map.{keys_of, lookup}
 use Rattle.std.proofs.Common.{inl, inr, sym, ◌∙◌, ap, subst}
-use Rattle.std.proofs.Math.Nat.{le-add_left, le_of_lt, le_refl, le_trans}
-use Rattle.std.proofs.Math.Numerals.{lt-add-one}
 use Rattle.std.proofs.lemmas.Bool.{false≢true}
 use Rattle.std.specs.Option.{unwrap_or}
 use Rattle.node_names.specs.Same.{same_id, same_id-Decides}
 use Rattle.node_names.specs.declared.ids.MsgId.{MsgId}
-use Rattle.node_names.specs.declared.ids.Origin.{Origin}
-use Rattle.world.specs.FloodCore.{HoldsCounted}
-use Rattle.world.specs.Lists.{IsOneOf}
+use Rattle.protocol.specs.Lists.{IsOneOf}
 
 -- what two equal options hold is equal
 pub same_inside : {X : Type 0} (x y : X) → Some x ≡ Some y → x ≡ y
@@ -78,14 +74,3 @@ found_by_key {X} (e ∷ held) id = go (same_id id e.0) refl (found_by_key held i
     go : (b : Bool) → same_id id e.0 ≡ b → IsSome (lookup (same_id id) held) ↔ IsOneOf id (keys_of held) → IsSome (cond b (Some e.1) (lookup (same_id id) held)) ↔ IsOneOf id (e.0 ∷ keys_of held)
     go true same later = ((λ found. inl ((same_id-Decides id e.0).0 same)), (λ one. refl))
     go false apart later = ((λ found. inr (later.0 found)), (λ one. elim one [ inl here ↦ absurd (false≢true (sym apart ∙ (same_id-Decides id e.0).1 here)) | inr there ↦ later.1 there ]))
-
--- a pushed message of another origin is not counted, and one of this origin with the next number is
-pub counts_others : (me : Origin) (held : List (MsgId × List ℕ)) (count : ℕ) (id : MsgId) (p : List ℕ) → HoldsCounted me held count → (id.origin ≡ me → ⊥) → HoldsCounted me (held ++ (id, p) ∷ []) count
-counts_others me held count id p counted other j is mine = elim (held_after_push held id p j is) [ inl was ↦ counted j was mine | inr same ↦ absurd (other (sym (ap (λ (i : MsgId). i.origin) same) ∙ mine)) ]
-
-pub counts_next : (me : Origin) (held : List (MsgId × List ℕ)) (count : ℕ) (id : MsgId) (p : List ℕ) → HoldsCounted me held count → id.seq ≡ count + 1 → HoldsCounted me (held ++ (id, p) ∷ []) (count + 1)
-counts_next me held count id p counted next j is mine =
-    elim (held_after_push held id p j is) [
-      | inl was ↦ let bounds : (0 < j.seq) × (j.seq ≤ count) = counted j was mine in (bounds.0, le_trans bounds.1 (le_of_lt (lt-add-one count)))
-      | inr same ↦ let seq : j.seq ≡ count + 1 = ap (λ (i : MsgId). i.seq) same ∙ next in (subst (λ n. 0 < n) (sym seq) (le-add_left 1 count), subst (λ n. n ≤ count + 1) (sym seq) (le_refl (count + 1)))
-    ]

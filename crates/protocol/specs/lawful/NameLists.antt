@@ -1,13 +1,14 @@
--- Lemmas on tests and on lists of names, for the laws of the flooding core: proofs, with nothing to take on trust.
-use Rattle.std.specs.Prelude.{◌≡◌, ◌≢◌, ◌≤◌, ◌&&◌, ◌||◌, ℕ, Bool, true, false, not, cond, List, [], ◌∷◌, length, map, filter, refl, nat_le}
+-- Lemmas on tests and on lists of names, for the proofs of the laws: proofs, with nothing to take on trust.
+use Rattle.std.specs.Prelude.{◌≡◌, ◌≢◌, ◌≤◌, ◌&&◌, ◌||◌, ℕ, Bool, true, false, not, cond, List, [], ◌∷◌, Option, IsTrue, length, map, filter, refl, nat_le}
 use Rattle.std.specs.List.{AllByRecursion as Each, IsDistinct}
 use Rattle.std.specs.Set.{remove_key}
 use Rattle.std.proofs.Common.{sym, ◌∙◌, ap, zero-le, suc-le-suc}
 use Rattle.std.proofs.Math.Nat.{le-suc}
 use Rattle.std.proofs.lemmas.Bool.{false≢true, leb-true, true≢false}
 use Rattle.node_names.specs.NodeName.{Name}
+use Rattle.node_names.specs.Limits.{Limits}
 use Rattle.node_names.specs.Same.{same_name, has_name, same_name-Decides}
-use Rattle.world.specs.Peers.{are_distinct}
+use Rattle.protocol.specs.Peers.{are_distinct, are_peers, is_contact}
 
 -- ---- tests
 
@@ -115,3 +116,7 @@ shorter-remove_key test (name ∷ names) = shorter (shorter-remove_key test name
 -- and brings no name in
 pub lacks-remove_key : (test : Name → Bool) (name : Name) (names : List Name) → has_name names name ≡ false → has_name (remove_key test names) name ≡ false
 lacks-remove_key test name names lacks = lacks_from_each name (remove_key test names) (each-remove_key (λ other. same_name name other ≡ false) test names (each_differs name names lacks))
+
+-- peers that a node may start with are distinct
+pub distinct_peers : (limits : Limits) (owner : Name) (peers : List Name) (contact : Option Name) → IsTrue (are_peers limits owner peers contact) → IsDistinct same_name peers
+distinct_peers limits owner peers contact fit = distinct_names peers (and_left (are_distinct peers) (not (has_name peers owner) && not (is_contact contact owner)) (and_right (nat_le (length peers) limits.active) (are_distinct peers && (not (has_name peers owner) && not (is_contact contact owner))) fit))

@@ -4,7 +4,7 @@ ghost use Rattle.std.specs.Io.KnownBytes.{Appends};
 ghost use Rattle.node_core.specs.Plum.{plum_state};
 ghost use Rattle.node_core.specs.Steps.{PlumStarts, PlumSteps};
 ghost use Rattle.trace_text.specs.Step.{step_text};
-ghost use Rattle.world.specs.Delivery.{Delivery};
+ghost use Rattle.protocol.specs.Delivery.{Delivery};
 ghost use Rattle.world.specs.Entry.{Entry};
 ghost use Rattle.world.specs.Run.{Applied};
 ghost use Rattle.simulation.specs.Traced.{label_text, TellsStep};

@@ -5,7 +5,7 @@ use Rattle.std.specs.Option.{IsSome, option_copied_mut}
 use Rattle.std.specs.Prelude.{Some, None, unwrap_or}
 use Rattle.node_names.specs.Same.{same_id}
 use Rattle.node_names.specs.declared.ids.MsgId.{MsgId}
-use Rattle.world.specs.Delivery.{Delivery}
+use Rattle.protocol.specs.Delivery.{Delivery}
 use Rattle.at_rest.specs.Forest.{branches_at}
 use Rattle.at_rest.specs.Tree.{branches_from}
 use Rattle.at_rest.specs.declared.branch.Branch.{Branch}

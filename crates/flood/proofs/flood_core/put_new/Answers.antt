@@ -3,7 +3,7 @@ use Rattle.std.proofs.Common.{◌≡◌, ◌∙◌}
 use Rattle.indexmap.specs.IndexMap.{insert_entry}
 use Rattle.indexmap.proofs.CallerLemmas.{insert_entry-new}
 use Rattle.node_names.specs.Same.{same_id}
-use Rattle.world.proofs.flood_core.put_new.Goals as goal
+use Rattle.flood.proofs.flood_core.put_new.Goals as goal
 
 pub returns : goal.returns
 returns g c =

@@ -4,7 +4,7 @@ use Rattle.std.specs.Prelude.{◌↔◌, not}
 use Rattle.node_names.specs.NodeName.{Name}
 use Rattle.views.specs.Views.{Views}
 use Rattle.membership.specs.Membership.{Membership}
-use Rattle.world.specs.Run.{SameNames}
+use Rattle.protocol.specs.SameNames.{SameNames}
 use Rattle.node_core.proofs.SameSets.{was_true}
 use Rattle.node_core.proofs.parts.work_out_event.Goals as goal
 

@@ -1,5 +1,5 @@
 use Rattle.std.proofs.Common.{◌≡◌, ◌∙◌, ◌≤◌, length, subst, sym}
-use Rattle.world.specs.Trace.{Trace, delivered}
+use Rattle.protocol.specs.Trace.{Trace, delivered}
 use Rattle.frames.specs.Frame.{Frame}
 use Rattle.node_threads.specs.Closing.{Finds, IsLeft, Mismatches}
 use Rattle.node_threads.specs.Leaving.{outlets_of}

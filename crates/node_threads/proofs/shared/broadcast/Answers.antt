@@ -1,5 +1,5 @@
 use Rattle.std.proofs.Common.{◌≡◌, Some, rules, subst}
-use Rattle.world.specs.declared.stimulus.StimulusOf.TheVariants.{Broadcast}
+use Rattle.protocol.specs.declared.stimulus.StimulusOf.TheVariants.{Broadcast}
 use Rattle.node_threads.specs.Applying.{Applies}
 use Rattle.node_threads.proofs.shared.broadcast.Goals as goal
 

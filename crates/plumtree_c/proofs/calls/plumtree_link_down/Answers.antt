@@ -1,5 +1,5 @@
 use Rattle.std.proofs.Common.{rules, subst}
-use Rattle.world.specs.declared.stimulus.StimulusOf.TheVariants.{Down}
+use Rattle.protocol.specs.declared.stimulus.StimulusOf.TheVariants.{Down}
 use Rattle.plumtree_c.specs.Plain.{dice_of}
 use Rattle.plumtree_c.specs.State.{Steps}
 use Rattle.plumtree_c.proofs.calls.plumtree_link_down.Goals as goal

@@ -1,5 +1,5 @@
 use Rattle.std.proofs.Common.{◌≡◌, take}
-use Rattle.world.proofs.delivery.copy_deliveries.Given as goal
+use Rattle.protocol.proofs.delivery.copy_deliveries.Given as goal
 
 -- the deliveries so far are copied
 abbrev pub invariant-loop-delivery : goal.invariant-loop-delivery

@@ -1,5 +1,5 @@
 use Rattle.std.proofs.Common.{length}
-use Rattle.world.proofs.names.+are_distinct.Given as goal
+use Rattle.protocol.proofs.names.+are_distinct.Given as goal
 
 abbrev pub decreases-are_distinct : goal.decreases-are_distinct
 decreases-are_distinct l = length l.names.now

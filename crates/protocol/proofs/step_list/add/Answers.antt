@@ -1,8 +1,8 @@
 use Rattle.std.proofs.Common.{◌≡◌, ◌∙◌, ◌++◌, ◌∷◌, [], ap, sym, subst, rules, arith}
 use Rattle.std.specs.Arc.{arc_value}
-use Rattle.world.specs.Segments.{Abut, joined}
-use Rattle.world.proofs.Segments.{abut_more, joined_more}
-use Rattle.world.proofs.step_list.add.Goals as goal
+use Rattle.protocol.specs.Segments.{Abut, joined}
+use Rattle.protocol.proofs.Segments.{abut_more, joined_more}
+use Rattle.protocol.proofs.step_list.add.Goals as goal
 
 pub returns-then-not-is_empty-clause-abut : goal.returns-then-not-is_empty-clause-abut
 returns-then-not-is_empty-clause-abut g c =

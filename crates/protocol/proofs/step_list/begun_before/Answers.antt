@@ -1,8 +1,8 @@
 use Rattle.std.proofs.lemmas.List.Sorted.{IsPartitionPoint-from_clause, IsPartitionedBy-ltb}
 use Rattle.std.proofs.Common.{rules}
 use Rattle.std.proofs.Math.Dec.{ltb}
-use Rattle.world.proofs.Segments.{cut_below, rises}
-use Rattle.world.proofs.step_list.begun_before.Goals as goal
+use Rattle.protocol.proofs.Segments.{cut_below, rises}
+use Rattle.protocol.proofs.step_list.begun_before.Goals as goal
 
 pub returns : goal.returns
 returns g c = cut_below c.args.parts.now c.args.place c.partition_point.result c.partition_point.ensures.bound

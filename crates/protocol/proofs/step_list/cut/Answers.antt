@@ -1,7 +1,7 @@
 use Rattle.std.proofs.Common.{◌∙◌, ap, sym, subst, arith, set, vec_len, ◌-◌, take, rules}
-use Rattle.world.specs.Segments.{Abut, BeginBefore, Segment, joined}
-use Rattle.world.proofs.Segments.{left_of, none_left}
-use Rattle.world.proofs.step_list.cut.Goals as goal
+use Rattle.protocol.specs.Segments.{Abut, BeginBefore, Segment, joined}
+use Rattle.protocol.proofs.Segments.{left_of, none_left}
+use Rattle.protocol.proofs.step_list.cut.Goals as goal
 
 pub overflow_sub-place : goal.overflow_sub-place
 overflow_sub-place g c =

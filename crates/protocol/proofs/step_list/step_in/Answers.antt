@@ -1,7 +1,7 @@
 use Rattle.std.proofs.Common.{◌-◌, ◌∙◌, ap, sym, arith}
 use Rattle.std.specs.List.{slice_get}
-use Rattle.world.proofs.Segments.{found_in, some_before}
-use Rattle.world.proofs.step_list.step_in.Goals as goal
+use Rattle.protocol.proofs.Segments.{found_in, some_before}
+use Rattle.protocol.proofs.step_list.step_in.Goals as goal
 
 pub overflow_sub-part : goal.overflow_sub-part
 overflow_sub-part g c = some_before 0 c.args.parts.now c.args.place c.begun_before-begun.result c.requires.abut (omega arith) (omega (arith, c.requires.inside)) c.begun_before-begun.ensures

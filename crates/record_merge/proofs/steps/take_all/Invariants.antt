@@ -1,5 +1,5 @@
 use Rattle.node_names.specs.Limits.{Limits}
-use Rattle.world.specs.Replay.{Replays}
+use Rattle.protocol.specs.Replay.{Replays}
 use Rattle.record_merge.proofs.steps.take_all.Given as goal
 
 abbrev pub invariant-loop : goal.invariant-loop

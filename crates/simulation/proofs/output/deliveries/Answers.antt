@@ -1,6 +1,6 @@
 -- The deliveries of one entry more.
 use Rattle.std.proofs.Common.{◌∙◌, ◌++◌, List, ap, map, sym}
-use Rattle.world.specs.Delivery.{Delivery}
+use Rattle.protocol.specs.Delivery.{Delivery}
 use Rattle.world.specs.Entry.{Entry}
 use Rattle.simulation.proofs.Borrowed.{deliveries-more}
 use Rattle.simulation.proofs.output.deliveries.Goals as goal

@@ -1,6 +1,6 @@
 -- One delivery more.
 use Rattle.std.proofs.Common.{Bor}
-use Rattle.world.specs.Delivery.{Delivery}
+use Rattle.protocol.specs.Delivery.{Delivery}
 use Rattle.simulation.proofs.Borrowed.{mapped-more}
 use Rattle.simulation.proofs.output.push_each.Goals as goal
 

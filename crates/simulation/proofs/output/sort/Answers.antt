@@ -6,7 +6,7 @@ use Rattle.std.proofs.lemmas.List.Sorted.{All-permutation, IsPermutation-map, Is
 use Rattle.std.specs.List.Sorted.{IsPermutation}
 use Rattle.std.specs.Ordering.{is_lt}
 use Rattle.node_names.specs.Same.{same_id, same_origin}
-use Rattle.world.specs.Delivery.{Delivery}
+use Rattle.protocol.specs.Delivery.{Delivery}
 use Rattle.simulation.specs.Lines.{line_cmp}
 use Rattle.simulation.specs.Ranks.{rank_in}
 use Rattle.simulation.proofs.Borrowed.{mapped-sorted}

@@ -1,6 +1,6 @@
 -- A step writes one line.
 use Rattle.std.proofs.Common.{◌≡◌, ℕ, ◌∙◌, ◌++◌, Bor, List, ap, map, refl, sym, take}
-use Rattle.world.specs.Delivery.{Delivery}
+use Rattle.protocol.specs.Delivery.{Delivery}
 use Rattle.simulation.specs.Lines.{line_of, lines_of}
 use Rattle.trace_text.proofs.Texts.{lines-more}
 use Rattle.simulation.proofs.Texts.{written}

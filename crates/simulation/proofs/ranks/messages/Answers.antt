@@ -6,7 +6,7 @@ use Rattle.std.proofs.lemmas.List.Sorted.{Contains-permutation}
 use Rattle.indexmap.specs.IndexSet.{insert_key}
 use Rattle.node_names.specs.Same.{same_id, same_id-Decides}
 use Rattle.node_names.specs.declared.ids.MsgId.{MsgId}
-use Rattle.world.specs.Delivery.{Delivery}
+use Rattle.protocol.specs.Delivery.{Delivery}
 use Rattle.simulation.proofs.Ranking.{all_inserted-more}
 use Rattle.simulation.proofs.ranks.messages.Goals as goal
 

@@ -6,7 +6,7 @@ use Rattle.std.proofs.lemmas.List.Sorted.{Contains-permutation}
 use Rattle.indexmap.specs.IndexSet.{insert_key}
 use Rattle.node_names.specs.Same.{same_origin, same_origin-Decides}
 use Rattle.node_names.specs.declared.ids.Origin.{Origin}
-use Rattle.world.specs.Delivery.{Delivery}
+use Rattle.protocol.specs.Delivery.{Delivery}
 use Rattle.simulation.proofs.Ranking.{all_inserted-more}
 use Rattle.simulation.proofs.ranks.nodes.Goals as goal
 

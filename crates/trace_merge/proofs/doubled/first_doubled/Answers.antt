@@ -4,7 +4,7 @@ use Rattle.std.specs.List.{list_any}
 use Rattle.std.proofs.lemmas.Option.{slice_get_within}
 use Rattle.node_names.specs.Same.{same_origin}
 use Rattle.node_names.specs.declared.ids.Origin.{Origin}
-use Rattle.world.specs.Trace.{Trace}
+use Rattle.protocol.specs.Trace.{Trace}
 use Rattle.frames.specs.Frame.{Frame}
 use Rattle.trace_merge.proofs.DistinctLemmas.{distinct_more, doubled_from, known_more, not_passed, passed_before, seen_more}
 use Rattle.trace_merge.proofs.doubled.first_doubled.Goals as goal

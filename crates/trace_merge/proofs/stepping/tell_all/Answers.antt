@@ -3,10 +3,10 @@ use Rattle.std.proofs.Common.{◌≡◌, ◌∙◌, ◌+◌, ◌<◌, ℕ, suc, 
 use Rattle.std.specs.Prelude.{Option, Some, IfSome, slice_get}
 use Rattle.std.proofs.lemmas.List.{append-nil}
 use Rattle.std.proofs.lemmas.Option.{slice_get-get_or}
-use Rattle.world.specs.Lists.{IsOneOf}
-use Rattle.world.specs.Output.{Output}
-use Rattle.world.specs.Trace.{Step, Trace}
-use Rattle.world.specs.declared.stimulus.StimulusOf.TheVariants.{Flush}
+use Rattle.protocol.specs.Lists.{IsOneOf}
+use Rattle.protocol.specs.Output.{Output}
+use Rattle.protocol.specs.Trace.{Step, Trace}
+use Rattle.protocol.specs.declared.stimulus.StimulusOf.TheVariants.{Flush}
 use Rattle.frames.specs.Frame.{Frame}
 use Rattle.trace_merge.specs.Merging.{sent_within}
 use Rattle.trace_merge.specs.Numbers.{AreShort}

@@ -1,6 +1,6 @@
 -- What is told of the list is told of the output.
 use Rattle.std.proofs.Common.{◌∙◌, ap, subst}
-use Rattle.world.specs.Output.{Output}
+use Rattle.protocol.specs.Output.{Output}
 use Rattle.frames.specs.Frame.{Frame}
 use Rattle.trace_merge.specs.Numbers.{AreFew}
 use Rattle.trace_merge.proofs.stepping.tell_given.Goals as goal

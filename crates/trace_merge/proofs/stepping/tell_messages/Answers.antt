@@ -1,8 +1,8 @@
 -- One more message, and all of them.
 use Rattle.std.proofs.Common.{◌≤◌, arith, inl, inr, length, subst, sym}
 use Rattle.std.proofs.lemmas.List.{take_all}
-use Rattle.world.specs.Delivery.{Delivery}
-use Rattle.world.specs.Lists.{IsOneOf}
+use Rattle.protocol.specs.Delivery.{Delivery}
+use Rattle.protocol.specs.Lists.{IsOneOf}
 use Rattle.trace_merge.specs.Numbers.{greatest}
 use Rattle.trace_merge.proofs.ListLemmas.{one_of-take}
 use Rattle.trace_merge.proofs.stepping.tell_messages.Goals as goal

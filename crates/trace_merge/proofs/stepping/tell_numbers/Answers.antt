@@ -2,7 +2,7 @@
 use Rattle.std.proofs.Common.{◌≤◌, arith, inl, inr, length, subst, sym}
 use Rattle.std.proofs.lemmas.List.{take_all}
 use Rattle.node_names.specs.NodeName.{Name}
-use Rattle.world.specs.Lists.{IsOneOf}
+use Rattle.protocol.specs.Lists.{IsOneOf}
 use Rattle.frames.specs.Frame.{Frame}
 use Rattle.trace_merge.specs.Numbers.{greatest}
 use Rattle.trace_merge.proofs.ListLemmas.{one_of-take}

@@ -1,6 +1,6 @@
 -- What is told of the output is told of the step.
 use Rattle.std.proofs.Common.{ap, subst}
-use Rattle.world.specs.Trace.{Step}
+use Rattle.protocol.specs.Trace.{Step}
 use Rattle.frames.specs.Frame.{Frame}
 use Rattle.trace_merge.specs.Numbers.{AreShort}
 use Rattle.trace_merge.proofs.stepping.tell_sent.Goals as goal

@@ -1,6 +1,6 @@
 use Rattle.std.proofs.Common.{◌≡◌, ◌<◌, ℕ}
 use Rattle.std.specs.Prelude.{Some, slice_get}
-use Rattle.world.specs.Trace.{Trace}
+use Rattle.protocol.specs.Trace.{Trace}
 use Rattle.frames.specs.Frame.{Frame}
 use Rattle.trace_merge.specs.Merging.{IsOut, place_at}
 use Rattle.trace_merge.proofs.stuck.first_left.Given as goal

@@ -1,7 +1,7 @@
 -- One packet more.
 use Rattle.std.proofs.Common.{arith}
 use Rattle.std.specs.Prelude.{cond}
-use Rattle.world.specs.SpreadLaw.{is_carried}
+use Rattle.protocol.specs.SpreadLaw.{is_carried}
 use Rattle.world.specs.declared.packet.Packet.{Packet}
 use Rattle.frames.specs.Content.{frame_content}
 use Rattle.frames.specs.Frame.{Frame}

@@ -1,6 +1,6 @@
 use Rattle.std.proofs.Common.{◌≡◌, ◌∙◌, List, ap, map, refl, rules, subst, sym}
 use Rattle.node_names.specs.NodeName.{Name}
-use Rattle.world.specs.Stimulus.{lent}
+use Rattle.protocol.specs.Stimulus.{lent}
 use Rattle.node_core.specs.Plum.{plum_state}
 use Rattle.node_core.specs.Steps.{plum_after}
 use Rattle.wire_node.specs.Acting.{AreSettled}

@@ -1,9 +1,9 @@
 -- The node at the place is the one whose step was prepared.
 use Rattle.std.proofs.Common.{◌≡◌, ap, sym, ◌∙◌}
 use Rattle.std.specs.Prelude.{Some, option_map}
+use Rattle.protocol.specs.Stimulus.{lent}
 use Rattle.world.specs.Entry.{Entry}
 use Rattle.world.specs.Plan.{stimulus_by}
-use Rattle.world.specs.Stimulus.{lent}
 use Rattle.world.proofs.Changes.{makes, names_stay, stays}
 use Rattle.world.proofs.commit.advance.Goals as goal
 

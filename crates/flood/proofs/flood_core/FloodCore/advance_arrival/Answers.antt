@@ -1,8 +1,8 @@
 -- A message that is news is of another origin, so it is not counted.
 use Rattle.std.proofs.Common.{ap, sym, ◌∙◌}
-use Rattle.world.specs.FloodCore.{Flooding, is_news}
-use Rattle.world.proofs.FloodMoves.{counts_foreign}
-use Rattle.world.proofs.flood_core.FloodCore.advance_arrival.Goals as goal
+use Rattle.flood.specs.FloodCore.{Flooding, is_news}
+use Rattle.flood.proofs.FloodMoves.{counts_foreign}
+use Rattle.flood.proofs.flood_core.FloodCore.advance_arrival.Goals as goal
 
 pub invariant_of-self-2 : goal.invariant_of-self-2
 invariant_of-self-2 g c = (

@@ -1,7 +1,7 @@
 -- The new message has the next number, so it is counted.
 use Rattle.std.proofs.Common.{◌+◌, refl}
-use Rattle.world.proofs.FloodMoves.{counts_own}
-use Rattle.world.proofs.flood_core.FloodCore.advance_broadcast.Goals as goal
+use Rattle.flood.proofs.FloodMoves.{counts_own}
+use Rattle.flood.proofs.flood_core.FloodCore.advance_broadcast.Goals as goal
 
 pub invariant_of-self-2 : goal.invariant_of-self-2
 invariant_of-self-2 g c = (

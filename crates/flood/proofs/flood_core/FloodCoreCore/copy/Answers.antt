@@ -1,9 +1,9 @@
 -- The copies of the peers and of the messages are equal to them.
 use Rattle.std.proofs.Common.{◌≡◌, ◌∙◌, rules, subst, sym}
 use Rattle.std.proofs.lemmas.Map.Entries.{entries_from_clone}
-use Rattle.world.specs.FloodCore.{HoldsCounted}
-use Rattle.world.proofs.FloodMoves.{same_core}
-use Rattle.world.proofs.flood_core.FloodCoreCore.copy.Goals as goal
+use Rattle.flood.specs.FloodCore.{HoldsCounted}
+use Rattle.flood.proofs.FloodMoves.{same_core}
+use Rattle.flood.proofs.flood_core.FloodCoreCore.copy.Goals as goal
 
 same_held : (g : _) (c : goal.In_ok-clone g) → c.in_ok-clone.field-0.entries ≡ c.self.inside.held.entries
 same_held g c = search (rules, entries_from_clone)

@@ -1,9 +1,9 @@
 -- Firings, flushes and ticks do nothing, and a failed link takes its peer out.
 use Rattle.std.proofs.Common.{ap, ◌∙◌}
 use Rattle.node_names.specs.Same.{has_name}
-use Rattle.world.specs.Stimulus.{lent}
-use Rattle.world.proofs.FloodMoves.{loses_peer, moves_by_peer, stays_idle}
-use Rattle.world.proofs.flood_core.FloodCoreCore.prepare.Goals as goal
+use Rattle.protocol.specs.Stimulus.{lent}
+use Rattle.flood.proofs.FloodMoves.{loses_peer, moves_by_peer, stays_idle}
+use Rattle.flood.proofs.flood_core.FloodCoreCore.prepare.Goals as goal
 
 pub returns-in-Down-clause-stepped : goal.returns-in-Down-clause-stepped
 returns-in-Down-clause-stepped g c = loses_peer c.args.self.now c.in-Down.peer c.in-Down.dice (lent c.args.stimulus.now) c.args.out.now (ap lent c.in-Down.is)

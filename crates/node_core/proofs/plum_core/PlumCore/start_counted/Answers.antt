@@ -1,7 +1,7 @@
 -- A start has the parts of a newcomer, and only the JOIN needs a number.
 use Rattle.std.specs.declared.result.Result.TheVariants.{Err}
 use Rattle.std.proofs.Common.{◌∙◌, ap, arith, inl, refl}
-use Rattle.world.specs.declared.protocol.CoreError.TheVariants.{OutOfMemory}
+use Rattle.protocol.specs.declared.protocol.CoreError.TheVariants.{OutOfMemory}
 use Rattle.node_core.specs.lawful.Starting.{fit_views, starts_counted}
 use Rattle.node_core.proofs.Openings.{IsRefusal, passed_on, refused_for, started_is}
 use Rattle.node_core.proofs.plum_core.PlumCore.start_counted.Goals as goal

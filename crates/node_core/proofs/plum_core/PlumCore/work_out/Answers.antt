@@ -2,10 +2,10 @@
 use Rattle.std.proofs.Common.{◌≡◌, sym, ◌∙◌, ap, subst}
 use Rattle.std.specs.Prelude.{◌↔◌, IfOk, IsErrOf, false}
 use Rattle.views.specs.Views.{AreSound}
-use Rattle.world.specs.IdentityLaw.{IsOutOfNumbers, IsTooLong}
-use Rattle.world.specs.Run.{SameNames}
-use Rattle.world.specs.Stimulus.{lent}
-use Rattle.world.specs.declared.protocol.CoreError.TheVariants.{SeqSpent}
+use Rattle.protocol.specs.IdentityLaw.{IsOutOfNumbers, IsTooLong}
+use Rattle.protocol.specs.SameNames.{SameNames}
+use Rattle.protocol.specs.Stimulus.{lent}
+use Rattle.protocol.specs.declared.protocol.CoreError.TheVariants.{SeqSpent}
 use Rattle.node_core.specs.Fits.{AreFit}
 use Rattle.node_core.specs.Parts.{IsSpentPart, IsTooLongPart, Part, Takes, by_part, part_of, unboxed}
 use Rattle.node_core.specs.Plum.{Plum, plum_state}

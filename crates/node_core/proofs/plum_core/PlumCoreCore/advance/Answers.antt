@@ -1,7 +1,7 @@
 -- What the parts do, the stimulus does.
 use Rattle.std.proofs.Common.{◌≡◌, ◌+◌, length, sym, ◌∙◌, ap, subst}
 use Rattle.views.specs.Views.{AreSound}
-use Rattle.world.specs.Stimulus.{lent}
+use Rattle.protocol.specs.Stimulus.{lent}
 use Rattle.node_core.specs.Fits.{FitsFrames}
 use Rattle.node_core.specs.Parts.{PreparedStep, by_part, lent as lent_part}
 use Rattle.node_core.specs.Plum.{Plum}

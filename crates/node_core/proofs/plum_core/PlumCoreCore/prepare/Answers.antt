@@ -2,9 +2,9 @@
 use Rattle.std.proofs.Common.{◌<◌, ◌+◌, ◌-◌, ◌^◌, ◌++◌, length, sym, ◌∙◌, ap, subst, inl, inr}
 use Rattle.std.specs.declared.result.Result.TheVariants.{Err}
 use Rattle.gossip_core.specs.Effects.{Effects}
-use Rattle.world.specs.IdentityLaw.{IsOutOfNumbers, IsTooLong}
-use Rattle.world.specs.Stimulus.{lent}
-use Rattle.world.specs.declared.protocol.CoreError.TheVariants.{PayloadTooLong, SeqSpent}
+use Rattle.protocol.specs.IdentityLaw.{IsOutOfNumbers, IsTooLong}
+use Rattle.protocol.specs.Stimulus.{lent}
+use Rattle.protocol.specs.declared.protocol.CoreError.TheVariants.{PayloadTooLong, SeqSpent}
 use Rattle.node_core.specs.Fits.{AreFit}
 use Rattle.node_core.specs.Plum.{Plum, plum_state}
 use Rattle.node_core.specs.Steps.{delivered_at, numbered}

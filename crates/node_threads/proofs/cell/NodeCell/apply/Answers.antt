@@ -2,7 +2,7 @@
 use Rattle.std.proofs.Common.{◌≡◌, ◌∙◌, ◌+◌, ◌++◌, ◌∷◌, [], ◌<◌, ◌^◌, List, length-append, rules, ap, arith, filter, length, map, refl, subst, sym}
 use Rattle.node_names.specs.Same.{has_name}
 use Rattle.node_threads.specs.Applying.{Applies, Puts, id_given, mail_to, unlinked}
-use Rattle.world.specs.Trace.{Step, Trace}
+use Rattle.protocol.specs.Trace.{Step, Trace}
 use Rattle.frames.specs.Frame.{Frame}
 use Rattle.node_threads.specs.Cell.{Cell, Link, lost, peers_of, steps_made}
 use Rattle.std.specs.List.{All}

@@ -1,5 +1,5 @@
 use Rattle.std.proofs.Common.{◌≡◌, ◌≤◌, arith, length, subst}
-use Rattle.world.specs.Trace.{delivered}
+use Rattle.protocol.specs.Trace.{delivered}
 use Rattle.node_threads.specs.Cell.{IsKept}
 use Rattle.node_threads.proofs.Histories.{handed_within}
 use Rattle.node_threads.proofs.cell.NodeCell.count_handed.Goals as goal

@@ -1,6 +1,6 @@
 use Rattle.std.proofs.Common.{◌≡◌, ◌+◌, ◌∙◌, Some, ap, arith, drop, length, option_map, rules, subst, sym}
 use Rattle.std.proofs.lemmas.List.{length-drop}
-use Rattle.world.specs.Trace.{Trace}
+use Rattle.protocol.specs.Trace.{Trace}
 use Rattle.frames.specs.Frame.{Frame}
 use Rattle.node_threads.specs.Cell.{Cell, IsKept, lost}
 use Rattle.node_threads.specs.Forgetting.{forgetting}

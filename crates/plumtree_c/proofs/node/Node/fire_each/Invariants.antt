@@ -1,5 +1,5 @@
 use Rattle.std.proofs.Common.{map, take}
-use Rattle.world.specs.declared.stimulus.StimulusOf.TheVariants.{Fire}
+use Rattle.protocol.specs.declared.stimulus.StimulusOf.TheVariants.{Fire}
 use Rattle.plumtree_c.specs.State.{Runs}
 use Rattle.plumtree_c.proofs.node.Node.fire_each.Given as goal
 

@@ -1,7 +1,7 @@
 use Rattle.std.proofs.Common.{◌≡◌, ◌⊎◌, List, ℕ, ap, drop, inl, inr, refl, subst}
 use Rattle.std.proofs.lemmas.Result.{on_err_weaker, on_ok_weaker}
 use Rattle.node_names.specs.NodeName.{Name}
-use Rattle.world.specs.Delivery.{Delivery}
+use Rattle.protocol.specs.Delivery.{Delivery}
 use Rattle.node_names.specs.declared.dice.Dice.{Dice}
 use Rattle.neighborhood.specs.declared.news.News.{News}
 use Rattle.wire_node.specs.Node.{NodeState}

@@ -1,8 +1,8 @@
 use Rattle.std.proofs.Common.{◌≡◌, length, rules}
 use Rattle.std.specs.Arc.{arc_value}
-use Rattle.world.specs.Segments.{joined}
-use Rattle.world.proofs.Segments.{ends}
-use Rattle.world.proofs.step_list.StepList.seal.Goals as goal
+use Rattle.protocol.specs.Segments.{joined}
+use Rattle.protocol.proofs.Segments.{ends}
+use Rattle.protocol.proofs.step_list.StepList.seal.Goals as goal
 
 pub returns-in-Ok-clause-ends : goal.returns-in-Ok-clause-ends
 returns-in-Ok-clause-ends g c =

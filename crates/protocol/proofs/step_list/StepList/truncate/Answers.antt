@@ -1,7 +1,7 @@
 use Rattle.std.proofs.Common.{◌≡◌, ◌∙◌, ◌++◌, ◌-◌, ap, length, take}
-use Rattle.world.specs.Segments.{joined}
-use Rattle.world.proofs.Segments.{take_both}
-use Rattle.world.proofs.step_list.StepList.truncate.Goals as goal
+use Rattle.protocol.specs.Segments.{joined}
+use Rattle.protocol.proofs.Segments.{take_both}
+use Rattle.protocol.proofs.step_list.StepList.truncate.Goals as goal
 
 pub returns : goal.returns
 returns g c =

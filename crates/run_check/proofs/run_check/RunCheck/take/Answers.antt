@@ -1,6 +1,6 @@
 -- The run goes on by the stimulus.
 use Rattle.std.proofs.Common.{subst, sym}
-use Rattle.world.specs.Stimulus.{lent}
+use Rattle.protocol.specs.Stimulus.{lent}
 use Rattle.run_check.specs.Following.{Follows, Kept, TakesOn}
 use Rattle.run_check.specs.Refusals.{IsRefused}
 use Rattle.run_check.proofs.Following.{taken}

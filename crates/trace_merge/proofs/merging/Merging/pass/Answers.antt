@@ -4,7 +4,7 @@ use Rattle.std.specs.Cmp.{unsigned_Decides}
 use Rattle.std.specs.Prelude.{◌||◌, Bool, Option, Some, nat_eq, slice_get}
 use Rattle.std.proofs.lemmas.Bool.{false≢true}
 use Rattle.std.proofs.lemmas.Option.{slice_get_within}
-use Rattle.world.specs.Trace.{Trace}
+use Rattle.protocol.specs.Trace.{Trace}
 use Rattle.frames.specs.Frame.{Frame}
 use Rattle.trace_merge.specs.Merging.{IsHeld, Merge, place_at}
 use Rattle.trace_merge.specs.Steps.{Advances, Moves, Rests}

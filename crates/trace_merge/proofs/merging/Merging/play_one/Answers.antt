@@ -4,8 +4,8 @@ use Rattle.std.specs.Prelude.{Some, None, slice_get}
 use Rattle.std.specs.Option.{option_copied}
 use Rattle.std.proofs.lemmas.Option.{slice_get_cases, slice_get_read, slice_get_within}
 use Rattle.node_names.specs.Limits.{Limits}
+use Rattle.protocol.specs.Trace.{Trace}
 use Rattle.world.specs.Group.{Logged}
-use Rattle.world.specs.Trace.{Trace}
 use Rattle.frames.specs.Frame.{Frame}
 use Rattle.node_core.specs.Plum.{Plum}
 use Rattle.trace_merge.specs.Merging.{IsHeld, Merge, Stands, left, place_at, remaining}

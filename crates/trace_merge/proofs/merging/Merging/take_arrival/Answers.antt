@@ -11,11 +11,11 @@ use Rattle.std.proofs.lemmas.Option.{slice_get_within}
 use Rattle.node_names.specs.NodeName.{Name}
 use Rattle.node_names.specs.Same.{same_name, same_name-Decides}
 use Rattle.node_names.specs.declared.ids.Origin.{Origin}
-use Rattle.world.specs.Lists.{IsOneOf}
+use Rattle.protocol.specs.Lists.{IsOneOf}
+use Rattle.protocol.specs.Trace.{Step, Trace}
+use Rattle.protocol.specs.declared.stimulus.StimulusOf.TheVariants.{Arrive}
 use Rattle.world.specs.Plan.{arrival}
 use Rattle.world.specs.Refusals.{sent_under}
-use Rattle.world.specs.Trace.{Step, Trace}
-use Rattle.world.specs.declared.stimulus.StimulusOf.TheVariants.{Arrive}
 use Rattle.frames.specs.Frame.{Frame}
 use Rattle.trace_merge.specs.FrameIds.{same_frame_id}
 use Rattle.trace_merge.specs.Merging.{IsArrivalOf, IsSentBy, Merge, sent_within}

@@ -1,7 +1,7 @@
 -- A step that is no arrival is played by its event.
 use Rattle.std.proofs.Common.{subst}
 use Rattle.node_names.specs.declared.ids.Origin.{Origin}
-use Rattle.world.specs.Trace.{Step}
+use Rattle.protocol.specs.Trace.{Step}
 use Rattle.frames.specs.Frame.{Frame}
 use Rattle.trace_merge.specs.Merging.{Tells}
 use Rattle.trace_merge.proofs.merging.Merging.take_next.Goals as goal

@@ -1,7 +1,7 @@
 -- The run of one trace more is there; and in the end all are.
 use Rattle.std.proofs.Common.{◌<◌, List, arith, length}
 use Rattle.std.proofs.lemmas.Option.{slice_get_within}
-use Rattle.world.specs.Trace.{Trace}
+use Rattle.protocol.specs.Trace.{Trace}
 use Rattle.frames.specs.Frame.{Frame}
 use Rattle.trace_merge.proofs.LeftLemmas.{all_left, named_more, there_more}
 use Rattle.trace_merge.proofs.unfinished.Unfinished.new.Goals as goal

@@ -1,7 +1,7 @@
 use Rattle.std.proofs.Common.{◌≡◌, ◌∙◌, [], ◌∷◌, ap, rules, subst, sym}
 use Rattle.node_names.specs.declared.ids.MsgId.{MsgId}
-use Rattle.world.specs.PayloadLaw.{next_id}
-use Rattle.world.specs.declared.stimulus.StimulusOf.TheVariants.{Broadcast}
+use Rattle.protocol.specs.PayloadLaw.{next_id}
+use Rattle.protocol.specs.declared.stimulus.StimulusOf.TheVariants.{Broadcast}
 use Rattle.node_core.specs.Plum.{plum_state}
 use Rattle.node_core.specs.Steps.{PlumIsSpent}
 use Rattle.node_core.specs.lawful.PlumDelivers.{plum_delivers_one}

@@ -1,5 +1,5 @@
 use Rattle.std.proofs.Common.{rules, subst}
-use Rattle.world.specs.declared.stimulus.StimulusOf.TheVariants.{Down}
+use Rattle.protocol.specs.declared.stimulus.StimulusOf.TheVariants.{Down}
 use Rattle.node_core.specs.Steps.{PlumIsSpent}
 use Rattle.wire_node.specs.Acting.{machine}
 use Rattle.wire_node.specs.Moving.{Engine, GoesAway}

@@ -1,5 +1,5 @@
 use Rattle.std.proofs.Common.{◌≡◌, ◌-◌, ◌∙◌, List, Some, ap, length, take}
-use Rattle.world.specs.Trace.{Step}
+use Rattle.protocol.specs.Trace.{Step}
 use Rattle.frames.specs.Frame.{Frame}
 use Rattle.wire_node.specs.Recording.{Noted}
 use Rattle.wire_node.proofs.Lasts.{without_last}

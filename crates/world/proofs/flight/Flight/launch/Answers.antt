@@ -1,7 +1,7 @@
 -- One more place is put into flight.
 use Rattle.std.proofs.Common.{◌≡◌, ◌+◌, ◌-◌, ◌++◌, [], ◌∷◌, sym, ◌∙◌, ap, arith, suc, append_assoc}
+use Rattle.protocol.specs.Lists.{places}
 use Rattle.world.specs.Flight.{flying}
-use Rattle.world.specs.Lists.{places}
 use Rattle.world.proofs.NodeLemmas.{places-push}
 use Rattle.world.proofs.flight.Flight.launch.Goals as goal
 

@@ -1,7 +1,7 @@
 use Rattle.std.proofs.Common.{◌≡◌, ◌++◌, ◌-◌, ◌+◌, ◌≤◌, vec_len}
 use Rattle.std.specs.Prelude.{vec_capacity}
+use Rattle.protocol.specs.Lists.{places}
 use Rattle.world.specs.Flight.{flying}
-use Rattle.world.specs.Lists.{places}
 use Rattle.world.proofs.flight.Flight.launch.Given as goal
 
 -- the places so far are in flight, and there is room for the others

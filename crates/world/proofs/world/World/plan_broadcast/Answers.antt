@@ -1,6 +1,6 @@
 -- A running node and a short payload meet no refusal.
 use Rattle.std.proofs.Common.{◌≤◌, length, arith}
-use Rattle.world.specs.declared.TheConstants.{MAX_PAYLOAD}
+use Rattle.protocol.specs.declared.TheConstants.{MAX_PAYLOAD}
 use Rattle.world.proofs.PlanLemmas.{broadcast_accepted}
 use Rattle.world.proofs.world.World.plan_broadcast.Goals as goal
 

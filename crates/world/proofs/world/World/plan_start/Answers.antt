@@ -1,8 +1,8 @@
 -- The plan of a start says what the core's start gave.
 use Rattle.std.proofs.Common.{◌≡◌, rules}
 use Rattle.std.specs.Prelude.{None, IsTrue}
+use Rattle.protocol.specs.Peers.{are_peers}
 use Rattle.world.specs.Group.{node_of}
-use Rattle.world.specs.Peers.{are_peers}
 use Rattle.world.specs.Refusals.{stale}
 use Rattle.world.proofs.PlanLemmas.{tells_start}
 use Rattle.world.proofs.world.World.plan_start.Goals as goal

@@ -1,0 +1,2 @@
+pub mod FloodCore
+pub mod lawful
