@@ -73,6 +73,11 @@ impl StatusKeeper {
         }
     }
 
+    /// Where it takes memory.
+    pub(crate) fn alloc(&self) -> Global {
+        self.alloc
+    }
+
     /// How the node was when it was looked at last.
     pub(crate) fn latest(&self) -> Option<&Status> {
         self.latest.as_ref()
@@ -86,18 +91,25 @@ impl StatusKeeper {
         }
     }
 
-    /// Looks at the node at this time. Where memory is refused, what was seen last stays.
-    pub(crate) fn look<N: SteppedNode<Global>>(&mut self, node: &ClusterNode<N>, now: u64) {
-        if let Ok(status) = self.status_of(node, now) {
+    /// Looks at the node at this time, when its process has so much memory. Where memory is refused, what was seen last
+    /// stays.
+    pub(crate) fn look<N: SteppedNode<Global>>(
+        &mut self,
+        node: &ClusterNode<N>,
+        now: u64,
+        memory_bytes: Option<u64>,
+    ) {
+        if let Ok(status) = self.status_of(node, now, memory_bytes) {
             self.latest = Some(status);
         }
     }
 
-    /// What the node says of itself at this time.
+    /// What the node says of itself at this time, when its process has so much memory.
     fn status_of<N: SteppedNode<Global>>(
         &self,
         node: &ClusterNode<N>,
         now: u64,
+        memory_bytes: Option<u64>,
     ) -> Result<Status, AllocError> {
         let hello = node.hello();
         let core = node.node().core();
@@ -113,6 +125,7 @@ impl StatusKeeper {
             kept: kept_of(core),
             connections: node.connections(),
             links: node.links(),
+            memory_bytes,
         })
     }
 
