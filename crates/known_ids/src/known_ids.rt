@@ -19,7 +19,8 @@ use std::marker::Model;
 /// with the numbers known. Looking up an id hashes its origin and searches the runs in logarithmic time; adding the next
 /// number of an origin, or of its last run, takes amortized constant time.
 ///
-/// An id is added in two steps: `make_room` allocates and may fail, `insert` does not allocate.
+/// An id is added in two steps: `make_room` allocates and may fail, `insert` does not allocate. A new message needs
+/// room in four places, and only one of them could be refused last.
 #[derive(Drop)]
 pub struct KnownIds<A: Allocator = Global> {
     spans: IndexMap<Origin, Span<A>, BuildHasherDefault<FoldHasher>, A>,

@@ -21,7 +21,8 @@ type Delivered<A> = IndexMap<MsgId, Bytes<A>, BuildHasherDefault<FoldHasher>, A>
 ///
 /// Messages are forgotten at the front. A forgotten message stays in memory until the forgotten ones outnumber the held
 /// ones, and then all forgotten ones are dropped at once. So forgetting moves each message at most once on average, and
-/// at most twice as many messages as are held are in memory.
+/// at most twice as many messages as are held are in memory. A queue, which would drop each at once, could not show the
+/// held ids as one slice.
 #[derive(Drop)]
 pub struct MessageStore<A: Allocator = Global> {
     /// The held messages, preceded by the forgotten ones.

@@ -14,10 +14,12 @@ use std::mem;
 use world::{CoreError, StimulusOf};
 
 /// A turn of asking begins at a fifth tick, so that a message has that long to come by itself: one that is asked for
-/// while it is on its way comes twice, and changes the tree.
+/// while it is on its way comes twice, and changes the tree. With 64 nodes on one thread a message took several ticks
+/// from end to end, so that asking at each tick asked for nearly all. Who wants to ask sooner makes shorter ticks.
 const ASK_EVERY: u64 = 5;
 /// How many messages that were asked for may be on their way. Their answers, of 32 KiB at most, then take half of what
-/// may wait for a name, wherever they wait.
+/// may wait for a name, wherever they wait. Without this limit, where several nodes had broadcast 600 long messages at
+/// once, each asked for 448 in one tick, and names went down under the answers.
 const MOST_ASKED: usize = 128;
 /// After at most so many ticks what was asked for and did not come is taken for lost: whoever announced it may have
 /// forgotten it.
