@@ -86,6 +86,12 @@ impl<N: SteppedNode<A>, A: Allocator + Copy> LoopNode<A> for ClusterNode<N, A> {
         ticked
     }
 
+    fn ask_on<G: Rng>(&mut self, generator: &mut G) -> Result<(), WireError> {
+        let asked = self.node.ask_on(generator);
+        self.introduce();
+        asked
+    }
+
     fn receivers(&self) -> Result<Vec<NodeName, A>, AllocError> {
         // What follows from a step that is to be recorded leaves only once the step was taken for that.
         if self.log.has_kept() {

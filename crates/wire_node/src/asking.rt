@@ -2,7 +2,7 @@
 ghost use Rattle.std.specs.Prelude.{◌≡◌, ◌<◌, ◌≤◌, ◌&&◌, ℕ, List, [], IfOk, OnErr, OnOk, length, map, nat_eq, take, if◌then◌else◌};
 ghost use Rattle.node_names.specs.declared.ids.MsgId.{MsgId as Id};
 ghost use Rattle.wire_node.specs.Moving.{MovesAll, firing};
-ghost use Rattle.wire_node.specs.Ticking.{Asks, AsksAt, armed_of, awaited_at, is_turn, lacked_of};
+ghost use Rattle.wire_node.specs.Ticking.{Asks, AsksAt, AsksOn, armed_of, awaited_at, is_turn, lacked_of};
 
 use crate::connection::drop_front;
 use crate::engine::Engine;
@@ -210,4 +210,22 @@ pub(crate) fn ask<A: Allocator + Copy, R: Record<A> + Drop>(
     ask_for(engine, asking, ticks, dice)?;
     end(engine, asking, is_turn)?;
     Ok(())
+}
+
+/// Goes on asking between ticks: for the first of what is due, but for what may be on its way. So what came makes room
+/// for more at once, and a node that lacks much has it as soon as the others can send it. If a step is refused, those
+/// before are made, and what is due stays so.
+pub(crate) fn ask_on<A: Allocator + Copy, R: Record<A> + Drop>(
+    engine: &mut Engine<A, R>,
+    asking: &mut Asking<A>,
+    dice: &Dice,
+) -> Result<(), CoreError>
+    ensures ok { OnOk result (AsksOn engine.old asking.old dice.now engine.new asking.new) }
+    ensures err { OnErr result ((ids : List Id) × MovesAll engine.old (map (firing dice.now) ids) engine.new) }
+{
+    if asking.due.is_empty() {
+        return Ok(());
+    }
+    asking.asked = lacked_of(engine, asking.asked.as_slice())?;
+    ask_front(engine, &mut asking.due, &mut asking.asked, dice)
 }
