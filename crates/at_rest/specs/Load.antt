@@ -1,4 +1,5 @@
--- What is left to do in a group of nodes, as a number that each event of its settling makes smaller.
+-- What is left to do in a group of nodes, as a number that each event of its settling makes smaller. It counts frames
+-- by their kinds, so only groups of Plumtree nodes are settled.
 use Rattle.std.specs.Prelude.{◌+◌, ◌*◌, ℕ, not, List, [], ◌∷◌, ◌++◌, Option, Some, None, count_by, is_some, length, reverse, slice_get}
 use Rattle.std.specs.List.{sum_by}
 use Rattle.node_names.specs.NodeName.{Name}

@@ -49,7 +49,8 @@ no_dice = record { 0 = replicate 16 0 }
 
 module _ {C N : Type 0} (state : C → CoreState) where
   -- The event is the next to be played: while any packet is in flight, the oldest one arrives; otherwise the first node
-  -- with queued announcements flushes them; otherwise the first timer of the first node with a timer fires.
+  -- with queued announcements flushes them; otherwise the first timer of the first node with a timer fires. It is a
+  -- relation, so that contracts can speak of each event that was played.
   abbrev pub IsNext : Group C N → Event → Type 0
   IsNext group (Arrive place dice) = (group.flight ≢ []) × (place ≡ 0) × (dice ≡ no_dice)
   IsNext group (Flush name) = (group.flight ≡ []) × ((entry : Name × MsgId × ℕ) × IsFirstWith (queue_of state) group.nodes name entry)

@@ -79,7 +79,8 @@ fn places_of<C: Core<A>, A: Allocator + Copy>(
     Ok(places)
 }
 
-/// The places of the nodes at which something is left, in order.
+/// The places of the nodes at which something is left, in order. They are kept in sorted sets while a group settles,
+/// since a list would be searched for each event.
 #[derive(Drop)]
 pub(crate) struct Left<A: Allocator> {
     pub(crate) queues: BTreeSet<usize, A>,

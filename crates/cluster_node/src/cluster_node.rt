@@ -27,6 +27,8 @@ pub struct ClusterNode<N, A: Allocator + Copy = Global> {
     /// Whether it may be apart from the rest of its group: it has heard of no contact since it started, or since it lost a
     /// neighbour.
     pub(crate) is_apart: bool,
+    /// Where another node of this node's name takes connections, while that is to be told so.
+    pub(crate) namesake: Option<SocketAddr>,
     /// How many ticks were made since it last sent pulses.
     pub(crate) since_pulse: u8,
     /// The connections that came in, by their numbers.
@@ -55,6 +57,7 @@ impl<N: Drop, A: Allocator + Copy> ClusterNode<N, A> {
             given,
             contacts,
             is_apart: true,
+            namesake: None,
             since_pulse: 0,
             arrivals: IndexMap::new(alloc),
             links: IndexMap::new(alloc),

@@ -10,6 +10,7 @@ mod cluster_node;
 mod introducing;
 mod link_text;
 mod loop_node;
+mod namesake;
 mod notice;
 mod port_node;
 mod pulse;

@@ -60,6 +60,10 @@ impl<N: SteppedNode<A>, A: Allocator + Copy> LoopNode<A> for ClusterNode<N, A> {
     }
 
     fn unreachable(&mut self, name: NodeName, dice: &Dice) -> Result<(), WireError> {
+        if self.is_own(&name) {
+            // (the node itself has no links to its own name)
+            return Ok(());
+        }
         let was_peer = self.node.is_peer(&name);
         self.node.unreachable(name, dice)?;
         self.is_apart = self.is_apart || was_peer;
@@ -82,12 +86,21 @@ impl<N: SteppedNode<A>, A: Allocator + Copy> LoopNode<A> for ClusterNode<N, A> {
         ticked
     }
 
+    fn ask_on<G: Rng>(&mut self, generator: &mut G) -> Result<(), WireError> {
+        let asked = self.node.ask_on(generator);
+        self.introduce();
+        asked
+    }
+
     fn receivers(&self) -> Result<Vec<NodeName, A>, AllocError> {
         // What follows from a step that is to be recorded leaves only once the step was taken for that.
         if self.log.has_kept() {
             return Ok(Vec::new(self.alloc));
         }
         let mut names = self.node.receivers()?;
+        if self.is_namesake_due() {
+            names.push(self.hello.name)?;
+        }
         for (name, text) in &self.links {
             if text.waiting() > 0 && self.node.waiting(name) == 0 {
                 names.push(*name)?;
@@ -147,6 +160,9 @@ impl<N: SteppedNode<A>, A: Allocator + Copy> LoopNode<A> for ClusterNode<N, A> {
     }
 
     fn address_of(&self, name: &NodeName) -> Option<SocketAddr> {
+        if self.is_own(name) {
+            return self.namesake;
+        }
         self.book.address_of(name)
     }
 
@@ -159,11 +175,15 @@ impl<N: SteppedNode<A>, A: Allocator + Copy> LoopNode<A> for ClusterNode<N, A> {
     }
 
     fn closed(&mut self, name: &NodeName) {
-        self.links.swap_remove(name);
+        self.drop_link(name);
     }
 
     fn failed(&mut self, name: NodeName, error: LinkError) {
-        self.links.swap_remove(&name);
+        self.drop_link(&name);
+        if self.is_own(&name) {
+            // The other node ends the link once it has the hello.
+            return;
+        }
         self.doubt(&name);
         self.notices.push(Notice::Unreachable { name, error });
     }

@@ -199,8 +199,7 @@ impl<N: SteppedNode<A>, A: Allocator + Copy> ClusterNode<N, A> {
         if name != self.hello.name {
             let _ = self.book.hear(name, SocketAddr::from(at));
         } else if at != self.hello.at {
-            let at = SocketAddr::from(at);
-            self.notices.push(Notice::SameName { at });
+            self.meet_namesake(SocketAddr::from(at));
         }
     }
 }

@@ -35,6 +35,9 @@ pub trait LoopNode<A: Allocator + Copy>: Drop {
     /// Makes a tick.
     fn tick(&mut self, dice: &Dice) -> Result<(), WireError>;
 
+    /// Has the node go on asking for messages that did not come, if more are to be asked for, with dice of the generator.
+    fn ask_on<G: Rng>(&mut self, generator: &mut G) -> Result<(), WireError>;
+
     /// The names for whom bytes wait.
     fn receivers(&self) -> Result<Vec<NodeName, A>, AllocError>;
 

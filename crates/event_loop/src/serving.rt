@@ -28,6 +28,10 @@ impl<N: LoopNode<A>, S: Resolve + Drop, A: Allocator + Copy> EventLoop<N, S, A> 
             let Some(place) = self.nodes.take_first() else {
                 return Ok(goes_on);
             };
+            if let Err(error) = self.ask_on(place) {
+                self.nodes.queue(place);
+                return Err(error);
+            }
             let next = if goes_on {
                 self.call(place, program)
             } else {
@@ -43,6 +47,14 @@ impl<N: LoopNode<A>, S: Resolve + Drop, A: Allocator + Copy> EventLoop<N, S, A> 
             sent?;
         }
         Ok(goes_on)
+    }
+
+    /// Has the node at this place ask for more of what it lacks, as far as what it asked for came.
+    fn ask_on(&mut self, place: usize) -> Result<(), LoopError> {
+        if let Some(hosted) = self.nodes.get_mut(place) {
+            hosted.node.ask_on(&mut self.generator)?;
+        }
+        Ok(())
     }
 
     /// Whether so much waits in the node at this place that its program should not broadcast.

@@ -50,6 +50,13 @@ impl<A: Allocator + Copy, R: Record<A> + Drop> LoopNode<A> for WireNode<A, R> {
         self.tick(dice)
     }
 
+    fn ask_on<G: Rng>(&mut self, generator: &mut G) -> Result<(), WireError> {
+        if self.is_asking() {
+            self.ask_on(&Dice::draw(generator))?;
+        }
+        Ok(())
+    }
+
     fn receivers(&self) -> Result<Vec<NodeName, A>, AllocError> {
         self.receivers()
     }

@@ -6,7 +6,7 @@ use Rattle.node_names.specs.NodeName.{Name}
 use Rattle.node_names.specs.Order.{id_cmp}
 use Rattle.node_names.specs.declared.ids.Origin.{Origin}
 use Rattle.node_names.specs.declared.ids.MsgId.{MsgId}
-use Rattle.message_store.specs.Held.{kept_last}
+use Rattle.known_messages.specs.Held.{kept_last}
 use Rattle.missing.specs.Missing.{Missing, got, without_all}
 use Rattle.peer_sets.specs.Members.{lazy_but, with_kind, with_members, without_members}
 use Rattle.peer_sets.specs.PeerSets.{PeerSets, relinked}

@@ -5,7 +5,7 @@ use Rattle.std.specs.FinSet as set
 use Rattle.std.specs.List.{AllByRecursion as Each}
 use Rattle.std.specs.Map.{lookup}
 use Rattle.std.proofs.lemmas.Bool.{false≢true}
-use Rattle.message_store.specs.Held.{kept_last}
+use Rattle.known_messages.specs.Held.{kept_last}
 use Rattle.node_names.specs.NodeName.{Name}
 use Rattle.node_names.specs.Order.{id_cmp}
 use Rattle.node_names.specs.Same.{same_name, same_id, same_id-Decides}

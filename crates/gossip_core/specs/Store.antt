@@ -13,7 +13,8 @@ use Rattle.node_names.specs.declared.ids.MsgId.{MsgId}
 pub record AreCounted (me : Origin) (known : set.FinSet id_cmp) (spent : ℕ) : Type 0 where
   pub each : (id : MsgId) → set.contains known id ≡ true → id.origin ≡ me → (0 < id.seq) × (id.seq ≤ spent)
 
--- What is held is known, and so is what waits to be announced.
+-- What is held is known, and so is what waits to be announced. The latter need not be held, so that forgetting payloads
+-- keeps this.
 pub record AreKnown (known : set.FinSet id_cmp) (held : List (MsgId × List ℕ)) (queued : List (Name × MsgId × ℕ)) : Type 0 where
   pub each_held : (id : MsgId) → is_some (lookup (same_id id) held) ≡ true → set.contains known id ≡ true
   pub each_queued : Each (λ entry. set.contains known entry.1 ≡ true) queued

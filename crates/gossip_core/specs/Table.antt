@@ -8,7 +8,7 @@ use Rattle.node_names.specs.Same.{same_id, same_name, same_origin, has_id}
 use Rattle.node_names.specs.declared.ids.MsgId.{MsgId}
 use Rattle.frames.specs.Body.{Body}
 use Rattle.frames.specs.declared.body.BodyOf.TheVariants.{Gossip, Graft, GraftPeer, Prune}
-use Rattle.message_store.specs.Held.{kept_last}
+use Rattle.known_messages.specs.Held.{kept_last}
 use Rattle.missing.specs.Missing.{announced_all, taken_first, got, without}
 use Rattle.missing.specs.Wants.{first_want}
 use Rattle.peer_sets.specs.Members.{is_member, eager_but, lazy_but, with_member, without_member, with_kind}

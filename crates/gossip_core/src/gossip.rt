@@ -5,7 +5,7 @@ ghost use Rattle.std.specs.List.{IsDistinct};
 ghost use Rattle.std.specs.Map.{keys_of, lookup};
 ghost use Rattle.std.specs.Option.{option_copied};
 ghost use Rattle.node_names.specs.Same.{same_id, same_name};
-ghost use Rattle.known_ids.specs.Known.{IsSpan};
+ghost use Rattle.known_messages.specs.Known.{IsSpan};
 ghost use Rattle.peer_sets.specs.Members.{all_eager};
 ghost use Rattle.gossip_core.specs.Refusals.{CanTake, IsTooLong, IsSpent};
 ghost use Rattle.gossip_core.specs.State.{GossipState, IsSound};
@@ -19,8 +19,7 @@ use crate::effects::Effects;
 use crate::fault::GossipFault;
 use crate::store;
 use bytes::Bytes;
-use known_ids::KnownIds;
-use message_store::MessageStore;
+use known_messages::{KnownIds, MessageStore};
 use missing::Missing;
 use node_names::{MsgId, NodeName, Origin};
 use peer_sets::{PeerKind, PeerSets};
@@ -51,7 +50,7 @@ impl<A: Allocator> Model for Gossip<A> {
     ghost use Rattle.std.specs.FinSet as set;
     ghost use Rattle.gossip_core.specs.State.{GossipState};
     ghost use Rattle.gossip_core.specs.Store.{AreCounted, AreKnown};
-    ghost use Rattle.known_ids.specs.Known.{ids};
+    ghost use Rattle.known_messages.specs.Known.{ids};
 
     ghost Value = { GossipState };
 

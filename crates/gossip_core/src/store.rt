@@ -2,15 +2,14 @@
 ghost use Rattle.std.specs.Prelude.{◌≡◌, ◌++◌, ◌∷◌, [], None, false, OnOk, OnErr};
 ghost use Rattle.std.specs.FinSet as set;
 ghost use Rattle.std.specs.Map.{lookup};
-ghost use Rattle.known_ids.specs.Known.{ids};
-ghost use Rattle.message_store.specs.Held.{kept_last};
+ghost use Rattle.known_messages.specs.Known.{ids};
+ghost use Rattle.known_messages.specs.Held.{kept_last};
 ghost use Rattle.node_names.specs.Same.{same_id};
 ghost use Rattle.peer_sets.specs.Members.{lazy_but};
 ghost use Rattle.peer_sets.specs.Queue.{has_entry_of, with_entries};
 
 use bytes::Bytes;
-use known_ids::KnownIds;
-use message_store::MessageStore;
+use known_messages::{KnownIds, MessageStore};
 use node_names::{MsgId, NodeName};
 use peer_sets::PeerSets;
 use std::alloc::{AllocError, Allocator};

@@ -8,7 +8,8 @@ ghost use Rattle.links.specs.Counting.{counted, has_risen, moves_none};
 use std::io;
 use std::io::{ErrorKind, Read, Write};
 
-/// A reader that counts its calls and its failed calls. The counts saturate at `u64::MAX`.
+/// A reader that counts its calls and its failed calls, since the contracts of `Read` do not say how often a call is
+/// made. The counts saturate at `u64::MAX`.
 pub trait MeteredRead: Read {
     /// The number of calls.
     ghost reads: { Self → ℕ };

@@ -4,6 +4,9 @@ use std::net::{Shutdown, TcpStream};
 use std::sync::Arc;
 
 /// A handle that closes a connection that another thread may be reading.
+///
+/// It ends a read that waits, so that closing waits for no stranger. A time limit of reads would do so too, but wake
+/// each connection again and again.
 #[derive(Drop)]
 pub struct TcpCloser {
     stream: Arc<TcpStream, Global>,

@@ -3,6 +3,7 @@
 
 mod cut;
 mod error;
+mod fault_place;
 mod folder;
 mod following;
 mod halt;
@@ -18,6 +19,7 @@ mod sink;
 mod source;
 
 pub use error::RecordsError;
+pub use fault_place::{FaultPlace, place_of};
 pub use following::follow_records;
 pub use reading::read_group;
 pub use sink::{DeliverySink, SinkError};

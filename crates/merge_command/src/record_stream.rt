@@ -177,6 +177,36 @@ impl RecordStream {
         }
     }
 
+    /// Reads the record from its beginning up to the stimulus at this place. Returns the path of its file, and how many of
+    /// the file's bytes come before it. `None` if the record has no such stimulus.
+    pub(crate) fn find<R: Files<File = File>>(
+        &mut self,
+        source: &mut Source<'_, R>,
+        place: usize,
+    ) -> Result<Option<(String, u64)>, RecordsError> {
+        self.close();
+        for _ in 0..u64::MAX {
+            let (read, at) = (self.reader.entries(), self.reader.at());
+            match self.next(source)? {
+                Some(Entry::Stimulus(_)) if read == place as u64 => return self.begun_at(at),
+                Some(_) => {}
+                None => return Ok(None),
+            }
+        }
+        Ok(None)
+    }
+
+    /// The path of the file that was begun last, with this number of bytes.
+    fn begun_at(&self, at: u64) -> Result<Option<(String, u64)>, RecordsError> {
+        match self
+            .files
+            .path_at(self.alloc, self.begun.saturating_sub(1))?
+        {
+            Some(path) => Ok(Some((path, at))),
+            None => Ok(None),
+        }
+    }
+
     /// Reads ahead to the stimulus that comes next, unless the record ends before it.
     pub(crate) fn read_ahead<R: Files<File = File>>(
         &mut self,

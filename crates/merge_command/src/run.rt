@@ -91,6 +91,16 @@ impl Run {
         self.left
     }
 
+    /// Looks up where the stimulus at this place stands: the path of its file, and how many of the file's bytes come
+    /// before it. `None` if the record has no such stimulus.
+    pub(crate) fn find<R: Files<File = File>>(
+        &mut self,
+        source: &mut Source<'_, R>,
+        place: usize,
+    ) -> Result<Option<(String, u64)>, RecordsError> {
+        self.stream.find(source, place)
+    }
+
     /// Whether it began with this head.
     fn is_of(&self, head: &Head) -> bool {
         head.origin == self.origin && head.label == self.label && head.limits == self.limits

@@ -28,7 +28,9 @@ impl<A: Allocator> Model for Change<A> {
 
 /// The news that were not taken yet.
 ///
-/// Those of the last step are worked out before the next, or when they are taken: behind a step nothing may be refused.
+/// Those of the last step are worked out before the next, or when they are taken: behind a step nothing may be refused,
+/// and before it nobody knows the view that will be. Steps are told of only on request, since memory would grow with a
+/// caller that never takes the news.
 #[derive(Drop)]
 pub struct Telling<A: Allocator> {
     /// Whether the next steps are told of.

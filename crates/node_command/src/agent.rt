@@ -4,6 +4,7 @@ use crate::error::NodeError;
 use crate::incarnation::microseconds;
 use crate::log::Log;
 use crate::member::Member;
+use crate::memory::resident_bytes;
 use crate::page_server::PageServer;
 use crate::recorded_node::RecordedNode;
 use crate::recording::Recording;
@@ -201,7 +202,8 @@ impl<R: Clock + Eprint + Files<File = File> + Copy + Drop> Agent<R> {
             && status.is_old(node.node().ticks())
         {
             let now = microseconds(&self.rt).unwrap_or(0);
-            status.look(node, now);
+            let memory_bytes = resident_bytes(&self.rt, status.alloc());
+            status.look(node, now, memory_bytes);
         }
     }
 

@@ -15,6 +15,7 @@ mod line_reader;
 mod log;
 mod lookup;
 mod member;
+mod memory;
 mod page_server;
 mod recorded_node;
 mod recorder;

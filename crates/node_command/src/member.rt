@@ -72,6 +72,13 @@ impl<N: SteppedNode<Global>> LoopNode<Global> for Member<N> {
         }
     }
 
+    fn ask_on<G: Rng>(&mut self, generator: &mut G) -> Result<(), WireError> {
+        match self {
+            Member::Node(node) => node.ask_on(generator),
+            Member::Pages(_) => Ok(()),
+        }
+    }
+
     fn receivers(&self) -> Result<Vec<NodeName>, AllocError> {
         match self {
             Member::Node(node) => node.receivers(),

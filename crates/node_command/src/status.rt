@@ -8,7 +8,9 @@ use protocol::Core;
 use std::alloc::{AllocError, Global};
 use std::net::SocketAddr;
 
-/// What a node says of itself: what does not change, and how it was at its last tick.
+/// What a node says of itself: what does not change, and how it was at its last tick. The server of pages is a member of
+/// the same loop, which never waits for another, and to look at the node for each request would let whoever asks slow it
+/// down.
 #[derive(Drop)]
 pub(crate) struct StatusKeeper {
     alloc: Global,
@@ -73,6 +75,11 @@ impl StatusKeeper {
         }
     }
 
+    /// Where it takes memory.
+    pub(crate) fn alloc(&self) -> Global {
+        self.alloc
+    }
+
     /// How the node was when it was looked at last.
     pub(crate) fn latest(&self) -> Option<&Status> {
         self.latest.as_ref()
@@ -86,18 +93,25 @@ impl StatusKeeper {
         }
     }
 
-    /// Looks at the node at this time. Where memory is refused, what was seen last stays.
-    pub(crate) fn look<N: SteppedNode<Global>>(&mut self, node: &ClusterNode<N>, now: u64) {
-        if let Ok(status) = self.status_of(node, now) {
+    /// Looks at the node at this time, when its process has so much memory. Where memory is refused, what was seen last
+    /// stays.
+    pub(crate) fn look<N: SteppedNode<Global>>(
+        &mut self,
+        node: &ClusterNode<N>,
+        now: u64,
+        memory_bytes: Option<u64>,
+    ) {
+        if let Ok(status) = self.status_of(node, now, memory_bytes) {
             self.latest = Some(status);
         }
     }
 
-    /// What the node says of itself at this time.
+    /// What the node says of itself at this time, when its process has so much memory.
     fn status_of<N: SteppedNode<Global>>(
         &self,
         node: &ClusterNode<N>,
         now: u64,
+        memory_bytes: Option<u64>,
     ) -> Result<Status, AllocError> {
         let hello = node.hello();
         let core = node.node().core();
@@ -113,6 +127,7 @@ impl StatusKeeper {
             kept: kept_of(core),
             connections: node.connections(),
             links: node.links(),
+            memory_bytes,
         })
     }
 

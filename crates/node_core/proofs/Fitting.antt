@@ -26,7 +26,7 @@ use Rattle.membership.specs.Event.{Event}
 use Rattle.membership.specs.declared.event.EventOf.TheVariants as heard_of
 use Rattle.membership.specs.Membership.{still}
 use Rattle.membership.specs.Table.{table}
-use Rattle.message_store.specs.Held.{kept_last}
+use Rattle.known_messages.specs.Held.{kept_last}
 use Rattle.missing.specs.Missing.{announced_all, taken_first}
 use Rattle.missing.specs.Wants.{first_want, with_wants, without_first}
 use Rattle.peer_sets.specs.Members.{is_member, eager_but, lazy_but}

@@ -9,7 +9,8 @@ use std::marker::Model;
 /// The sizes of a node's views, random walks and shuffles, named as in the HyParView paper, the threshold of Plumtree's
 /// optimisation by hop count, and the number of payloads that a node keeps.
 ///
-/// Contracts see them as the record of these numbers, and each getter ensures that they are allowed.
+/// Contracts see them as the record of these numbers, and each getter ensures that they are allowed. The threshold is
+/// among them, though nodes of a group could differ in it, because a start takes the limits.
 #[derive(Clone, Copy, Debug, PartialEq, Eq, Hash)]
 pub struct Limits {
     active: u8,

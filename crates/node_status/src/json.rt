@@ -5,8 +5,7 @@ use serde_json::{Value, json};
 use std::alloc::{AllocError, Global};
 use std::net::SocketAddr;
 
-/// Appends the status as one JSON object, whose members have the names of the fields. An address that is not known is
-/// `null`. After an error a part may have been appended.
+/// Appends the status as one JSON object, whose members have the names of the fields. What is not known is `null`. After an error a part may have been appended.
 pub fn write_json(status: &Status, out: &mut String) -> Result<(), AllocError> {
     let alloc = *out.allocator();
     let text = status_value(alloc, status)?.to_string(alloc)?;
@@ -20,6 +19,7 @@ fn status_value(alloc: Global, status: &Status) -> Result<Value, AllocError> {
     let kept = kept_value(alloc, &status.kept)?;
     let listen = address_value(alloc, status.listen)?;
     let advertise = address_value(alloc, status.advertise)?;
+    let memory_bytes = number_value(status.memory_bytes);
     json!(in alloc; {
         "name": status.name.as_str(),
         "incarnation": status.incarnation,
@@ -32,6 +32,7 @@ fn status_value(alloc: Global, status: &Status) -> Result<Value, AllocError> {
         "kept": kept,
         "connections": status.connections,
         "links": status.links,
+        "memory_bytes": memory_bytes,
     })
 }
 
@@ -80,6 +81,13 @@ fn kept_value(alloc: Global, kept: &Kept) -> Result<Value, AllocError> {
         "wanted": kept.wanted,
         "announcements": kept.announcements,
     })
+}
+
+fn number_value(number: Option<u64>) -> Value {
+    match number {
+        Some(number) => Value::from(number),
+        None => Value::Null,
+    }
 }
 
 fn address_value(alloc: Global, address: SocketAddr) -> Result<Value, AllocError> {

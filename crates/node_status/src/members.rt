@@ -39,6 +39,14 @@ pub(crate) fn number(object: &Value, name: Member) -> Result<u64, StatusError> {
     }
 }
 
+/// A member that is a number, or `null`, or is not there, as in the status of a node that does not tell it.
+pub(crate) fn number_if_known(object: &Value, name: Member) -> Result<Option<u64>, StatusError> {
+    match object.get(name.key()) {
+        Some(value) if !value.is_null() => Ok(Some(number(object, name)?)),
+        _ => Ok(None),
+    }
+}
+
 /// A member that is a number of things.
 pub(crate) fn count(object: &Value, name: Member) -> Result<usize, StatusError> {
     Ok(number(object, name)? as usize)

@@ -11,6 +11,7 @@ pub fn write_metrics(status: &Status, out: &mut String) -> Result<(), AllocError
         write!(out, "{metric}")?;
     }
     write_gauges(status, out)?;
+    write_memory(status.memory_bytes, out)?;
     write_waiting(&status.active, out)
 }
 
@@ -181,6 +182,16 @@ fn write_waiting(active: &[Neighbor], out: &mut String) -> Result<(), AllocError
     for neighbor in active {
         let Neighbor { name, waiting, .. } = neighbor;
         write!(out, "plumtree_waiting_bytes{{peer=\"{name}\"}} {waiting}\n")?;
+    }
+    Ok(())
+}
+
+/// The memory of the process, under the name that processes of all kinds use for it, if it is known.
+fn write_memory(memory_bytes: Option<u64>, out: &mut String) -> Result<(), AllocError> {
+    if let Some(bytes) = memory_bytes {
+        out.push_str("# HELP process_resident_memory_bytes Resident memory of the process.\n")?;
+        out.push_str("# TYPE process_resident_memory_bytes gauge\n")?;
+        write!(out, "process_resident_memory_bytes {bytes}\n")?;
     }
     Ok(())
 }

@@ -2,7 +2,8 @@
 use crate::error::StatusError;
 use crate::member::Member;
 use crate::members::{
-    address, address_if_known, count, list, name_of, node_name, number, object, truth,
+    address, address_if_known, count, list, name_of, node_name, number, number_if_known, object,
+    truth,
 };
 use crate::status::{Counts, Kept, Neighbor, Status};
 use node_names::NodeName;
@@ -37,6 +38,7 @@ fn status(alloc: Global, value: &Value) -> Result<Status, StatusError> {
         kept: kept(object(value, Member::Kept)?)?,
         connections: count(value, Member::Connections)?,
         links: count(value, Member::Links)?,
+        memory_bytes: number_if_known(value, Member::MemoryBytes)?,
     })
 }
 

@@ -23,6 +23,8 @@ pub struct Status {
     pub connections: usize,
     /// How many links it dialled.
     pub links: usize,
+    /// How many bytes of memory its process has, if its system tells.
+    pub memory_bytes: Option<u64>,
 }
 
 /// A neighbour of a node.

@@ -8,7 +8,8 @@ use std::alloc::Allocator;
 /// The frames that a read completed, until the node takes them one by one.
 ///
 /// A sink must say at once whether it took a frame, but a step may be refused or have to wait for its turn. So a reader
-/// gathers the frames of a read first.
+/// gathers the frames of a read first. One hold of the node's lock takes them all: otherwise the lock would go from
+/// thread to thread with each.
 #[derive(Drop)]
 pub(crate) struct Basket<A: Allocator> {
     frames: Vec<Frame<A>, A>,

@@ -58,7 +58,8 @@ fn compare_ports<A: Allocator + Copy>(
     }
 }
 
-/// Checks that the receipts of all ports are as in the trace, unless the node may forget.
+/// Checks that the receipts of all ports are as in the trace, unless the node may forget: the steps may be gone then,
+/// and its ports would have to keep every call. Each receipt was proved when it was made.
 fn compare_calls<C: NodeCore<A> + Drop, A: Allocator + Copy>(
     alloc: A,
     cell: &NodeCell<C, A>,

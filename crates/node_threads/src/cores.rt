@@ -22,6 +22,9 @@ use std::alloc::{AllocError, Allocator};
 
 /// A core whose packets are frames. Its functions are those of `protocol::Core` that a node calls, and are explained
 /// there.
+///
+/// It is a trait of its own, for frames alone, because functions under `Core` with its packets bound to `Frame<A>` are
+/// not supported.
 pub trait NodeCore<A: Allocator>: Sized {
     /// The state that it shows.
     ghost state: { Self → CoreState };

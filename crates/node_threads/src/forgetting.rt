@@ -17,7 +17,8 @@ impl<C: NodeCore<A> + Drop, A: Allocator + Copy> NodeCell<C, A> {
     }
 
     /// Forgets the steps that were handed out in segments, if it may forget and all outlets of its links were compared
-    /// with these steps (`compare`). Returns how many it forgot.
+    /// with these steps (`compare`): what came out of a link could not be compared with them later. Returns how many it
+    /// forgot.
     pub fn forget_sealed(&mut self) -> usize
         ensures forgets { self.new ≡ forgetting result self.old }
         ensures allowed { self.old.since ≡ None → result ≡ 0 }

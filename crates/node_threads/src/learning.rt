@@ -20,7 +20,10 @@ use std::mem;
 /// taken yet.
 ///
 /// A step that sends to a name without an open link may open one, unless the name is held: its outlet is then with
-/// someone who opens the link again where needed.
+/// someone who opens the link again where needed, and a second writer of the name would close the link of the first.
+///
+/// The link is opened as of this step, before anyone knows whether the name has an address. Were that asked first, the
+/// frames of the step would have to wait elsewhere, and what came out of the link would not be how its text begins.
 #[derive(Drop)]
 pub struct Learnt<A: Allocator = Global> {
     ring: usize,

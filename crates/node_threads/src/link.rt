@@ -11,6 +11,9 @@ use std::marker::Model;
 pub(crate) type Mail<A> = Listed<LinkFrame<A>, A>;
 
 /// An open link: the name that it goes to, and the ring from which its outlet takes frames.
+///
+/// The ring carries frames, and the outlet writes their bytes: otherwise the node would write a frame once for each
+/// receiver, under its lock.
 #[derive(Drop)]
 pub(crate) struct Link<A: Allocator> {
     pub(crate) peer: NodeName,

@@ -98,7 +98,8 @@ fn address<A: Allocator + Copy>(
 }
 
 /// The frames of these packets for the open links, whose names are given in the order of the links; and the receivers
-/// without an open link, each once.
+/// without an open link, each once. Contracts go link by link (`Puts`), but each packet's link is found by its name, so
+/// that a step costs what it sends.
 fn letters_for<A: Allocator + Copy>(
     alloc: A,
     names: &NameSet<A>,

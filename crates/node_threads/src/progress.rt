@@ -7,6 +7,9 @@ use std::sync::atomic::{AtomicUsize, Ordering};
 pub(crate) type Mark<A> = Arc<AtomicUsize, A>;
 
 /// For each outlet that someone has, the place in the trace up to which it was compared.
+///
+/// The outlet is with its writer, which comes to the trace under the node's lock to compare it, so a mark is all that
+/// the node can read of it. Marks are counters that threads share, so no contract speaks of them.
 #[derive(Drop)]
 pub(crate) struct Progress<A: Allocator> {
     marks: Vec<Mark<A>, A>,

@@ -50,7 +50,7 @@ fn is_idle<C: NodeCore<A> + Drop, A: Allocator + Copy>(kept: &Kept<C, A>) -> boo
     kept.cell.pending().is_empty() && !kept.cell.is_shut()
 }
 
-/// A cache-padded mutex around a value that can be taken out.
+/// A cache-padded mutex around a value that can be taken out, so that closing a node does not copy its trace.
 pub(crate) type Held<T> = CachePadded<Mutex<Option<T>>>;
 
 /// Calls `call` with what the lock holds, if it was not taken out.

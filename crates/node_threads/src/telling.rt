@@ -9,7 +9,8 @@ use std::mem;
 /// The changes of an active view that its program did not take yet.
 ///
 /// It looks at the view each time that the node's lock is given back, not at each step: a name that comes and goes
-/// under one hold of the lock is no news.
+/// under one hold of the lock is no news. A node that takes a name and finds that it has no link to it would otherwise
+/// tell of a neighbour that nobody else ever saw.
 #[derive(Drop)]
 pub(crate) struct Teller<A: Allocator> {
     tells: bool,

@@ -7,7 +7,8 @@ use crate::kind::PeerKind;
 use node_names::NodeName;
 use std::alloc::{AllocError, Allocator};
 
-/// A member's name, and how it gets messages.
+/// A member's name, and how it gets messages. With a kind for each member, in place of two sets, the type shows that no
+/// member is both eager and lazy.
 pub type Member = (NodeName, PeerKind);
 
 /// Returns whether `name` is a member.

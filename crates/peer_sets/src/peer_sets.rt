@@ -108,7 +108,8 @@ impl<A: Allocator + Copy> PeerSets<A> {
         queue::queue(&mut self.queued, &(*peer, *id, round))
     }
 
-    /// Queues an announcement of `id` for each lazy member except `left_out`. If memory is refused, nothing changes.
+    /// Queues an announcement of `id` for each lazy member except `left_out`. If memory is refused, nothing changes:
+    /// calls for one member each could leave a half of them queued.
     ///
     /// No announcement of `id` may be waiting: an id is queued when it becomes known, and so only once.
     pub fn queue_lazy(

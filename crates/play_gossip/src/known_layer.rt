@@ -1,5 +1,5 @@
 //! The ids that a node knows, kept as spans.
-use known_ids::KnownIds;
+use known_messages::KnownIds;
 use node_names::{MsgId, Origin};
 use play_script::layer::{Layer, Outcome, Turn, fill};
 use play_script::lists::yes_or_no;

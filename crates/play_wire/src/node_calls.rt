@@ -117,6 +117,18 @@ pub(crate) fn tick<A: Allocator + Copy>(
     answered(&answer, said)
 }
 
+/// Has a node go on asking between ticks.
+pub(crate) fn ask_on<A: Allocator + Copy>(
+    node: &mut Node<A>,
+    turn: &mut Turn<'_>,
+    said: &mut String,
+) -> Result<Outcome, AllocError> {
+    turn.begin();
+    let answer = node.ask_on(&Dice::ZEROS);
+    turn.end();
+    answered(&answer, said)
+}
+
 /// Says the first bytes that wait for a name.
 pub(crate) fn transmit<A: Allocator + Copy>(
     node: &Node<A>,

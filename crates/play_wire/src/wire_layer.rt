@@ -1,7 +1,7 @@
 //! One node of bytes: `start` makes it, and the others are its calls.
 use crate::node_calls::{
-    accept, broadcast, deliver, end, join, lose, lost, news, opening, receivers, refused, steps,
-    tick, transmit,
+    accept, ask_on, broadcast, deliver, end, join, lose, lost, news, opening, receivers, refused,
+    steps, tick, transmit,
 };
 use crate::receiving::receive;
 use crate::texts::{Node, push_node};
@@ -181,6 +181,7 @@ impl<A: Allocator + Copy> WireLayer<A> {
             ["broadcast", letters] => broadcast(self.alloc, node, letters, turn, said),
             ["accept"] => accept(node, turn, said),
             ["tick"] => tick(node, turn, said),
+            ["ask-on"] => ask_on(node, turn, said),
             ["tell-news"] => Ok(tell_news(node)),
             ["news"] => news(node, turn, said),
             ["receivers"] => receivers(node, turn, said),

@@ -4,12 +4,13 @@ ghost use Rattle.std.specs.Prelude.{◌≤◌};
 use crate::run_group::{GroupError, write_records};
 use crate::stream::{StreamError, write_stream};
 use clap::{Arg, ArgAction, ArgMatches, Command};
-use merge_command::{RecordsError, read_group};
+use merge_command::{RecordsError, place_of, read_group};
 use simulation::{Form, ScenarioError, report};
 use std::alloc::{AllocError, Global};
 use std::fs::File;
 use std::io::Write;
 use std::rt::Files;
+use trace_merge::MergeFault;
 
 /// The text below the help.
 const AFTER_HELP: &str = "Example: plumtree merge /var/lib/plumtree/a /var/lib/plumtree/b";
@@ -64,20 +65,47 @@ fn refuse<F: Write>(error: RecordsError, faults: &mut F) -> u8
     }
 }
 
-/// Writes why a run was not written to its end, if it was not. Returns the exit status.
-fn conclude<F: Write>(is_plain: bool, ended: Result<(), GroupError>, faults: &mut F) -> u8
+/// Writes where in the files of the folders it stands that does not fit into one run. Returns the exit status.
+fn locate<R, F>(rt: &R, folders: &[&str], fault: &MergeFault, faults: &mut F) -> u8
+where
+    R: AllocGlobal + Files<File = File> + Clone + Drop,
+    F: Write,
+    ensures { result ≤ 2 }
+{
+    match place_of(rt, folders, fault) {
+        Ok(Some(place)) => report(faults, place, 1),
+        Ok(None) => 1,
+        Err(error) => refuse(error, faults),
+    }
+}
+
+/// Writes what does not fit into one run, unless the output has it, and where it stands. Returns the exit status.
+fn unfit<R, F>(rt: &R, folders: &[&str], form: Form, fault: &MergeFault, faults: &mut F) -> u8
+where
+    R: AllocGlobal + Files<File = File> + Clone + Drop,
+    F: Write,
+    ensures { result ≤ 2 }
+{
+    if form != Form::Lines {
+        report(faults, *fault, 1);
+    }
+    locate(rt, folders, fault, faults)
+}
+
+/// Writes why a run was not written to its end, if it was not, but for what does not fit into one run. Returns the exit
+/// status.
+fn conclude<F: Write>(ended: Result<(), GroupError>, faults: &mut F) -> u8
     ensures { result ≤ 2 }
 {
     match ended {
         Ok(()) => 0,
-        Err(GroupError::Unmerged(_)) if is_plain => 1,
-        Err(GroupError::Unmerged(fault)) => report(faults, fault, 1),
-        Err(GroupError::Unwritten) => 1,
+        Err(GroupError::Unmerged(_) | GroupError::Unwritten) => 1,
         Err(_) => report(faults, ScenarioError::OutOfMemory, 1),
     }
 }
 
-/// Writes why records were not followed to their end, if they were not. Returns the exit status.
+/// Writes why records were not followed to their end, if they were not, but for what does not fit into one run. Returns
+/// the exit status.
 fn conclude_stream<F: Write>(ended: Result<(), StreamError>, faults: &mut F) -> u8
     ensures { result ≤ 2 }
 {
@@ -86,6 +114,20 @@ fn conclude_stream<F: Write>(ended: Result<(), StreamError>, faults: &mut F) -> 
         Err(StreamError::Records(error)) => refuse(error, faults),
         Err(StreamError::OutOfMemory) => report(faults, ScenarioError::OutOfMemory, 1),
         Err(StreamError::Unmerged(_) | StreamError::Unwritten) => 1,
+    }
+}
+
+/// Follows the records of the folders that the words name, and writes what they deliver. Returns the exit status.
+fn stream_as_told<R, W, F>(rt: &R, words: &ArgMatches<'_>, out: &mut W, faults: &mut F) -> u8
+where
+    R: AllocGlobal + Files<File = File> + Clone + Drop,
+    W: Write,
+    F: Write,
+    ensures { result ≤ 2 }
+{
+    match write_stream(rt, words, out, faults) {
+        Err(StreamError::Unmerged(fault)) => locate(rt, folders_of(words), &fault, faults),
+        ended => conclude_stream(ended, faults),
     }
 }
 
@@ -99,15 +141,16 @@ where
     ensures { result ≤ 2 }
 {
     if words.get_flag("stream") {
-        return conclude_stream(write_stream(rt, words, out, faults), faults);
+        return stream_as_told(rt, words, out, faults);
     }
+    let folders = folders_of(words);
     let form = form_of(words);
-    let is_plain = form == Form::Lines;
-    match read_group(rt, folders_of(words), faults) {
-        Ok(group) => {
-            let ended = write_records(rt.alloc(), form, &group, out);
-            conclude(is_plain, ended, faults)
-        }
-        Err(error) => refuse(error, faults),
+    let ended = match read_group(rt, folders, faults) {
+        Ok(group) => write_records(rt.alloc(), form, &group, out),
+        Err(error) => return refuse(error, faults),
+    };
+    match ended {
+        Err(GroupError::Unmerged(fault)) => unfit(rt, folders, form, &fault, faults),
+        ended => conclude(ended, faults),
     }
 }

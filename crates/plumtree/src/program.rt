@@ -162,7 +162,7 @@ where
 }
 
 /// Plays or runs the scenario of a text. What a strict reader rejects ends it before; otherwise what the scenario lacks
-/// for the task is reported once that is done.
+/// for the task is reported once that is done, and only if it ended well: a fault stays the only line on standard error.
 fn perform_text<R, W, F>(
     rt: &R,
     task: Task,

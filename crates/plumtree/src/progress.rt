@@ -8,7 +8,7 @@ use std::rt::Files;
 /// The line is written anew every `LOOKS` looks.
 const LOOKS: u64 = 20;
 
-/// Where the system says what standard error is.
+/// Where the system says what standard error is, which the standard library does not tell.
 const STANDARD_ERROR: &str = "/proc/self/fd/2";
 
 /// Whether standard error is a terminal, as far as the system says.

@@ -243,7 +243,7 @@ impl Node {
     }
 
     /// Flushes, lets each armed timer fire, and at every tenth tick shuffles. If a step is refused, those before it are
-    /// made, and the tick does not count.
+    /// made, and the tick does not count: all or nothing would need a copy of the node for each tick.
     pub(crate) fn tick(&mut self, dice: &Dice) -> Result<(), Refusal>
         ensures { OnOk result (Ticks self.old dice.now self.new) }
     {
@@ -254,7 +254,8 @@ impl Node {
     }
 
     /// Takes the first frame that waits: returns its receiver, and puts its bytes at the front of the room. `length` is
-    /// then the number of bytes, also where the room is too small.
+    /// then the number of bytes, also where the room is too small. A frame is spelled only now, so that a room that is
+    /// too small loses nothing.
     pub(crate) fn next_send(
         &mut self,
         room: &mut [u8],

@@ -22,7 +22,8 @@ pub(crate) const LIVE_BYTES: u64 = 0x706c_756d_7769_7265;
 pub struct Slot {
     /// `LIVE` or `LIVE_BYTES`, or 0 where it has no node.
     pub(crate) live: u64,
-    /// How often the node was lent for a change, as the node has it too. A copy of the slot is behind.
+    /// How often the node was lent for a change, as the node has it too. A copy of the slot is behind, so that a call
+    /// with it is refused. A copy that is used after the node was freed cannot be found.
     turn: u64,
     pub(crate) held: Held,
     ghost machine: { live ≡ LIVE → IsTrue (has_machine held.value) },

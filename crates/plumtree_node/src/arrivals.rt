@@ -90,7 +90,8 @@ impl Arrivals {
     }
 }
 
-/// Takes connections until one comes or fails after the arrivals were closed.
+/// Takes connections until one comes or fails after the arrivals were closed. It goes on after one that the system
+/// refuses: otherwise a stranger that hangs up would close the node's port.
 pub(crate) fn accept_all<R: Wait + Clock>(rt: &R, listener: &TcpListener, arrivals: &Arrivals) {
     let mut failures = Failures::new(&arrivals.shortages);
     for _ in rt.forever() {

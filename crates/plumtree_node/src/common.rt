@@ -15,7 +15,7 @@ pub struct Common<R: Drop> {
     /// How long a tick takes.
     pub(crate) tick: Duration,
     /// How long a connection may take to be made, or to take bytes, before its link is down. `None`: as long as the
-    /// system waits.
+    /// system waits. A group on one machine needs no limit, since it ends both ends of a connection.
     pub(crate) patience: Option<Duration>,
     /// The seed of the workers' dice, to which each worker's number is added.
     seed: u64,

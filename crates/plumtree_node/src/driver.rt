@@ -108,7 +108,8 @@ fn tidy<R: Wait, C: NodeCore<Global> + Drop>(
     Ok(())
 }
 
-/// Makes turns until the node is to stop, or keeps as many steps as it may, so that its clock has ended.
+/// Makes turns until the node is to stop, or keeps as many steps as it may, so that its clock has ended: its workers
+/// end at the first refused step, so it would stand there deaf.
 fn make_turns<R, C>(
     common: &mut Common<R>,
     engine: &mut Engine<C>,

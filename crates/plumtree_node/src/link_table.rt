@@ -182,6 +182,9 @@ impl LinkTable {
 
     /// Ends the writers of links that were not used in the last `ticks` ticks and that go to names outside the node's
     /// active view. Since looking at the view takes the node's lock, each link is checked only once in as many ticks.
+    ///
+    /// Answers to shuffles go to any origin, so connections would become more with each. A link to a neighbour stays,
+    /// since its end tells that the link is down.
     pub(crate) fn retire_idle<R: Wait, C: NodeCore<Global> + Drop>(
         &mut self,
         rt: &R,

@@ -21,7 +21,7 @@ abbrev pub HoldsWhatItLists : CoreState → Type 0
 HoldsWhatItLists core = (id : MsgId) → IsSome (core.payload id) ↔ IsOneOf id core.held
 
 -- Of all these messages, in order of delivery, the last ones are held: all of them, or, where `keep` is not 0, at least
--- `keep` of them.
+-- `keep` of them. A core may hold more, as the flooding core does, which forgets nothing.
 pub record AreLast (keep : ℕ) (all held : List MsgId) : Type 0 where
   pub forgotten : List MsgId
   pub in_order : all ≡ forgotten ++ held

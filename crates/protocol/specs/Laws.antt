@@ -65,7 +65,8 @@ pub record StepLaws {N : Type 0} (content : N → Content) (before : CoreState) 
   pub holds : HoldLaw content before stimulus sends given
 
 -- The starts and steps of a core meet the laws wherever packets come from others, and lead from sound cores to sound
--- ones; and each step keeps the messages that were delivered last, at least as many as the limits say.
+-- ones; and each step keeps the messages that were delivered last, at least as many as the limits say. The limits of a
+-- core stay the same by `step_sound`, since what a core shows has no limits.
 pub record Laws
     {C N : Type 0}
     (state : C → CoreState)

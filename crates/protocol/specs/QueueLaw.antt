@@ -36,7 +36,8 @@ times_queued name id round queued = count_by (λ entry. same_name name entry.0 &
 abbrev pub AnnouncesNothing : {N : Type 0} → (N → Content) → List (Name × N) → Type 0
 AnnouncesNothing content sends = Each (λ send. (content send.1).announced ≡ []) sends
 
--- An entry leaves the queue only where its member is active no longer.
+-- An entry leaves the queue only where its member is active no longer. Entries are compared with their rounds, since a
+-- core may not change the round of one that stays.
 abbrev pub KeepsQueue : CoreState → CoreState → Type 0
 KeepsQueue before after = Each (λ entry. IsOneOf entry after.queued ⊎ (has_name after.active entry.0 ≡ false)) before.queued
 

@@ -127,6 +127,7 @@ impl<N: Drop, A: Allocator> StepList<N, A> {
         ensures ok { OnOk result (self.new ≡ self.old ++ step ∷ []) }
         ensures err { OnErr result (self.new ≡ self.old) }
     {
+        // No contract of `Vec` bounds what several vectors hold together.
         if self.len() == usize::MAX {
             return Err(AllocError);
         }
@@ -142,7 +143,8 @@ impl<N: Drop, A: Allocator> StepList<N, A> {
         cut(&mut self.parts, len);
     }
 
-    /// Drops the steps of the parts, which are the first ones, and returns how many there were.
+    /// Drops the steps of the parts, which are the first ones, and returns how many there were. Whole parts go, so that
+    /// no step is moved, and whoever was handed a part keeps it.
     pub(crate) fn forget_parts(&mut self) -> usize
         ensures within { result ≤ length self.old }
         ensures rest { self.new ≡ drop result self.old }

@@ -9,7 +9,8 @@ use std::alloc::Global;
 /// A stimulus whose payload is allocated by `A` and whose packet is an `N`.
 pub type Stimulus<N, A = Global> = StimulusOf<Bytes<A>, N>;
 
-/// A stimulus that borrows its payload or packet, for example from a list of packets.
+/// A stimulus that borrows its payload or packet, for example from a list of packets. The halves of a step take it in
+/// this form, so that an arriving packet is not copied.
 pub type StimulusRef<'a, N, A = Global> = StimulusOf<&'a Bytes<A>, &'a N>;
 
 /// A stimulus, by its kind. `P` is a payload and `N` a packet.

@@ -31,7 +31,8 @@ pub struct RefusingAllocator<A: Allocator = Global> {
 }
 
 impl<A: Allocator> RefusingAllocator<A> {
-    /// An allocator that takes its blocks from `inner`, and refuses nothing until it is asked to.
+    /// An allocator that takes its blocks from `inner`, and refuses nothing until it is asked to. The inner one is
+    /// handed in, since only the runtime hands out the standard allocator.
     pub fn new(inner: A) -> Self {
         RefusingAllocator {
             inner,

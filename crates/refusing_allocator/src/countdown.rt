@@ -14,7 +14,7 @@ const NEVER: u64 = u64::MAX;
 /// Counts allocations down to the one that is to be refused.
 ///
 /// The count is one word, and an allocation is one step on it. So where threads allocate at the same time,
-/// exactly one of them is refused.
+/// exactly one of them is refused. Refusals are tested, since no contract can say what an atomic count holds.
 #[derive(Drop)]
 pub(crate) struct Countdown {
     left: AtomicU64,

@@ -18,7 +18,8 @@ use world::World;
 
 /// Writes the document: each node with its incarnation, eager links as plain arrows, lazy links as dashed arrows, and
 /// stopped nodes dotted; and for each message whether the group is at rest for it, the edges of its tree in bold, and
-/// the running nodes that have not delivered it dotted. The whole document is written in one write.
+/// the running nodes that have not delivered it dotted. The whole document is written in one write. It is stated as a
+/// whole text, since a drawing that leaves out a link says something false.
 pub fn write_graph<A: Allocator + Copy, W: Write>(
     alloc: A,
     group: &World<PlumCore<A>, A>,

@@ -1,4 +1,5 @@
-//! Scenarios: reads them from TOML, plays them in a simulated group, and prints or draws the outcome.
+//! Scenarios: reads them from TOML, plays them in a simulated group, and prints or draws the outcome. This is a
+//! library, so that tests can play scenarios by readers and writers of their own.
 #![tactic(auto)]
 
 mod code;

@@ -25,7 +25,8 @@ pub fn read_text<R: Read>(alloc: Global, input: &mut R) -> io::Result<Vec<u8>>
     Ok(text)
 }
 
-/// Reads a text as a TOML document. `TooLong` is tested before `NotToml`.
+/// Reads a text as a TOML document. `TooLong` is tested before `NotToml`. No test refuses memory here, since `toml`
+/// takes the global allocator alone.
 pub fn read_document(alloc: Global, text: &[u8]) -> Result<Table, ScenarioError>
     ensures short { IfOk result (λ _. length text.now ≤ MAX_SCENARIO_BYTES) }
     ensures ok { IfOk result (λ table. IsUtf8 text.now × (parse_document text.now ≡ Some (table_view table))) }

@@ -84,6 +84,8 @@ impl fmt::Display for IdleEvent {
 
 /// Reports the first unknown key of a scenario, if there is one, and returns the exit status for it. A text that is not
 /// a TOML document is not reported here, but when it is read.
+///
+/// This is a pass before the reader, so that what the reader takes for a scenario stays the same.
 pub fn report_unknown<F: Write>(alloc: Global, text: &[u8], faults: &mut F) -> Option<u8>
     ensures status { IfSome result (λ status. (status ≡ 1) ⊎ (status ≡ 2)) }
     ensures quiet { result ≡ None → faults.new ≡ faults.old }

@@ -36,7 +36,9 @@ pub fn write_trace<A: Allocator + Copy, W: Write>(
 }
 
 /// Writes what each event of a group's log did, and returns the group after them. The events are replayed, to see the
-/// group before and after each. `text` is a buffer for a step.
+/// group before and after each, of which the log keeps neither. So a step costs twice what the parts of its node are
+/// long, also where a long one is left alone, as the queue of a group that never flushes. `text` is a buffer for a
+/// step.
 fn write_steps<A: Allocator + Copy, W: Write>(
     alloc: A,
     text: &mut String<A>,

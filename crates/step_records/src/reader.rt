@@ -58,6 +58,11 @@ impl RecordReader {
         self.place.entries
     }
 
+    /// Returns how many bytes of the file are read.
+    pub fn at(&self) -> u64 {
+        self.at
+    }
+
     /// Returns how many bytes were fed and not read.
     pub fn left(&self) -> usize {
         self.unread.as_slice().len()

@@ -53,6 +53,12 @@ pub record AsksAt (old : Engine) (asking : Asking) (ticks : ℕ) (dice : Dice) (
   pub asks : Asks old (due_at asking ticks) (awaited_at old asking.asked ticks) dice new asking'.due asking'.asked
   pub waits : asking'.waited ≡ waits_at asking ticks asking'.due new
 
+-- Between ticks the node went on asking, as what it had asked for came. Where nothing is due, nothing changed.
+pub record AsksOn (old : Engine) (asking : Asking) (dice : Dice) (new : Engine) (asking' : Asking) : Type 0 where
+  pub idle : asking.due ≡ [] → (new ≡ old) × (asking' ≡ asking)
+  pub asks : asking.due ≢ [] → Asks old asking.due (lacked_of old asking.asked) dice new asking'.due asking'.asked
+  pub waits : asking'.waited ≡ asking.waited
+
 -- The steps of a tick: all that was queued was sent, it was asked for what did not come, and at a tenth tick the passive
 -- view was shuffled.
 pub record TickSteps (old : Engine) (asking : Asking) (ticks : ℕ) (dice : Dice) (new : Engine) (asking' : Asking) : Type 0 where

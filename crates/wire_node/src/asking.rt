@@ -2,7 +2,7 @@
 ghost use Rattle.std.specs.Prelude.{◌≡◌, ◌<◌, ◌≤◌, ◌&&◌, ℕ, List, [], IfOk, OnErr, OnOk, length, map, nat_eq, take, if◌then◌else◌};
 ghost use Rattle.node_names.specs.declared.ids.MsgId.{MsgId as Id};
 ghost use Rattle.wire_node.specs.Moving.{MovesAll, firing};
-ghost use Rattle.wire_node.specs.Ticking.{Asks, AsksAt, armed_of, awaited_at, is_turn, lacked_of};
+ghost use Rattle.wire_node.specs.Ticking.{Asks, AsksAt, AsksOn, armed_of, awaited_at, is_turn, lacked_of};
 
 use crate::connection::drop_front;
 use crate::engine::Engine;
@@ -14,10 +14,12 @@ use std::marker::Model;
 use std::mem;
 
 /// A turn of asking begins at a fifth tick, so that a message has that long to come by itself: one that is asked for
-/// while it is on its way comes twice, and changes the tree.
+/// while it is on its way comes twice, and changes the tree. With 64 nodes on one thread a message took several ticks
+/// from end to end, so that asking at each tick asked for nearly all. Who wants to ask sooner makes shorter ticks.
 const ASK_EVERY: u64 = 5;
 /// How many messages that were asked for may be on their way. Their answers, of 32 KiB at most, then take half of what
-/// may wait for a name, wherever they wait.
+/// may wait for a name, wherever they wait. Without this limit, where several nodes had broadcast 600 long messages at
+/// once, each asked for 448 in one tick, and names went down under the answers.
 const MOST_ASKED: usize = 128;
 /// After at most so many ticks what was asked for and did not come is taken for lost: whoever announced it may have
 /// forgotten it.
@@ -208,4 +210,22 @@ pub(crate) fn ask<A: Allocator + Copy, R: Record<A> + Drop>(
     ask_for(engine, asking, ticks, dice)?;
     end(engine, asking, is_turn)?;
     Ok(())
+}
+
+/// Goes on asking between ticks: for the first of what is due, but for what may be on its way. So what came makes room
+/// for more at once, and a node that lacks much has it as soon as the others can send it. If a step is refused, those
+/// before are made, and what is due stays so.
+pub(crate) fn ask_on<A: Allocator + Copy, R: Record<A> + Drop>(
+    engine: &mut Engine<A, R>,
+    asking: &mut Asking<A>,
+    dice: &Dice,
+) -> Result<(), CoreError>
+    ensures ok { OnOk result (AsksOn engine.old asking.old dice.now engine.new asking.new) }
+    ensures err { OnErr result ((ids : List Id) × MovesAll engine.old (map (firing dice.now) ids) engine.new) }
+{
+    if asking.due.is_empty() {
+        return Ok(());
+    }
+    asking.asked = lacked_of(engine, asking.asked.as_slice())?;
+    ask_front(engine, &mut asking.due, &mut asking.asked, dice)
 }

@@ -1,10 +1,12 @@
 //! The calls that make a node of bytes step.
-ghost use Rattle.std.specs.Prelude.{◌≡◌, IfErr, IfOk, OnErr, OnOk};
-ghost use Rattle.wire_node.specs.Moving.{Broadcasts, GoesAway, Moves};
+ghost use Rattle.std.specs.Prelude.{◌≡◌, List, IfErr, IfOk, OnErr, OnOk, length, map, nat_eq, not};
+ghost use Rattle.node_names.specs.declared.ids.MsgId.{MsgId as Id};
+ghost use Rattle.wire_node.specs.Moving.{Broadcasts, GoesAway, Moves, MovesAll, firing};
 ghost use Rattle.wire_node.specs.Node.{Ticks};
 ghost use Rattle.wire_node.specs.Refusing.{IsRefusal};
-ghost use Rattle.wire_node.specs.Ticking.{IsCutShort};
+ghost use Rattle.wire_node.specs.Ticking.{AsksOn, IsCutShort};
 
+use crate::asking::ask_on;
 use crate::error::WireError;
 use crate::node::WireNode;
 use crate::record::Record;
@@ -60,7 +62,8 @@ impl<A: Allocator + Copy, R: Record<A> + Drop> WireNode<A, R> {
     ///
     /// A turn of asking begins at a fifth tick, for what was announced before the turn before ended and did not come.
     /// At most 128 messages that were asked for may be on their way, so that the answers fit into what may wait for a
-    /// name; the others follow at the next ticks, as these come. At every 25th tick what did not come is taken for lost.
+    /// name; the others follow at the next ticks, as these come, or by `ask_on`. At every 25th tick what did not come is
+    /// taken for lost.
     ///
     /// If a step is refused, those before it are made, and the tick does not count: call again.
     pub fn tick(&mut self, dice: &Dice) -> Result<(), WireError>
@@ -73,6 +76,28 @@ impl<A: Allocator + Copy, R: Record<A> + Drop> WireNode<A, R> {
             return Err(WireError::of_core(error));
         }
         self.ticks = ticks;
+        Ok(())
+    }
+
+    /// Whether more is to be asked for, once what was asked for comes.
+    pub fn is_asking(&self) -> bool
+        ensures { result ≡ not (nat_eq (length self.now.asking.due) 0) }
+    {
+        !self.asking.due.is_empty()
+    }
+
+    /// Goes on asking between ticks, as messages come that were asked for: for as many more as may be on their way. A
+    /// driver calls it when frames came and more is to be asked for; without these calls a tick asks for 128 at most.
+    ///
+    /// If a step is refused, those before it are made: call again.
+    pub fn ask_on(&mut self, dice: &Dice) -> Result<(), WireError>
+        ensures ok { OnOk result (AsksOn self.old.engine self.old.asking dice.now self.new.engine self.new.asking) }
+        ensures rest { self.new ≡ record self.old { engine = self.new.engine; asking = self.new.asking } }
+        ensures made { OnErr result ((ids : List Id) × MovesAll self.old.engine (map (firing dice.now) ids) self.new.engine) }
+    {
+        if let Err(error) = ask_on(&mut self.engine, &mut self.asking, dice) {
+            return Err(WireError::of_core(error));
+        }
         Ok(())
     }
 }

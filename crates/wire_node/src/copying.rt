@@ -1,4 +1,5 @@
-//! Copies of what a step takes and gives. Their payloads are shared.
+//! Copies of what a step takes and gives. Their payloads are shared. What is noted is copied because the core lends its
+//! frames, and would have to be given back what a step owned.
 ghost use Rattle.std.specs.Prelude.{◌≡◌, IfOk};
 
 use frames::Frame;

@@ -24,8 +24,8 @@ use protocol::{Core, CoreError, Delivery, Stimulus, StimulusOf};
 use std::alloc::{AllocError, Allocator};
 use std::marker::Model;
 
-/// A core, and what its steps leave to be taken: bytes by the name that they go to, deliveries, what is noted, news of the
-/// active view, and names that are down.
+/// A core, and what its steps leave to be taken: bytes by the name that they go to, deliveries, what is noted, news of
+/// the active view, and names that are down. They are one struct, so that the functions above it cost little to prove.
 #[derive(Drop)]
 pub(crate) struct Engine<A: Allocator, R: Record<A> + Drop> {
     pub(crate) core: PlumCore<A>,
@@ -61,7 +61,8 @@ impl<A: Allocator, R: Record<A> + Drop> Model for Engine<A, R> {
     ghost invariant = { λ e. AreSettled e.entries.items };
 }
 
-/// The id of the last delivery.
+/// The id of the last delivery. A core shows no count, so the id of a broadcast is read off here, before any name goes
+/// down.
 #[tactic(auto, using(crate::proofs::Lasts::last_of))]
 fn last_id<A: Allocator>(pending: &Listed<Delivery<A>, A>) -> Option<MsgId>
     ensures { (before : List Given) (last : Given) → pending.now ≡ before ++ last ∷ [] → result ≡ Some last.id }
@@ -128,6 +129,8 @@ impl<A: Allocator + Copy, R: Record<A> + Drop> Engine<A, R> {
     }
 
     /// Makes a step, and then takes the names down for whom too much waits. If the step is refused, nothing changes.
+    /// Names are looked at after each step, so that a call that brings many frames lets no more wait than the limit and
+    /// the frames of one step.
     pub(crate) fn step(
         &mut self,
         stimulus: &Stimulus<Frame<A>, A>,

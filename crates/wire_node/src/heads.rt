@@ -27,7 +27,8 @@ fn word_of(number: usize) -> Result<[u8; 4], AllocError>
     }
 }
 
-/// The bytes of a GOSSIP that come before its payload of `len` bytes.
+/// The bytes of a GOSSIP that come before its payload of `len` bytes. The frame is encoded without its payload, and
+/// both lengths are put in: to encode the whole would copy the payload.
 pub(crate) fn head_of<A: Allocator + Copy>(
     alloc: A,
     sender: Origin,

@@ -120,7 +120,8 @@ fn finish_cut<A: Allocator + Copy, R: Record<A> + Drop, D: DiceSource>(
 }
 
 /// Keeps what is no whole frame. No frame is longer than `MAX_FRAME` bytes, so what has more of them begins with one or
-/// with none at all, and was refused before.
+/// with none at all, and was refused before. The test is made all the same, so that the bound on what is kept rests on
+/// this crate alone.
 fn keep<A: Allocator>(left: &mut Vec<u8, A>, rest: &[u8]) -> Result<(), WireError>
     requires { left.old.items ≡ [] }
     ensures ok { OnOk result (left.new.items ≡ rest.now) }

@@ -8,7 +8,7 @@ use bytes::Bytes;
 use frames::{BodyOf, Frame, encode};
 use std::alloc::{AllocError, Allocator};
 
-/// A payload of so many bytes or more is shared with the message, and not copied.
+/// A payload of so many bytes or more is shared with the message, and not copied for each receiver.
 const SHARED_FROM: usize = 4_096;
 
 /// Appends the bytes of a head and of the payload behind it. If memory runs out, the head may have been appended.

@@ -46,7 +46,8 @@ abbrev pub AreFewSince : ℕ → List Delivery → MsgId → Type 0
 AreFewSince keep given id = (node : Origin) (earlier later : List MsgId) → delivered_by node given ≡ earlier ++ id ∷ later → length (id ∷ later) ≤ keep
 
 -- The run is undisturbed for the message: it was said, all was calm from then on, and the links go both ways; and where
--- not all messages are to be kept, no node delivered more than are kept since it delivered this one.
+-- not all messages are to be kept, no node delivered more than are kept since it delivered this one. No node can know
+-- when all have a message, so each forgets by its own count.
 pub record IsUndisturbed {C N : Type 0} (state : C → CoreState) (keep : ℕ) (history : List Entry) (group : Group C N) (id : MsgId) : Type 0 where
   pub calm : SaidAndCalm history id
   pub symmetric : IsSymmetric state group
@@ -80,7 +81,7 @@ abbrev pub IsParent : {N : Type 0} → List (Packet N) → List Entry → Origin
 IsParent sent [] node id parent = ⊥
 IsParent sent (entry ∷ past) node id parent = (HasDelivery entry.given node id × GaveFrom sent entry.event entry parent) ⊎ IsParent sent past node id parent
 
--- The name runs, and has delivered the message in the run that it is in.
+-- The name runs, and has delivered the message in the run that it is in. The log says so, and not what the core shows.
 abbrev pub DeliveredAt : {C N : Type 0} → Group C N → List Entry → Name → MsgId → Type 0
 DeliveredAt {C} group history name id = (node : NodeState C) × (core : C) × (node_of name group.nodes ≡ Some node) × (node.core ≡ Some core) × Delivered history (origin_of node) id
 

@@ -58,7 +58,7 @@ IsNoRepeat (Shuffle name dice) = Unit {0}
 IsNoRepeat (Join name contact) = Unit {0}
 IsNoRepeat (Stop name) = Unit {0}
 
--- One event says the message, and no later one repeats a packet.
+-- One event says the message, and no later one repeats a packet: a node would answer a repeated request a second time.
 abbrev pub IsUnrepeated : List Entry → MsgId → Type 0
 IsUnrepeated [] id = ⊥
 IsUnrepeated (entry ∷ past) id = IsSaying entry.event past id ⊎ (IsNoRepeat entry.event × IsUnrepeated past id)

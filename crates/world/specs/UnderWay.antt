@@ -49,7 +49,7 @@ pub data IsUnderWay {N : Type 0} (content : N → Content) (sent : List (Packet 
   Asked : IsInFlight content sent flight (AsksForIt id) peer name → IsUnderWay content sent flight id name peer one other
 
 -- For every two running nodes that are active members of one another, where the first has the message and the second
--- lacks it, something is under way.
+-- lacks it, something is under way. Links of one side alone are left out, so that a step needs no case for them.
 abbrev pub IsCarriedOn : {C N : Type 0} → (C → CoreState) → (N → Content) → Group C N → MsgId → Type 0
 IsCarriedOn {C} state content group id =
     (name peer : Name)

@@ -9,6 +9,9 @@ use std::alloc::{AllocError, Allocator};
 ///
 /// Removing the oldest packet does not move those behind it: the numbers that have left stay at the front, and
 /// `reserve` drops them once they are at least as many as the rest.
+///
+/// Taking out any other packet moves the numbers behind it, 8 bytes each. A tree would take it out faster, but neither
+/// a tree nor a deque could show the numbers as one slice.
 #[derive(Drop)]
 pub(crate) struct Flight<A: Allocator> {
     /// The numbers that have left, followed by those in flight.

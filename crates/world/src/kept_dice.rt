@@ -6,7 +6,7 @@ use std::alloc::{AllocError, Allocator, Global};
 use std::boxed::Box;
 use std::marker::Model;
 
-/// The dice of an accepted event. Dice that are all 0 take no memory of their own.
+/// The dice of an accepted event. Dice that are all 0 take no memory of their own, since dice are half of an entry.
 #[derive(Drop)]
 pub struct KeptDice<A: Allocator = Global> {
     drawn: Option<Box<Dice, A>>,

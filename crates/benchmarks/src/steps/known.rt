@@ -3,7 +3,7 @@ use crate::clock::nanos_since;
 use crate::names::origin_of;
 use crate::steps::messages::{ORIGINS, Taken};
 use anyhow::Result;
-use known_ids::KnownIds;
+use known_messages::KnownIds;
 use node_names::{MsgId, Origin};
 use std::alloc::{AllocError, Global};
 use std::time::{Clock, Instant};

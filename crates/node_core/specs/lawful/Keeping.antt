@@ -11,7 +11,7 @@ use Rattle.node_names.specs.declared.ids.Origin.{Origin}
 use Rattle.protocol.specs.DeliveryLaw.{ids}
 use Rattle.protocol.specs.lawful.Held.{keys_after_push, lookup-push}
 use Rattle.protocol.specs.HoldLaw.{AreLast, KeepsLast}
-use Rattle.message_store.specs.Held.{kept_last}
+use Rattle.known_messages.specs.Held.{kept_last}
 use Rattle.node_core.specs.Plum.{HeldOnce}
 use Rattle.node_core.specs.Steps.{delivered_at}
 

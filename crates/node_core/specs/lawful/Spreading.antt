@@ -30,7 +30,7 @@ use Rattle.protocol.specs.WantLaw.{Announces}
 use Rattle.frames.specs.Body.{Body}
 use Rattle.frames.specs.Content.{body_content, frame_content}
 use Rattle.frames.specs.Frame.{Frame}
-use Rattle.message_store.specs.Held.{kept_last}
+use Rattle.known_messages.specs.Held.{kept_last}
 use Rattle.peer_sets.specs.Members.{names, is_eager_kind, eager_but, lazy_but}
 use Rattle.peer_sets.specs.Queue.{with_entries, is_queued}
 use Rattle.peer_sets.specs.declared.kind.PeerKind.{PeerKind}

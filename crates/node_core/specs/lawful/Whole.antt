@@ -12,7 +12,7 @@ use Rattle.node_names.specs.Same.{same_id, same_id-Decides, same_name, has_name}
 use Rattle.node_names.specs.declared.ids.MsgId.{MsgId}
 use Rattle.protocol.specs.lawful.Held.{stays_after_push, pushed_is_held, held_after_push}
 use Rattle.protocol.specs.Lists.{IsOneOf}
-use Rattle.message_store.specs.Held.{kept_last}
+use Rattle.known_messages.specs.Held.{kept_last}
 use Rattle.missing.proofs.SoundLemmas as missings
 use Rattle.missing.specs.Missing.{IsSound as IsMissingSound, without}
 use Rattle.peer_sets.proofs.MemberLemmas.{names-with_kind, is_member-names, stays-with_member, stays-without_member}

@@ -1,6 +1,6 @@
 -- The copies of what is known and of the messages are equal to them.
 use Rattle.std.proofs.Common.{◌∙◌, subst, sym}
-use Rattle.known_ids.specs.Known.{ids}
+use Rattle.known_messages.specs.Known.{ids}
 use Rattle.peer_sets.specs.PeerSets.{PeerSets}
 use Rattle.gossip_core.specs.Store.{AreCounted, AreKnown}
 use Rattle.gossip_core.proofs.GossipLemmas.{state_of}

@@ -1,6 +1,6 @@
 -- Nothing is known, held or queued.
 use Rattle.std.proofs.Common.{[], sym, subst}
-use Rattle.known_ids.specs.Known.{ids}
+use Rattle.known_messages.specs.Known.{ids}
 use Rattle.peer_sets.specs.PeerSets.{PeerSets}
 use Rattle.gossip_core.specs.Store.{AreCounted, AreKnown}
 use Rattle.gossip_core.proofs.GossipLemmas.{counts_none}

@@ -1,4 +1,4 @@
-use Rattle.known_ids.specs.Known.{ids}
+use Rattle.known_messages.specs.Known.{ids}
 use Rattle.gossip_core.proofs.GossipLemmas.{sound_state}
 use Rattle.gossip_core.proofs.gossip.Gossip.peers.Goals as goal
 

@@ -1,5 +1,5 @@
 use Rattle.std.proofs.Common.{◌≡◌, ◌∙◌, subst, sym}
-use Rattle.known_ids.specs.Known.{ids}
+use Rattle.known_messages.specs.Known.{ids}
 use Rattle.peer_sets.specs.PeerSets.{PeerSets}
 use Rattle.gossip_core.specs.Store.{AreKnown}
 use Rattle.gossip_core.proofs.KnownLemmas.{known-without_all_entries}

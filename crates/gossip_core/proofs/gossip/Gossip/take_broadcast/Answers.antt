@@ -1,8 +1,8 @@
 -- The next message is not known, and it has the next number, so it is counted.
 use Rattle.std.proofs.Common.{◌≡◌, ◌+◌, ◌++◌, ◌∷◌, [], None, sym, refl, subst}
 use Rattle.std.specs.FinSet as set
-use Rattle.known_ids.specs.Known.{ids}
-use Rattle.message_store.specs.Held.{kept_last}
+use Rattle.known_messages.specs.Known.{ids}
+use Rattle.known_messages.specs.Held.{kept_last}
 use Rattle.node_names.specs.declared.ids.MsgId.{MsgId}
 use Rattle.peer_sets.specs.Members.{lazy_but}
 use Rattle.peer_sets.specs.PeerSets.{PeerSets}

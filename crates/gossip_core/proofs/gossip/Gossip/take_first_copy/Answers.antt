@@ -1,8 +1,8 @@
 -- A message that is taken is of another origin, so it is not counted. It did not wait, and its entries do.
 use Rattle.std.proofs.Common.{◌≡◌, ◌≢◌, ◌++◌, ◌∷◌, [], Some, false, ap, sym, subst, ◌∙◌}
 use Rattle.std.specs.FinSet as set
-use Rattle.known_ids.specs.Known.{ids}
-use Rattle.message_store.specs.Held.{kept_last}
+use Rattle.known_messages.specs.Known.{ids}
+use Rattle.known_messages.specs.Held.{kept_last}
 use Rattle.peer_sets.specs.Members.{lazy_but}
 use Rattle.peer_sets.specs.PeerSets.{PeerSets}
 use Rattle.peer_sets.specs.Queue.{with_entries}

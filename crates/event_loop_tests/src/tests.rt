@@ -1,0 +1,19 @@
+//! The tests, grouped by what they test, and what they share.
+mod backlog;
+mod book;
+mod deaf_peers;
+mod greeting;
+mod greetings;
+mod hosts;
+mod news;
+mod one_loop;
+mod pair;
+mod ports;
+mod refused_node;
+mod rejoining;
+mod resets;
+mod rows;
+mod stage;
+mod strangers;
+mod sweep;
+mod tested_node;

@@ -1,0 +1,4 @@
+pub mod Past
+pub mod Span
+pub mod Known
+pub mod Held
