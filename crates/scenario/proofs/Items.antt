@@ -6,7 +6,7 @@ use Rattle.std.proofs.lemmas.List.Elements.{All-head, All-tail, All-cons, All-ni
 use Rattle.toml.specs.Data.{Data, string, integer, float, boolean, datetime, array, table, Items, item, Members, no_members, as_table, push_item}
 use Rattle.toml.specs.View.{view, items_view}
 use Rattle.toml.specs.declared.value.Value.{Value}
-use Rattle.simulation.specs.Reading.{texts, tables}
+use Rattle.scenario.specs.Reading.{texts, tables}
 
 -- what is a table has members
 pub members_of_table : (d : Data) → IsSome (as_table d) → (ms : Members) × (d ≡ table ms)

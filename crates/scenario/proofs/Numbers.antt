@@ -2,8 +2,8 @@
 use Rattle.std.proofs.Common.{◌≡◌, ◌^◌, ◌-◌, ℕ, pos, Some, None, Option, ◌∙◌, sym}
 use Rattle.toml.specs.Data.{Data, integer, Members}
 use Rattle.node_names.specs.Limits.{Limits as Sizes}
-use Rattle.simulation.specs.Reading.{IsNumber}
-use Rattle.simulation.specs.Scenario.{AreSizes, IsLimit}
+use Rattle.scenario.specs.Reading.{IsNumber}
+use Rattle.scenario.specs.Scenario.{AreSizes, IsLimit}
 
 same_number : (m n : ℕ) → Some (integer (pos m)) ≡ Some (integer (pos n)) → m ≡ n
 same_number m n e = cc e

@@ -2,9 +2,9 @@
 use Rattle.std.specs.Prelude.{◌≡◌, ◌≢◌, ℕ, ◌≤◌, List, [], ◌∷◌, length, pos, Option, Some, None, option_map, MatchOption, MatchResult, Result, All}
 use Rattle.toml.specs.Data.{Data, Members, Items, no_items, item, string, integer, array, table, get_member}
 use Rattle.node_names.specs.NodeName.{IsNodeName, Name}
-use Rattle.simulation.specs.Key.{word_of}
-use Rattle.simulation.specs.declared.scenario.error.Key.{Key}
-use Rattle.simulation.specs.declared.scenario.error.ScenarioError.{ScenarioError}
+use Rattle.scenario.specs.Key.{word_of}
+use Rattle.scenario.specs.declared.error.Key.{Key}
+use Rattle.scenario.specs.declared.error.ScenarioError.{ScenarioError}
 
 -- what a table has at a key
 abbrev pub at_key : Key → Members → Option Data

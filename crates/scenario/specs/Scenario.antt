@@ -4,10 +4,10 @@ use Rattle.std.specs.List.{AllZip}
 use Rattle.toml.specs.Parse.{parse_document}
 use Rattle.toml.specs.Data.{Data, Members, no_members, table}
 use Rattle.node_names.specs.Limits.{Limits as Sizes, IsAllowed}
-use Rattle.simulation.specs.Reading.{at_key, IsOptional, IsNumber, IsNumberFromOne, IsText, IsName, IsNames, IsTables}
-use Rattle.simulation.specs.declared.scenario.error.Key.TheVariants.{Seed, Limits, Event, Active, Passive, Arwl, Prwl, Ka, Kp, Threshold, Keep, Do, Node, Incarnation, Peers, Contact, Text, Place, Number, Origin, Seq, Peer}
-use Rattle.simulation.specs.declared.scenario.action.Action.{Action}
-use Rattle.simulation.specs.declared.scenario.action.Action.TheVariants.{Start, Broadcast, Arrive, Lose, Again, Fire, Flush, Shuffle, Join, Down, Stop, ArriveAll, Settle}
+use Rattle.scenario.specs.Reading.{at_key, IsOptional, IsNumber, IsNumberFromOne, IsText, IsName, IsNames, IsTables}
+use Rattle.scenario.specs.declared.error.Key.TheVariants.{Seed, Limits, Event, Active, Passive, Arwl, Prwl, Ka, Kp, Threshold, Keep, Do, Node, Incarnation, Peers, Contact, Text, Place, Number, Origin, Seq, Peer}
+use Rattle.scenario.specs.declared.action.Action.{Action}
+use Rattle.scenario.specs.declared.action.Action.TheVariants.{Start, Broadcast, Arrive, Lose, Again, Fire, Flush, Shuffle, Join, Down, Stop, ArriveAll, Settle}
 
 -- the greatest number that fits into 64 bits
 abbrev pub greatest : ℕ

@@ -1,8 +1,8 @@
 //! One event of a scenario.
 ghost use Rattle.std.specs.Prelude.{◌≡◌, ◌≢◌, IfOk, IfErr, codes};
 ghost use Rattle.toml.specs.View.{table_view};
-ghost use Rattle.simulation.specs.Reading.{at_key, IsText};
-ghost use Rattle.simulation.specs.Scenario.{IsAction};
+ghost use Rattle.scenario.specs.Reading.{at_key, IsText};
+ghost use Rattle.scenario.specs.Scenario.{IsAction};
 
 use super::error::{Key, ScenarioError};
 use super::section::Section;

@@ -1,6 +1,6 @@
 //! The errors of reading a scenario.
 ghost use Rattle.std.specs.Prelude.{◌≡◌, Some};
-ghost use Rattle.simulation.specs.Key.{word_of};
+ghost use Rattle.scenario.specs.Key.{word_of};
 
 use std::alloc::{AllocError, AllocFailed};
 use std::fmt;
@@ -27,7 +27,7 @@ pub enum ScenarioError {
 }
 
 impl From<AllocError> for ScenarioError {
-    ghost use Rattle.simulation.specs.declared.scenario.error.ScenarioError.TheVariants.{OutOfMemory};
+    ghost use Rattle.scenario.specs.declared.error.ScenarioError.TheVariants.{OutOfMemory};
 
     ghost from_gives = { λ _ fault. fault ≡ OutOfMemory };
 
@@ -37,7 +37,7 @@ impl From<AllocError> for ScenarioError {
 }
 
 impl<T: Drop> From<AllocFailed<T>> for ScenarioError {
-    ghost use Rattle.simulation.specs.declared.scenario.error.ScenarioError.TheVariants.{OutOfMemory};
+    ghost use Rattle.scenario.specs.declared.error.ScenarioError.TheVariants.{OutOfMemory};
 
     ghost from_gives = { λ _ fault. fault ≡ OutOfMemory };
 

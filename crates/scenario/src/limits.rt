@@ -3,8 +3,8 @@ ghost use Rattle.std.specs.Prelude.{◌^◌, ◌-◌, IfOk, IfErr, option_map};
 ghost use Rattle.toml.specs.Data.{table as as_data};
 ghost use Rattle.toml.specs.View.{table_view};
 ghost use Rattle.node_names.specs.Limits.{Limits as Sizes};
-ghost use Rattle.simulation.specs.Reading.{at_key, ReadsRequired};
-ghost use Rattle.simulation.specs.Scenario.{AreLimits, HasLimits, IsLimit};
+ghost use Rattle.scenario.specs.Reading.{at_key, ReadsRequired};
+ghost use Rattle.scenario.specs.Scenario.{AreLimits, HasLimits, IsLimit};
 
 use super::error::{Key, Place, ScenarioError};
 use super::section::Section;

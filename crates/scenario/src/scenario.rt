@@ -3,8 +3,8 @@ ghost use Rattle.std.specs.Prelude.{◌≡◌, ◌≢◌, ℕ, List, Option, IfO
 ghost use Rattle.toml.specs.View.{view, table_view, items_view};
 ghost use Rattle.toml.specs.Data.{Members, table};
 ghost use Rattle.node_names.specs.Limits.{Limits as Sizes};
-ghost use Rattle.simulation.specs.Reading.{tables};
-ghost use Rattle.simulation.specs.Scenario.{AreActions, Describes, IsAction};
+ghost use Rattle.scenario.specs.Reading.{tables};
+ghost use Rattle.scenario.specs.Scenario.{AreActions, Describes, IsAction};
 
 mod action;
 mod error;

@@ -3,7 +3,7 @@ ghost use Rattle.std.specs.Prelude.{◌≡◌, ◌≢◌, ℕ, List, Some, optio
 ghost use Rattle.node_names.specs.NodeName.{IsNodeName, Name};
 ghost use Rattle.toml.specs.View.{view, table_view, items_view};
 ghost use Rattle.toml.specs.Data.{Members, as_table};
-ghost use Rattle.simulation.specs.Reading.{at_key, ReadsOptional, ReadsOptionalAs, ReadsRequired, ReadsRequiredAs, IsNumber, IsNumberFromOne, IsText, IsName, IsTable, IsNames, IsList, IsTables, tables, texts};
+ghost use Rattle.scenario.specs.Reading.{at_key, ReadsOptional, ReadsOptionalAs, ReadsRequired, ReadsRequiredAs, IsNumber, IsNumberFromOne, IsText, IsName, IsTable, IsNames, IsList, IsTables, tables, texts};
 
 use super::error::{Key, Place, ScenarioError};
 use bytes::Bytes;

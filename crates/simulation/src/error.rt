@@ -1,7 +1,7 @@
 //! Why a scenario was not played and written to its end.
 ghost use Rattle.std.specs.Prelude.{◌≡◌, ◌≢◌, Err, IsOk, OnOk};
 ghost use Rattle.simulation.specs.declared.play.PlayError.{PlayError};
-ghost use Rattle.simulation.specs.declared.scenario.error.ScenarioError.{ScenarioError};
+ghost use Rattle.scenario.specs.declared.error.ScenarioError.{ScenarioError};
 
 use crate::output::OutputError;
 use crate::play::PlayError;

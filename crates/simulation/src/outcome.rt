@@ -2,9 +2,9 @@
 ghost use Rattle.std.specs.Prelude.{◌≡◌, ◌≢◌, ◌<◌, ℕ, List, Option, Err, IfOk, IfErr, OnOk, [], ◌∷◌, ◌++◌};
 ghost use Rattle.node_names.specs.Limits.{Limits as Sizes};
 ghost use Rattle.simulation.specs.declared.play.PlayError.{PlayError};
-ghost use Rattle.simulation.specs.declared.scenario.action.Action.{Action};
-ghost use Rattle.simulation.specs.declared.scenario.error.ScenarioError.{ScenarioError};
-ghost use Rattle.simulation.specs.Scenario.{IsScenario};
+ghost use Rattle.scenario.specs.declared.action.Action.{Action};
+ghost use Rattle.scenario.specs.declared.error.ScenarioError.{ScenarioError};
+ghost use Rattle.scenario.specs.Scenario.{IsScenario};
 ghost use Rattle.simulation.specs.Drawn.{is_shown, shown_of, Draws, DrawsShown};
 ghost use Rattle.simulation.specs.Play.{delivered, Prints, PrintsGroup, PrintsHalted};
 ghost use Rattle.simulation.specs.Traced.{Traces};

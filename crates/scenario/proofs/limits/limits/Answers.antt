@@ -2,9 +2,9 @@
 use Rattle.std.proofs.Common.{subst}
 use Rattle.toml.specs.View.{table_view}
 use Rattle.node_names.specs.Limits.{Limits as Sizes, IsAllowed}
-use Rattle.simulation.specs.Scenario.{AreSizes}
-use Rattle.simulation.proofs.Numbers.{AreSizes-same}
-use Rattle.simulation.proofs.scenario.limits.limits.Goals as goal
+use Rattle.scenario.specs.Scenario.{AreSizes}
+use Rattle.scenario.proofs.Numbers.{AreSizes-same}
+use Rattle.scenario.proofs.limits.limits.Goals as goal
 
 pub returns-in-Err-clause-refused : goal.returns-in-Err-clause-refused
 returns-in-Err-clause-refused c sizes are =

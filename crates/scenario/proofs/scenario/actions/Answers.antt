@@ -4,10 +4,10 @@ use Rattle.std.proofs.lemmas.List.{take_all}
 use Rattle.std.proofs.lemmas.Result.{err_from_is_err_and}
 use Rattle.toml.specs.Data.{Members, no_members}
 use Rattle.toml.specs.View.{view}
-use Rattle.simulation.specs.Scenario.{AreActions, IsAction}
-use Rattle.simulation.proofs.Items.{table_at, length-tables}
-use Rattle.simulation.proofs.Zips.{AllZip-more, AllZip-at}
-use Rattle.simulation.proofs.scenario.actions.Goals as goal
+use Rattle.scenario.specs.Scenario.{AreActions, IsAction}
+use Rattle.scenario.proofs.Items.{table_at, length-tables}
+use Rattle.scenario.proofs.Zips.{AllZip-more, AllZip-at}
+use Rattle.scenario.proofs.scenario.actions.Goals as goal
 
 pub returns-in_err-numbered_action-clause-refused : goal.returns-in_err-numbered_action-clause-refused
 returns-in_err-numbered_action-clause-refused c =

@@ -3,9 +3,9 @@ use Rattle.std.proofs.Common.{◌∙◌, subst, sym}
 use Rattle.std.proofs.lemmas.Option.{same_Some}
 use Rattle.std.proofs.lemmas.Result.{MatchResult-weaker}
 use Rattle.toml.specs.Data.{Members}
-use Rattle.simulation.specs.Scenario.{Describes}
-use Rattle.simulation.specs.declared.scenario.TheConstants.{MAX_EVENTS}
-use Rattle.simulation.proofs.outcome.read_scenario.Goals as goal
+use Rattle.scenario.specs.Scenario.{Describes}
+use Rattle.scenario.specs.declared.scenario.TheConstants.{MAX_EVENTS}
+use Rattle.scenario.proofs.scenario.read_scenario.Goals as goal
 
 pub returns-clause-refused : goal.returns-clause-refused
 returns-clause-refused c =

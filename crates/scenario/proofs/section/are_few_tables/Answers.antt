@@ -1,8 +1,8 @@
 -- Values are tables exactly where they are the items of a list of tables, which then has as many.
 use Rattle.std.proofs.Common.{arith}
 use Rattle.std.proofs.lemmas.Bool.Decides.{nat_tests}
-use Rattle.simulation.proofs.Items.{tables_of_values, values_of_tables}
-use Rattle.simulation.proofs.scenario.section.are_few_tables.Goals as goal
+use Rattle.scenario.proofs.Items.{tables_of_values, values_of_tables}
+use Rattle.scenario.proofs.section.are_few_tables.Goals as goal
 
 pub returns-then-values-most : goal.returns-then-values-most
 returns-then-values-most c = (

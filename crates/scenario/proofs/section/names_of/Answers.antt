@@ -4,8 +4,8 @@ use Rattle.std.proofs.lemmas.List.Elements.{All-push, All-get_or}
 use Rattle.std.proofs.lemmas.Option.{same_Some}
 use Rattle.toml.specs.View.{view}
 use Rattle.node_names.specs.NodeName.{IsNodeName}
-use Rattle.simulation.proofs.Items.{text_at, texts-more}
-use Rattle.simulation.proofs.scenario.section.names_of.Goals as goal
+use Rattle.scenario.proofs.Items.{text_at, texts-more}
+use Rattle.scenario.proofs.section.names_of.Goals as goal
 
 pub returns-in-None : goal.returns-in-None
 returns-in-None c names e each =
