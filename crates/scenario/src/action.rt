@@ -4,8 +4,8 @@ ghost use Rattle.toml.specs.View.{table_view};
 ghost use Rattle.scenario.specs.Reading.{at_key, IsText};
 ghost use Rattle.scenario.specs.Scenario.{IsAction};
 
-use super::error::{Key, ScenarioError};
-use super::section::Section;
+use crate::error::{Key, ScenarioError};
+use crate::section::Section;
 use bytes::Bytes;
 use node_names::{Incarnation, Listed, MsgId, NodeName, Origin};
 use std::alloc::Global;

@@ -1,8 +1,10 @@
 //! A scenario of a group that is to run.
-use crate::member::member;
-use loopback::{Member, Plan};
+use crate::error::{Key, Place, ScenarioError};
+use crate::group_node::GroupNode;
+use crate::limits::limits_of;
+use crate::read::read_document;
+use crate::section::Section;
 use node_names::{Limits, NodeName};
-use simulation::{Key, Place, ScenarioError, Section, limits_of};
 use std::alloc::{AllocError, Global};
 use toml::{Table, Value};
 
@@ -18,10 +20,14 @@ const TICKS: u64 = 100;
 /// A group that is to run.
 #[derive(Drop)]
 pub struct GroupScenario {
-    /// How it runs.
-    pub plan: Plan,
+    /// The limits of every node.
+    pub limits: Limits,
+    /// The seed of the nodes' dice.
+    pub seed: u64,
+    /// The number of ticks after which the nodes are stopped.
+    pub ticks: u32,
     /// Its nodes.
-    pub members: Vec<Member>,
+    pub nodes: Vec<GroupNode>,
 }
 
 impl GroupScenario {
@@ -34,15 +40,22 @@ impl GroupScenario {
         let seed = top.optional_number(Key::Seed, u64::MAX)?.unwrap_or(0);
         let ticks = top.optional_number_between(Key::Ticks, 1, MAX_TICKS)?;
         let limits = top.optional_table(Key::Limits)?;
-        let nodes = top.tables(Key::Node, MAX_NODES)?;
-        let plan = Plan {
-            limits: limits_of(limits)?,
+        let tables = top.tables(Key::Node, MAX_NODES)?;
+        let limits = limits_of(limits)?;
+        let nodes = nodes(alloc, &limits, tables)?;
+        Ok(GroupScenario {
+            limits,
             seed,
             ticks: u32::try_from(ticks.unwrap_or(TICKS)).unwrap_or(u32::MAX),
-        };
-        let members = members(alloc, &plan.limits, nodes)?;
-        Ok(GroupScenario { plan, members })
+            nodes,
+        })
     }
+}
+
+/// Reads a text as the scenario of a group.
+pub fn read_group_scenario(alloc: Global, text: &[u8]) -> Result<GroupScenario, ScenarioError> {
+    let document = read_document(alloc, text)?;
+    GroupScenario::from_document(alloc, &document)
 }
 
 /// The section of the node with this number. If the node is not a table, the list of nodes is refused.
@@ -60,9 +73,9 @@ fn section_of(number: usize, node: &Value) -> Result<Section<'_>, ScenarioError>
 }
 
 /// The names of the nodes, in order. Nodes without a valid name are left out.
-fn names(alloc: Global, nodes: &[Value]) -> Result<Vec<NodeName>, AllocError> {
+fn names(alloc: Global, tables: &[Value]) -> Result<Vec<NodeName>, AllocError> {
     let mut names = Vec::new(alloc);
-    for (number, node) in nodes.iter().enumerate() {
+    for (number, node) in tables.iter().enumerate() {
         if let Ok(section) = section_of(number, node) {
             if let Ok(name) = section.name(Key::Name) {
                 names.push(name)?;
@@ -73,19 +86,23 @@ fn names(alloc: Global, nodes: &[Value]) -> Result<Vec<NodeName>, AllocError> {
 }
 
 /// The nodes of a list of tables.
-fn members(alloc: Global, limits: &Limits, nodes: &[Value]) -> Result<Vec<Member>, ScenarioError> {
-    let names = names(alloc, nodes)?;
-    let mut members = Vec::new(alloc);
-    for (number, node) in nodes.iter().enumerate() {
+fn nodes(
+    alloc: Global,
+    limits: &Limits,
+    tables: &[Value],
+) -> Result<Vec<GroupNode>, ScenarioError> {
+    let names = names(alloc, tables)?;
+    let mut nodes = Vec::new(alloc);
+    for (number, node) in tables.iter().enumerate() {
         let section = section_of(number, node)?;
-        let member = member(
+        let node = GroupNode::from_section(
             alloc,
             limits,
             names.as_slice(),
-            members.as_slice(),
+            nodes.as_slice(),
             &section,
         )?;
-        members.push(member)?;
+        nodes.push(node)?;
     }
-    Ok(members)
+    Ok(nodes)
 }

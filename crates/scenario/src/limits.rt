@@ -6,8 +6,8 @@ ghost use Rattle.node_names.specs.Limits.{Limits as Sizes};
 ghost use Rattle.scenario.specs.Reading.{at_key, ReadsRequired};
 ghost use Rattle.scenario.specs.Scenario.{AreLimits, HasLimits, IsLimit};
 
-use super::error::{Key, Place, ScenarioError};
-use super::section::Section;
+use crate::error::{Key, Place, ScenarioError};
+use crate::section::Section;
 use node_names::Limits;
 use toml::Table;
 

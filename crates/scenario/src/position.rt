@@ -1,5 +1,5 @@
 //! Finds the lines of the tables and keys of a scenario in its text, in the simple cases.
-use super::error::Place;
+use crate::error::Place;
 use std::str;
 
 /// The line, counted from 1, on which the event with this number begins, in a scenario with `events` events. `None` if

@@ -5,7 +5,7 @@ ghost use Rattle.std.specs.IoError.{error_kind};
 ghost use Rattle.toml.specs.Parse.{parse_document};
 ghost use Rattle.toml.specs.View.{table_view};
 
-use crate::scenario::ScenarioError;
+use crate::error::ScenarioError;
 use std::alloc::Global;
 use std::io;
 use std::io::{ErrorKind, Read};

@@ -4,20 +4,14 @@ ghost use Rattle.toml.specs.View.{view, table_view, items_view};
 ghost use Rattle.toml.specs.Data.{Members, table};
 ghost use Rattle.node_names.specs.Limits.{Limits as Sizes};
 ghost use Rattle.scenario.specs.Reading.{tables};
-ghost use Rattle.scenario.specs.Scenario.{AreActions, Describes, IsAction};
+ghost use Rattle.scenario.specs.Scenario.{AreActions, Describes, IsAction, IsScenario};
 
-mod action;
-mod error;
-mod limits;
-mod position;
-mod section;
-
-pub use action::Action;
-pub use error::{Key, Place, ScenarioError};
-pub use limits::limits_of;
+use crate::action::Action;
+use crate::error::{Key, Place, ScenarioError};
+use crate::limits;
+use crate::read::{MAX_SCENARIO_BYTES, read_document};
+use crate::section::Section;
 use node_names::Limits;
-pub use position::{event_line, key_line};
-pub use section::Section;
 use std::alloc::Global;
 use toml::{Table, Value};
 
@@ -62,6 +56,16 @@ impl Scenario {
             actions,
         })
     }
+}
+
+/// Reads a text as a scenario.
+pub fn read_scenario(alloc: Global, text: &[u8]) -> Result<Scenario, ScenarioError>
+    ensures ok { IfOk result (λ scenario. IsScenario MAX_SCENARIO_BYTES MAX_EVENTS text.now scenario.seed scenario.limits scenario.actions.items) }
+    ensures refused { IfErr result (λ fault. fault ≢ ScenarioError.OutOfMemory → (seed : Option ℕ) (sizes : Sizes) (actions : List Action)
+        → ¬ IsScenario MAX_SCENARIO_BYTES MAX_EVENTS text.now seed sizes actions) }
+{
+    let document = read_document(alloc, text)?;
+    Scenario::from_document(alloc, &document)
 }
 
 /// The actions of a list of tables.

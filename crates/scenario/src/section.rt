@@ -5,7 +5,7 @@ ghost use Rattle.toml.specs.View.{view, table_view, items_view};
 ghost use Rattle.toml.specs.Data.{Members, as_table};
 ghost use Rattle.scenario.specs.Reading.{at_key, ReadsOptional, ReadsOptionalAs, ReadsRequired, ReadsRequiredAs, IsNumber, IsNumberFromOne, IsText, IsName, IsTable, IsNames, IsList, IsTables, tables, texts};
 
-use super::error::{Key, Place, ScenarioError};
+use crate::error::{Key, Place, ScenarioError};
 use bytes::Bytes;
 use node_names::{Listed, NodeName};
 use std::alloc::{AllocError, Global};

@@ -1,11 +1,19 @@
-//! Scenarios that have nothing to do for the command that was given.
-use crate::arguments::Task;
-use simulation::read_document;
+//! Scenarios that have nothing for what is to be done with them.
+use crate::read::read_document;
 use std::alloc::Global;
 use std::fmt;
 use toml::{Table, Value};
 
-/// What a scenario lacks for a command.
+/// What is to be done with a scenario.
+#[derive(Clone, Copy, Debug, PartialEq, Eq)]
+pub enum Purpose {
+    /// Its events are played.
+    Play,
+    /// Its nodes are run.
+    Run,
+}
+
+/// What a scenario lacks for its purpose.
 #[derive(Clone, Copy, Debug, PartialEq, Eq)]
 pub enum Unfit {
     /// It is to be played, and has nodes but no events.
@@ -34,8 +42,8 @@ fn has_any(document: &Table, key: &str) -> bool {
     }
 }
 
-/// Returns what a document lacks for a task, if it lacks something.
-fn lack_of(task: Task, document: &Table) -> Option<Unfit> {
+/// Returns what a document lacks for a purpose, if it lacks something.
+fn lack_of(purpose: Purpose, document: &Table) -> Option<Unfit> {
     let has_events = has_any(document, "event");
     let has_nodes = has_any(document, "node");
     if !has_events && !has_nodes {
@@ -45,17 +53,17 @@ fn lack_of(task: Task, document: &Table) -> Option<Unfit> {
             Some(Unfit::Neither)
         };
     }
-    match task {
-        Task::Play if !has_events => Some(Unfit::NoEvents),
-        Task::Run(_) if !has_nodes => Some(Unfit::NoNodes),
+    match purpose {
+        Purpose::Play if !has_events => Some(Unfit::NoEvents),
+        Purpose::Run if !has_nodes => Some(Unfit::NoNodes),
         _ => None,
     }
 }
 
-/// Returns what a scenario lacks for a task, if it lacks something. A text that is no document is left to its reader.
-pub fn unfit_for(alloc: Global, task: Task, text: &[u8]) -> Option<Unfit> {
+/// What a scenario lacks for a purpose, if it lacks something. A text that is no document is left to its reader.
+pub fn unfit_for(alloc: Global, purpose: Purpose, text: &[u8]) -> Option<Unfit> {
     match read_document(alloc, text) {
-        Ok(document) => lack_of(task, &document),
+        Ok(document) => lack_of(purpose, &document),
         Err(_) => None,
     }
 }

@@ -5,7 +5,7 @@ ghost use Rattle.scenario.specs.declared.error.ScenarioError.{ScenarioError};
 
 use crate::output::OutputError;
 use crate::play::PlayError;
-use crate::scenario::ScenarioError;
+use scenario::ScenarioError;
 
 /// Why a scenario was not played and written to its end.
 #[derive(Clone, Copy, Debug, PartialEq, Eq)]

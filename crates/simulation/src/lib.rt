@@ -1,4 +1,4 @@
-//! Scenarios: reads them from TOML, plays them in a simulated group, and prints or draws the outcome.
+//! Plays scenarios in a simulated group, and prints, draws or traces the outcome.
 #![tactic(auto)]
 
 mod code;
@@ -10,9 +10,7 @@ mod output;
 mod play;
 mod program;
 mod ranks;
-mod read;
 mod rolls;
-mod scenario;
 mod strict;
 mod tracing;
 mod trees;
@@ -25,8 +23,6 @@ pub use outcome::{draw, play_and_print, play_and_trace, shown, simulate, trace};
 pub use output::{OutputError, deliveries, sort, write_lines};
 pub use play::{Idle, MAX_ARRIVALS, PlayError};
 pub use program::{conclude, play_input, report, report_unread, status_after};
-pub use read::{MAX_SCENARIO_BYTES, read_document, read_text};
-pub use scenario::{Action, Key, MAX_EVENTS, Place, Scenario, ScenarioError, Section, limits_of};
 pub use strict::{report_unknown, report_value};
 pub use tracing::{Stop, write_trace};
 pub use trees::{broadcasts, write_trees};
