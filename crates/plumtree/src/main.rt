@@ -3,8 +3,6 @@
 
 mod arguments;
 mod code;
-mod group;
-mod member;
 mod merge;
 mod node;
 mod output;
@@ -12,11 +10,11 @@ mod program;
 mod progress;
 mod run_group;
 mod stream;
-mod unfit;
 mod version;
 
 use output::Output;
-use simulation::{ScenarioError, report};
+use scenario::ScenarioError;
+use simulation::report;
 use std::io::BufWriter;
 use std::process::ExitCode;
 

@@ -8,13 +8,12 @@ use crate::merge::merge_as_told;
 use crate::node::run_as_told;
 use crate::progress::{Progress, is_terminal};
 use crate::run_group::{GroupError, run_group};
-use crate::unfit::{Unfit, unfit_for};
 use clap::error::ErrorKind;
 use loopback::Machine;
 use node_command::System;
+use scenario::{ScenarioError, Unfit, read_text, unfit_for};
 use simulation::{
-    Form, ScenarioError, play_input, read_text, report, report_unknown, report_unread,
-    report_value, status_after,
+    Form, play_input, report, report_unknown, report_unread, report_value, status_after,
 };
 use status_command::run_status;
 use std::alloc::Global;
@@ -178,7 +177,7 @@ where
     F: Write,
     ensures { result ≤ 2 }
 {
-    let unfit = unfit_for(rt.alloc(), task, text);
+    let unfit = unfit_for(rt.alloc(), task.purpose(), text);
     if is_strict && let Some(status) = reject(rt.alloc(), text, unfit, faults) {
         return status;
     }

@@ -1,15 +1,15 @@
 //! Runs a group, and writes the outcome.
 use crate::arguments::Host;
-use crate::group::GroupScenario;
 use frames::Frame;
 use loopback::{Machine, Member, Plan, RunError, RunReport, Watch};
 use node_core::PlumCore;
 use node_names::{Limits, MsgId};
 use protocol::{Delivery, Trace};
 use record_merge::RecordedGroup;
+use scenario::{GroupNode, ScenarioError, read_group_scenario};
 use simulation::{
-    Form, OutputError, ScenarioError, Stop, broadcasts, deliveries, read_document, shown, sort,
-    write_graph, write_lines, write_trace, write_trees,
+    Form, OutputError, Stop, broadcasts, deliveries, shown, sort, write_graph, write_lines,
+    write_trace, write_trees,
 };
 use std::alloc::{AllocError, Global};
 use std::io::Write;
@@ -77,7 +77,13 @@ where
     W: Write,
     V: Watch + Drop,
 {
-    let GroupScenario { plan, members } = read_group(alloc, text)?;
+    let scenario = read_group_scenario(alloc, text)?;
+    let plan = Plan {
+        limits: scenario.limits,
+        seed: scenario.seed,
+        ticks: scenario.ticks,
+    };
+    let members = members(alloc, scenario.nodes)?;
     let ran = run_by(rt, alloc, host, &plan, members, watch)?;
     let did = Did {
         limits: plan.limits,
@@ -106,10 +112,19 @@ where
     }
 }
 
-/// Reads a text as the scenario of a group.
-fn read_group(alloc: Global, text: &[u8]) -> Result<GroupScenario, ScenarioError> {
-    let document = read_document(alloc, text)?;
-    GroupScenario::from_document(alloc, &document)
+/// The members of a group with these nodes.
+fn members(alloc: Global, nodes: Vec<GroupNode>) -> Result<Vec<Member>, AllocError> {
+    let mut members = Vec::with_capacity(alloc, nodes.len())?;
+    for node in nodes {
+        members.push(Member {
+            me: node.me,
+            port: node.port,
+            peers: node.peers,
+            contact: node.contact,
+            texts: node.texts,
+        })?;
+    }
+    Ok(members)
 }
 
 /// What the nodes of a group did.

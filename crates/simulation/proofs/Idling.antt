@@ -11,8 +11,8 @@ use Rattle.world.specs.Group.{Group, core_of}
 use Rattle.simulation.specs.Play.{IsIdle}
 use Rattle.simulation.specs.declared.play.Idle.{Idle}
 use Rattle.simulation.specs.declared.play.Idle.TheVariants.{NoLink, NoTimer}
-use Rattle.simulation.specs.declared.scenario.action.Action.{Action}
-use Rattle.simulation.specs.declared.scenario.action.Action.TheVariants.{Down, Fire}
+use Rattle.scenario.specs.declared.action.Action.{Action}
+use Rattle.scenario.specs.declared.action.Action.TheVariants.{Down, Fire}
 
 module _ (group : Group Plum Frame) (node : Name) where
   -- a timer that is armed

@@ -3,9 +3,6 @@ pub mod Digits
 pub mod Ending
 pub mod Flights
 pub mod Idling
-pub mod Inputs
-pub mod Items
-pub mod Numbers
 pub mod Oks
 pub mod Orders
 pub mod Plays
@@ -14,4 +11,3 @@ pub mod Sorting
 pub mod Telling
 pub mod Texts
 pub mod Turns
-pub mod Zips

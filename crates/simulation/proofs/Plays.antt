@@ -8,7 +8,7 @@ use Rattle.protocol.specs.CoreState.{CoreState}
 use Rattle.protocol.specs.Delivery.{Delivery}
 use Rattle.protocol.specs.Stimulus.{Stimulus}
 use Rattle.simulation.specs.Play.{PlaysAction, PlaysActions, Standing}
-use Rattle.simulation.specs.declared.scenario.action.Action.{Action}
+use Rattle.scenario.specs.declared.action.Action.{Action}
 
 module _
     {C N : Type 0}

@@ -14,7 +14,7 @@ use Rattle.simulation.specs.Graph.{DrawsGroup}
 use Rattle.simulation.specs.Play.{delivered, empty_group, PlaysActions}
 use Rattle.simulation.specs.Rolls.{rolls_of}
 use Rattle.simulation.specs.Trees.{broadcasts_of}
-use Rattle.simulation.specs.declared.scenario.action.Action.{Action}
+use Rattle.scenario.specs.declared.action.Action.{Action}
 
 -- whether a message is shown: all are, or only the one that was asked for
 abbrev pub is_shown : Option MsgId → MsgId → Bool

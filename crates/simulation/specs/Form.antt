@@ -9,7 +9,7 @@ use Rattle.simulation.specs.Play.{Prints}
 use Rattle.simulation.specs.Traced.{Traces}
 use Rattle.simulation.specs.declared.form.Form.{Form}
 use Rattle.simulation.specs.declared.form.Form.TheVariants.{Lines, Graph, Trace}
-use Rattle.simulation.specs.declared.scenario.action.Action.{Action}
+use Rattle.scenario.specs.declared.action.Action.{Action}
 
 -- The actions were played in a group, and the output gains the lines that are printed for that group, or its drawing,
 -- or the trace of the run.

@@ -3,13 +3,10 @@ pub mod Drawn
 pub mod Flights
 pub mod Form
 pub mod Graph
-pub mod Key
 pub mod Lines
 pub mod Play
 pub mod Ranks
-pub mod Reading
 pub mod Rolls
-pub mod Scenario
 pub mod Traced
 pub mod Trees
 pub mod Turns

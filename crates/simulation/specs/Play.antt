@@ -29,8 +29,8 @@ use Rattle.at_rest.specs.declared.error.SettleError.TheVariants as settle
 use Rattle.simulation.specs.Rolls.{after_roll, rolled, rolls_of}
 use Rattle.simulation.specs.Lines.{line_cmp, lines_of}
 use Rattle.simulation.specs.Trees.{broadcasts_of, TellsTrees}
-use Rattle.simulation.specs.declared.scenario.action.Action.{Action}
-use Rattle.simulation.specs.declared.scenario.action.Action.TheVariants.{Start, Broadcast, Arrive, Lose, Again, Fire, Flush, Shuffle, Join, Down, Stop, ArriveAll, Settle}
+use Rattle.scenario.specs.declared.action.Action.{Action}
+use Rattle.scenario.specs.declared.action.Action.TheVariants.{Start, Broadcast, Arrive, Lose, Again, Fire, Flush, Shuffle, Join, Down, Stop, ArriveAll, Settle}
 use Rattle.simulation.specs.declared.play.ActionError.{ActionError}
 use Rattle.simulation.specs.declared.play.ActionError.TheVariants as halt
 use Rattle.simulation.specs.declared.play.Idle.{Idle}

@@ -24,7 +24,7 @@ use Rattle.simulation.specs.Play.{delivered, empty_group, PlaysActions}
 use Rattle.simulation.specs.Rolls.{rolls_of}
 use Rattle.simulation.specs.Trees.{broadcasts_of}
 use Rattle.simulation.specs.Turns.{InTurn}
-use Rattle.simulation.specs.declared.scenario.action.Action.{Action}
+use Rattle.scenario.specs.declared.action.Action.{Action}
 
 -- the beginning of a step: its place among all steps, and the event of the scenario that it belongs to
 abbrev pub label_text : ℕ → Option ℕ → List ℕ

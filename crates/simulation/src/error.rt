@@ -1,11 +1,11 @@
 //! Why a scenario was not played and written to its end.
 ghost use Rattle.std.specs.Prelude.{◌≡◌, ◌≢◌, Err, IsOk, OnOk};
 ghost use Rattle.simulation.specs.declared.play.PlayError.{PlayError};
-ghost use Rattle.simulation.specs.declared.scenario.error.ScenarioError.{ScenarioError};
+ghost use Rattle.scenario.specs.declared.error.ScenarioError.{ScenarioError};
 
 use crate::output::OutputError;
 use crate::play::PlayError;
-use crate::scenario::ScenarioError;
+use scenario::ScenarioError;
 
 /// Why a scenario was not played and written to its end.
 #[derive(Clone, Copy, Debug, PartialEq, Eq)]

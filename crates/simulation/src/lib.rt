@@ -1,5 +1,5 @@
-//! Scenarios: reads them from TOML, plays them in a simulated group, and prints or draws the outcome. This is a
-//! library, so that tests can play scenarios by readers and writers of their own.
+//! Plays scenarios in a simulated group, and prints, draws or traces the outcome. This is a library, so that tests can play
+//! scenarios by readers and writers of their own.
 #![tactic(auto)]
 
 mod code;
@@ -11,9 +11,7 @@ mod output;
 mod play;
 mod program;
 mod ranks;
-mod read;
 mod rolls;
-mod scenario;
 mod strict;
 mod tracing;
 mod trees;
@@ -26,8 +24,6 @@ pub use outcome::{draw, play_and_print, play_and_trace, shown, simulate, trace};
 pub use output::{OutputError, deliveries, sort, write_lines};
 pub use play::{Idle, MAX_ARRIVALS, PlayError};
 pub use program::{conclude, play_input, report, report_unread, status_after};
-pub use read::{MAX_SCENARIO_BYTES, read_document, read_text};
-pub use scenario::{Action, Key, MAX_EVENTS, Place, Scenario, ScenarioError, Section, limits_of};
 pub use strict::{report_unknown, report_value};
 pub use tracing::{Stop, write_trace};
 pub use trees::{broadcasts, write_trees};

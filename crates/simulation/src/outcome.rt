@@ -2,9 +2,9 @@
 ghost use Rattle.std.specs.Prelude.{◌≡◌, ◌≢◌, ◌<◌, ℕ, List, Option, Err, IfOk, IfErr, OnOk, [], ◌∷◌, ◌++◌};
 ghost use Rattle.node_names.specs.Limits.{Limits as Sizes};
 ghost use Rattle.simulation.specs.declared.play.PlayError.{PlayError};
-ghost use Rattle.simulation.specs.declared.scenario.action.Action.{Action};
-ghost use Rattle.simulation.specs.declared.scenario.error.ScenarioError.{ScenarioError};
-ghost use Rattle.simulation.specs.Scenario.{IsScenario};
+ghost use Rattle.scenario.specs.declared.action.Action.{Action};
+ghost use Rattle.scenario.specs.declared.error.ScenarioError.{ScenarioError};
+ghost use Rattle.scenario.specs.Scenario.{IsScenario};
 ghost use Rattle.simulation.specs.Drawn.{is_shown, shown_of, Draws, DrawsShown};
 ghost use Rattle.simulation.specs.Play.{delivered, Prints, PrintsGroup, PrintsHalted};
 ghost use Rattle.simulation.specs.Traced.{Traces};
@@ -15,13 +15,12 @@ ghost use Rattle.node_core.specs.Steps.{PlumIsSpent, PlumStarts, PlumSteps};
 use crate::error::{SimulationError, ended};
 use crate::output::OutputError;
 use crate::play::{MAX_ARRIVALS, PlayError, Player};
-use crate::read::{MAX_SCENARIO_BYTES, read_document};
-use crate::scenario::{MAX_EVENTS, Scenario, ScenarioError};
 use crate::tracing::{Stop, write_trace};
 use crate::{graph, output, trees};
 use node_core::PlumCore;
 use node_names::MsgId;
 use protocol::Core;
+use scenario::{MAX_EVENTS, MAX_SCENARIO_BYTES, Scenario, ScenarioError, read_scenario};
 use std::alloc::{AllocError, Allocator, Global};
 use std::io::Write;
 use std::mem;
@@ -91,16 +90,6 @@ pub fn trace<W: Write>(
 {
     let scenario = read_scenario(alloc, text)?;
     play_and_trace(alloc, &scenario, text, is_strict, out)
-}
-
-/// Reads a text as a scenario.
-fn read_scenario(alloc: Global, text: &[u8]) -> Result<Scenario, ScenarioError>
-    ensures ok { IfOk result (λ scenario. IsScenario MAX_SCENARIO_BYTES MAX_EVENTS text.now scenario.seed scenario.limits scenario.actions.items) }
-    ensures refused { IfErr result (λ fault. fault ≢ ScenarioError.OutOfMemory → (seed : Option ℕ) (sizes : Sizes) (actions : List Action)
-        → ¬ IsScenario MAX_SCENARIO_BYTES MAX_EVENTS text.now seed sizes actions) }
-{
-    let document = read_document(alloc, text)?;
-    Scenario::from_document(alloc, &document)
 }
 
 /// Plays a scenario and prints its outcome.

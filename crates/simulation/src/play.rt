@@ -9,12 +9,12 @@ ghost use Rattle.simulation.specs.Rolls.{rolled, rolls_in, rolls_of};
 
 use crate::code::{Code, SettleCode};
 use crate::rolls::Rolls;
-use crate::scenario::Action;
 use at_rest::SettleError;
 use bytes::Bytes;
 use node_core::PlumCore;
 use node_names::{Limits, Listed, MsgId, NodeName};
 use protocol::Core;
+use scenario::Action;
 use std::alloc::{AllocError, Allocator};
 use std::fmt;
 use thiserror::Error;

@@ -3,20 +3,19 @@
 ghost use Rattle.std.specs.Prelude.{◌≡◌, ◌≢◌, ◌⊎◌, false, ◌≤◌, ◌<◌, ℕ, List, Option, Err, IfSome, IsOk, OnOk};
 ghost use Rattle.node_names.specs.Limits.{Limits as Sizes};
 ghost use Rattle.simulation.specs.declared.play.TheConstants.{MAX_ARRIVALS};
-ghost use Rattle.simulation.specs.declared.read.TheConstants.{MAX_SCENARIO_BYTES};
-ghost use Rattle.simulation.specs.declared.scenario.TheConstants.{MAX_EVENTS};
-ghost use Rattle.simulation.specs.declared.scenario.action.Action.{Action};
-ghost use Rattle.simulation.specs.declared.scenario.error.ScenarioError.{ScenarioError};
+ghost use Rattle.scenario.specs.declared.read.TheConstants.{MAX_SCENARIO_BYTES};
+ghost use Rattle.scenario.specs.declared.scenario.TheConstants.{MAX_EVENTS};
+ghost use Rattle.scenario.specs.declared.action.Action.{Action};
+ghost use Rattle.scenario.specs.declared.error.ScenarioError.{ScenarioError};
 ghost use Rattle.simulation.specs.Form.{IsWritten};
-ghost use Rattle.simulation.specs.Scenario.{IsScenario};
+ghost use Rattle.scenario.specs.Scenario.{IsScenario};
 
 use crate::error::SimulationError;
 use crate::form::Form;
 use crate::outcome::{draw, simulate, trace};
 use crate::play::PlayError;
-use crate::read::read_text;
-use crate::scenario::ScenarioError;
 use crate::strict::{report_idle, report_unknown, report_value};
+use scenario::{ScenarioError, read_text};
 use std::alloc::Global;
 use std::fmt::Display;
 use std::io;

@@ -2,8 +2,8 @@
 ghost use Rattle.std.specs.Prelude.{◌≡◌, ◌++◌, ℕ, List, OnOk, string_bytes};
 
 use crate::play::{MAX_ARRIVALS, PlayError};
-use crate::scenario::{Action, event_line};
 use node_core::PlumCore;
+use scenario::{Action, event_line};
 use std::alloc::{AllocError, Allocator};
 use world::{World, WorldError};
 

@@ -3,10 +3,8 @@
 use crate::tests::hello::{hello, is_told, is_traced};
 use links::TapeWriter;
 use refusing_allocator::RefusingAllocator;
-use simulation::{
-    Scenario, ScenarioError, SimulationError, conclude, play_and_print, play_and_trace,
-    read_document,
-};
+use scenario::{Scenario, ScenarioError, read_document};
+use simulation::{SimulationError, conclude, play_and_print, play_and_trace};
 use std::alloc::{Allocator, Global};
 use std::test::Fail;
 use test_support::{lend, stop_refusing, sweep};

@@ -3,7 +3,7 @@ use Rattle.std.proofs.Common.{◌≡◌, ◌≢◌, ◌∙◌, ℕ, List, Err, a
 use Rattle.std.specs.Prelude.{Option}
 use Rattle.std.proofs.lemmas.Result.{err_from_is_err_and}
 use Rattle.node_names.specs.Limits.{Limits as Sizes}
-use Rattle.simulation.specs.Scenario.{IsScenario}
+use Rattle.scenario.specs.Scenario.{IsScenario}
 use Rattle.simulation.specs.declared.error.SimulationError.TheVariants.{Refused}
 use Rattle.simulation.specs.declared.read.TheConstants.{MAX_SCENARIO_BYTES}
 use Rattle.simulation.specs.declared.scenario.TheConstants.{MAX_EVENTS}

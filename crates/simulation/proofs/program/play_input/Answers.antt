@@ -3,12 +3,12 @@ use Rattle.std.proofs.Common.{ℕ, List}
 use Rattle.std.specs.Prelude.{Option}
 use Rattle.node_names.specs.Limits.{Limits as Sizes}
 use Rattle.simulation.specs.Form.{IsWritten}
-use Rattle.simulation.specs.Scenario.{IsScenario}
+use Rattle.scenario.specs.Scenario.{IsScenario}
 use Rattle.simulation.specs.declared.play.TheConstants.{MAX_ARRIVALS}
-use Rattle.simulation.specs.declared.read.TheConstants.{MAX_SCENARIO_BYTES}
-use Rattle.simulation.specs.declared.scenario.TheConstants.{MAX_EVENTS}
-use Rattle.simulation.specs.declared.scenario.action.Action.{Action}
-use Rattle.simulation.proofs.Inputs.{all_bytes}
+use Rattle.scenario.specs.declared.read.TheConstants.{MAX_SCENARIO_BYTES}
+use Rattle.scenario.specs.declared.scenario.TheConstants.{MAX_EVENTS}
+use Rattle.scenario.specs.declared.action.Action.{Action}
+use Rattle.scenario.proofs.Inputs.{all_bytes}
 use Rattle.simulation.proofs.program.play_input.Goals as goal
 
 pub returns-in-Ok-clause-played : goal.returns-in-Ok-clause-played

@@ -1,7 +1,7 @@
 -- The text is refused in each form if it is not a scenario.
 use Rattle.std.proofs.Common.{◌≡◌, Err, rules}
 use Rattle.simulation.specs.declared.error.SimulationError.TheVariants as program
-use Rattle.simulation.specs.declared.scenario.error.ScenarioError.TheVariants.{Refused, OutOfMemory}
+use Rattle.scenario.specs.declared.error.ScenarioError.TheVariants.{Refused, OutOfMemory}
 use Rattle.simulation.proofs.program.play_known.Goals as goal
 
 pub returns-clause-refused : goal.returns-clause-refused

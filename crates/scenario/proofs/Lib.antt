@@ -1,0 +1,4 @@
+pub mod Inputs
+pub mod Items
+pub mod Numbers
+pub mod Zips
