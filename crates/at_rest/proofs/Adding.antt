@@ -42,12 +42,23 @@ adds-one old new id updates q = updates q ∙ go (same_id id q) refl ∙ sym (li
         or-false (has_id old q) ∙ ap (λ b. has_id old q || (b || false)) (sym other)
 
 -- what the items of a list add, one item further
-module _ {X : Type 0} (ids_of : X → List MsgId) (all : List X → List MsgId) (none : all [] ≡ []) (one : (x : X) (xs : List X) → all (x ∷ xs) ≡ ids_of x ++ all xs) where
+module _ {X : Type 0} (ids_of : X → List MsgId) (all : List X → List MsgId) (none : all [] ≡ [])
+    (one : (x : X) (xs : List X) → all (x ∷ xs) ≡ ids_of x ++ all xs) where
   all-push : (xs : List X) (x : X) → all (xs ++ x ∷ []) ≡ all xs ++ ids_of x
   all-push [] x = one x [] ∙ ap (λ ids. ids_of x ++ ids) none ∙ append-nil (ids_of x) ∙ ap (λ ids. ids ++ ids_of x) (sym none)
-  all-push (y ∷ xs) x = one y (xs ++ x ∷ []) ∙ ap (λ ids. ids_of y ++ ids) (all-push xs x) ∙ sym (append_assoc (ids_of y) (all xs) (ids_of x)) ∙ ap (λ ids. ids ++ ids_of x) (sym (one y xs))
+  all-push (y ∷ xs) x =
+      one y (xs ++ x ∷ [])
+      ∙ ap (λ ids. ids_of y ++ ids) (all-push xs x)
+      ∙ sym (append_assoc (ids_of y) (all xs) (ids_of x))
+      ∙ ap (λ ids. ids ++ ids_of x) (sym (one y xs))
 
-  pub adds-more : (xs : List X) (i : ℕ) (d x : X) (old mid new : List MsgId) → i < length xs → x ≡ get_or xs i d → Adds old (all (take i xs)) mid → Adds mid (ids_of x) new → Adds old (all (take (i + 1) xs)) new
+  pub adds-more : (xs : List X) (i : ℕ) (d x : X) (old mid new : List MsgId) →
+      i < length xs →
+      x ≡ get_or xs i d →
+      Adds old (all (take i xs)) mid →
+      Adds mid (ids_of x) new →
+      Adds old (all (take (i + 1) xs)) new
   adds-more xs i d x old mid new within at before now =
-      let same : all (take (i + 1) xs) ≡ all (take i xs) ++ ids_of x = ap all (take_more xs i d within ∙ ap (λ (y : X). take i xs ++ y ∷ []) (sym at)) ∙ all-push (take i xs) x in
+      let same : all (take (i + 1) xs) ≡ all (take i xs) ++ ids_of x =
+      ap all (take_more xs i d within ∙ ap (λ (y : X). take i xs ++ y ∷ []) (sym at)) ∙ all-push (take i xs) x in
       subst (λ more. Adds old more new) (sym same) (adds-both old mid new (all (take i xs)) (ids_of x) before now)

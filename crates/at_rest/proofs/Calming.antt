@@ -48,7 +48,8 @@ module _ {C N : Type 0} (state : C → CoreState) (content : N → Content) (gro
   -- the test of a packet
   packet_is : (packet : Packet N) → is_calm_packet content group packet ≡ true → IsCalmPacket content group packet
   packet_is packet h =
-      let first = and_both (not (content packet.note).is_membership) (runs group packet.to && (is_none (content packet.note).asked || runs group packet.sender.name)) h in
+      let first =
+      and_both (not (content packet.note).is_membership) (runs group packet.to && (is_none (content packet.note).asked || runs group packet.sender.name)) h in
       let second = and_both (runs group packet.to) (is_none (content packet.note).asked || runs group packet.sender.name) first.1 in
       record {
         broadcasts = not_true (content packet.note).is_membership first.0;
@@ -56,33 +57,47 @@ module _ {C N : Type 0} (state : C → CoreState) (content : N → Content) (gro
         is_answered = λ asks. answered (content packet.note).asked refl second.1 asks;
       }
     where
-      answered : (o : Option MsgId) → (content packet.note).asked ≡ o → (is_none o || runs group packet.sender.name) ≡ true → ((content packet.note).asked ≡ None → ⊥) → IsRunning group packet.sender.name
+      answered : (o : Option MsgId) →
+          (content packet.note).asked ≡ o →
+          (is_none o || runs group packet.sender.name) ≡ true →
+          ((content packet.note).asked ≡ None → ⊥) →
+          IsRunning group packet.sender.name
       answered None at h asks = absurd (asks at)
       answered (Some id) at h asks = runs_is packet.sender.name h
 
   is_packet : (packet : Packet N) → IsCalmPacket content group packet → is_calm_packet content group packet ≡ true
   is_packet packet is =
-      both_and (not (content packet.note).is_membership) (runs group packet.to && (is_none (content packet.note).asked || runs group packet.sender.name)) (false_not (content packet.note).is_membership is.broadcasts)
-      (both_and (runs group packet.to) (is_none (content packet.note).asked || runs group packet.sender.name) (is_runs packet.to is.arrives) (answered (content packet.note).asked refl))
+      both_and (not (content packet.note).is_membership)
+      (runs group packet.to && (is_none (content packet.note).asked || runs group packet.sender.name))
+      (false_not (content packet.note).is_membership is.broadcasts)
+      (both_and (runs group packet.to) (is_none (content packet.note).asked || runs group packet.sender.name)
+      (is_runs packet.to is.arrives) (answered (content packet.note).asked refl))
     where
       answered : (o : Option MsgId) → (content packet.note).asked ≡ o → (is_none o || runs group packet.sender.name) ≡ true
       answered None at = refl
       answered (Some id) at = is_runs packet.sender.name (is.is_answered (λ none. let no : Some id ≡ None = sym at ∙ none in cc))
 
   -- the test of what flies
-  flight_is : (flight : List ℕ) → list_all (λ number. flies_calm content group (slice_get group.sent number)) flight ≡ true → Each (λ number. IfSome (slice_get group.sent number) (λ packet. IsCalmPacket content group packet)) flight
+  flight_is : (flight : List ℕ) →
+      list_all (λ number. flies_calm content group (slice_get group.sent number)) flight ≡ true →
+      Each (λ number. IfSome (slice_get group.sent number) (λ packet. IsCalmPacket content group packet)) flight
   flight_is [] h = tt
   flight_is (number ∷ flight) h =
-      let both = and_both (flies_calm content group (slice_get group.sent number)) (list_all (λ n. flies_calm content group (slice_get group.sent n)) flight) h in
+      let both =
+      and_both (flies_calm content group (slice_get group.sent number)) (list_all (λ n. flies_calm content group (slice_get group.sent n)) flight) h in
       (one (slice_get group.sent number) both.0, flight_is flight both.1)
     where
       one : (o : Option (Packet N)) → flies_calm content group o ≡ true → IfSome o (λ packet. IsCalmPacket content group packet)
       one None h = tt
       one (Some packet) h = packet_is packet h
 
-  is_flight : (flight : List ℕ) → Each (λ number. IfSome (slice_get group.sent number) (λ packet. IsCalmPacket content group packet)) flight → list_all (λ number. flies_calm content group (slice_get group.sent number)) flight ≡ true
+  is_flight : (flight : List ℕ) →
+      Each (λ number. IfSome (slice_get group.sent number) (λ packet. IsCalmPacket content group packet)) flight →
+      list_all (λ number. flies_calm content group (slice_get group.sent number)) flight ≡ true
   is_flight [] h = refl
-  is_flight (number ∷ flight) h = both_and (flies_calm content group (slice_get group.sent number)) (list_all (λ n. flies_calm content group (slice_get group.sent n)) flight) (one (slice_get group.sent number) h.0) (is_flight flight h.1)
+  is_flight (number ∷ flight) h =
+      both_and (flies_calm content group (slice_get group.sent number))
+      (list_all (λ n. flies_calm content group (slice_get group.sent n)) flight) (one (slice_get group.sent number) h.0) (is_flight flight h.1)
     where
       one : (o : Option (Packet N)) → IfSome o (λ packet. IsCalmPacket content group packet) → flies_calm content group o ≡ true
       one None h = refl

@@ -46,7 +46,10 @@ each_joined P [] ys h k = k
 each_joined P (x ∷ xs) ys h k = (h.0, each_joined P xs ys h.1 k)
 
 -- what holds of each of a list holds at each of its places in another
-at_places : {X : Type 0} (P : X → Type 0) (all rest : List X) (from : ℕ) → ((k : ℕ) → slice_get all (from + k) ≡ slice_get rest k) → Each P rest → Each (λ number. IfSome (slice_get all number) P) (places from (length rest))
+at_places : {X : Type 0} (P : X → Type 0) (all rest : List X) (from : ℕ) →
+    ((k : ℕ) → slice_get all (from + k) ≡ slice_get rest k) →
+    Each P rest →
+    Each (λ number. IfSome (slice_get all number) P) (places from (length rest))
 at_places P all [] from there h = tt
 at_places P all (x ∷ rest) from there h =
     let at : from + 0 ≡ from = omega arith in
@@ -99,7 +102,8 @@ module _
     runs_new : Runs after name new
     runs_new = (
       record step.acts.node { core = Some new },
-      subst (λ ns. node_of name ns ≡ Some (record step.acts.node { core = Some new })) (sym step.acts.nodes) (put_same name (record step.acts.node { core = Some new }) before.nodes is_here),
+      subst (λ ns. node_of name ns ≡ Some (record step.acts.node { core = Some new })) (sym step.acts.nodes)
+          (put_same name (record step.acts.node { core = Some new }) before.nodes is_here),
       refl,
     )
 
@@ -108,14 +112,16 @@ module _
     runs_on other core differs runs = (
       runs.0,
       subst (λ ns. node_of other ns ≡ Some runs.0) (sym step.acts.nodes)
-          (put_other other (record step.acts.node { core = Some new }) before.nodes (tells_apart other step.acts.node.name (λ e. differs (e ∙ sym named))) ∙ runs.1),
+          (put_other other (record step.acts.node { core = Some new }) before.nodes (tells_apart other step.acts.node.name (λ e. differs (e ∙ sym named)))
+          ∙ runs.1),
       runs.2,
     )
 
     -- a core that runs afterwards is the one that stepped, or ran before
     ran : (other : Name) (core : Plum) → Runs after other core → ((other ≡ name) × (new ≡ core)) ⊎ ((other ≡ name → ⊥) × Runs before other core)
     ran other core runs =
-        elim (put_cases other (record step.acts.node { core = Some new }) runs.0 before.nodes (subst (λ ns. node_of other ns ≡ Some runs.0) step.acts.nodes runs.1)) [
+        elim (put_cases other (record step.acts.node { core = Some new }) runs.0 before.nodes
+        (subst (λ ns. node_of other ns ≡ Some runs.0) step.acts.nodes runs.1)) [
           | inl here ↦ inl (here.0 ∙ sym named, (let e : Some new ≡ Some core = ap (λ (n : NodeState Plum). n.core) here.1 ∙ runs.2 in cc))
           | inr there ↦ inr ((λ e. there.0 (e ∙ named)), (runs.0, there.1, runs.2))
         ]
@@ -161,7 +167,8 @@ module _
         go : (b : Bool) → same_name one name ≡ b → Linked plum_state after one two
         go true is =
             let here : one ≡ name = (same_name-Decides one name).0 is in
-            let same : Some link.1.0 ≡ Some step.acts.node = sym link.1.1 ∙ subst (λ n. node_of n before.nodes ≡ Some step.acts.node) (sym here) step.acts.known in
+            let same : Some link.1.0 ≡ Some step.acts.node =
+            sym link.1.1 ∙ subst (λ n. node_of n before.nodes ≡ Some step.acts.node) (sym here) step.acts.known in
             let node : link.1.0 ≡ step.acts.node = cc in
             let cores : Some link.0 ≡ Some old = sym link.1.2 ∙ ap (λ (n : NodeState Plum). n.core) node ∙ step.acts.running in
             let core : link.0 ≡ old = cc in (
@@ -180,23 +187,33 @@ module _
             (λ link. linked_after one two ((calm.symmetric.both_ways one two).1 (linked_before two one link))),
           );
           members_run = λ one two core runs member. runs_still two (elim (ran one core runs) [
-            | inl here ↦ calm.symmetric.members_run name two old runs_old (subst (λ ns. has_name ns two ≡ true) same_active (subst (λ (c : Plum). has_name (plum_state c).active two ≡ true) (sym here.1) member))
+            | inl here ↦
+                calm.symmetric.members_run name two old runs_old
+                (subst (λ ns. has_name ns two ≡ true) same_active (subst (λ (c : Plum). has_name (plum_state c).active two ≡ true) (sym here.1) member))
             | inr there ↦ calm.symmetric.members_run one two core there.1 member
           ]);
         }
 
     -- a packet that was calm is calm
     calm_still : (packet : Packet Frame) → IsCalmPacket frame_content before packet → IsCalmPacket frame_content after packet
-    calm_still packet is = record { broadcasts = is.broadcasts; arrives = runs_still packet.to is.arrives; is_answered = λ asks. runs_still packet.sender.name (is.is_answered asks) }
+    calm_still packet is = record {
+      broadcasts = is.broadcasts;
+      arrives = runs_still packet.to is.arrives;
+      is_answered = λ asks. runs_still packet.sender.name (is.is_answered asks);
+    }
 
     -- what is sent is calm
-    sends_calm : (framed : ℕ) (sends : List (Name × Body)) → GoRight old.gossip asker sends → Each (λ packet. IsCalmPacket frame_content after packet) (packets (origin_of step.acts.node) (numbered old.me framed sends))
+    sends_calm : (framed : ℕ) (sends : List (Name × Body)) →
+        GoRight old.gossip asker sends →
+        Each (λ packet. IsCalmPacket frame_content after packet) (packets (origin_of step.acts.node) (numbered old.me framed sends))
     sends_calm framed [] right = tt
     sends_calm framed (send ∷ sends) right = (
       record {
         broadcasts = right.0.about_messages;
         arrives = runs_still send.0 (elim right.0.receiver [
-          | inl member ↦ calm.symmetric.members_run name send.0 old runs_old (subst (λ ns. has_name ns send.0 ≡ true) step.core.sound.members (sym (is_member-names old.gossip.peers.members send.0) ∙ member))
+          | inl member ↦
+              calm.symmetric.members_run name send.0 old runs_old
+              (subst (λ ns. has_name ns send.0 ≡ true) step.core.sound.members (sym (is_member-names old.gossip.peers.members send.0) ∙ member))
           | inr asked ↦ asker_runs send.0 asked
         ]);
         is_answered = λ asks. (new, subst (λ n. Runs after n new) named runs_new);
@@ -209,8 +226,11 @@ module _
     calm_after =
         record {
           packets =
-              subst (λ ps. Each (λ number. IfSome (slice_get ps number) (λ packet. IsCalmPacket frame_content after packet)) after.flight) (sym step.acts.sending.sent)
-              (subst (λ ks. Each (λ number. IfSome (slice_get (before.sent ++ packets (origin_of step.acts.node) step.acts.sends) number) (λ packet. IsCalmPacket frame_content after packet)) ks) (sym step.acts.sending.flight)
+              subst (λ ps. Each (λ number. IfSome (slice_get ps number) (λ packet. IsCalmPacket frame_content after packet)) after.flight)
+              (sym step.acts.sending.sent)
+              (subst (λ ks. Each (λ number.
+              IfSome (slice_get (before.sent ++ packets (origin_of step.acts.node) step.acts.sends) number) (λ packet. IsCalmPacket frame_content after packet))
+              ks) (sym step.acts.sending.flight)
               (each_joined _ step.staying (places (length before.sent) (length step.acts.sends)) stays sends));
           symmetric = symmetric_after;
         }
@@ -218,20 +238,34 @@ module _
         more : List (Packet Frame)
         more = packets (origin_of step.acts.node) step.acts.sends
 
-        stays : Each (λ number. IfSome (slice_get (before.sent ++ packets (origin_of step.acts.node) step.acts.sends) number) (λ packet. IsCalmPacket frame_content after packet)) step.staying
+        stays : Each (λ number. IfSome (slice_get (before.sent ++ packets (origin_of step.acts.node) step.acts.sends) number)
+            (λ packet. IsCalmPacket frame_content after packet))
+            step.staying
         stays = each_of_one _ step.staying (λ number one. (
             let flew : IsOneOf number before.flight = step.stayed number one in
             let within : number < length before.sent = one_of_each (λ n. n < length before.sent) before.flight number are_sent flew in
-            let was : IfSome (slice_get before.sent number) (λ packet. IsCalmPacket frame_content before packet) = one_of_each (λ n. IfSome (slice_get before.sent n) (λ packet. IsCalmPacket frame_content before packet)) before.flight number calm.packets flew in
-            subst (λ o. IfSome o (λ packet. IsCalmPacket frame_content after packet)) (sym (get_left before.sent (packets (origin_of step.acts.node) step.acts.sends) number within)) (weaker (slice_get before.sent number) was)))
+            let was : IfSome (slice_get before.sent number) (λ packet. IsCalmPacket frame_content before packet) =
+            one_of_each (λ n. IfSome (slice_get before.sent n) (λ packet. IsCalmPacket frame_content before packet)) before.flight number calm.packets flew in
+            subst (λ o. IfSome o (λ packet. IsCalmPacket frame_content after packet))
+            (sym (get_left before.sent (packets (origin_of step.acts.node) step.acts.sends) number within)) (weaker (slice_get before.sent number) was)))
           where
-            weaker : (o : Option (Packet Frame)) → IfSome o (λ packet. IsCalmPacket frame_content before packet) → IfSome o (λ packet. IsCalmPacket frame_content after packet)
+            weaker : (o : Option (Packet Frame)) →
+                IfSome o (λ packet. IsCalmPacket frame_content before packet) →
+                IfSome o (λ packet. IsCalmPacket frame_content after packet)
             weaker None h = h
             weaker (Some packet) h = calm_still packet h
 
-        sends : Each (λ number. IfSome (slice_get (before.sent ++ packets (origin_of step.acts.node) step.acts.sends) number) (λ packet. IsCalmPacket frame_content after packet)) (places (length before.sent) (length step.acts.sends))
+        sends : Each (λ number. IfSome (slice_get (before.sent ++ packets (origin_of step.acts.node) step.acts.sends) number)
+            (λ packet. IsCalmPacket frame_content after packet))
+            (places (length before.sent) (length step.acts.sends))
         sends =
-            subst (λ n. Each (λ number. IfSome (slice_get (before.sent ++ packets (origin_of step.acts.node) step.acts.sends) number) (λ packet. IsCalmPacket frame_content after packet)) (places (length before.sent) n))
+            subst (λ n. Each (λ number. IfSome (slice_get (before.sent ++ packets (origin_of step.acts.node) step.acts.sends) number)
+            (λ packet. IsCalmPacket frame_content after packet)) (places (length before.sent) n))
             (length-map step.acts.sends (λ (send : Name × Frame). record { sender = origin_of step.acts.node; to = send.0; note = send.1 }))
-            (at_places (λ packet. IsCalmPacket frame_content after packet) (before.sent ++ packets (origin_of step.acts.node) step.acts.sends) (packets (origin_of step.acts.node) step.acts.sends) (length before.sent) (get_behind before.sent (packets (origin_of step.acts.node) step.acts.sends))
-            (subst (λ ss. Each (λ packet. IsCalmPacket frame_content after packet) (packets (origin_of step.acts.node) ss)) (sym step.acts.stepped.sent) (sends_calm old.framed turn.sends turns.right)))
+            (at_places (λ packet. IsCalmPacket frame_content after packet)
+            (before.sent ++ packets (origin_of step.acts.node) step.acts.sends)
+            (packets (origin_of step.acts.node) step.acts.sends)
+            (length before.sent)
+            (get_behind before.sent (packets (origin_of step.acts.node) step.acts.sends))
+            (subst (λ ss. Each (λ packet. IsCalmPacket frame_content after packet) (packets (origin_of step.acts.node) ss))
+            (sym step.acts.stepped.sent) (sends_calm old.framed turn.sends turns.right)))

@@ -31,7 +31,12 @@ use Rattle.node_core.specs.Steps.{PlumStarts, PlumSteps, numbered, opening, turn
 
 -- If what the core holds and the stimulus fit, then so do what the core holds afterwards and what it sends.
 abbrev pub StepsFit : Type 0
-StepsFit = (core : Plum) (stimulus : Stimulus Frame) → FitsFrames core.gossip → AreSound core.membership.views → ComesFit stimulus → FitsFrames (turned core.me core.membership core.gossip stimulus).gossip × AreFit (turned core.me core.membership core.gossip stimulus).sends
+StepsFit =
+    (core : Plum) (stimulus : Stimulus Frame) →
+    FitsFrames core.gossip →
+    AreSound core.membership.views →
+    ComesFit stimulus →
+    FitsFrames (turned core.me core.membership core.gossip stimulus).gossip × AreFit (turned core.me core.membership core.gossip stimulus).sends
 
 -- Every packet that was sent fits, and what each running core holds.
 pub record GroupFits (group : Group Plum Frame) : Type 0 where
@@ -39,7 +44,9 @@ pub record GroupFits (group : Group Plum Frame) : Type 0 where
   pub cores : (name : Name) (core : Plum) → Runs group name core → FitsFrames core.gossip
 
 -- bodies that fit make packets that do
-packets_fit : (me : Origin) (sender : Origin) (framed : ℕ) (sends : List (Name × Body)) → AreFit sends → Each (λ (packet : Packet Frame). IsFit packet.note.body) (packets sender (numbered me framed sends))
+packets_fit : (me : Origin) (sender : Origin) (framed : ℕ) (sends : List (Name × Body)) →
+    AreFit sends →
+    Each (λ (packet : Packet Frame). IsFit packet.note.body) (packets sender (numbered me framed sends))
 packets_fit me sender framed [] fit = tt
 packets_fit me sender framed (send ∷ sends) fit = (fit.0, packets_fit me sender (framed + 1) sends fit.1)
 
@@ -53,9 +60,15 @@ module _
     (steps_fit : StepsFit)
     (limits : Limits)
   where
-    module _ (past : List Entry) (entry : Entry) (before after : Group Plum Frame) (kept : Keeps plum_state frame_content IsSoundPlum limits past before.nodes before.sent) (fits : GroupFits before) where
+    module _ (past : List Entry) (entry : Entry) (before after : Group Plum Frame)
+        (kept : Keeps plum_state frame_content IsSoundPlum limits past before.nodes before.sent) (fits : GroupFits before) where
       -- a node that is put fits if its core does
-      put_fits : (node : NodeState Plum) → ((core : Plum) → node.core ≡ Some core → FitsFrames core.gossip) → after.nodes ≡ put_node node before.nodes → (name : Name) (core : Plum) → Runs after name core → FitsFrames core.gossip
+      put_fits : (node : NodeState Plum) →
+          ((core : Plum) → node.core ≡ Some core → FitsFrames core.gossip) →
+          after.nodes ≡ put_node node before.nodes →
+          (name : Name) (core : Plum) →
+          Runs after name core →
+          FitsFrames core.gossip
       put_fits node its nodes name core runs =
           elim (put_cases name node runs.0 before.nodes (subst (λ ns. node_of name ns ≡ Some runs.0) nodes runs.1)) [
             | inl here ↦ its core (ap (λ (n : NodeState Plum). n.core) here.1 ∙ runs.2)
@@ -63,16 +76,21 @@ module _
           ]
 
       -- a step
-      step_fits : (name : Name) (by : Stimulus Frame) → IsStep plum_state frame_content IsSoundPlum PlumStarts PlumSteps laws limits past entry before after name by → ComesFit by → GroupFits after
+      step_fits : (name : Name) (by : Stimulus Frame) →
+          IsStep plum_state frame_content IsSoundPlum PlumStarts PlumSteps laws limits past entry before after name by →
+          ComesFit by →
+          GroupFits after
       step_fits name by step comes =
-          let left : FitsFrames (turned step.acts.old.me step.acts.old.membership step.acts.old.gossip by).gossip × AreFit (turned step.acts.old.me step.acts.old.membership step.acts.old.gossip by).sends =
+          let left : FitsFrames (turned step.acts.old.me step.acts.old.membership step.acts.old.gossip by).gossip
+          × AreFit (turned step.acts.old.me step.acts.old.membership step.acts.old.gossip by).sends =
           steps_fit step.acts.old by (fits.cores name step.acts.old (step.acts.node, step.acts.known, step.acts.running)) step.core.sound.views comes in
           record {
             sent =
                 subst (λ ps. Each (λ (packet : Packet Frame). IsFit packet.note.body) ps) (sym step.acts.sending.sent)
                 (each-append (λ (packet : Packet Frame). IsFit packet.note.body) before.sent (packets (origin_of step.acts.node) step.acts.sends) fits.sent
                 (subst (λ ss. Each (λ (packet : Packet Frame). IsFit packet.note.body) (packets (origin_of step.acts.node) ss)) (sym step.acts.stepped.sent)
-                (packets_fit step.acts.old.me (origin_of step.acts.node) step.acts.old.framed (turned step.acts.old.me step.acts.old.membership step.acts.old.gossip by).sends left.1)));
+                (packets_fit step.acts.old.me (origin_of step.acts.node) step.acts.old.framed
+                (turned step.acts.old.me step.acts.old.membership step.acts.old.gossip by).sends left.1)));
             cores = put_fits (record step.acts.node { core = Some step.acts.new })
                 (λ core is. (
                 let same : Some step.acts.new ≡ Some core = is in
@@ -82,7 +100,13 @@ module _
           }
 
       -- what arrives was sent, and fits
-      arrival_fits : (name : Name) (by : Stimulus Frame) (step : IsStep plum_state frame_content IsSoundPlum PlumStarts PlumSteps laws limits past entry before after name by) (sender : Origin) (frame : Frame) (dice : Dice) → by ≡ stimulus.Arrive sender frame dice → IsFit frame.body
+      arrival_fits : (name : Name) (by : Stimulus Frame)
+          (step : IsStep plum_state frame_content IsSoundPlum PlumStarts PlumSteps laws limits past entry before after name by)
+          (sender : Origin)
+          (frame : Frame)
+          (dice : Dice) →
+          by ≡ stimulus.Arrive sender frame dice →
+          IsFit frame.body
       arrival_fits name by step sender frame dice is =
           let was = step.was_sent sender frame dice is in
           subst (λ (f : Frame). IsFit f.body) was.4 (each-at (λ (packet : Packet Frame). IsFit packet.note.body) before.sent was.0 was.1 fits.sent was.2)
@@ -100,7 +124,8 @@ module _
                 (λ core is. (
                 let same : Some started.core ≡ Some core = is in
                 let this : started.core ≡ core = cc in
-                subst (λ (c : Plum). FitsFrames c.gossip) this (subst (λ (c : Plum). FitsFrames c.gossip) (sym started.started.leaves) (record { held = tt; queued = tt; wants = tt }))))
+                subst (λ (c : Plum). FitsFrames c.gossip) this
+                (subst (λ (c : Plum). FitsFrames c.gossip) (sym started.started.leaves) (record { held = tt; queued = tt; wants = tt }))))
                 started.nodes;
           }
 
@@ -123,11 +148,17 @@ module _
           step_fits _ _ step (arrival_fits _ _ step effect.packet.sender effect.packet.note dice refl)
       event_fits (Lose place) effect = same_fits effect.others.nodes effect.others.sent
       event_fits (Again number) effect = same_fits effect.others.nodes effect.others.sent
-      event_fits (Fire name id) effect = step_fits _ _ (fire_step plum_state frame_content IsSoundPlum PlumStarts PlumSteps laws limits past entry before after kept name id effect.1) tt
-      event_fits (Flush name) effect = step_fits _ _ (flush_step plum_state frame_content IsSoundPlum PlumStarts PlumSteps laws limits past entry before after kept name effect.1) tt
-      event_fits (Down name peer dice) effect = step_fits _ _ (down_step plum_state frame_content IsSoundPlum PlumStarts PlumSteps laws limits past entry before after kept name peer dice effect.1) tt
-      event_fits (Shuffle name dice) effect = step_fits _ _ (shuffle_step plum_state frame_content IsSoundPlum PlumStarts PlumSteps laws limits past entry before after kept name dice effect.1) tt
-      event_fits (Join name contact) effect = step_fits _ _ (join_step plum_state frame_content IsSoundPlum PlumStarts PlumSteps laws limits past entry before after kept name contact effect.1) tt
+      event_fits (Fire name id) effect =
+          step_fits _ _ (fire_step plum_state frame_content IsSoundPlum PlumStarts PlumSteps laws limits past entry before after kept name id effect.1) tt
+      event_fits (Flush name) effect =
+          step_fits _ _ (flush_step plum_state frame_content IsSoundPlum PlumStarts PlumSteps laws limits past entry before after kept name effect.1) tt
+      event_fits (Down name peer dice) effect =
+          step_fits _ _
+          (down_step plum_state frame_content IsSoundPlum PlumStarts PlumSteps laws limits past entry before after kept name peer dice effect.1) tt
+      event_fits (Shuffle name dice) effect =
+          step_fits _ _ (shuffle_step plum_state frame_content IsSoundPlum PlumStarts PlumSteps laws limits past entry before after kept name dice effect.1) tt
+      event_fits (Join name contact) effect =
+          step_fits _ _ (join_step plum_state frame_content IsSoundPlum PlumStarts PlumSteps laws limits past entry before after kept name contact effect.1) tt
       event_fits (Stop name) effect =
           record {
             sent = subst (λ ps. Each (λ (packet : Packet Frame). IsFit packet.note.body) ps) (sym effect.1.sent) fits.sent;
@@ -141,4 +172,6 @@ module _
           sent = subst (λ ps. Each (λ (packet : Packet Frame). IsFit packet.note.body) ps) (sym run.nothing_sent) tt;
           cores = λ name core runs. (let none : None ≡ Some runs.0 = subst (λ ns. node_of name ns ≡ Some runs.0) run.no_nodes runs.1 in cc);
         }
-    run_fits (entry ∷ past) group run = event_fits past entry run.0 group (run_keeps plum_state frame_content IsSoundPlum PlumStarts PlumSteps laws limits past run.0 run.1) (run_fits past run.0 run.1) entry.event run.2.1
+    run_fits (entry ∷ past) group run =
+        event_fits past entry run.0 group (run_keeps plum_state frame_content IsSoundPlum PlumStarts PlumSteps laws limits past run.0 run.1)
+        (run_fits past run.0 run.1) entry.event run.2.1

@@ -46,7 +46,8 @@ module _ {C N : Type 0} (state : C → CoreState) (group : Group C N) where
   pub is_running : (name : Name) → IsRunning group name → runs state group.nodes name ≡ true
   is_running name running = ap is_some (runs_core group name running.0 running.1)
 
-  module _ (from : Name) (k : ℕ) (reached level next : List Name) (front : IsFront state group from k reached level) (is : (end : Name) → has_name next end ≡ (is_new state group.nodes (reached ++ level) end && list_any (λ member. has_link state group.nodes member end) level)) where
+  module _ (from : Name) (k : ℕ) (reached level next : List Name) (front : IsFront state group from k reached level) (is : (end : Name) →
+      has_name next end ≡ (is_new state group.nodes (reached ++ level) end && list_any (λ member. has_link state group.nodes member end) level)) where
     -- the names reached then are those nearer than one link more
     near_then : (end : Name) → (has_name (reached ++ level) end ≡ true) ↔ ((m : ℕ) × (m < suc k) × Path state group m from end)
     near_then end = (
@@ -66,11 +67,13 @@ module _ {C N : Type 0} (state : C → CoreState) (group : Group C N) where
     at_then : (end : Name) → (has_name next end ≡ true) ↔ IsDistance state group from (suc k) end
     at_then end = (
       (λ h.
-          let test : (is_new state group.nodes (reached ++ level) end && list_any (λ member. has_link state group.nodes member end) level) ≡ true = sym (is end) ∙ h in
+          let test : (is_new state group.nodes (reached ++ level) end && list_any (λ member. has_link state group.nodes member end) level) ≡ true =
+          sym (is end) ∙ h in
           let new : is_new state group.nodes (reached ++ level) end ≡ true = first_holds (is_new state group.nodes (reached ++ level) end) _ test in
           let running : IsRunning group end = running_is end (first_holds (runs state group.nodes end) _ new) in
           let unreached : not (has_name (reached ++ level) end) ≡ true = second_holds (runs state group.nodes end) _ new in
-          let found = one_passes (λ member. has_link state group.nodes member end) level (second_holds (is_new state group.nodes (reached ++ level) end) _ test) in
+          let found =
+          one_passes (λ member. has_link state group.nodes member end) level (second_holds (is_new state group.nodes (reached ++ level) end) _ test) in
           let link = link_is state group found.0 end found.2 in
           let mid : IsDistance state group from k found.0 = (front.at found.0).0 (one_has level found.0 found.1) in
           record {
@@ -86,17 +89,24 @@ module _ {C N : Type 0} (state : C → CoreState) (group : Group C N) where
           let last = last_link state group k from end distance.path in
           let at_mid : has_name level last.0 ≡ true =
           elim (covered state group from k reached level front k last.0 (omega arith) last.1) [
-            | inl in_reached ↦ (let before = (front.near last.0).0 in_reached in absurd (distance.shortest (suc before.0) (let less : before.0 < k = before.1 in omega arith) (longer state group before.0 from last.0 end before.2 last.2)))
+            | inl in_reached ↦
+                (let before = (front.near last.0).0 in_reached in
+                absurd (distance.shortest (suc before.0) (let less : before.0 < k = before.1 in omega arith)
+                (longer state group before.0 from last.0 end before.2 last.2)))
             | inr in_level ↦ in_level
           ] in
           let unreached : not (has_name (reached ++ level) end) ≡ true =
           not_false (has_name (reached ++ level) end) (fails (has_name (reached ++ level) end) (λ h. elim (has_either reached level end h) [
-            | inl in_reached ↦ (let before = (front.near end).0 in_reached in distance.shortest before.0 (let less : before.0 < k = before.1 in omega arith) before.2)
+            | inl in_reached ↦
+                (let before = (front.near end).0 in_reached in distance.shortest before.0 (let less : before.0 < k = before.1 in omega arith) before.2)
             | inr in_level ↦ distance.shortest k (omega arith) ((front.at end).0 in_level).path
           ])) in
-          let linked : list_any (λ member. has_link state group.nodes member end) level ≡ true = any_passes (λ member. has_link state group.nodes member end) level last.0 (has_one level last.0 at_mid) (is_link state group last.0 end (last.2.0, last.2.1, last.2.2)) in
+          let linked : list_any (λ member. has_link state group.nodes member end) level ≡ true =
+          any_passes (λ member. has_link state group.nodes member end) level last.0
+          (has_one level last.0 at_mid) (is_link state group last.0 end (last.2.0, last.2.1, last.2.2)) in
           is end
-          ∙ both_hold (is_new state group.nodes (reached ++ level) end) _ (both_hold (runs state group.nodes end) _ (is_running end (end_runs state group (suc k) from end distance.path)) unreached) linked),
+          ∙ both_hold (is_new state group.nodes (reached ++ level) end) _
+          (both_hold (runs state group.nodes end) _ (is_running end (end_runs state group (suc k) from end distance.path)) unreached) linked),
     )
 
     -- so the front goes one level on

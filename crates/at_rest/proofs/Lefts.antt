@@ -61,7 +61,11 @@ none_in set at none = ap (λ ks. list_any (λ k. is_eq (nat_cmp at k)) ks) none
 pub none_yet : (set : BTreeSet ℕ) (tells : ℕ → Bool) → set.keys ≡ [] → (at : ℕ) → contains nat_cmp set at ≡ (nat_lt at 0 && tells at)
 none_yet set tells none at = none_in set at none ∙ sym (ap (λ b. b && tells at) (not_less at 0 (λ less. omega arith)))
 
-pub one_more : (old new : BTreeSet ℕ) (tells : ℕ → Bool) (i : ℕ) → ((at : ℕ) → contains nat_cmp old at ≡ (nat_lt at i && tells at)) → Updates nat_cmp old new i (tells i) → (at : ℕ) → contains nat_cmp new at ≡ (nat_lt at (i + 1) && tells at)
+pub one_more : (old new : BTreeSet ℕ) (tells : ℕ → Bool) (i : ℕ) →
+    ((at : ℕ) → contains nat_cmp old at ≡ (nat_lt at i && tells at)) →
+    Updates nat_cmp old new i (tells i) →
+    (at : ℕ) →
+    contains nat_cmp new at ≡ (nat_lt at (i + 1) && tells at)
 one_more old new tells i before updates at = go (is_eq (nat_cmp i at)) refl
   where
     below : (i ≡ at → ⊥) → nat_lt at (i + 1) ≡ nat_lt at i
@@ -124,22 +128,38 @@ module _
     no_name at member none = false≢true (sym (left at ∙ ap (is_left_at state kind nodes) none) ∙ member)
 
     -- at which something is left
-    pub some_item : (at : ℕ) (name : Name) → slice_get (names_of nodes) at ≡ Some name → contains nat_cmp set at ≡ true → (x : X) × (ys : List X) × (list (core_of name nodes) ≡ x ∷ ys)
+    pub some_item : (at : ℕ) (name : Name) →
+        slice_get (names_of nodes) at ≡ Some name →
+        contains nat_cmp set at ≡ true →
+        (x : X) × (ys : List X) × (list (core_of name nodes) ≡ x ∷ ys)
     some_item at name named member = an_item (list (core_of name nodes)) (sym (told at name named) ∙ member)
 
     -- if nothing is left at the nodes before one, that one is the first
-    split : (rest : List (NodeState C)) (at : ℕ) (name : Name) → slice_get (names_of rest) at ≡ Some name → ((q : ℕ) → q < at → (other : Name) → slice_get (names_of rest) q ≡ Some other → list (core_of other nodes) ≡ [])
-        → (front : List (NodeState C)) × (node : NodeState C) × (back : List (NodeState C)) × (rest ≡ front ++ node ∷ back) × (name ≡ node.name) × Each (λ (other : NodeState C). list (core_of other.name nodes) ≡ []) front
+    split : (rest : List (NodeState C)) (at : ℕ) (name : Name) →
+        slice_get (names_of rest) at ≡ Some name →
+        ((q : ℕ) → q < at → (other : Name) → slice_get (names_of rest) q ≡ Some other → list (core_of other nodes) ≡ [])
+        → (front : List (NodeState C))
+        × (node : NodeState C)
+        × (back : List (NodeState C))
+        × (rest ≡ front ++ node ∷ back)
+        × (name ≡ node.name)
+        × Each (λ (other : NodeState C). list (core_of other.name nodes) ≡ []) front
     split [] at name is before = let no : None ≡ Some name = is in cc
     split (node ∷ rest) zero name is before = ([], node, rest, refl, (let same : Some node.name ≡ Some name = is in cc), tt)
     split (node ∷ rest) (suc at) name is before =
         let p = split rest at name is (λ q less other there. before (suc q) (omega arith) other there) in
         (node ∷ p.0, p.1, p.2, ap (λ ns. node ∷ ns) p.3, p.4, (before zero (omega arith) node.name refl, p.5))
 
-    pub first_with : (at : ℕ) (name : Name) → slice_get (names_of nodes) at ≡ Some name → contains nat_cmp set at ≡ true → IsLowerBound nat_cmp set at → (x : X) × IsFirstWith list nodes name x
+    pub first_with : (at : ℕ) (name : Name) →
+        slice_get (names_of nodes) at ≡ Some name →
+        contains nat_cmp set at ≡ true →
+        IsLowerBound nat_cmp set at →
+        (x : X) × IsFirstWith list nodes name x
     first_with at name named member least =
         let here = some_item at name named member in
-        let parts = split nodes at name named (λ q less other there. no_item (list (core_of other nodes)) (sym (told q other there) ∙ not_in q less (contains nat_cmp set q) refl)) in (
+        let parts =
+        split nodes at name named
+        (λ q less other there. no_item (list (core_of other nodes)) (sym (told q other there) ∙ not_in q less (contains nat_cmp set q) refl)) in (
           here.0,
           record {
             front = parts.0;
@@ -158,7 +178,9 @@ module _
         not_in q less false is = is
 
     -- without keys nothing is left
-    each_empty : (rest : List (NodeState C)) → ((q : ℕ) (other : Name) → slice_get (names_of rest) q ≡ Some other → list (core_of other nodes) ≡ []) → Each (λ (other : NodeState C). list (core_of other.name nodes) ≡ []) rest
+    each_empty : (rest : List (NodeState C)) →
+        ((q : ℕ) (other : Name) → slice_get (names_of rest) q ≡ Some other → list (core_of other nodes) ≡ []) →
+        Each (λ (other : NodeState C). list (core_of other.name nodes) ≡ []) rest
     each_empty [] all = tt
     each_empty (node ∷ rest) all = (all zero node.name refl, each_empty rest (λ q other there. all (suc q) other there))
 
@@ -168,16 +190,26 @@ module _
 -- a name behind another of distinct ones differs from it
 behind : (names : List Name) (name other : Name) (q : ℕ) → Each (λ n. same_name name n ≡ false) names → slice_get names q ≡ Some other → name ≡ other → ⊥
 behind [] name other q each is same = let no : None ≡ Some other = is in cc
-behind (first ∷ names) name other zero each is same = let here : Some first ≡ Some other = is in false≢true (sym each.0 ∙ (same_name-Decides name first).1 (let f : first ≡ other = cc in same ∙ sym f))
+behind (first ∷ names) name other zero each is same =
+    let here : Some first ≡ Some other = is in false≢true (sym each.0 ∙ (same_name-Decides name first).1 (let f : first ≡ other = cc in same ∙ sym f))
 behind (first ∷ names) name other (suc q) each is same = behind names name other q each.1 is same
 
 -- of distinct names two at different places differ
-apart : (names : List Name) → IsDistinct same_name names → (p q : ℕ) (a b : Name) → slice_get names p ≡ Some a → slice_get names q ≡ Some b → (p ≡ q → ⊥) → a ≡ b → ⊥
+apart : (names : List Name) →
+    IsDistinct same_name names →
+    (p q : ℕ) (a b : Name) →
+    slice_get names p ≡ Some a →
+    slice_get names q ≡ Some b →
+    (p ≡ q → ⊥) →
+    a ≡ b →
+    ⊥
 unfolding IsDistinct
 apart [] distinct p q a b is_a is_b differ same = let no : None ≡ Some a = is_a in cc
 apart (name ∷ names) distinct zero zero a b is_a is_b differ same = differ refl
-apart (name ∷ names) distinct zero (suc q) a b is_a is_b differ same = let here : Some name ≡ Some a = is_a in behind names name b q distinct.0 is_b (let n : name ≡ a = cc in n ∙ same)
-apart (name ∷ names) distinct (suc p) zero a b is_a is_b differ same = let here : Some name ≡ Some b = is_b in behind names name a p distinct.0 is_a (let n : name ≡ b = cc in n ∙ sym same)
+apart (name ∷ names) distinct zero (suc q) a b is_a is_b differ same =
+    let here : Some name ≡ Some a = is_a in behind names name b q distinct.0 is_b (let n : name ≡ a = cc in n ∙ same)
+apart (name ∷ names) distinct (suc p) zero a b is_a is_b differ same =
+    let here : Some name ≡ Some b = is_b in behind names name a p distinct.0 is_a (let n : name ≡ b = cc in n ∙ sym same)
 apart (name ∷ names) distinct (suc p) (suc q) a b is_a is_b differ same = apart names distinct.1 p q a b is_a is_b (λ e. differ (ap suc e)) same
 
 -- a position that is found is that of an item that passes
@@ -190,18 +222,28 @@ found_at {X} test xs at e =
     find [] less = absurd (omega arith)
     find (y ∷ ys) less = go (test y) refl (position_or_len test ys) (find ys) less
       where
-        go : (b : Bool) → test y ≡ b → (k : ℕ) → (k < length ys → (x : X) × (slice_get ys k ≡ Some x) × (test x ≡ true)) → cond (not b) (1 + k) 0 < length (y ∷ ys) → (x : X) × (slice_get (y ∷ ys) (cond (not b) (1 + k) 0) ≡ Some x) × (test x ≡ true)
+        go : (b : Bool) →
+            test y ≡ b →
+            (k : ℕ) →
+            (k < length ys → (x : X) × (slice_get ys k ≡ Some x) × (test x ≡ true)) →
+            cond (not b) (1 + k) 0 < length (y ∷ ys) →
+            (x : X) × (slice_get (y ∷ ys) (cond (not b) (1 + k) 0) ≡ Some x) × (test x ≡ true)
         go true is k later less = (y, refl, is)
         go false is k later less =
             let one : 1 + k ≡ suc k = omega arith in
             subst (λ n. (x : X) × (slice_get (y ∷ ys) n ≡ Some x) × (test x ≡ true)) (sym one) (later (omega arith))
 
 -- putting a node of a known name leaves the names
-pub names_stay : {C : Type 0} (node found : NodeState C) (nodes : List (NodeState C)) → node_of node.name nodes ≡ Some found → names_of (put_node node nodes) ≡ names_of nodes
+pub names_stay : {C : Type 0} (node found : NodeState C) (nodes : List (NodeState C)) →
+    node_of node.name nodes ≡ Some found →
+    names_of (put_node node nodes) ≡ names_of nodes
 names_stay node found [] known = let no : None ≡ Some found = known in cc
 names_stay {C} node found (other ∷ others) known = go (same_name node.name other.name) refl known (names_stay node found others)
   where
-    go : (b : Bool) → same_name node.name other.name ≡ b → cond b (Some other) (node_of node.name others) ≡ Some found → (node_of node.name others ≡ Some found → names_of (put_node node others) ≡ names_of others)
+    go : (b : Bool) →
+        same_name node.name other.name ≡ b →
+        cond b (Some other) (node_of node.name others) ≡ Some found →
+        (node_of node.name others ≡ Some found → names_of (put_node node others) ≡ names_of others)
         → names_of (cond b (node ∷ others) (other ∷ put_node node others)) ≡ names_of (other ∷ others)
     go true is at later = ap (λ n. n ∷ names_of others) ((same_name-Decides node.name other.name).0 is)
     go false is at later = ap (λ ns. other.name ∷ ns) (later at)
@@ -223,7 +265,9 @@ module _
     named = found_name name before node known
 
     pub same_names : names_of after ≡ names_of before
-    same_names = ap (λ (ns : List (NodeState C)). names_of ns) put ∙ names_stay (record node { core = Some new }) node before (subst (λ n. node_of n before ≡ Some node) named known)
+    same_names =
+        ap (λ (ns : List (NodeState C)). names_of ns) put
+        ∙ names_stay (record node { core = Some new }) node before (subst (λ n. node_of n before ≡ Some node) named known)
 
     pub places_after : (old_set new_set : BTreeSet ℕ) → AreLeft state kind before old_set → (at : ℕ) → position (same_name name) (names_of after) ≡ Some at
         → Updates nat_cmp old_set new_set at (is_left_at state kind after (slice_get (names_of after) at)) → AreLeft state kind after new_set
@@ -235,8 +279,10 @@ module _
         same_core : (other : Name) → slice_get (names_of before) q ≡ Some other → (at ≡ q → ⊥) → core_of other before ≡ core_of other after
         same_core other is differ =
             let place : slice_get (names_of before) at ≡ Some here.0 = ap (λ ns. slice_get ns at) (sym same_names) ∙ here.1 in
-            let differs : other ≡ node.name → ⊥ = λ e. apart (names_of before) distinct at q here.0 other place is differ (sym ((same_name-Decides name here.0).0 here.2) ∙ named ∙ sym e) in
-            ap (λ (o : Option (NodeState C)). core_in o) (sym (put_other other (record node { core = Some new }) before (unlike other differs)) ∙ ap (λ (ns : List (NodeState C)). node_of other ns) (sym put))
+            let differs : other ≡ node.name → ⊥ =
+            λ e. apart (names_of before) distinct at q here.0 other place is differ (sym ((same_name-Decides name here.0).0 here.2) ∙ named ∙ sym e) in
+            ap (λ (o : Option (NodeState C)). core_in o) (sym (put_other other (record node { core = Some new }) before (unlike other differs))
+            ∙ ap (λ (ns : List (NodeState C)). node_of other ns) (sym put))
           where
             unlike : (other : Name) → (other ≡ node.name → ⊥) → same_name other node.name ≡ false
             unlike other differs = case (same_name other node.name) refl

@@ -51,7 +51,10 @@ module _ {X : Type 0} (p q : X → Bool) (within : (x : X) → q x ≡ true → 
   no_more [] = omega arith
   no_more (x ∷ xs) = go (p x) (q x) (within x) (no_more xs)
     where
-      go : (a b : Bool) → (b ≡ true → a ≡ true) → length (filter q xs) ≤ length (filter p xs) → length (cond b (x ∷ filter q xs) (filter q xs)) ≤ length (cond a (x ∷ filter p xs) (filter p xs))
+      go : (a b : Bool) →
+          (b ≡ true → a ≡ true) →
+          length (filter q xs) ≤ length (filter p xs) →
+          length (cond b (x ∷ filter q xs) (filter q xs)) ≤ length (cond a (x ∷ filter p xs) (filter p xs))
       go true true h rest = omega arith
       go true false h rest = omega arith
       go false true h rest = absurd (false≢true (h refl))
@@ -61,7 +64,12 @@ module _ {X : Type 0} (p q : X → Bool) (within : (x : X) → q x ≡ true → 
   fewer [] y one passed failed = absurd one
   fewer (x ∷ xs) y one passed failed = go (p x) (q x) refl refl (no_more xs) (λ later. fewer xs y later passed failed)
     where
-      go : (a b : Bool) → p x ≡ a → q x ≡ b → length (filter q xs) ≤ length (filter p xs) → (IsOneOf y xs → length (filter q xs) < length (filter p xs)) → length (cond b (x ∷ filter q xs) (filter q xs)) < length (cond a (x ∷ filter p xs) (filter p xs))
+      go : (a b : Bool) →
+          p x ≡ a →
+          q x ≡ b →
+          length (filter q xs) ≤ length (filter p xs) →
+          (IsOneOf y xs → length (filter q xs) < length (filter p xs)) →
+          length (cond b (x ∷ filter q xs) (filter q xs)) < length (cond a (x ∷ filter p xs) (filter p xs))
       go true false e f rest later = omega arith
       go true true e f rest later = elim one [
         | inl here ↦ absurd (false≢true (sym failed ∙ ap q here ∙ f))
@@ -78,7 +86,11 @@ abbrev pub unreached : List Name → List Name → ℕ
 unreached names reached = length (filter (λ name. not (has_name reached name)) names)
 
 -- with one more of them reached it is fewer
-pub fewer_unreached : (names reached level : List Name) (name : Name) → has_name names name ≡ true → (has_name reached name ≡ true → ⊥) → has_name level name ≡ true → unreached names (reached ++ level) < unreached names reached
+pub fewer_unreached : (names reached level : List Name) (name : Name) →
+    has_name names name ≡ true →
+    (has_name reached name ≡ true → ⊥) →
+    has_name level name ≡ true →
+    unreached names (reached ++ level) < unreached names reached
 fewer_unreached names reached level name one new is =
     fewer (λ n. not (has_name reached n)) (λ n. not (has_name (reached ++ level) n))
     (λ n h. not_false (has_name reached n) (fails (has_name reached n) (λ was. not_holds (has_name (reached ++ level) n) h (has_left reached level n was))))
@@ -87,14 +99,20 @@ fewer_unreached names reached level name one new is =
     (ap not (has_right reached level name is))
 
 -- a name of a running node is among all names
-pub all_names : {C N : Type 0} (state : C → CoreState) (group : Group C N) (name : Name) → runs state group.nodes name ≡ true → has_name (map (λ (node : NodeState C). node.name) group.nodes) name ≡ true
+pub all_names : {C N : Type 0} (state : C → CoreState) (group : Group C N) (name : Name) →
+    runs state group.nodes name ≡ true →
+    has_name (map (λ (node : NodeState C). node.name) group.nodes) name ≡ true
 all_names {C} state group name h =
     let running = running_is state group name h in
     let found = found_one name group.nodes running.1.0 running.1.1 in
     go group.nodes running.1.0 found.1 found.0
   where
-    go : (nodes : List (NodeState C)) (node : NodeState C) → name ≡ node.name → IsOneOf node nodes → has_name (map (λ (n : NodeState C). n.name) nodes) name ≡ true
-    go nodes node same one = any_passes (same_name name) (map (λ (n : NodeState C). n.name) nodes) node.name (mapped nodes node one) ((same_name-Decides name node.name).1 same)
+    go : (nodes : List (NodeState C)) (node : NodeState C) →
+        name ≡ node.name →
+        IsOneOf node nodes →
+        has_name (map (λ (n : NodeState C). n.name) nodes) name ≡ true
+    go nodes node same one =
+        any_passes (same_name name) (map (λ (n : NodeState C). n.name) nodes) node.name (mapped nodes node one) ((same_name-Decides name node.name).1 same)
       where
         mapped : (others : List (NodeState C)) (n : NodeState C) → IsOneOf n others → IsOneOf n.name (map (λ (x : NodeState C). x.name) others)
         mapped [] n here = absurd here
@@ -103,7 +121,10 @@ all_names {C} state group name h =
 -- ---- links
 
 -- names that are sorted and not among the keys go last, in their order
-pub inserts_all : (keys names : List Name) → IsStrictlySortedBy name_cmp names → ((name : Name) → has_name names name ≡ true → has_name keys name ≡ true → ⊥) → insert_all same_name keys names ≡ keys ++ names
+pub inserts_all : (keys names : List Name) →
+    IsStrictlySortedBy name_cmp names →
+    ((name : Name) → has_name names name ≡ true → has_name keys name ≡ true → ⊥) →
+    insert_all same_name keys names ≡ keys ++ names
 unfolding IsStrictlySortedBy
 inserts_all keys [] sorted new = sym (append-nil keys)
 inserts_all keys (name ∷ names) sorted new =
@@ -117,7 +138,8 @@ inserts_all keys (name ∷ names) sorted new =
 
     after : (other : Name) → has_name names other ≡ true → other ≡ name → ⊥
     after other one same =
-        let less : name_cmp name name ≡ Less = subst (λ n. name_cmp name n ≡ Less) same (each_one (λ n. name_cmp name n ≡ Less) names other sorted.0 (has_one names other one)) in
+        let less : name_cmp name name ≡ Less =
+        subst (λ n. name_cmp name n ≡ Less) same (each_one (λ n. name_cmp name n ≡ Less) names other sorted.0 (has_one names other one)) in
         false≢true (sym (ap is_eq less) ∙ sym (texts_ties name name) ∙ (same_name-Decides name name).1 refl)
 
     new_then : (other : Name) → has_name names other ≡ true → has_name (keys ++ name ∷ []) other ≡ true → ⊥
@@ -136,7 +158,9 @@ module _ {C : Type 0} (state : C → CoreState) (nodes : List (NodeState C)) (bo
       none true = refl
       none false = refl
 
-      go : (o : Option C) → has_name (option_map_or (λ (core : C). filter (is_new state nodes both) (state core).active) o []) end ≡ (is_new state nodes both end && option_map_or (λ (core : C). has_name (state core).active end) o false)
+      go : (o : Option C) →
+          has_name (option_map_or (λ (core : C). filter (is_new state nodes both) (state core).active) o []) end
+          ≡ (is_new state nodes both end && option_map_or (λ (core : C). has_name (state core).active end) o false)
       go None = none (is_new state nodes both end)
       go (Some core) =
           any-filter_same (same_name end) (is_new state nodes both) (is_new state nodes both end)
@@ -153,7 +177,9 @@ module _ {C : Type 0} (state : C → CoreState) (nodes : List (NodeState C)) (bo
   alone false true = refl
   alone false false = refl
 
-  links_from : (links names : List Name) → has_name (fold (λ ls name. ls ++ new_links state nodes both name) links names) end ≡ (has_name links end || (is_new state nodes both end && list_any (λ member. has_link state nodes member end) names))
+  links_from : (links names : List Name) →
+      has_name (fold (λ ls name. ls ++ new_links state nodes both name) links names) end
+      ≡ (has_name links end || (is_new state nodes both end && list_any (λ member. has_link state nodes member end) names))
   links_from links [] = alone (has_name links end) (is_new state nodes both end)
   links_from links (name ∷ names) =
       links_from (links ++ new_links state nodes both name) names
@@ -162,7 +188,8 @@ module _ {C : Type 0} (state : C → CoreState) (nodes : List (NodeState C)) (bo
       ∙ joined (has_name links end) (is_new state nodes both end) (has_link state nodes name end) (list_any (λ member. has_link state nodes member end) names)
 
   -- and those of a level have the new names to which one of it is linked
-  pub all_new_has : (level : List Name) → has_name (all_new_links state nodes both level) end ≡ (is_new state nodes both end && list_any (λ member. has_link state nodes member end) level)
+  pub all_new_has : (level : List Name) →
+      has_name (all_new_links state nodes both level) end ≡ (is_new state nodes both end && list_any (λ member. has_link state nodes member end) level)
   all_new_has level = links_from [] level
 
 module _ {C N : Type 0} (state : C → CoreState) (group : Group C N) (from : Name) where
@@ -177,12 +204,19 @@ module _ {C N : Type 0} (state : C → CoreState) (group : Group C N) (from : Na
       ]
 
   -- lists in order are in order together where all of the one are nearer than all of the other
-  together : (xs ys : List Name) → AreByDistance state group from xs → AreByDistance state group from ys → Each (λ x. Each (λ y. IsNearer state group from x y) ys) xs → AreByDistance state group from (xs ++ ys)
+  together : (xs ys : List Name) →
+      AreByDistance state group from xs →
+      AreByDistance state group from ys →
+      Each (λ x. Each (λ y. IsNearer state group from x y) ys) xs →
+      AreByDistance state group from (xs ++ ys)
   together [] ys one other across = other
   together (x ∷ xs) ys one other across = (both_each (λ y. IsNearer state group from x y) xs ys one.0 across.0, together xs ys one.1 other across.1)
 
   -- names at one distance are in order if they are by name
-  by_name : (k : ℕ) (names : List Name) → IsStrictlySortedBy name_cmp names → Each (λ name. IsDistance state group from k name) names → AreByDistance state group from names
+  by_name : (k : ℕ) (names : List Name) →
+      IsStrictlySortedBy name_cmp names →
+      Each (λ name. IsDistance state group from k name) names →
+      AreByDistance state group from names
   unfolding IsStrictlySortedBy
   by_name k [] sorted at = tt
   by_name k (name ∷ names) sorted at = (
@@ -219,7 +253,12 @@ module _ {C N : Type 0} (state : C → CoreState) (group : Group C N) (from : Na
     sorted = one_sorted (runs state group.nodes from) first is;
   }
     where
-      go : (b : Bool) → runs state group.nodes from ≡ b → (names : List Name) → names ≡ (if b then from ∷ [] else []) → (end : Name) → (has_name names end ≡ true) ↔ IsDistance state group from 0 end
+      go : (b : Bool) →
+          runs state group.nodes from ≡ b →
+          (names : List Name) →
+          names ≡ (if b then from ∷ [] else []) →
+          (end : Name) →
+          (has_name names end ≡ true) ↔ IsDistance state group from 0 end
       go true run names e end = (
         (λ h. elim (has_one (from ∷ []) end (subst (λ ns. has_name ns end ≡ true) e h)) [
           | inl here ↦ record { path = (sym here, running_is state group from run); shortest = λ m less path. omega arith }
@@ -246,7 +285,8 @@ module _ {C N : Type 0} (state : C → CoreState) (group : Group C N) (from : Na
     -- with the level the reached names stay in order
     pub ordered_then : AreByDistance state group from (reached ++ level)
     ordered_then = together reached level stands.ordered
-        (by_name stands.links level stands.sorted (each_of_one (λ name. IsDistance state group from stands.links name) level (λ name one. level_is name (one_has level name one))))
+        (by_name stands.links level stands.sorted
+        (each_of_one (λ name. IsDistance state group from stands.links name) level (λ name one. level_is name (one_has level name one))))
         (each_of_one (λ x. Each (λ y. IsNearer state group from x y) level) reached (λ x in_reached.
         each_of_one (λ y. IsNearer state group from x y) level (λ y in_level m n here there.
         let before = (stands.front.near x).0 (one_has reached x in_reached) in
@@ -266,16 +306,23 @@ module _ {C N : Type 0} (state : C → CoreState) (group : Group C N) (from : Na
       together_keys = added ∙ both_keys
 
       -- so the next level stands
-      pub stands_then : (next : List Name) → IsStrictlySortedBy name_cmp next → ((end : Name) → has_name next end ≡ has_name (all_new_links state group.nodes keys level) end) → Stands keys next
+      pub stands_then : (next : List Name) →
+          IsStrictlySortedBy name_cmp next →
+          ((end : Name) → has_name next end ≡ has_name (all_new_links state group.nodes keys level) end) →
+          Stands keys next
       stands_then next sorted is = subst (λ ks. Stands ks next) (sym together_keys) (record {
         links = suc stands.links;
-        front = goes_on state group from stands.links reached level next stands.front (λ end. is end ∙ ap (λ ks. has_name (all_new_links state group.nodes ks level) end) together_keys ∙ all_new_has state group.nodes (reached ++ level) end level);
+        front =
+            goes_on state group from stands.links reached level next stands.front (λ end. is end
+            ∙ ap (λ ks. has_name (all_new_links state group.nodes ks level) end) together_keys
+            ∙ all_new_has state group.nodes (reached ++ level) end level);
         ordered = ordered_then;
         sorted = sorted;
       })
 
       -- and a level with names leaves fewer that are not reached
-      pub fewer_then : (level ≡ [] → ⊥) → unreached (map (λ (node : NodeState C). node.name) group.nodes) keys < unreached (map (λ (node : NodeState C). node.name) group.nodes) reached
+      pub fewer_then : (level ≡ [] → ⊥) →
+          unreached (map (λ (node : NodeState C). node.name) group.nodes) keys < unreached (map (λ (node : NodeState C). node.name) group.nodes) reached
       fewer_then some = subst (λ ks. unreached names ks < unreached names reached) (sym together_keys) (go level refl)
         where
           names : List Name
@@ -293,7 +340,8 @@ module _ {C N : Type 0} (state : C → CoreState) (group : Group C N) (from : Na
     in_reach none = record {
       exact = λ end. (
         (λ h. let before = (stands.front.near end).0 h in (before.0, before.2)),
-        (λ reaches. all_reached state group from stands.links reached level stands.front (λ name h. false≢true (subst (λ ns. has_name ns name ≡ true) none h)) reaches.0 end reaches.1),
+        (λ reaches. all_reached state group from stands.links reached level stands.front
+            (λ name h. false≢true (subst (λ ns. has_name ns name ≡ true) none h)) reaches.0 end reaches.1),
       );
       ordered = stands.ordered;
     }

@@ -50,21 +50,30 @@ module _ {C N : Type 0} (state : C → CoreState) (group : Group C N) where
   -- the test of a name tells that
   back_is : (name : Name) → links_back state group.nodes name ≡ true → LinksBack name
   back_is name h core runs peer member =
-      let all : list_all (λ p. has_link state group.nodes p name) (state core).active ≡ true = subst (λ o. option_map_or (λ (c : C). list_all (λ p. has_link state group.nodes p name) (state c).active) o true ≡ true) (runs_core group name core runs) h in
-      link_is peer name (each_one (λ p. has_link state group.nodes p name ≡ true) (state core).active peer (each_passes (λ p. has_link state group.nodes p name) (state core).active all) (has_one (state core).active peer member))
+      let all : list_all (λ p. has_link state group.nodes p name) (state core).active ≡ true =
+      subst (λ o. option_map_or (λ (c : C). list_all (λ p. has_link state group.nodes p name) (state c).active) o true ≡ true)
+      (runs_core group name core runs) h in
+      link_is peer name (each_one (λ p. has_link state group.nodes p name ≡ true) (state core).active peer
+      (each_passes (λ p. has_link state group.nodes p name) (state core).active all) (has_one (state core).active peer member))
 
   is_back : (name : Name) → LinksBack name → links_back state group.nodes name ≡ true
   is_back name h = go (core_of name group.nodes) refl
     where
-      go : (o : Option C) → core_of name group.nodes ≡ o → option_map_or (λ (c : C). list_all (λ p. has_link state group.nodes p name) (state c).active) o true ≡ true
+      go : (o : Option C) →
+          core_of name group.nodes ≡ o →
+          option_map_or (λ (c : C). list_all (λ p. has_link state group.nodes p name) (state c).active) o true ≡ true
       go None e = refl
-      go (Some core) e = all_pass (λ p. has_link state group.nodes p name) (state core).active (each_of_one (λ p. has_link state group.nodes p name ≡ true) (state core).active (λ peer one. is_link peer name (h core (core_runs group name core e) peer (one_has (state core).active peer one))))
+      go (Some core) e =
+          all_pass (λ p. has_link state group.nodes p name) (state core).active (each_of_one (λ p. has_link state group.nodes p name ≡ true)
+          (state core).active (λ peer one. is_link peer name (h core (core_runs group name core e) peer (one_has (state core).active peer one))))
 
   -- where all link back, each name does
   all_back : all_link_back state group.nodes ≡ true → (name : Name) → LinksBack name
   all_back h name core runs =
       let found = found_one name group.nodes runs.0 runs.1 in
-      let test : links_back state group.nodes runs.0.name ≡ true = each_one (λ (node : NodeState C). links_back state group.nodes node.name ≡ true) group.nodes runs.0 (each_passes (λ (node : NodeState C). links_back state group.nodes node.name) group.nodes h) found.0 in
+      let test : links_back state group.nodes runs.0.name ≡ true =
+      each_one (λ (node : NodeState C). links_back state group.nodes node.name ≡ true) group.nodes runs.0
+      (each_passes (λ (node : NodeState C). links_back state group.nodes node.name) group.nodes h) found.0 in
       back_is name (subst (λ n. links_back state group.nodes n ≡ true) (sym found.1) test) core runs
 
   -- so links go both ways
@@ -80,7 +89,8 @@ module _ {C N : Type 0} (state : C → CoreState) (group : Group C N) where
       both_ways = λ name peer. (goes_back h name peer, goes_back h peer name);
       members_run = λ name peer core runs member. let back = all_back h name core runs peer member in (back.0, back.1);
     }),
-    (λ symmetric. all_pass (λ (node : NodeState C). links_back state group.nodes node.name) group.nodes (each_of_one (λ (node : NodeState C). links_back state group.nodes node.name ≡ true) group.nodes (λ node one. is_back node.name (λ core runs peer member.
+    (λ symmetric. all_pass (λ (node : NodeState C). links_back state group.nodes node.name) group.nodes (each_of_one
+        (λ (node : NodeState C). links_back state group.nodes node.name ≡ true) group.nodes (λ node one. is_back node.name (λ core runs peer member.
         let link = (symmetric.both_ways node.name peer).0 (core, runs, member, symmetric.members_run node.name peer core runs member) in
         (link.0, link.1, link.2))))),
   )

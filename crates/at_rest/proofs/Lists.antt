@@ -64,7 +64,11 @@ pub one_passes : {X : Type 0} (test : X → Bool) (xs : List X) → list_any tes
 one_passes test [] h = absurd (false≢true h)
 one_passes {X} test (y ∷ ys) h = go (test y) refl h (λ rest. one_passes test ys rest)
   where
-    go : (b : Bool) → test y ≡ b → (b || list_any test ys) ≡ true → (list_any test ys ≡ true → (x : X) × IsOneOf x ys × (test x ≡ true)) → (x : X) × IsOneOf x (y ∷ ys) × (test x ≡ true)
+    go : (b : Bool) →
+        test y ≡ b →
+        (b || list_any test ys) ≡ true →
+        (list_any test ys ≡ true → (x : X) × IsOneOf x ys × (test x ≡ true)) →
+        (x : X) × IsOneOf x (y ∷ ys) × (test x ≡ true)
     go true e some later = (y, inl refl, e)
     go false e some later = let found = later some in (found.0, inr found.1, found.2)
 

@@ -105,10 +105,15 @@ module _
     core_before = ap (λ (o : Option (NodeState Plum)). core_in o) step.acts.known ∙ step.acts.running
 
     core_after : core_of name after.nodes ≡ Some new
-    core_after = ap (λ ns. core_of name ns) step.acts.nodes ∙ ap (λ (o : Option (NodeState Plum)). core_in o) (put_same name (record step.acts.node { core = Some new }) before.nodes is_here)
+    core_after =
+        ap (λ ns. core_of name ns) step.acts.nodes
+        ∙ ap (λ (o : Option (NodeState Plum)). core_in o) (put_same name (record step.acts.node { core = Some new }) before.nodes is_here)
 
     core_other : (other : Name) → (other ≡ name → ⊥) → core_of other after.nodes ≡ core_of other before.nodes
-    core_other other differs = ap (λ ns. core_of other ns) step.acts.nodes ∙ ap (λ (o : Option (NodeState Plum)). core_in o) (put_other other (record step.acts.node { core = Some new }) before.nodes (tells_apart other step.acts.node.name (λ e. differs (e ∙ sym named))))
+    core_other other differs =
+        ap (λ ns. core_of other ns) step.acts.nodes
+        ∙ ap (λ (o : Option (NodeState Plum)). core_in o)
+        (put_other other (record step.acts.node { core = Some new }) before.nodes (tells_apart other step.acts.node.name (λ e. differs (e ∙ sym named))))
 
     -- the same names run
     same_runs : (other : Name) → is_some (core_of other after.nodes) ≡ is_some (core_of other before.nodes)
@@ -150,13 +155,17 @@ module _
 
     -- what it sends has the load of its bodies
     sent_load : sum_by weight (packets (origin_of step.acts.node) step.acts.sends) ≡ sends_load turn.sends
-    sent_load = ap (λ ss. sum_by weight (packets (origin_of step.acts.node) ss)) step.acts.stepped.sent ∙ sent_is old.me old.framed turn.sends (origin_of step.acts.node)
+    sent_load =
+        ap (λ ss. sum_by weight (packets (origin_of step.acts.node) ss)) step.acts.stepped.sent
+        ∙ sent_is old.me old.framed turn.sends (origin_of step.acts.node)
 
     waits_new : waiting (plum_state new) ≡ gossip_waiting turn.gossip
     waits_new = ap (λ (c : Plum). waiting (plum_state c)) new_is
 
     -- the core, its packets and what came
-    core_lighter : (said : List MsgId) → ((id : MsgId) → IsOneOf id (ids entry.given) → IsOneOf id said) → sends_load turn.sends + core_load said before (Some new) + 1 ≤ came + core_load said before (Some old)
+    core_lighter : (said : List MsgId) →
+        ((id : MsgId) → IsOneOf id (ids entry.given) → IsOneOf id said) →
+        sends_load turn.sends + core_load said before (Some new) + 1 ≤ came + core_load said before (Some old)
     core_lighter said were_said = go turn.delivered refl
       where
         linked : links before (plum_state new) ≡ member_count old.gossip
@@ -168,27 +177,44 @@ module _
         whole_old : core_load said before (Some old) ≡ 9 * (member_count old.gossip * lacked said (plum_state old)) + gossip_waiting old.gossip
         whole_old = ap (λ n. 9 * (n * lacked said (plum_state old)) + gossip_waiting old.gossip) links_are
 
-        go : (o : Option (MsgId × List ℕ)) → turn.delivered ≡ o → sends_load turn.sends + core_load said before (Some new) + 1 ≤ came + core_load said before (Some old)
+        go : (o : Option (MsgId × List ℕ)) →
+            turn.delivered ≡ o →
+            sends_load turn.sends + core_load said before (Some new) + 1 ≤ came + core_load said before (Some old)
         go None none =
-            let now : core_load said before (Some new) ≡ 9 * (member_count old.gossip * lacked said (plum_state new)) + gossip_waiting turn.gossip = whole_new in
-            let then : core_load said before (Some old) ≡ 9 * (member_count old.gossip * lacked said (plum_state old)) + gossip_waiting old.gossip = whole_old in
+            let now : core_load said before (Some new) ≡ 9 * (member_count old.gossip * lacked said (plum_state new)) + gossip_waiting turn.gossip =
+            whole_new in
+            let then : core_load said before (Some old) ≡ 9 * (member_count old.gossip * lacked said (plum_state old)) + gossip_waiting old.gossip =
+            whole_old in
             let less : sends_load turn.sends + gossip_waiting turn.gossip + 1 ≤ came + gossip_waiting old.gossip = turns.lighter.quiet none in
-            let lacks : member_count old.gossip * lacked said (plum_state new) ≤ member_count old.gossip * lacked said (plum_state old) = grows (member_count old.gossip) (lacked said (plum_state new)) (lacked said (plum_state old)) (lacks_less said (plum_state old) (plum_state new) keeps) in
+            let lacks : member_count old.gossip * lacked said (plum_state new) ≤ member_count old.gossip * lacked said (plum_state old) =
+            grows (member_count old.gossip) (lacked said (plum_state new))
+            (lacked said (plum_state old)) (lacks_less said (plum_state old) (plum_state new) keeps) in
             omega arith
         go (Some message) some =
-            let now : core_load said before (Some new) ≡ 9 * (member_count old.gossip * lacked said (plum_state new)) + gossip_waiting turn.gossip = whole_new in
-            let then : core_load said before (Some old) ≡ 9 * (member_count old.gossip * lacked said (plum_state old)) + gossip_waiting old.gossip = whole_old in
-            let less : sends_load turn.sends + gossip_waiting turn.gossip + 1 ≤ came + gossip_waiting old.gossip + 9 * member_count old.gossip = turns.lighter.spreads message some in
+            let now : core_load said before (Some new) ≡ 9 * (member_count old.gossip * lacked said (plum_state new)) + gossip_waiting turn.gossip =
+            whole_new in
+            let then : core_load said before (Some old) ≡ 9 * (member_count old.gossip * lacked said (plum_state old)) + gossip_waiting old.gossip =
+            whole_old in
+            let less : sends_load turn.sends + gossip_waiting turn.gossip + 1 ≤ came + gossip_waiting old.gossip + 9 * member_count old.gossip =
+            turns.lighter.spreads message some in
             let given : ids entry.given ≡ message.0 ∷ [] = ap ids step.acts.stepped.delivers ∙ ap (λ o. ids (delivered_at old.me o)) some in
             let one : IsOneOf message.0 (ids entry.given) = subst (λ is. IsOneOf message.0 is) (sym given) (inl refl) in
             let has : (plum_state new).has message.0 ≡ true = (step.lawful.deliveries.grows message.0).1 (inr one) in
             let lacked_it : (plum_state old).has message.0 ≡ false = fresh entry.given step.lawful.deliveries.fresh message.0 one in
-            let fewer : suc (lacked said (plum_state new)) ≤ lacked said (plum_state old) = lacks_one_less said (plum_state old) (plum_state new) message.0 keeps (were_said message.0 one) lacked_it has in
-            let lacks : member_count old.gossip * suc (lacked said (plum_state new)) ≤ member_count old.gossip * lacked said (plum_state old) = grows (member_count old.gossip) (suc (lacked said (plum_state new))) (lacked said (plum_state old)) fewer in
-            let more : member_count old.gossip * suc (lacked said (plum_state new)) ≡ member_count old.gossip * lacked said (plum_state new) + member_count old.gossip = mul-suc (member_count old.gossip) (lacked said (plum_state new)) in
+            let fewer : suc (lacked said (plum_state new)) ≤ lacked said (plum_state old) =
+            lacks_one_less said (plum_state old) (plum_state new) message.0 keeps (were_said message.0 one) lacked_it has in
+            let lacks : member_count old.gossip * suc (lacked said (plum_state new)) ≤ member_count old.gossip * lacked said (plum_state old) =
+            grows (member_count old.gossip) (suc (lacked said (plum_state new))) (lacked said (plum_state old)) fewer in
+            let more : member_count old.gossip * suc (lacked said (plum_state new))
+            ≡ member_count old.gossip * lacked said (plum_state new) + member_count old.gossip =
+            mul-suc (member_count old.gossip) (lacked said (plum_state new)) in
             omega arith
           where
-            fresh : (given : List Delivery) → Each (λ (d : Delivery). (plum_state old).has d.id ≡ false) given → (id : MsgId) → IsOneOf id (ids given) → (plum_state old).has id ≡ false
+            fresh : (given : List Delivery) →
+                Each (λ (d : Delivery). (plum_state old).has d.id ≡ false) given →
+                (id : MsgId) →
+                IsOneOf id (ids given) →
+                (plum_state old).has id ≡ false
             fresh [] h id one = absurd one
             fresh (d ∷ more) h id one = elim one [ inl here ↦ ap (plum_state old).has here ∙ h.0 | inr later ↦ fresh more h.1 id later ]
 
@@ -196,12 +222,19 @@ module _
     pub load_less : (said : List MsgId) → ((id : MsgId) → IsOneOf id (ids entry.given) → IsOneOf id said) → load said after + 1 ≤ load said before
     load_less said were_said =
         let put : NodeState Plum = record step.acts.node { core = Some new } in
-        let nodes : sum_by (λ (node : NodeState Plum). core_load said after node.core) after.nodes ≡ sum_by (λ (node : NodeState Plum). core_load said before node.core) (put_node put before.nodes) =
-        ap (λ ns. sum_by (λ (node : NodeState Plum). core_load said after node.core) ns) step.acts.nodes ∙ same_sums (λ (node : NodeState Plum). core_load said after node.core) (λ (node : NodeState Plum). core_load said before node.core) (put_node put before.nodes) (λ node. same_load said node.core) in
-        let changed : sum_by (λ (node : NodeState Plum). core_load said before node.core) (put_node put before.nodes) + core_load said before step.acts.node.core ≡ sum_by (λ (node : NodeState Plum). core_load said before node.core) before.nodes + core_load said before (Some new) =
-        put_sum (λ (node : NodeState Plum). core_load said before node.core) put step.acts.node before.nodes (subst (λ n. node_of n before.nodes ≡ Some step.acts.node) named step.acts.known) in
+        let nodes : sum_by (λ (node : NodeState Plum). core_load said after node.core) after.nodes
+        ≡ sum_by (λ (node : NodeState Plum). core_load said before node.core) (put_node put before.nodes) =
+        ap (λ ns. sum_by (λ (node : NodeState Plum). core_load said after node.core) ns) step.acts.nodes
+        ∙ same_sums (λ (node : NodeState Plum). core_load said after node.core)
+        (λ (node : NodeState Plum). core_load said before node.core) (put_node put before.nodes) (λ node. same_load said node.core) in
+        let changed : sum_by (λ (node : NodeState Plum). core_load said before node.core) (put_node put before.nodes)
+        + core_load said before step.acts.node.core
+        ≡ sum_by (λ (node : NodeState Plum). core_load said before node.core) before.nodes + core_load said before (Some new) =
+        put_sum (λ (node : NodeState Plum). core_load said before node.core) put step.acts.node before.nodes
+        (subst (λ n. node_of n before.nodes ≡ Some step.acts.node) named step.acts.known) in
         let was : core_load said before step.acts.node.core ≡ core_load said before (Some old) = ap (λ o. core_load said before o) step.acts.running in
-        let flew : flying_weight weight after.sent after.flight + arriving weight name by ≡ flying_weight weight before.sent before.flight + sum_by weight (packets (origin_of step.acts.node) step.acts.sends) =
+        let flew : flying_weight weight after.sent after.flight + arriving weight name by
+        ≡ flying_weight weight before.sent before.flight + sum_by weight (packets (origin_of step.acts.node) step.acts.sends) =
         flights plum_state frame_content IsSoundPlum PlumStarts PlumSteps laws limits past entry before after name by step are_sent weight in
         let flies_after : flying_load after ≡ flying_weight weight after.sent after.flight = flying_is after.sent after.flight in
         let flies_before : flying_load before ≡ flying_weight weight before.sent before.flight = flying_is before.sent before.flight in

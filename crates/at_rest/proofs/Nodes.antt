@@ -9,11 +9,17 @@ use Rattle.world.specs.Links.{Runs}
 use Rattle.world.specs.declared.node_state.NodeState.{NodeState}
 
 -- a node that is found is one of the list, under its name
-pub found_one : {C : Type 0} (name : Name) (nodes : List (NodeState C)) (node : NodeState C) → node_of name nodes ≡ Some node → IsOneOf node nodes × (name ≡ node.name)
+pub found_one : {C : Type 0} (name : Name) (nodes : List (NodeState C)) (node : NodeState C) →
+    node_of name nodes ≡ Some node →
+    IsOneOf node nodes × (name ≡ node.name)
 found_one name [] node e = let none : None ≡ Some node = e in cc
 found_one {C} name (other ∷ others) node e = go (same_name name other.name) refl e (λ later. found_one name others node later)
   where
-    go : (b : Bool) → same_name name other.name ≡ b → cond b (Some other) (node_of name others) ≡ Some node → (node_of name others ≡ Some node → IsOneOf node others × (name ≡ node.name)) → IsOneOf node (other ∷ others) × (name ≡ node.name)
+    go : (b : Bool) →
+        same_name name other.name ≡ b →
+        cond b (Some other) (node_of name others) ≡ Some node →
+        (node_of name others ≡ Some node → IsOneOf node others × (name ≡ node.name)) →
+        IsOneOf node (other ∷ others) × (name ≡ node.name)
     go true same found later =
         let is : Some other ≡ Some node = found in
         let this : other ≡ node = cc in

@@ -44,7 +44,13 @@ use Rattle.at_rest.proofs.Sums.{said_one}
 use Rattle.at_rest.proofs.Turning.{asker_of, arrival_lighter, firing_turns, flush_turns}
 
 -- what an event delivers that says nothing was said before
-said_before : (past : List Entry) (entry : Entry) → ((id : MsgId) (p : List ℕ) → Says entry.event past id p → ⊥) → (given : List Delivery) → Each (λ (d : Delivery). Said (entry ∷ past) d.id d.payload) given → (id : MsgId) → IsOneOf id (ids given) → IsOneOf id (said_ids past)
+said_before : (past : List Entry) (entry : Entry) →
+    ((id : MsgId) (p : List ℕ) → Says entry.event past id p → ⊥) →
+    (given : List Delivery) →
+    Each (λ (d : Delivery). Said (entry ∷ past) d.id d.payload) given →
+    (id : MsgId) →
+    IsOneOf id (ids given) →
+    IsOneOf id (said_ids past)
 said_before past entry silent [] honest id one = absurd one
 said_before past entry silent (d ∷ given) honest id one =
     elim one [
@@ -56,7 +62,10 @@ said_before past entry silent (d ∷ given) honest id one =
     ]
 
 -- the peer that asks is the sender of the packet, which asks for a message
-asker_is : (content_asked : Option MsgId) (sender other : Name) (body : Body) → (body_content body).asked ≡ content_asked → asker_of sender body ≡ Some other → ((body_content body).asked ≡ None → ⊥) × (sender ≡ other)
+asker_is : (content_asked : Option MsgId) (sender other : Name) (body : Body) →
+    (body_content body).asked ≡ content_asked →
+    asker_of sender body ≡ Some other →
+    ((body_content body).asked ≡ None → ⊥) × (sender ≡ other)
 asker_is None sender other body at is = let no : None ≡ Some other = sym (ap (λ (o : Option MsgId). option_map (λ (id : MsgId). sender) o) at) ∙ is in cc
 asker_is (Some id) sender other body at is =
     let same : Some sender ≡ Some other = sym (ap (λ (o : Option MsgId). option_map (λ (i : MsgId). sender) o) at) ∙ is in
@@ -87,26 +96,41 @@ module _
     same_said : said_by entry.event past ≡ [] → said_ids (entry ∷ past) ≡ said_ids past
     same_said none = ap (λ is. is ++ said_ids past) none
 
-    less : said_by entry.event past ≡ [] → load (said_ids past) after + 1 ≤ load (said_ids past) before → load (said_ids (entry ∷ past)) after + 1 ≤ load (said_ids past) before
+    less : said_by entry.event past ≡ [] →
+        load (said_ids past) after + 1 ≤ load (said_ids past) before →
+        load (said_ids (entry ∷ past)) after + 1 ≤ load (said_ids past) before
     less none fewer = subst (λ is. load is after + 1 ≤ load (said_ids past) before) (sym (same_said none)) fewer
 
     -- an arrival
-    arrival_settles : (place : ℕ) (dice : Dice) → entry.event ≡ Arrive place dice → Arrives plum_state PlumSteps before place (λ packet. stimulus.Arrive packet.sender packet.note dice) entry after → Settles
+    arrival_settles : (place : ℕ) (dice : Dice) →
+        entry.event ≡ Arrive place dice →
+        Arrives plum_state PlumSteps before place (λ packet. stimulus.Arrive packet.sender packet.note dice) entry after →
+        Settles
     arrival_settles place dice is effect =
         let step = arrive_step plum_state frame_content IsSoundPlum PlumStarts PlumSteps laws limits past entry before after kept place dice effect in
-        let flying : IfSome (slice_get before.sent effect.number) (λ packet. IsCalmPacket frame_content before packet) = each-at (λ number. IfSome (slice_get before.sent number) (λ packet. IsCalmPacket frame_content before packet)) before.flight place effect.number calm.packets effect.in_flight in
-        let calm_packet : IsCalmPacket frame_content before effect.packet = subst (λ o. IfSome o (λ packet. IsCalmPacket frame_content before packet)) effect.sent flying in
-        let good = each-at (λ (packet : Packet Frame). IsFit packet.note.body) before.sent effect.number effect.packet (run_fits laws steps_fit limits past before run).sent effect.sent in
-        let turns = arrival_lighter step.acts.old.me step.acts.old.membership step.acts.old.gossip step.core.sound.whole effect.packet.sender effect.packet.note dice calm_packet.broadcasts good.1 in (
+        let flying : IfSome (slice_get before.sent effect.number) (λ packet. IsCalmPacket frame_content before packet) =
+        each-at (λ number. IfSome (slice_get before.sent number) (λ packet. IsCalmPacket frame_content before packet))
+        before.flight place effect.number calm.packets effect.in_flight in
+        let calm_packet : IsCalmPacket frame_content before effect.packet =
+        subst (λ o. IfSome o (λ packet. IsCalmPacket frame_content before packet)) effect.sent flying in
+        let good =
+        each-at (λ (packet : Packet Frame). IsFit packet.note.body) before.sent effect.number effect.packet
+        (run_fits laws steps_fit limits past before run).sent effect.sent in
+        let turns =
+        arrival_lighter step.acts.old.me step.acts.old.membership step.acts.old.gossip
+        step.core.sound.whole effect.packet.sender effect.packet.note dice calm_packet.broadcasts good.1 in (
           less (ap (λ (e : Event). said_by e past) is)
-              (load_less limits laws past entry before after _ _ step are_sent calm.symmetric (body_load effect.packet.note.body) (asker_of effect.packet.sender.name effect.packet.note.body) refl turns (said_ids past)
+              (load_less limits laws past entry before after _ _ step are_sent calm.symmetric (body_load effect.packet.note.body)
+              (asker_of effect.packet.sender.name effect.packet.note.body) refl turns (said_ids past)
               (said_before past entry (λ id p says. subst (λ (e : Event). Says e past id p) is says) entry.given honest)),
-          calm_after limits laws past entry before after _ _ step are_sent calm (body_load effect.packet.note.body) (asker_of effect.packet.sender.name effect.packet.note.body)
+          calm_after limits laws past entry before after _ _ step are_sent calm
+              (body_load effect.packet.note.body) (asker_of effect.packet.sender.name effect.packet.note.body)
               (λ other asks. (
               let who = asker_is (body_content effect.packet.note.body).asked effect.packet.sender.name other effect.packet.note.body refl asks in
               subst (λ n. IsRunning before n) who.1 (calm_packet.is_answered who.0)))
               turns,
-          step.acts.moved.1 (λ other. ap (λ names. has_name names other) (sym (same_active limits laws past entry before after _ _ step are_sent calm (body_load effect.packet.note.body) (asker_of effect.packet.sender.name effect.packet.note.body)
+          step.acts.moved.1 (λ other. ap (λ names. has_name names other) (sym (same_active limits laws past entry before after _ _ step are_sent calm
+              (body_load effect.packet.note.body) (asker_of effect.packet.sender.name effect.packet.note.body)
               (λ other asks. (
               let who = asker_is (body_content effect.packet.note.body).asked effect.packet.sender.name other effect.packet.note.body refl asks in
               subst (λ n. IsRunning before n) who.1 (calm_packet.is_answered who.0)))
@@ -118,7 +142,11 @@ module _
     nobody_asks other is = let no : None ≡ Some other = is in cc
 
     -- a flush
-    flush_settles : (name : Name) (first : Name × MsgId × ℕ) (others : List (Name × MsgId × ℕ)) → queue_of plum_state (core_of name before.nodes) ≡ first ∷ others → entry.event ≡ Flush name → Acts plum_state PlumSteps before before.flight name stimulus.Flush entry after → Settles
+    flush_settles : (name : Name) (first : Name × MsgId × ℕ) (others : List (Name × MsgId × ℕ)) →
+        queue_of plum_state (core_of name before.nodes) ≡ first ∷ others →
+        entry.event ≡ Flush name →
+        Acts plum_state PlumSteps before before.flight name stimulus.Flush entry after →
+        Settles
     flush_settles name first others waits is acts =
         let step = flush_step plum_state frame_content IsSoundPlum PlumStarts PlumSteps laws limits past entry before after kept name acts in
         let runs : core_of name before.nodes ≡ Some step.acts.old = ap (λ (o : Option (NodeState Plum)). core_in o) step.acts.known ∙ step.acts.running in
@@ -129,26 +157,37 @@ module _
               (load_less limits laws past entry before after _ _ step are_sent calm.symmetric 0 None refl turns (said_ids past)
               (said_before past entry (λ id p says. subst (λ (e : Event). Says e past id p) is says) entry.given honest)),
           calm_after limits laws past entry before after _ _ step are_sent calm 0 None nobody_asks turns,
-          step.acts.moved.1 (λ other. ap (λ names. has_name names other) (sym (same_active limits laws past entry before after _ _ step are_sent calm 0 None nobody_asks turns))),
+          step.acts.moved.1 (λ other. ap (λ names. has_name names other)
+              (sym (same_active limits laws past entry before after _ _ step are_sent calm 0 None nobody_asks turns))),
         )
 
     -- a firing
-    firing_settles : (name : Name) (id : MsgId) (others : List MsgId) → timers_of plum_state (core_of name before.nodes) ≡ id ∷ others → entry.event ≡ Fire name id → Acts plum_state PlumSteps before before.flight name (stimulus.Fire id) entry after → Settles
+    firing_settles : (name : Name) (id : MsgId) (others : List MsgId) →
+        timers_of plum_state (core_of name before.nodes) ≡ id ∷ others →
+        entry.event ≡ Fire name id →
+        Acts plum_state PlumSteps before before.flight name (stimulus.Fire id) entry after →
+        Settles
     firing_settles name id others armed is acts =
         let step = fire_step plum_state frame_content IsSoundPlum PlumStarts PlumSteps laws limits past entry before after kept name id acts in
         let runs : core_of name before.nodes ≡ Some step.acts.old = ap (λ (o : Option (NodeState Plum)). core_in o) step.acts.known ∙ step.acts.running in
         let timers : step.acts.old.gossip.missing.timers ≡ id ∷ others = sym (ap (timers_of plum_state) runs) ∙ armed in
-        let has : has_id step.acts.old.gossip.missing.timers id ≡ true = ap (λ ts. has_id ts id) timers ∙ ap (λ b. b || has_id others id) ((same_id-Decides id id).1 refl) in
+        let has : has_id step.acts.old.gossip.missing.timers id ≡ true =
+        ap (λ ts. has_id ts id) timers ∙ ap (λ b. b || has_id others id) ((same_id-Decides id id).1 refl) in
         let turns = firing_turns step.acts.old.me step.acts.old.membership step.acts.old.gossip step.core.sound.whole id has in (
           less (ap (λ (e : Event). said_by e past) is)
               (load_less limits laws past entry before after _ _ step are_sent calm.symmetric 0 None refl turns (said_ids past)
               (said_before past entry (λ i p says. subst (λ (e : Event). Says e past i p) is says) entry.given honest)),
           calm_after limits laws past entry before after _ _ step are_sent calm 0 None nobody_asks turns,
-          step.acts.moved.1 (λ other. ap (λ names. has_name names other) (sym (same_active limits laws past entry before after _ _ step are_sent calm 0 None nobody_asks turns))),
+          step.acts.moved.1 (λ other. ap (λ names. has_name names other)
+              (sym (same_active limits laws past entry before after _ _ step are_sent calm 0 None nobody_asks turns))),
         )
 
     -- each event that is the next one
-    pub event_settles : (event : Event) → entry.event ≡ event → IsNext plum_state before event → Effect plum_state PlumStarts PlumSteps limits before entry after event → Settles
+    pub event_settles : (event : Event) →
+        entry.event ≡ event →
+        IsNext plum_state before event →
+        Effect plum_state PlumStarts PlumSteps limits before entry after event →
+        Settles
     event_settles (Arrive place dice) is next effect = arrival_settles place dice is effect
     event_settles (Flush name) is next effect = flush_settles name next.1.0 next.1.1.others next.1.1.something is effect.1
     event_settles (Fire name id) is next effect = firing_settles name id next.2.others next.2.something is effect.1

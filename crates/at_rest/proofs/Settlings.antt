@@ -61,13 +61,21 @@ module _
         }
 
     -- one event more
-    more_settles : (events : List Event) (old now new : Logged C N) → Settles state starts steps events old now → (taken : TakesNext state starts steps now new) → Settles state starts steps (events ++ taken.0 ∷ []) old new
+    more_settles : (events : List Event) (old now new : Logged C N) →
+        Settles state starts steps events old now →
+        (taken : TakesNext state starts steps now new) →
+        Settles state starts steps (events ++ taken.0 ∷ []) old new
     more_settles [] old now new same taken =
         subst (λ (w : Logged C N). Settles state starts steps (taken.0 ∷ []) w new) same (taken.1, (taken.2.0, new, taken.2.1, refl))
     more_settles (event ∷ events) old now new settles taken =
         (settles.0, (settles.1.0, settles.1.1, settles.1.2, more_settles events settles.1.1 now new settles.1.3 taken))
 
-    pub one_played : (weight : Logged C N → ℕ) (old now new : Logged C N) → HasPlayed weight old now → (taken : TakesNext state starts steps now new) → weight new + 1 ≤ weight now → ((id : MsgId) → SaidAndCalm (reverse now.log) id → SaidAndCalm (reverse new.log) id) → HasPlayed weight old new
+    pub one_played : (weight : Logged C N → ℕ) (old now new : Logged C N) →
+        HasPlayed weight old now →
+        (taken : TakesNext state starts steps now new) →
+        weight new + 1 ≤ weight now →
+        ((id : MsgId) → SaidAndCalm (reverse now.log) id → SaidAndCalm (reverse new.log) id) →
+        HasPlayed weight old new
     one_played weight old now new played taken less still =
         let many : length (played.events ++ taken.0 ∷ []) ≡ length played.events + 1 = length-append played.events (taken.0 ∷ []) in
         let logged : length new.log ≡ length now.log + 1 = ap (λ es. length es) taken.2.1.logged ∙ length-append now.log (taken.2.1.entry ∷ []) in
@@ -90,7 +98,10 @@ pub record IsSettling (old now : Logged Plum Frame) (queues timers : BTreeSet �
   pub distinct : IsDistinct same_name (names_of now.group.nodes)
 
 -- what holds of each node holds of the one that is found
-each_found : {C : Type 0} (P : NodeState C → Type 0) (name : Name) (node : NodeState C) (nodes : List (NodeState C)) → Each P nodes → node_of name nodes ≡ Some node → P node
+each_found : {C : Type 0} (P : NodeState C → Type 0) (name : Name) (node : NodeState C) (nodes : List (NodeState C)) →
+    Each P nodes →
+    node_of name nodes ≡ Some node →
+    P node
 each_found P name node [] each found = let no : None ≡ Some node = found in cc
 each_found {C} P name node (other ∷ others) each found = go (same_name name other.name) found (each_found P name node others each.1)
   where
@@ -99,10 +110,13 @@ each_found {C} P name node (other ∷ others) each found = go (same_name name ot
     go false is later = later is
 
 -- a group that has settled is at rest for all messages
-pub all_at_rest : {C N : Type 0} (state : C → CoreState) (content : N → Content) (group : Group C N) → IsSettled state group → (id : MsgId) → IsAtRest state content group id
+pub all_at_rest :
+    {C N : Type 0} (state : C → CoreState) (content : N → Content) (group : Group C N) → IsSettled state group → (id : MsgId) → IsAtRest state content group id
 all_at_rest {C} {N} state content group settled id =
     record {
-      nothing_flies = subst (λ ns. Each (λ number. IfSome (slice_get group.sent number) (λ (packet : Packet N). IsSilentOn (content packet.note) id)) ns) (sym settled.nothing_flies) tt;
+      nothing_flies =
+          subst (λ ns. Each (λ number. IfSome (slice_get group.sent number) (λ (packet : Packet N). IsSilentOn (content packet.note) id)) ns)
+          (sym settled.nothing_flies) tt;
       nodes_are_quiet = quiet;
     }
   where
@@ -110,19 +124,27 @@ all_at_rest {C} {N} state content group settled id =
     quiet name core runs =
         let node = runs.0 in
         let named : name ≡ node.name = found_name name group.nodes node runs.1 in
-        let here : core_of node.name group.nodes ≡ Some core = ap (λ n. core_of n group.nodes) (sym named) ∙ ap (λ (o : Option (NodeState C)). core_in o) runs.1 ∙ runs.2 in
-        let no_queue : (state core).queued ≡ [] = sym (ap (λ (o : Option C). queue_of state o) here) ∙ each_found (λ (other : NodeState C). queue_of state (core_of other.name group.nodes) ≡ []) name node group.nodes settled.nothing_queued runs.1 in
-        let no_timer : (state core).timers ≡ [] = sym (ap (λ (o : Option C). timers_of state o) here) ∙ each_found (λ (other : NodeState C). timers_of state (core_of other.name group.nodes) ≡ []) name node group.nodes settled.nothing_armed runs.1 in
+        let here : core_of node.name group.nodes ≡ Some core =
+        ap (λ n. core_of n group.nodes) (sym named) ∙ ap (λ (o : Option (NodeState C)). core_in o) runs.1 ∙ runs.2 in
+        let no_queue : (state core).queued ≡ [] =
+        sym (ap (λ (o : Option C). queue_of state o) here)
+        ∙ each_found (λ (other : NodeState C). queue_of state (core_of other.name group.nodes) ≡ []) name node group.nodes settled.nothing_queued runs.1 in
+        let no_timer : (state core).timers ≡ [] =
+        sym (ap (λ (o : Option C). timers_of state o) here)
+        ∙ each_found (λ (other : NodeState C). timers_of state (core_of other.name group.nodes) ≡ []) name node group.nodes settled.nothing_armed runs.1 in
         record {
           queues_not = subst (λ (qs : List (Name × MsgId × ℕ)). Each (λ entry. entry.1 ≡ id → ⊥) qs) (sym no_queue) tt;
           times_not = subst (λ (ts : List MsgId). Each (λ timed. timed ≡ id → ⊥) ts) (sym no_timer) tt;
         }
 
 -- if an event is refused, or was the last to be played, the events that were played stay
-pub stopped_played : (is_spent : Plum → Stimulus Frame → Type 0) (e : SettleError) (old now new : Logged Plum Frame) → HasPlayed plum_state PlumStarts PlumSteps load_of old now → Stops plum_state PlumStarts PlumSteps is_spent e now new
+pub stopped_played : (is_spent : Plum → Stimulus Frame → Type 0) (e : SettleError) (old now new : Logged Plum Frame) →
+    HasPlayed plum_state PlumStarts PlumSteps load_of old now →
+    Stops plum_state PlumStarts PlumSteps is_spent e now new
     → (events : List Event) × Settles plum_state PlumStarts PlumSteps events old new
 stopped_played is_spent NotCalm old now new played stops = absurd stops
-stopped_played is_spent SeqSpent old now new played stops = (played.events, subst (λ (w : Logged Plum Frame). Settles plum_state PlumStarts PlumSteps played.events old w) (sym stops.0) played.settles)
+stopped_played is_spent SeqSpent old now new played stops =
+    (played.events, subst (λ (w : Logged Plum Frame). Settles plum_state PlumStarts PlumSteps played.events old w) (sym stops.0) played.settles)
 stopped_played is_spent OutOfMemory old now new played stops =
     elim stops [
       | inl same ↦ (played.events, subst (λ (w : Logged Plum Frame). Settles plum_state PlumStarts PlumSteps played.events old w) (sym same) played.settles)

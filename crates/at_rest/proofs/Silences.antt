@@ -17,7 +17,8 @@ use Rattle.world.specs.Rest.{IsAtRest, IsQuiet, IsSilentOn}
 use Rattle.world.specs.declared.node_state.NodeState.{NodeState}
 use Rattle.world.specs.declared.packet.Packet.{Packet}
 use Rattle.at_rest.specs.Silence.{are_quiet, is_announced, is_asked, is_queued, is_quiet, is_quiet_at, is_silent, is_silent_at, is_silent_flight}
-use Rattle.at_rest.proofs.Lists.{all_pass, any_passes, both_hold, each_of_one, each_one, each_passes, fails, first_holds, not_false, not_holds, one_passes, second_holds}
+use Rattle.at_rest.proofs.Lists.{all_pass, any_passes, both_hold, each_of_one, each_one, each_passes}
+use Rattle.at_rest.proofs.Lists.{fails, first_holds, not_false, not_holds, one_passes, second_holds}
 use Rattle.at_rest.proofs.Nodes.{core_runs, found_one, runs_core}
 
 -- an id is the same as itself
@@ -28,11 +29,20 @@ id_is id = (same_id-Decides id id).1 refl
 silent_is : (id : MsgId) (content : Content) → is_silent id content ≡ true → IsSilentOn content id
 unfolding is_silent
 silent_is id content h =
-    let none : (not (is_announced id content.announced) && not (is_asked id content.asked)) ≡ true = second_holds (not (is_carried id content.carried)) (not (is_announced id content.announced) && not (is_asked id content.asked)) h in
+    let none : (not (is_announced id content.announced) && not (is_asked id content.asked)) ≡ true =
+    second_holds (not (is_carried id content.carried)) (not (is_announced id content.announced) && not (is_asked id content.asked)) h in
     record {
-      carries_not = λ p e. not_holds (is_carried id content.carried) (first_holds (not (is_carried id content.carried)) (not (is_announced id content.announced) && not (is_asked id content.asked)) h) (ap (is_carried id) e ∙ id_is id);
-      announces_not = λ round one. not_holds (is_announced id content.announced) (first_holds (not (is_announced id content.announced)) (not (is_asked id content.asked)) none) (any_passes (λ (entry : MsgId × ℕ). same_id id entry.0) content.announced (id, round) one (id_is id));
-      asks_not = λ e. not_holds (is_asked id content.asked) (second_holds (not (is_announced id content.announced)) (not (is_asked id content.asked)) none) (ap (is_asked id) e ∙ id_is id);
+      carries_not =
+          λ p e. not_holds (is_carried id content.carried)
+          (first_holds (not (is_carried id content.carried)) (not (is_announced id content.announced) && not (is_asked id content.asked)) h)
+          (ap (is_carried id) e ∙ id_is id);
+      announces_not =
+          λ round one. not_holds (is_announced id content.announced)
+          (first_holds (not (is_announced id content.announced)) (not (is_asked id content.asked)) none)
+          (any_passes (λ (entry : MsgId × ℕ). same_id id entry.0) content.announced (id, round) one (id_is id));
+      asks_not =
+          λ e. not_holds (is_asked id content.asked)
+          (second_holds (not (is_announced id content.announced)) (not (is_asked id content.asked)) none) (ap (is_asked id) e ∙ id_is id);
     }
 
 -- and one that does none of these is silent
@@ -63,8 +73,14 @@ quiet_is : (id : MsgId) (core : CoreState) → is_quiet id core ≡ true → IsQ
 unfolding is_quiet
 quiet_is id core h =
     record {
-      queues_not = each_of_one (λ (entry : Name × MsgId × ℕ). entry.1 ≢ id) core.queued (λ entry one e. not_holds (is_queued id core.queued) (first_holds (not (is_queued id core.queued)) (not (has_id core.timers id)) h) (any_passes (λ (x : Name × MsgId × ℕ). same_id id x.1) core.queued entry one ((same_id-Decides id entry.1).1 (sym e))));
-      times_not = each_of_one (λ (timed : MsgId). timed ≢ id) core.timers (λ timed one e. not_holds (has_id core.timers id) (second_holds (not (is_queued id core.queued)) (not (has_id core.timers id)) h) (any_passes (same_id id) core.timers timed one ((same_id-Decides id timed).1 (sym e))));
+      queues_not =
+          each_of_one (λ (entry : Name × MsgId × ℕ). entry.1 ≢ id) core.queued (λ entry one e. not_holds (is_queued id core.queued)
+          (first_holds (not (is_queued id core.queued)) (not (has_id core.timers id)) h)
+          (any_passes (λ (x : Name × MsgId × ℕ). same_id id x.1) core.queued entry one ((same_id-Decides id entry.1).1 (sym e))));
+      times_not =
+          each_of_one (λ (timed : MsgId). timed ≢ id) core.timers (λ timed one e. not_holds (has_id core.timers id)
+          (second_holds (not (is_queued id core.queued)) (not (has_id core.timers id)) h)
+          (any_passes (same_id id) core.timers timed one ((same_id-Decides id timed).1 (sym e))));
     }
 
 -- and one that has nothing is quiet
@@ -87,18 +103,30 @@ is_quiet_core id core quiet =
 
 module _ {C N : Type 0} (state : C → CoreState) (content : N → Content) (group : Group C N) (id : MsgId) where
   -- a silent flight is as rest wants it
-  pub flight_is : is_silent_flight content id group.sent group.flight ≡ true → Each (λ number. IfSome (slice_get group.sent number) (λ (packet : Packet N). IsSilentOn (content packet.note) id)) group.flight
-  flight_is h = each_of_one (λ number. IfSome (slice_get group.sent number) (λ (packet : Packet N). IsSilentOn (content packet.note) id)) group.flight (λ number one. go (slice_get group.sent number) (each_one (λ n. is_silent_at content id group.sent n ≡ true) group.flight number (each_passes (λ n. is_silent_at content id group.sent n) group.flight h) one))
+  pub flight_is : is_silent_flight content id group.sent group.flight ≡ true →
+      Each (λ number. IfSome (slice_get group.sent number) (λ (packet : Packet N). IsSilentOn (content packet.note) id)) group.flight
+  flight_is h =
+      each_of_one (λ number. IfSome (slice_get group.sent number) (λ (packet : Packet N). IsSilentOn (content packet.note) id)) group.flight
+      (λ number one. go (slice_get group.sent number) (each_one (λ n. is_silent_at content id group.sent n ≡ true) group.flight number
+      (each_passes (λ n. is_silent_at content id group.sent n) group.flight h) one))
     where
-      go : (o : Option (Packet N)) → option_map_or (λ (packet : Packet N). is_silent id (content packet.note)) o true ≡ true → IfSome o (λ (packet : Packet N). IsSilentOn (content packet.note) id)
+      go : (o : Option (Packet N)) →
+          option_map_or (λ (packet : Packet N). is_silent id (content packet.note)) o true ≡ true →
+          IfSome o (λ (packet : Packet N). IsSilentOn (content packet.note) id)
       go None h = tt
       go (Some packet) h = silent_is id (content packet.note) h
 
   -- and a flight as rest wants it is silent
-  pub is_flight : Each (λ number. IfSome (slice_get group.sent number) (λ (packet : Packet N). IsSilentOn (content packet.note) id)) group.flight → is_silent_flight content id group.sent group.flight ≡ true
-  is_flight h = all_pass (λ n. is_silent_at content id group.sent n) group.flight (each_of_one (λ n. is_silent_at content id group.sent n ≡ true) group.flight (λ number one. go (slice_get group.sent number) (each_one (λ n. IfSome (slice_get group.sent n) (λ (packet : Packet N). IsSilentOn (content packet.note) id)) group.flight number h one)))
+  pub is_flight : Each (λ number. IfSome (slice_get group.sent number) (λ (packet : Packet N). IsSilentOn (content packet.note) id)) group.flight →
+      is_silent_flight content id group.sent group.flight ≡ true
+  is_flight h =
+      all_pass (λ n. is_silent_at content id group.sent n) group.flight
+      (each_of_one (λ n. is_silent_at content id group.sent n ≡ true) group.flight (λ number one. go (slice_get group.sent number)
+      (each_one (λ n. IfSome (slice_get group.sent n) (λ (packet : Packet N). IsSilentOn (content packet.note) id)) group.flight number h one)))
     where
-      go : (o : Option (Packet N)) → IfSome o (λ (packet : Packet N). IsSilentOn (content packet.note) id) → option_map_or (λ (packet : Packet N). is_silent id (content packet.note)) o true ≡ true
+      go : (o : Option (Packet N)) →
+          IfSome o (λ (packet : Packet N). IsSilentOn (content packet.note) id) →
+          option_map_or (λ (packet : Packet N). is_silent id (content packet.note)) o true ≡ true
       go None h = refl
       go (Some packet) h = is_silent_on id (content packet.note) h
 
@@ -106,20 +134,26 @@ module _ {C N : Type 0} (state : C → CoreState) (content : N → Content) (gro
   pub nodes_are : are_quiet state id group.nodes ≡ true → (name : Name) (core : C) → Runs group name core → IsQuiet (state core) id
   nodes_are h name core runs =
       let found = found_one name group.nodes runs.0 runs.1 in
-      let test : is_quiet_at state id group.nodes runs.0.name ≡ true = each_one (λ (node : NodeState C). is_quiet_at state id group.nodes node.name ≡ true) group.nodes runs.0 (each_passes (λ (node : NodeState C). is_quiet_at state id group.nodes node.name) group.nodes h) found.0 in
+      let test : is_quiet_at state id group.nodes runs.0.name ≡ true =
+      each_one (λ (node : NodeState C). is_quiet_at state id group.nodes node.name ≡ true) group.nodes runs.0
+      (each_passes (λ (node : NodeState C). is_quiet_at state id group.nodes node.name) group.nodes h) found.0 in
       let here : is_quiet_at state id group.nodes name ≡ true = subst (λ n. is_quiet_at state id group.nodes n ≡ true) (sym found.1) test in
       quiet_is id (state core) (subst (λ o. option_map_or (λ (c : C). is_quiet id (state c)) o true ≡ true) (runs_core group name core runs) here)
 
   -- and where each that runs is, all are
   pub are_nodes : ((name : Name) (core : C) → Runs group name core → IsQuiet (state core) id) → are_quiet state id group.nodes ≡ true
-  are_nodes h = all_pass (λ (node : NodeState C). is_quiet_at state id group.nodes node.name) group.nodes (each_of_one (λ (node : NodeState C). is_quiet_at state id group.nodes node.name ≡ true) group.nodes (λ node one. go node.name (core_of node.name group.nodes) refl))
+  are_nodes h =
+      all_pass (λ (node : NodeState C). is_quiet_at state id group.nodes node.name) group.nodes (each_of_one
+      (λ (node : NodeState C). is_quiet_at state id group.nodes node.name ≡ true) group.nodes (λ node one. go node.name (core_of node.name group.nodes) refl))
     where
       go : (name : Name) (o : Option C) → core_of name group.nodes ≡ o → option_map_or (λ (core : C). is_quiet id (state core)) o true ≡ true
       go name None e = refl
       go name (Some core) e = is_quiet_core id (state core) (h name core (core_runs group name core e))
 
   -- so the two tests together tell whether the group is at rest
-  pub rest_is : (test : Bool) → test ≡ (is_silent_flight content id group.sent group.flight && are_quiet state id group.nodes) → (test ≡ true) ↔ IsAtRest state content group id
+  pub rest_is : (test : Bool) →
+      test ≡ (is_silent_flight content id group.sent group.flight && are_quiet state id group.nodes) →
+      (test ≡ true) ↔ IsAtRest state content group id
   rest_is test is_so = (
     (λ h.
         let both : (is_silent_flight content id group.sent group.flight && are_quiet state id group.nodes) ≡ true = sym is_so ∙ h in
@@ -127,5 +161,6 @@ module _ {C N : Type 0} (state : C → CoreState) (content : N → Content) (gro
           nothing_flies = flight_is (first_holds (is_silent_flight content id group.sent group.flight) (are_quiet state id group.nodes) both);
           nodes_are_quiet = nodes_are (second_holds (is_silent_flight content id group.sent group.flight) (are_quiet state id group.nodes) both);
         }),
-    (λ rest. is_so ∙ both_hold (is_silent_flight content id group.sent group.flight) (are_quiet state id group.nodes) (is_flight rest.nothing_flies) (are_nodes rest.nodes_are_quiet)),
+    (λ rest. is_so ∙ both_hold (is_silent_flight content id group.sent group.flight)
+        (are_quiet state id group.nodes) (is_flight rest.nothing_flies) (are_nodes rest.nodes_are_quiet)),
   )

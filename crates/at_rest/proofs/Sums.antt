@@ -43,11 +43,16 @@ all_counted p (x ∷ xs) all =
     same
 
 -- a node in the place of another of its name
-pub put_sum : {C : Type 0} (f : NodeState C → ℕ) (node found : NodeState C) (nodes : List (NodeState C)) → node_of node.name nodes ≡ Some found → sum_by f (put_node node nodes) + f found ≡ sum_by f nodes + f node
+pub put_sum : {C : Type 0} (f : NodeState C → ℕ) (node found : NodeState C) (nodes : List (NodeState C)) →
+    node_of node.name nodes ≡ Some found →
+    sum_by f (put_node node nodes) + f found ≡ sum_by f nodes + f node
 put_sum f node found [] at = let no : None ≡ Some found = at in cc
 put_sum {C} f node found (other ∷ others) at = go (same_name node.name other.name) at (put_sum f node found others)
   where
-    go : (b : Bool) → cond b (Some other) (node_of node.name others) ≡ Some found → (node_of node.name others ≡ Some found → sum_by f (put_node node others) + f found ≡ sum_by f others + f node) → sum_by f (cond b (node ∷ others) (other ∷ put_node node others)) + f found ≡ sum_by f (other ∷ others) + f node
+    go : (b : Bool) →
+        cond b (Some other) (node_of node.name others) ≡ Some found →
+        (node_of node.name others ≡ Some found → sum_by f (put_node node others) + f found ≡ sum_by f others + f node) →
+        sum_by f (cond b (node ∷ others) (other ∷ put_node node others)) + f found ≡ sum_by f (other ∷ others) + f node
     go true is later =
         let same : Some other ≡ Some found = is in
         let this : other ≡ found = cc in
@@ -70,15 +75,19 @@ abbrev pub weight : Packet Frame → ℕ
 weight packet = body_load packet.note.body
 
 -- the load of what is in flight, as a weight
-pub flying_is : (sent : List (Packet Frame)) (flight : List ℕ) → sum_by (λ number. packet_load (slice_get sent number)) flight ≡ flying_weight weight sent flight
-flying_is sent flight = same_sums (λ number. packet_load (slice_get sent number)) (λ number. weight_of weight (slice_get sent number)) flight (λ number. one (slice_get sent number))
+pub flying_is : (sent : List (Packet Frame)) (flight : List ℕ) →
+    sum_by (λ number. packet_load (slice_get sent number)) flight ≡ flying_weight weight sent flight
+flying_is sent flight =
+    same_sums (λ number. packet_load (slice_get sent number))
+    (λ number. weight_of weight (slice_get sent number)) flight (λ number. one (slice_get sent number))
   where
     one : (o : Option (Packet Frame)) → packet_load o ≡ weight_of weight o
     one None = refl
     one (Some packet) = refl
 
 -- the load of what a step sends
-pub sent_is : (me : Origin) (framed : ℕ) (bodies : List (Name × Body)) (sender : Origin) → sum_by weight (packets sender (numbered me framed bodies)) ≡ sends_load bodies
+pub sent_is : (me : Origin) (framed : ℕ) (bodies : List (Name × Body)) (sender : Origin) →
+    sum_by weight (packets sender (numbered me framed bodies)) ≡ sends_load bodies
 sent_is me framed bodies sender = sum_packets weight sender (numbered me framed bodies) ∙ go framed bodies
   where
     go : (n : ℕ) (sends : List (Name × Body)) → sum_by (λ (send : Name × Frame). body_load send.1.body) (numbered me n sends) ≡ sends_load sends
@@ -97,22 +106,33 @@ lacks_less (id ∷ said) old new keeps = go (old.has id) (new.has id) refl refl 
   where
     go : (a b : Bool) → old.has id ≡ a → new.has id ≡ b → lacked said new ≤ lacked said old → lacked (id ∷ said) new ≤ lacked (id ∷ said) old
     go a b was is rest =
-        let before : lacked (id ∷ said) old ≡ cond {A = ℕ} (not (old.has id)) 1 0 + lacked said old = sum_by-cons (λ i. cond {A = ℕ} (not (old.has i)) 1 0) id said in
-        let after : lacked (id ∷ said) new ≡ cond {A = ℕ} (not (new.has id)) 1 0 + lacked said new = sum_by-cons (λ i. cond {A = ℕ} (not (new.has i)) 1 0) id said in
+        let before : lacked (id ∷ said) old ≡ cond {A = ℕ} (not (old.has id)) 1 0 + lacked said old =
+        sum_by-cons (λ i. cond {A = ℕ} (not (old.has i)) 1 0) id said in
+        let after : lacked (id ∷ said) new ≡ cond {A = ℕ} (not (new.has id)) 1 0 + lacked said new =
+        sum_by-cons (λ i. cond {A = ℕ} (not (new.has i)) 1 0) id said in
         let here : cond {A = ℕ} (not (new.has id)) 1 0 ≤ cond {A = ℕ} (not (old.has id)) 1 0 = one a b was is in
         omega arith
       where
         one : (c d : Bool) → old.has id ≡ c → new.has id ≡ d → cond {A = ℕ} (not (new.has id)) 1 0 ≤ cond {A = ℕ} (not (old.has id)) 1 0
         one c true was is = let none : cond {A = ℕ} (not (new.has id)) 1 0 ≡ 0 = ap (λ x. cond {A = ℕ} (not x) 1 0) is in omega arith
-        one false false was is = let none : cond {A = ℕ} (not (old.has id)) 1 0 ≡ 1 = ap (λ x. cond {A = ℕ} (not x) 1 0) was in let some : cond {A = ℕ} (not (new.has id)) 1 0 ≡ 1 = ap (λ x. cond {A = ℕ} (not x) 1 0) is in omega arith
+        one false false was is =
+            let none : cond {A = ℕ} (not (old.has id)) 1 0 ≡ 1 = ap (λ x. cond {A = ℕ} (not x) 1 0) was in
+            let some : cond {A = ℕ} (not (new.has id)) 1 0 ≡ 1 = ap (λ x. cond {A = ℕ} (not x) 1 0) is in omega arith
         one true false was is = absurd (false≢true (sym is ∙ keeps id was))
 
 -- and one less if it got one that it lacked
-pub lacks_one_less : (said : List MsgId) (old new : CoreState) (id : MsgId) → ((i : MsgId) → old.has i ≡ true → new.has i ≡ true) → IsOneOf id said → old.has id ≡ false → new.has id ≡ true → suc (lacked said new) ≤ lacked said old
+pub lacks_one_less : (said : List MsgId) (old new : CoreState) (id : MsgId) →
+    ((i : MsgId) → old.has i ≡ true → new.has i ≡ true) →
+    IsOneOf id said →
+    old.has id ≡ false →
+    new.has id ≡ true →
+    suc (lacked said new) ≤ lacked said old
 lacks_one_less [] old new id keeps one was is = absurd one
 lacks_one_less (first ∷ said) old new id keeps one was is =
-    let before : lacked (first ∷ said) old ≡ cond {A = ℕ} (not (old.has first)) 1 0 + lacked said old = sum_by-cons (λ i. cond {A = ℕ} (not (old.has i)) 1 0) first said in
-    let after : lacked (first ∷ said) new ≡ cond {A = ℕ} (not (new.has first)) 1 0 + lacked said new = sum_by-cons (λ i. cond {A = ℕ} (not (new.has i)) 1 0) first said in
+    let before : lacked (first ∷ said) old ≡ cond {A = ℕ} (not (old.has first)) 1 0 + lacked said old =
+    sum_by-cons (λ i. cond {A = ℕ} (not (old.has i)) 1 0) first said in
+    let after : lacked (first ∷ said) new ≡ cond {A = ℕ} (not (new.has first)) 1 0 + lacked said new =
+    sum_by-cons (λ i. cond {A = ℕ} (not (new.has i)) 1 0) first said in
     elim one [
       | inl here ↦ (
           let lacked_it : cond {A = ℕ} (not (old.has first)) 1 0 ≡ 1 = ap (λ x. cond {A = ℕ} (not x) 1 0) (ap old.has (sym here) ∙ was) in
@@ -122,8 +142,10 @@ lacks_one_less (first ∷ said) old new id keeps one was is =
       | inr later ↦ (
           let rest : suc (lacked said new) ≤ lacked said old = lacks_one_less said old new id keeps later was is in
           let first_one : lacked (first ∷ []) new ≤ lacked (first ∷ []) old = lacks_less (first ∷ []) old new keeps in
-          let b : lacked (first ∷ []) old ≡ cond {A = ℕ} (not (old.has first)) 1 0 + lacked [] old = sum_by-cons (λ i. cond {A = ℕ} (not (old.has i)) 1 0) first [] in
-          let a : lacked (first ∷ []) new ≡ cond {A = ℕ} (not (new.has first)) 1 0 + lacked [] new = sum_by-cons (λ i. cond {A = ℕ} (not (new.has i)) 1 0) first [] in
+          let b : lacked (first ∷ []) old ≡ cond {A = ℕ} (not (old.has first)) 1 0 + lacked [] old =
+          sum_by-cons (λ i. cond {A = ℕ} (not (old.has i)) 1 0) first [] in
+          let a : lacked (first ∷ []) new ≡ cond {A = ℕ} (not (new.has first)) 1 0 + lacked [] new =
+          sum_by-cons (λ i. cond {A = ℕ} (not (new.has i)) 1 0) first [] in
           let none_old : lacked [] old ≡ 0 = refl in
           let none_new : lacked [] new ≡ 0 = refl in
           omega arith)

@@ -36,7 +36,8 @@ use Rattle.at_rest.proofs.Lefts.{same_names}
 
 -- One node is replaced, and keeps its place.
 abbrev pub IsPut : Group Plum Frame → Group Plum Frame → Name → Type 0
-IsPut before after name = (node : NodeState Plum) × (core : Plum) × (node_of name before.nodes ≡ Some node) × (after.nodes ≡ put_node (record node { core = Some core }) before.nodes)
+IsPut before after name =
+    (node : NodeState Plum) × (core : Plum) × (node_of name before.nodes ≡ Some node) × (after.nodes ≡ put_node (record node { core = Some core }) before.nodes)
 
 module _
     (laws : Laws plum_state frame_content IsSoundPlum PlumStarts PlumSteps)
@@ -56,12 +57,16 @@ module _
     effect = subst (λ e. Effect plum_state PlumStarts PlumSteps old.limits old.group applied.entry new.group e) applied.of_event applied.happened.1
 
     abbrev pub Taken : Type 0
-    Taken = (load (said_ids (reverse new.log)) new.group + 1 ≤ load (said_ids (reverse old.log)) old.group) × IsCalm plum_state frame_content new.group × (applied.entry.moved ≡ false)
+    Taken =
+        (load (said_ids (reverse new.log)) new.group + 1 ≤ load (said_ids (reverse old.log)) old.group)
+        × IsCalm plum_state frame_content new.group
+        × (applied.entry.moved ≡ false)
 
     pub taken : Honest (reverse new.log) → Taken
     taken honest =
         let all : Honest (applied.entry ∷ reverse old.log) = subst Honest longer honest in
-        let settles = event_settles laws steps_fit old.limits (reverse old.log) applied.entry old.group new.group run calm all.0 event applied.of_event next effect in (
+        let settles =
+        event_settles laws steps_fit old.limits (reverse old.log) applied.entry old.group new.group run calm all.0 event applied.of_event next effect in (
           subst (λ history. load (said_ids history) new.group + 1 ≤ load (said_ids (reverse old.log)) old.group) (sym longer) settles.0,
           settles.1,
           settles.2,
@@ -70,7 +75,8 @@ module _
     -- whoever was undisturbed stays so
     pub still_undisturbed : Honest (reverse new.log) → (id : MsgId) → SaidAndCalm (reverse old.log) id → SaidAndCalm (reverse new.log) id
     still_undisturbed honest id calm_before =
-        subst (λ history. SaidAndCalm history id) (sym longer) (inr (subst IsCalmEvent (sym applied.of_event) (harmless event next), (taken honest).2, calm_before))
+        subst (λ history. SaidAndCalm history id) (sym longer)
+        (inr (subst IsCalmEvent (sym applied.of_event) (harmless event next), (taken honest).2, calm_before))
       where
         harmless : (e : Event) → IsNext plum_state old.group e → IsCalmEvent e
         harmless (Arrive place dice) is = tt
@@ -89,7 +95,10 @@ module _
     pub stepped : (name : Name) → StepsNode old.group event name → IsPut old.group new.group name
     stepped name at = go event effect at
       where
-        go : (e : Event) → Effect plum_state PlumStarts PlumSteps old.limits old.group applied.entry new.group e → StepsNode old.group e name → IsPut old.group new.group name
+        go : (e : Event) →
+            Effect plum_state PlumStarts PlumSteps old.limits old.group applied.entry new.group e →
+            StepsNode old.group e name →
+            IsPut old.group new.group name
         go (Arrive place dice) does at =
             let there : Some at.0 ≡ Some does.packet = sym at.1 ∙ ap (λ n. sent_under old.group.sent n) does.in_flight ∙ does.sent in
             let same : at.0 ≡ does.packet = cc in
@@ -107,14 +116,24 @@ module _
         go (Stop other) does at = absurd at
 
 -- a node that is put has its name among the names
-pub is_named : (before after : Group Plum Frame) (name : Name) → IsPut before after name → (keys : List Name) → keys ≡ names_of after.nodes → position (same_name name) keys ≡ None → ⊥
+pub is_named : (before after : Group Plum Frame) (name : Name) →
+    IsPut before after name →
+    (keys : List Name) →
+    keys ≡ names_of after.nodes →
+    position (same_name name) keys ≡ None →
+    ⊥
 is_named before after name put keys named nowhere =
     let node = record put.0 { core = Some put.1 } in
     let same : name ≡ put.0.name = found_name name before.nodes put.0 put.2 in
-    let there : node_of name after.nodes ≡ Some node = ap (λ (ns : List (NodeState Plum)). node_of name ns) put.3 ∙ put_same name node before.nodes ((same_name-Decides name put.0.name).1 same) in
+    let there : node_of name after.nodes ≡ Some node =
+    ap (λ (ns : List (NodeState Plum)). node_of name ns) put.3 ∙ put_same name node before.nodes ((same_name-Decides name put.0.name).1 same) in
     let none : None ≡ Some node = sym (node_nowhere name keys after.nodes named nowhere) ∙ there in
     cc
 
 -- the names stay distinct
-pub still_distinct : (before after : Group Plum Frame) (name : Name) → IsPut before after name → IsDistinct same_name (names_of before.nodes) → IsDistinct same_name (names_of after.nodes)
-still_distinct before after name put distinct = subst (IsDistinct same_name) (sym (same_names plum_state Announcements before.nodes after.nodes name put.0 put.1 put.2 put.3 distinct)) distinct
+pub still_distinct : (before after : Group Plum Frame) (name : Name) →
+    IsPut before after name →
+    IsDistinct same_name (names_of before.nodes) →
+    IsDistinct same_name (names_of after.nodes)
+still_distinct before after name put distinct =
+    subst (IsDistinct same_name) (sym (same_names plum_state Announcements before.nodes after.nodes name put.0 put.1 put.2 put.3 distinct)) distinct

@@ -12,13 +12,15 @@ use Rattle.frames.specs.Body.{Body}
 use Rattle.frames.specs.Content.{body_content}
 use Rattle.frames.specs.Frame.{Frame, has_good_counts}
 use Rattle.frames.specs.declared.TheConstants.{MAX_ANNOUNCEMENTS}
-use Rattle.frames.specs.declared.body.BodyOf.TheVariants.{Join, ForwardJoin, Neighbor, NeighborReply, Disconnect, Shuffle, ShuffleReply, Gossip, IHave, Graft, Prune, GraftPeer}
+use Rattle.frames.specs.declared.body.BodyOf.TheVariants.{Join, ForwardJoin, Neighbor, NeighborReply, Disconnect}
+use Rattle.frames.specs.declared.body.BodyOf.TheVariants.{Shuffle, ShuffleReply, Gossip, IHave, Graft, Prune, GraftPeer}
 use Rattle.membership.specs.Membership.{Membership}
 use Rattle.gossip_core.specs.State.{GossipState}
 use Rattle.node_core.specs.Plum.{IsWhole}
 use Rattle.node_core.specs.Steps.{Turned, heard, idle, turned}
 use Rattle.at_rest.specs.Load.{body_load}
-use Rattle.at_rest.proofs.Lighter.{IsLighter, announcements_lighter, firing_lighter, flush_lighter, gossip_lighter, graft_lighter, prune_lighter, request_lighter}
+use Rattle.at_rest.proofs.Lighter.{IsLighter, announcements_lighter, firing_lighter, flush_lighter}
+use Rattle.at_rest.proofs.Lighter.{gossip_lighter, graft_lighter, prune_lighter, request_lighter}
 use Rattle.at_rest.proofs.Receivers.{GoRight, announcements_right, firing_right, flush_right, gossip_right, request_right}
 
 -- the sender that asks for a message by this packet
@@ -42,10 +44,19 @@ some_announced n good = go (nat_lt 0 n) refl good
 
 module _ (me : Origin) (m : Membership) (g : GossipState) (whole : IsWhole g) where
   -- a packet that says nothing of the membership
-  heard_lighter : (sender : Name) (body : Body) (dice : Dice) → (body_content body).is_membership ≡ false → has_good_counts body ≡ true → TurnsLighter (body_load body) (asker_of sender body) m g (heard m g sender body dice)
-  heard_lighter sender (Gossip id round payload) dice about good = record { views_stay = refl; lighter = gossip_lighter g sender id round payload; right = gossip_right g whole sender id round payload None }
-  heard_lighter sender (IHave entries) dice about good = record { views_stay = refl; lighter = announcements_lighter g sender entries (some_announced (length entries) good); right = announcements_right g whole sender entries None }
-  heard_lighter sender (Graft id round) dice about good = record { views_stay = refl; lighter = request_lighter g sender id round; right = request_right g whole sender id round }
+  heard_lighter : (sender : Name) (body : Body) (dice : Dice) →
+      (body_content body).is_membership ≡ false →
+      has_good_counts body ≡ true →
+      TurnsLighter (body_load body) (asker_of sender body) m g (heard m g sender body dice)
+  heard_lighter sender (Gossip id round payload) dice about good =
+      record { views_stay = refl; lighter = gossip_lighter g sender id round payload; right = gossip_right g whole sender id round payload None }
+  heard_lighter sender (IHave entries) dice about good = record {
+    views_stay = refl;
+    lighter = announcements_lighter g sender entries (some_announced (length entries) good);
+    right = announcements_right g whole sender entries None;
+  }
+  heard_lighter sender (Graft id round) dice about good =
+      record { views_stay = refl; lighter = request_lighter g sender id round; right = request_right g whole sender id round }
   heard_lighter sender Prune dice about good = record { views_stay = refl; lighter = prune_lighter g sender; right = tt }
   heard_lighter sender GraftPeer dice about good = record { views_stay = refl; lighter = graft_lighter g sender; right = tt }
   heard_lighter sender Join dice about good = absurd (false≢true (sym about))
@@ -72,7 +83,10 @@ module _ (me : Origin) (m : Membership) (g : GossipState) (whole : IsWhole g) wh
   some_load (ShuffleReply names) about good = absurd (false≢true (sym about))
 
   -- an arrival
-  pub arrival_lighter : (sender : Origin) (frame : Frame) (dice : Dice) → (body_content frame.body).is_membership ≡ false → has_good_counts frame.body ≡ true → TurnsLighter (body_load frame.body) (asker_of sender.name frame.body) m g (turned me m g (stimulus.Arrive sender frame dice))
+  pub arrival_lighter : (sender : Origin) (frame : Frame) (dice : Dice) →
+      (body_content frame.body).is_membership ≡ false →
+      has_good_counts frame.body ≡ true →
+      TurnsLighter (body_load frame.body) (asker_of sender.name frame.body) m g (turned me m g (stimulus.Arrive sender frame dice))
   arrival_lighter sender frame dice about good = go (same_name sender.name me.name)
     where
       nothing : TurnsLighter (body_load frame.body) (asker_of sender.name frame.body) m g (idle m g)

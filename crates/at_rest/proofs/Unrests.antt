@@ -46,9 +46,12 @@ content_is : (id : MsgId) (content : Content) → not (has_id (content_ids conte
 unfolding is_silent
 content_is id content =
     neither id (carried_ids content.carried) (map (λ (entry : MsgId × ℕ). entry.0) content.announced ++ asked_ids content.asked)
-    ∙ ap (λ b. not (has_id (carried_ids content.carried) id) && b) (neither id (map (λ (entry : MsgId × ℕ). entry.0) content.announced) (asked_ids content.asked))
-    ∙ ap (λ b. not b && (not (has_id (map (λ (entry : MsgId × ℕ). entry.0) content.announced) id) && not (has_id (asked_ids content.asked) id))) (carried_is id content.carried)
-    ∙ ap (λ b. not (is_carried id content.carried) && (not b && not (has_id (asked_ids content.asked) id))) (mapped (λ (entry : MsgId × ℕ). entry.0) content.announced id)
+    ∙ ap (λ b. not (has_id (carried_ids content.carried) id) && b)
+    (neither id (map (λ (entry : MsgId × ℕ). entry.0) content.announced) (asked_ids content.asked))
+    ∙ ap (λ b. not b && (not (has_id (map (λ (entry : MsgId × ℕ). entry.0) content.announced) id) && not (has_id (asked_ids content.asked) id)))
+    (carried_is id content.carried)
+    ∙ ap (λ b. not (is_carried id content.carried) && (not b && not (has_id (asked_ids content.asked) id)))
+    (mapped (λ (entry : MsgId × ℕ). entry.0) content.announced id)
     ∙ ap (λ b. not (is_carried id content.carried) && (not (is_announced id content.announced) && not b)) (asked_is id content.asked)
 
 core_is : (id : MsgId) (core : CoreState) → not (has_id (core_ids core) id) ≡ is_quiet id core
@@ -61,7 +64,9 @@ module _ {C N : Type 0} (state : C → CoreState) (content : N → Content) (id 
   packet_is : (sent : List (Packet N)) (number : ℕ) → not (has_id (packet_ids content sent number) id) ≡ is_silent_at content id sent number
   packet_is sent number = go (slice_get sent number)
     where
-      go : (o : Option (Packet N)) → not (has_id (option_map_or (λ (packet : Packet N). content_ids (content packet.note)) o []) id) ≡ option_map_or (λ (packet : Packet N). is_silent id (content packet.note)) o true
+      go : (o : Option (Packet N)) →
+          not (has_id (option_map_or (λ (packet : Packet N). content_ids (content packet.note)) o []) id)
+          ≡ option_map_or (λ (packet : Packet N). is_silent id (content packet.note)) o true
       go None = refl
       go (Some packet) = content_is id (content packet.note)
 
@@ -75,11 +80,13 @@ module _ {C N : Type 0} (state : C → CoreState) (content : N → Content) (id 
   node_is : (nodes : List (NodeState C)) (name : Name) → not (has_id (node_ids state nodes name) id) ≡ is_quiet_at state id nodes name
   node_is nodes name = go (core_of name nodes)
     where
-      go : (o : Option C) → not (has_id (option_map_or (λ (core : C). core_ids (state core)) o []) id) ≡ option_map_or (λ (core : C). is_quiet id (state core)) o true
+      go : (o : Option C) →
+          not (has_id (option_map_or (λ (core : C). core_ids (state core)) o []) id) ≡ option_map_or (λ (core : C). is_quiet id (state core)) o true
       go None = refl
       go (Some core) = core_is id (state core)
 
-  nodes_are : (nodes others : List (NodeState C)) → not (has_id (nodes_ids state nodes others) id) ≡ list_all (λ (node : NodeState C). is_quiet_at state id nodes node.name) others
+  nodes_are : (nodes others : List (NodeState C)) →
+      not (has_id (nodes_ids state nodes others) id) ≡ list_all (λ (node : NodeState C). is_quiet_at state id nodes node.name) others
   nodes_are nodes [] = refl
   nodes_are nodes (node ∷ others) =
       neither id (node_ids state nodes node.name) (nodes_ids state nodes others)
@@ -94,7 +101,9 @@ module _ {C N : Type 0} (state : C → CoreState) (content : N → Content) (id 
   false_of false e = refl
 
   -- so a list of just these ids lacks those for which the group is at rest
-  pub unrest_is : (group : Group C N) (ids : List MsgId) → Adds (flight_ids content group.sent group.flight) (nodes_ids state group.nodes group.nodes) ids → (has_id ids id ≡ false) ↔ IsAtRest state content group id
+  pub unrest_is : (group : Group C N) (ids : List MsgId) →
+      Adds (flight_ids content group.sent group.flight) (nodes_ids state group.nodes group.nodes) ids →
+      (has_id ids id ≡ false) ↔ IsAtRest state content group id
   unrest_is group ids adds =
       let tests : not (has_id ids id) ≡ (is_silent_flight content id group.sent group.flight && are_quiet state id group.nodes) =
       ap not (adds id)

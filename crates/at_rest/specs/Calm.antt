@@ -27,7 +27,8 @@ runs group name = is_some (core_of name group.nodes)
 
 -- whether the packet is calm
 abbrev pub is_calm_packet : {C N : Type 0} → (N → Content) → Group C N → Packet N → Bool
-is_calm_packet content group packet = not (content packet.note).is_membership && (runs group packet.to && (is_none (content packet.note).asked || runs group packet.sender.name))
+is_calm_packet content group packet =
+    not (content packet.note).is_membership && (runs group packet.to && (is_none (content packet.note).asked || runs group packet.sender.name))
 
 -- whether the packet that was sent under this number, if one was, is calm
 abbrev pub flies_calm : {C N : Type 0} → (N → Content) → Group C N → Option (Packet N) → Bool

@@ -77,10 +77,18 @@ module _ {C N : Type 0} (state : C → CoreState) where
       -- The events are played in turn, each the next one, and take the group from the old state to the new one.
       abbrev pub Settles : List Event → Logged C N → Logged C N → Type 0
       Settles [] old new = new ≡ old
-      Settles (event ∷ events) old new = IsNext old.group event × ((given : List Delivery) × (between : Logged C N) × Applied state starts steps event given old between × Settles events between new)
+      Settles (event ∷ events) old new =
+          IsNext old.group event
+          × ((given : List Delivery) × (between : Logged C N) × Applied state starts steps event given old between × Settles events between new)
 
 -- In a group that came to rest: if a message had been broadcast and all had been calm since then when the group began
 -- to settle, and if, unless all messages are kept, no node has delivered more than are kept since it delivered this
 -- message, then every node in reach of the message's origin has delivered it.
 abbrev pub AreDelivered : {C N : Type 0} → (C → CoreState) → Logged C N → Logged C N → Type 0
-AreDelivered state old new = (id : MsgId) → SaidAndCalm (reverse old.log) id → (0 < new.limits.keep → AreFewSince new.limits.keep (deliveries (reverse new.log)) id) → (name : Name) → Reaches state new.group id.origin.name name → DeliveredAt new.group (reverse new.log) name id
+AreDelivered state old new =
+    (id : MsgId) →
+    SaidAndCalm (reverse old.log) id →
+    (0 < new.limits.keep → AreFewSince new.limits.keep (deliveries (reverse new.log)) id) →
+    (name : Name) →
+    Reaches state new.group id.origin.name name →
+    DeliveredAt new.group (reverse new.log) name id

@@ -38,7 +38,8 @@ impl<A: Allocator> Model for Forest<A> {
 impl<A: Allocator + Copy> Forest<A> {
     /// Finds the tree of every message in one pass over the log.
     pub fn new<C: Core<A>>(alloc: A, world: &World<C, A>) -> Result<Forest<A>, AllocError>
-        ensures { IfOk result (λ forest. (id : MsgId) → branches_at id forest ≡ tree_of world.now.group.sent id (reverse world.now.log)) }
+        ensures { IfOk result
+            (λ forest. (id : MsgId) → branches_at id forest ≡ tree_of world.now.group.sent id (reverse world.now.log)) }
     {
         let lists = lists(alloc, world.sent(), world.log())?;
         Ok(Forest { lists })
@@ -61,7 +62,8 @@ fn lists<N, A: Allocator + Copy>(
     sent: &[Packet<N>],
     log: &[Entry<A>],
 ) -> Result<Lists<A>, AllocError>
-    ensures { IfOk result (λ lists. (id : MsgId) → branches_at id lists.entries ≡ tree_of sent.now id (reverse log.now)) }
+    ensures { IfOk result
+        (λ lists. (id : MsgId) → branches_at id lists.entries ≡ tree_of sent.now id (reverse log.now)) }
 {
     let mut lists = IndexMap::new(alloc);
     for entry in log {
@@ -77,7 +79,8 @@ fn push_entry<N, A: Allocator + Copy>(
     sent: &[Packet<N>],
     entry: &Entry<A>,
 ) -> Result<(), AllocError>
-    ensures { OnOk result ((id : MsgId) → branches_at id lists.new.entries ≡ branches_at id lists.old.entries ++ branches_of sent.now id entry.now) }
+    ensures { OnOk result ((id : MsgId)
+        → branches_at id lists.new.entries ≡ branches_at id lists.old.entries ++ branches_of sent.now id entry.now) }
 {
     let parent = parent_of(sent, entry);
     push_all(alloc, lists, entry.given.as_slice(), &parent)
@@ -90,7 +93,8 @@ fn push_all<A: Allocator + Copy>(
     given: &[Delivery<A>],
     parent: &Option<Origin>,
 ) -> Result<(), AllocError>
-    ensures { OnOk result ((id : MsgId) → branches_at id lists.new.entries ≡ branches_at id lists.old.entries ++ branches_from id parent.now given.now) }
+    ensures { OnOk result ((id : MsgId) → branches_at id lists.new.entries
+        ≡ branches_at id lists.old.entries ++ branches_from id parent.now given.now) }
 {
     for delivery in given {
         push(alloc, lists, delivery, parent)?;
@@ -105,7 +109,8 @@ fn push<A: Allocator + Copy>(
     delivery: &Delivery<A>,
     parent: &Option<Origin>,
 ) -> Result<(), AllocError>
-    ensures { OnOk result ((id : MsgId) → branches_at id lists.new.entries ≡ branches_at id lists.old.entries ++ branches_from id parent.now (delivery.now ∷ [])) }
+    ensures { OnOk result ((id : MsgId) → branches_at id lists.new.entries
+        ≡ branches_at id lists.old.entries ++ branches_from id parent.now (delivery.now ∷ [])) }
 {
     let branch = Branch {
         node: delivery.node,

@@ -53,7 +53,8 @@ fn note_kind<C: Core<A>, A: Allocator + Copy>(
     world: &World<C, A>,
     at: usize,
 ) -> Result<(), AllocError>
-    ensures { OnOk result (Updates nat_cmp places.old places.new at (is_left_at C.state kind world.now.group.nodes (slice_get (names_of world.now.group.nodes) at))) }
+    ensures { OnOk result (Updates nat_cmp places.old places.new at
+        (is_left_at C.state kind world.now.group.nodes (slice_get (names_of world.now.group.nodes) at))) }
 {
     if is_left_at(kind, world, at) {
         places.insert(at)?;
@@ -105,8 +106,10 @@ impl<A: Allocator + Copy> Left<A> {
         world: &World<C, A>,
         at: usize,
     ) -> Result<(), AllocError>
-        ensures queues { OnOk result (Updates nat_cmp self.old.queues self.new.queues at (is_left_at C.state Announcements world.now.group.nodes (slice_get (names_of world.now.group.nodes) at))) }
-        ensures timers { OnOk result (Updates nat_cmp self.old.timers self.new.timers at (is_left_at C.state Timers world.now.group.nodes (slice_get (names_of world.now.group.nodes) at))) }
+        ensures queues { OnOk result (Updates nat_cmp self.old.queues self.new.queues at
+            (is_left_at C.state Announcements world.now.group.nodes (slice_get (names_of world.now.group.nodes) at))) }
+        ensures timers { OnOk result (Updates nat_cmp self.old.timers self.new.timers at
+            (is_left_at C.state Timers world.now.group.nodes (slice_get (names_of world.now.group.nodes) at))) }
     {
         note_kind(&mut self.queues, Kind::Announcements, world, at)?;
         note_kind(&mut self.timers, Kind::Timers, world, at)

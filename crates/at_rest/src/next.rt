@@ -46,7 +46,8 @@ fn next_flush<C: Core<A>, A: Allocator + Copy>(
     left: &Left<A>,
 ) -> Option<Next<A>>
     requires { AreLeft C.state Announcements world.now.group.nodes left.now.queues }
-    ensures first { IfSome result (λ next. (entry : Name × MsgId × ℕ) × IsFirstWith (queue_of C.state) world.now.group.nodes next.name entry) }
+    ensures first { IfSome result
+        (λ next. (entry : Name × MsgId × ℕ) × IsFirstWith (queue_of C.state) world.now.group.nodes next.name entry) }
     ensures event { IfSome result (λ next. next.event ≡ Flush next.name) }
     ensures none { IfNone result (NothingIsLeft (queue_of C.state) world.now.group.nodes) }
 {
@@ -63,7 +64,9 @@ fn next_firing<C: Core<A>, A: Allocator + Copy>(
     left: &Left<A>,
 ) -> Option<Next<A>>
     requires { AreLeft C.state Timers world.now.group.nodes left.now.timers }
-    ensures first { IfSome result (λ next. (id : MsgId) × IsFirstWith (timers_of C.state) world.now.group.nodes next.name id × (next.event ≡ Fire next.name id)) }
+    ensures first { IfSome result (λ next. (id : MsgId)
+        × IsFirstWith (timers_of C.state) world.now.group.nodes next.name id
+        × (next.event ≡ Fire next.name id)) }
     ensures none { IfNone result (NothingIsLeft (timers_of C.state) world.now.group.nodes) }
 {
     let name = *world.names().get_index(*left.timers.first()?)?;

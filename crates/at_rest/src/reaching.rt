@@ -40,7 +40,8 @@ fn first_level<C: Core<A>, A: Allocator + Copy>(
     world: &World<C, A>,
     name: &NodeName,
 ) -> Result<Vec<NodeName, A>, AllocError>
-    ensures { IfOk result (λ level. level.items ≡ (if runs C.state world.now.group.nodes name.now then name.now ∷ [] else [])) }
+    ensures { IfOk result
+        (λ level. level.items ≡ (if runs C.state world.now.group.nodes name.now then name.now ∷ [] else [])) }
 {
     let mut level = Vec::new(alloc);
     if is_running(world, name) {
@@ -70,7 +71,8 @@ fn next_level<C: Core<A>, A: Allocator + Copy>(
     level: &[NodeName],
 ) -> Result<Vec<NodeName, A>, AllocError>
     ensures sorted { IfOk result (λ next. IsStrictlySortedBy name_cmp next.items) }
-    ensures same { IfOk result (λ next. (name : Name) → has_name next.items name ≡ has_name (all_new_links C.state world.now.group.nodes reached.now.keys level.now) name) }
+    ensures same { IfOk result (λ next. (name : Name) → has_name next.items name
+        ≡ has_name (all_new_links C.state world.now.group.nodes reached.now.keys level.now) name) }
 {
     let mut next = links_of_all(alloc, world, reached, level)?;
     next.sort_unstable();
@@ -85,7 +87,8 @@ fn links_of_all<C: Core<A>, A: Allocator + Copy>(
     reached: &NameSet<A>,
     level: &[NodeName],
 ) -> Result<Vec<NodeName, A>, AllocError>
-    ensures { IfOk result (λ next. next.items ≡ all_new_links C.state world.now.group.nodes reached.now.keys level.now) }
+    ensures { IfOk result
+        (λ next. next.items ≡ all_new_links C.state world.now.group.nodes reached.now.keys level.now) }
 {
     let mut next = Vec::new(alloc);
     for member in level {
@@ -101,7 +104,8 @@ fn push_links_of<C: Core<A>, A: Allocator + Copy>(
     name: &NodeName,
     next: &mut Vec<NodeName, A>,
 ) -> Result<(), AllocError>
-    ensures { OnOk result (next.new.items ≡ next.old.items ++ new_links C.state world.now.group.nodes reached.now.keys name.now) }
+    ensures { OnOk result
+        (next.new.items ≡ next.old.items ++ new_links C.state world.now.group.nodes reached.now.keys name.now) }
 {
     match world.core(name) {
         Some(core) => push_new(world, reached, core.active().as_slice(), next),
@@ -116,7 +120,8 @@ fn push_new<C: Core<A>, A: Allocator + Copy>(
     names: &[NodeName],
     next: &mut Vec<NodeName, A>,
 ) -> Result<(), AllocError>
-    ensures { OnOk result (next.new.items ≡ next.old.items ++ filter (is_new C.state world.now.group.nodes reached.now.keys) names.now) }
+    ensures { OnOk result
+        (next.new.items ≡ next.old.items ++ filter (is_new C.state world.now.group.nodes reached.now.keys) names.now) }
 {
     for name in names {
         if is_new(world, reached, name) {

@@ -2,7 +2,8 @@
 ghost use Rattle.std.specs.Prelude.{◌≡◌, ◌↔◌, ◌&&◌, IsTrue};
 ghost use Rattle.protocol.specs.SpreadLaw.{is_carried};
 ghost use Rattle.world.specs.Rest.{IsAtRest};
-ghost use Rattle.at_rest.specs.Silence.{are_quiet, is_announced, is_asked, is_queued, is_quiet, is_quiet_at, is_silent, is_silent_at, is_silent_flight};
+ghost use Rattle.at_rest.specs.Silence.{are_quiet, is_announced, is_asked, is_queued, is_quiet};
+ghost use Rattle.at_rest.specs.Silence.{is_quiet_at, is_silent, is_silent_at, is_silent_flight};
 
 use node_names::{MsgId, NodeName};
 use protocol::{Core, Wire};
@@ -19,7 +20,9 @@ pub fn is_at_rest<C: Core<A>, A: Allocator + Copy>(world: &World<C, A>, id: &Msg
 
 /// Whether no packet in flight mentions the message and every running core is quiet.
 fn is_nothing_left<C: Core<A>, A: Allocator + Copy>(world: &World<C, A>, id: &MsgId) -> bool
-    ensures { result ≡ (is_silent_flight C.Note.content id.now world.now.group.sent world.now.group.flight && are_quiet C.state id.now world.now.group.nodes) }
+    ensures { result
+        ≡ (is_silent_flight C.Note.content id.now world.now.group.sent world.now.group.flight
+        && are_quiet C.state id.now world.now.group.nodes) }
 {
     is_silent_flight(world.sent(), world.flight(), id) && are_quiet(world, id)
 }

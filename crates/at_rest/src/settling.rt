@@ -38,7 +38,8 @@ fn play_next<A: Allocator + Copy>(
     ensures taken { result ≡ Ok true → TakesNext plum_state PlumStarts PlumSteps world.old world.new }
     ensures lighter { result ≡ Ok true → load_of world.new + 1 ≤ load_of world.old }
     ensures calm { result ≡ Ok true → IsCalm plum_state frame_content world.new.group }
-    ensures undisturbed { result ≡ Ok true → ((id : MsgId) → SaidAndCalm (reverse world.old.log) id → SaidAndCalm (reverse world.new.log) id) }
+    ensures undisturbed { result ≡ Ok true
+        → ((id : MsgId) → SaidAndCalm (reverse world.old.log) id → SaidAndCalm (reverse world.new.log) id) }
     ensures queues { result ≡ Ok true → AreLeft plum_state Announcements world.new.group.nodes left.new.queues }
     ensures timers { result ≡ Ok true → AreLeft plum_state Timers world.new.group.nodes left.new.timers }
     ensures distinct { result ≡ Ok true → IsDistinct same_name (names_of world.new.group.nodes) }
@@ -86,7 +87,9 @@ pub fn settle<A: Allocator + Copy>(
 
     // The next event was played again and again, as many times as the result says, which is at most the load of the
     // group.
-    ensures played { (events : List Event) × Settles plum_state PlumStarts PlumSteps events world.old world.new × IfOk result (λ k. length events ≡ k) }
+    ensures played { (events : List Event)
+        × Settles plum_state PlumStarts PlumSteps events world.old world.new
+        × IfOk result (λ k. length events ≡ k) }
     ensures bound { IfOk result (λ k. k ≤ load_of world.old) }
 
     // Nothing is left, so the group is at rest for all messages, and the undisturbed ones are delivered wherever they

@@ -20,7 +20,8 @@ pub fn tree<C: Core<A>, A: Allocator + Copy>(
     id: &MsgId,
 ) -> Result<Vec<Branch, A>, AllocError>
     ensures branches { IfOk result (λ tree. tree.items ≡ tree_of world.now.group.sent id.now (reverse world.now.log)) }
-    ensures parents { IfOk result (λ tree. Each (λ b. IsParent world.now.group.sent (reverse world.now.log) b.node id.now b.parent) tree.items) }
+    ensures parents { IfOk result
+        (λ tree. Each (λ b. IsParent world.now.group.sent (reverse world.now.log) b.node id.now b.parent) tree.items) }
     ensures leads { IfOk result (λ tree. LeadToOrigin id.now [] tree.items) }
 {
     world.headline();

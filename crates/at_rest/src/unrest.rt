@@ -6,7 +6,8 @@ ghost use Rattle.node_names.specs.Slots.{somes};
 ghost use Rattle.node_names.specs.declared.ids.MsgId.{MsgId};
 ghost use Rattle.world.specs.Group.{core_of};
 ghost use Rattle.world.specs.Rest.{IsAtRest};
-ghost use Rattle.at_rest.specs.Unrest.{Adds, asked_ids, carried_ids, content_ids, core_ids, flight_ids, nodes_ids, packet_ids, node_ids};
+ghost use Rattle.at_rest.specs.Unrest.{Adds, asked_ids, carried_ids, content_ids, core_ids};
+ghost use Rattle.at_rest.specs.Unrest.{flight_ids, nodes_ids, packet_ids, node_ids};
 
 use indexmap::IndexSet;
 use node_names::{MsgId, NodeName};
@@ -39,7 +40,8 @@ impl<A: Allocator> Model for Unrest<A> {
 impl<A: Allocator + Copy> Unrest<A> {
     /// Finds these messages in one pass over the packets in flight and the nodes.
     pub fn new<C: Core<A>>(alloc: A, world: &World<C, A>) -> Result<Unrest<A>, AllocError>
-        ensures { IfOk result (λ unrest. (id : MsgId) → (has_id unrest id ≡ false) ↔ IsAtRest C.state C.Note.content world.now.group id) }
+        ensures { IfOk result
+            (λ unrest. (id : MsgId) → (has_id unrest id ≡ false) ↔ IsAtRest C.state C.Note.content world.now.group id) }
     {
         let ids = unrest_ids(alloc, world)?;
         Ok(Unrest { ids })
@@ -58,7 +60,8 @@ fn unrest_ids<C: Core<A>, A: Allocator + Copy>(
     alloc: A,
     world: &World<C, A>,
 ) -> Result<Ids<A>, AllocError>
-    ensures { IfOk result (λ ids. Adds (flight_ids C.Note.content world.now.group.sent world.now.group.flight) (nodes_ids C.state world.now.group.nodes world.now.group.nodes) ids.keys) }
+    ensures { IfOk result (λ ids. Adds (flight_ids C.Note.content world.now.group.sent world.now.group.flight)
+        (nodes_ids C.state world.now.group.nodes world.now.group.nodes) ids.keys) }
 {
     let mut ids = IndexSet::new(alloc);
     add_flight(&mut ids, world.sent(), world.flight())?;
@@ -202,7 +205,8 @@ fn add_nodes<C: Core<A>, A: Allocator + Copy>(
     ids: &mut Ids<A>,
     world: &World<C, A>,
 ) -> Result<(), AllocError>
-    ensures { OnOk result (Adds ids.old.keys (nodes_ids C.state world.now.group.nodes world.now.group.nodes) ids.new.keys) }
+    ensures { OnOk result
+        (Adds ids.old.keys (nodes_ids C.state world.now.group.nodes world.now.group.nodes) ids.new.keys) }
 {
     for node in world.nodes() {
         add_node(ids, world, &node.name)?;

@@ -1,6 +1,6 @@
 //! Broadcasts in a group of 64 Plumtree nodes: how many packets each of the first few takes, how long a given number of
-//! them takes, how far messages go when branches are swapped, how long it takes to bring the group to rest, and to find who
-//! is in reach.
+//! them takes, how far messages go when branches are swapped, how long it takes to bring the group to rest, and to find
+//! who is in reach.
 pub(crate) mod hops;
 mod play;
 pub(crate) mod reaching;

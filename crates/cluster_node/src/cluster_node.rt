@@ -24,8 +24,8 @@ pub struct ClusterNode<N, A: Allocator + Copy = Global> {
     pub(crate) given: Vec<NodeName, A>,
     /// By whom it joins.
     pub(crate) contacts: Vec<NodeName, A>,
-    /// Whether it may be apart from the rest of its group: it has heard of no contact since it started, or since it lost a
-    /// neighbour.
+    /// Whether it may be apart from the rest of its group: it has heard of no contact since it started, or since it
+    /// lost a neighbour.
     pub(crate) is_apart: bool,
     /// Where another node of this node's name takes connections, while that is to be told so.
     pub(crate) namesake: Option<SocketAddr>,
@@ -86,8 +86,8 @@ impl<N: Drop, A: Allocator + Copy> ClusterNode<N, A> {
         &self.node
     }
 
-    /// Takes what it tells of its links and connections since the last call, and how much of that was dropped, since too
-    /// much was to be kept.
+    /// Takes what it tells of its links and connections since the last call, and how much of that was dropped, since
+    /// too much was to be kept.
     pub fn take_notices(&mut self) -> (Vec<Notice, A>, usize) {
         self.notices.take()
     }

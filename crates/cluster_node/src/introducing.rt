@@ -9,8 +9,9 @@ use std::alloc::{AllocError, Allocator};
 use std::net::SocketAddr;
 
 impl<N: SteppedNode<A>, A: Allocator + Copy> ClusterNode<N, A> {
-    /// Introduces those of whom the frames speak that the last steps sent, and notes these steps. The frames go out after
-    /// this, so each name is introduced in front of the frame. An introduction for which memory is refused is left out.
+    /// Introduces those of whom the frames speak that the last steps sent, and notes these steps. The frames go out
+    /// after this, so each name is introduced in front of the frame. An introduction for which memory is refused is
+    /// left out.
     pub(crate) fn introduce(&mut self) {
         let made = self.node.take_steps();
         for step in made.steps.as_slice() {

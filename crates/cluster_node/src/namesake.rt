@@ -12,8 +12,9 @@ impl<N: SteppedNode<A>, A: Allocator + Copy> ClusterNode<N, A> {
         *name == self.hello.name
     }
 
-    /// Says that another node has this node's name, and has it dialled. It is told nothing but this node's hello, by which
-    /// it sees that there are two of them: nobody else tells it, since others take it for a neighbour's new address.
+    /// Says that another node has this node's name, and has it dialled. It is told nothing but this node's hello, by
+    /// which it sees that there are two of them: nobody else tells it, since others take it for a neighbour's new
+    /// address.
     pub(crate) fn meet_namesake(&mut self, at: SocketAddr) {
         self.notices.push(Notice::SameName { at });
         if self.namesake.is_none() {

@@ -78,14 +78,14 @@ impl<N: Drop, A: Allocator + Copy> ClusterNode<N, A> {
         self.log.counts
     }
 
-    /// Sets whether it keeps its steps until they are taken, to be recorded. It does not unless told. While steps wait to
-    /// be taken, nothing is sent.
+    /// Sets whether it keeps its steps until they are taken, to be recorded. It does not unless told. While steps wait
+    /// to be taken, nothing is sent.
     pub fn keep_steps(&mut self, keeps: bool) {
         self.log.keeps = keeps;
     }
 
-    /// Takes the steps that it kept since the last call, in order, or `None` if some are lacking, since memory was refused
-    /// for them.
+    /// Takes the steps that it kept since the last call, in order, or `None` if some are lacking, since memory was
+    /// refused for them.
     pub fn take_kept(&mut self) -> Option<Vec<Segment<Frame<A>, A>, A>> {
         let kept = mem::replace(&mut self.log.kept, Vec::new(self.log.alloc));
         if self.log.has_gap { None } else { Some(kept) }

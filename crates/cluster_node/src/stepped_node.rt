@@ -9,7 +9,8 @@ use wire_node::{Recorded, WireNode};
 
 /// A node that an event loop runs, and that keeps its steps until they are taken.
 ///
-/// A `ClusterNode` is generic in it, since each function that owns a node takes the prover a minute if its type is named.
+/// A `ClusterNode` is generic in it, since each function that owns a node takes the prover a minute if its type is
+/// named.
 pub trait SteppedNode<A: Allocator + Copy>: LoopNode<A> + PortNode<A> {
     /// Takes the steps that were made since the last call, in order.
     fn take_steps(&mut self) -> Segment<Frame<A>, A>;

@@ -16,8 +16,8 @@ impl<N: LoopNode<A>, S: Resolve + Drop, A: Allocator + Copy> EventLoop<N, S, A> 
         }
     }
 
-    /// Writes what the node at this place answers, as far as its connections take it, and has those be closed that are of
-    /// no more use.
+    /// Writes what the node at this place answers, as far as its connections take it, and has those be closed that are
+    /// of no more use.
     pub(crate) fn answer_all(&mut self, owner: usize) {
         if !self.answers(owner) {
             return;
@@ -29,8 +29,8 @@ impl<N: LoopNode<A>, S: Resolve + Drop, A: Allocator + Copy> EventLoop<N, S, A> 
         }
     }
 
-    /// Writes what waits to go back over the connection at this place, if it is one of this node. Returns whether it is to
-    /// be looked at again.
+    /// Writes what waits to go back over the connection at this place, if it is one of this node. Returns whether it is
+    /// to be looked at again.
     fn answer_at(&mut self, place: usize, owner: usize) -> bool {
         let Some(connection) = self.connections.get_mut(place) else {
             return false;

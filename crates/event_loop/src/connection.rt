@@ -84,8 +84,8 @@ impl Connection {
     }
 
     /// Whether it owes bytes for more than this number of ticks: it sent none since it came, or not the rest of a
-    /// frame. Where its node hears pulses, it also owes one in twice the time, so that whoever made it closes it first if
-    /// it is of no use.
+    /// frame. Where its node hears pulses, it also owes one in twice the time, so that whoever made it closes it first
+    /// if it is of no use.
     pub(crate) fn is_stalled(&self, now: u64, ticks: u64, hears_pulses: bool) -> bool {
         let is_idle = match self.at {
             Some(place) => !place.is_within(),

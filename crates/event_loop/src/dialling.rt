@@ -13,8 +13,8 @@ use std::alloc::{AllocError, Allocator};
 use std::io;
 use std::net::{Net, SocketAddr};
 
-/// How many links a node has at most: to the 80 names that its views may have, and to others that it answers. Beyond that
-/// a link is closed that is of no use any more; if there is none, the name counts as one that cannot be reached.
+/// How many links a node has at most: to the 80 names that its views may have, and to others that it answers. Beyond
+/// that a link is closed that is of no use any more; if there is none, the name counts as one that cannot be reached.
 pub const LINKS: usize = 128;
 
 /// What came of reaching a name.
@@ -46,8 +46,8 @@ fn dial_at<R: Net>(
 }
 
 impl<N: LoopNode<A>, S: Resolve + Drop, A: Allocator + Copy> EventLoop<N, S, A> {
-    /// Dials the name for the node at this place, unless there is a link to it. Where an allocation is refused, nothing is
-    /// dialled.
+    /// Dials the name for the node at this place, unless there is a link to it. Where an allocation is refused, nothing
+    /// is dialled.
     pub(crate) fn reach<R: Net>(
         &mut self,
         rt: &R,

@@ -81,14 +81,14 @@ impl<N: LoopNode<A>, S: Resolve + Drop, A: Allocator + Copy> EventLoop<N, S, A> 
     /// Sets for how many ticks a peer may keep a node waiting: 64, if nothing is set. A connection over which nothing
     /// came for longer since it was made, or not the rest of a frame, or nothing for twice as long where the node hears
     /// pulses, is closed; a link that took nothing for longer of what waits for
-    /// its name counts as ended, and one that was not used for longer and leads to no neighbour is closed. The less, the
-    /// sooner is a node that asked to become a neighbour told that it cannot be answered.
+    /// its name counts as ended, and one that was not used for longer and leads to no neighbour is closed. The less,
+    /// the sooner is a node that asked to become a neighbour told that it cannot be answered.
     pub fn set_patience(&mut self, ticks: u64) {
         self.patience = ticks;
     }
 
-    /// Sets by whom the node at this place joins again: none, if nothing is set. While its active view is empty, it joins
-    /// at ticks by one of these after the other, whose addresses the resolver tells. The first pause takes 2 to 4
+    /// Sets by whom the node at this place joins again: none, if nothing is set. While its active view is empty, it
+    /// joins at ticks by one of these after the other, whose addresses the resolver tells. The first pause takes 2 to 4
     /// ticks; each is drawn at random, and they grow up to 256 ticks. Once the node had a neighbour, they begin anew.
     pub fn set_contacts(&mut self, place: usize, contacts: &[NodeName]) -> Result<(), LoopError> {
         match self.nodes.get_mut(place) {

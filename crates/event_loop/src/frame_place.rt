@@ -48,8 +48,8 @@ impl FramePlace {
         has_ended
     }
 
-    /// Goes on by a byte of a prefix. A first byte other than 0 begins no frame, since a frame has fewer than 2^24 bytes,
-    /// but a record that a node may have beside its frames, whose second byte says how many follow.
+    /// Goes on by a byte of a prefix. A first byte other than 0 begins no frame, since a frame has fewer than 2^24
+    /// bytes, but a record that a node may have beside its frames, whose second byte says how many follow.
     fn pass_prefix(&mut self, byte: u8) {
         if self.prefix == PREFIX && byte != 0 {
             self.prefix = 1;

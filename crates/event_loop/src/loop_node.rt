@@ -35,7 +35,8 @@ pub trait LoopNode<A: Allocator + Copy>: Drop {
     /// Makes a tick.
     fn tick(&mut self, dice: &Dice) -> Result<(), WireError>;
 
-    /// Has the node go on asking for messages that did not come, if more are to be asked for, with dice of the generator.
+    /// Has the node go on asking for messages that did not come, if more are to be asked for, with dice of the
+    /// generator.
     fn ask_on<G: Rng>(&mut self, generator: &mut G) -> Result<(), WireError>;
 
     /// The names for whom bytes wait.
@@ -70,8 +71,8 @@ pub trait LoopNode<A: Allocator + Copy>: Drop {
     /// Where the name takes connections, if the node knows it. Else the loop's resolver is asked.
     fn address_of(&self, name: &NodeName) -> Option<SocketAddr>;
 
-    /// Notes that a link to the name is about to be dialled: its first bytes are the first that `transmit` gives then. If
-    /// this is refused, it is not dialled.
+    /// Notes that a link to the name is about to be dialled: its first bytes are the first that `transmit` gives then.
+    /// If this is refused, it is not dialled.
     fn opens(&mut self, name: NodeName) -> Result<(), AllocError>;
 
     /// Notes that there is no link to the name any more.
@@ -80,8 +81,8 @@ pub trait LoopNode<A: Allocator + Copy>: Drop {
     /// Notes why the name cannot be reached, of which `unreachable` told just before.
     fn failed(&mut self, name: NodeName, error: LinkError);
 
-    /// Whether it answers over the connections that came in, as a server of pages does. A node of a group does not: what it
-    /// sends goes over links.
+    /// Whether it answers over the connections that came in, as a server of pages does. A node of a group does not:
+    /// what it sends goes over links.
     fn answers(&self) -> bool {
         false
     }

@@ -111,8 +111,8 @@ impl<N: LoopNode<A>, S: Resolve + Drop, A: Allocator + Copy> EventLoop<N, S, A> 
         }
     }
 
-    /// Sends what waits for the name. If it cannot be dialled, the node is told so; if its address is looked up, that is
-    /// waited for. Returns whether the next turn may go on.
+    /// Sends what waits for the name. If it cannot be dialled, the node is told so; if its address is looked up, that
+    /// is waited for. Returns whether the next turn may go on.
     fn send_to<R: Net>(&mut self, rt: &R, place: usize, name: NodeName) -> Result<bool, LoopError> {
         match self.reach(rt, place, name)? {
             Reached::Link(link) => Ok(self.write_to(place, link)),

@@ -17,7 +17,9 @@ impl Source {
     /// The token of what it is: four times the place, and what it is of that.
     pub(crate) fn token(self) -> Option<Token>
         ensures listener { (place : ℕ) → self ≡ Source.Listener place → IfSome result (λ token. token.0 ≡ 4 * place) }
-        ensures connection { (place : ℕ) → self ≡ Source.Connection place → IfSome result (λ token. token.0 ≡ 4 * place + 1) }
+        ensures connection { (place : ℕ)
+            → self ≡ Source.Connection place
+            → IfSome result (λ token. token.0 ≡ 4 * place + 1) }
         ensures link { (place : ℕ) → self ≡ Source.Link place → IfSome result (λ token. token.0 ≡ 4 * place + 2) }
         ensures waker { (place : ℕ) → self ≡ Source.Waker place → IfSome result (λ token. token.0 ≡ 4 * place + 3) }
     {

@@ -1,5 +1,6 @@
 -- The flooding core: it delivers and holds each new message, and sends it to every peer but the one that it came from.
-use Rattle.std.specs.Prelude.{◌≡◌, ◌+◌, ◌-◌, ◌^◌, ◌<◌, ◌≤◌, ◌&&◌, ℕ, Bool, true, false, not, if◌then◌else◌, List, [], ◌∷◌, ◌++◌, Option, Some, None, length, map, filter, is_some}
+use Rattle.std.specs.Prelude.{◌≡◌, ◌+◌, ◌-◌, ◌^◌, ◌<◌, ◌≤◌, ◌&&◌, ℕ, Bool, true, false, not, if◌then◌else◌}
+use Rattle.std.specs.Prelude.{List, [], ◌∷◌, ◌++◌, Option, Some, None, length, map, filter, is_some}
 use Rattle.std.specs.Bool.{MatchBool}
 use Rattle.std.specs.List.{IsDistinct}
 use Rattle.std.specs.Map.{keys_of, lookup}
@@ -54,7 +55,8 @@ flood_state core =
     }
 
 -- The core starts with its peers and nothing else; it sends nothing, and its contact does nothing.
-pub record FloodStarts (me : Origin) (limits : Limits) (peers : List Name) (contact : Option Name) (sends : List (Name × Message)) (core : Flooding) : Type 0 where
+pub record FloodStarts (me : Origin) (limits : Limits) (peers : List Name) (contact : Option Name) (sends : List (Name × Message)) (core : Flooding) :
+    Type 0 where
   pub is_me : core.me ≡ me
   pub its_peers : core.peers ≡ peers
   pub holds_nothing : core.held ≡ []
@@ -70,7 +72,8 @@ abbrev pub note_to : MsgId → List ℕ → Name → (Name × Message)
 note_to id payload peer = (peer, record { id = id; payload = payload })
 
 -- The core takes the message: it delivers it, holds it and sends it to these names.
-pub record Takes (old : Flooding) (id : MsgId) (payload : List ℕ) (receivers : List Name) (count : ℕ) (sends : List (Name × Message)) (given : List Delivery) (new : Flooding) : Type 0 where
+pub record Takes (old : Flooding) (id : MsgId) (payload : List ℕ) (receivers : List Name)
+    (count : ℕ) (sends : List (Name × Message)) (given : List Delivery) (new : Flooding) : Type 0 where
   pub delivers : given ≡ record { node = old.me; id = id; payload = payload } ∷ []
   pub forwards : sends ≡ map (note_to id payload) receivers
   pub holds : new ≡ record old { held = old.held ++ (id, payload) ∷ []; count = count }
@@ -94,8 +97,11 @@ others left_out names = filter (λ name. not (is_left_out left_out name)) names
 -- A broadcast takes the core's own next message and sends it to every peer; a packet's message is taken if it is news,
 -- and goes to every peer but its sender; a failed link drops its peer; everything else does nothing.
 abbrev pub FloodSteps : Flooding → Stimulus Message → List (Name × Message) → List Delivery → Flooding → Type 0
-FloodSteps old (Broadcast payload) sends given new = (length payload ≤ MAX_PAYLOAD) × Takes old (record { origin = old.me; seq = old.count + 1 }) payload (others None old.peers) (old.count + 1) sends given new
-FloodSteps old (Arrive sender note dice) sends given new = MatchBool (is_news old note.id) (Takes old note.id note.payload (others (Some sender.name) old.peers) old.count sends given new) (IsIdle old sends given new)
+FloodSteps old (Broadcast payload) sends given new =
+    (length payload ≤ MAX_PAYLOAD) × Takes old (record { origin = old.me; seq = old.count + 1 }) payload (others None old.peers) (old.count + 1) sends given new
+FloodSteps old (Arrive sender note dice) sends given new =
+    MatchBool (is_news old note.id)
+    (Takes old note.id note.payload (others (Some sender.name) old.peers) old.count sends given new) (IsIdle old sends given new)
 FloodSteps old (Fire id) sends given new = IsIdle old sends given new
 FloodSteps old Flush sends given new = IsIdle old sends given new
 FloodSteps old (Down peer dice) sends given new = DropsPeer old peer sends given new
@@ -108,7 +114,8 @@ with_news core note = if is_news core note.id then record core { held = core.hel
 
 -- the core that goes on after the stimulus
 abbrev pub flood_after : Flooding → Stimulus Message → Flooding
-flood_after core (Broadcast payload) = record core { held = core.held ++ (record { origin = core.me; seq = core.count + 1 }, payload) ∷ []; count = core.count + 1 }
+flood_after core (Broadcast payload) =
+    record core { held = core.held ++ (record { origin = core.me; seq = core.count + 1 }, payload) ∷ []; count = core.count + 1 }
 flood_after core (Arrive sender note dice) = with_news core note
 flood_after core (Fire id) = core
 flood_after core Flush = core

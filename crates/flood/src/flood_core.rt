@@ -1,5 +1,6 @@
 //! The flooding core: each new message goes to every peer but the one that it came from.
-ghost use Rattle.std.specs.Prelude.{◌≡◌, ◌↔◌, ◌<◌, ◌≤◌, ◌+◌, ◌++◌, [], ◌∷◌, ℕ, List, Option, None, false, IsTrue, IfOk, IfErr, OnOk, OnErr, IsErrOf, length, map};
+ghost use Rattle.std.specs.Prelude.{◌≡◌, ◌↔◌, ◌<◌, ◌≤◌, ◌+◌, ◌++◌, [], ◌∷◌, ℕ, List, Option, None};
+ghost use Rattle.std.specs.Prelude.{false, IsTrue, IfOk, IfErr, OnOk, OnErr, IsErrOf, length, map};
 ghost use Rattle.std.specs.Map.{lookup};
 ghost use Rattle.indexmap.specs.IndexMap.{spare};
 ghost use Rattle.node_names.specs.Same.{same_id};
@@ -37,7 +38,8 @@ impl<A: Allocator> Model for FloodCore<A> {
 
     ghost Value = { Flooding };
 
-    ghost view = { λ core. record { me = core.me; peers = core.peers.keys; held = core.held.entries; count = core.count } };
+    ghost view = { λ core.
+        record { me = core.me; peers = core.peers.keys; held = core.held.entries; count = core.count } };
 
     ghost invariant = { λ core. (core.passive.keys ≡ []) × HoldsCounted core.me core.held.entries core.count };
 }
@@ -97,8 +99,10 @@ fn spread<A: Allocator + Copy>(
     except: &Option<NodeName>,
     out: &mut Out<FloodNote<A>, A>,
 ) -> Result<(), AllocError>
-    ensures sends { OnOk result (out.new.sends ≡ out.old.sends ++ map (note_to id.now payload.now) (others except.now peers.now)) }
-    ensures deliveries { OnOk result (out.new.deliveries ≡ out.old.deliveries ++ record { node = me.now; id = id.now; payload = payload.now } ∷ []) }
+    ensures sends { OnOk result
+        (out.new.sends ≡ out.old.sends ++ map (note_to id.now payload.now) (others except.now peers.now)) }
+    ensures deliveries { OnOk result
+        (out.new.deliveries ≡ out.old.deliveries ++ record { node = me.now; id = id.now; payload = payload.now } ∷ []) }
     ensures err { OnErr result (out.new ≡ out.old) }
 {
     let alloc = *out.sends.allocator();
@@ -151,11 +155,13 @@ impl<A: Allocator + Copy> FloodCore<A> {
         payload: &Bytes<A>,
         out: &mut Out<FloodNote<A>, A>,
     ) -> Result<Prepared<()>, CoreError>
-        ensures stepped { OnOk result (Stepped FloodSteps self.now (StimulusOf.Broadcast payload.now) out.old (flood_after self.now (StimulusOf.Broadcast payload.now)) out.new) }
+        ensures stepped { OnOk result (Stepped FloodSteps self.now (StimulusOf.Broadcast payload.now) out.old
+            (flood_after self.now (StimulusOf.Broadcast payload.now)) out.new) }
         ensures counted { OnOk result (self.now.count < u64.MAX) }
         ensures still { IfOk result (λ prepared. prepared.moved ≡ false) }
         ensures too_long { IsErrOf result CoreError.PayloadTooLong ↔ (MAX_PAYLOAD < length payload.now) }
-        ensures spent { IsErrOf result CoreError.SeqSpent ↔ ((length payload.now ≤ MAX_PAYLOAD) × (self.now.count ≡ u64.MAX)) }
+        ensures spent { IsErrOf result CoreError.SeqSpent
+            ↔ ((length payload.now ≤ MAX_PAYLOAD) × (self.now.count ≡ u64.MAX)) }
         ensures err { OnErr result (out.new ≡ out.old) }
     {
         if payload.len() > MAX_PAYLOAD {
@@ -179,7 +185,9 @@ impl<A: Allocator + Copy> FloodCore<A> {
         note: &FloodNote<A>,
         out: &mut Out<FloodNote<A>, A>,
     ) -> Result<Prepared<()>, CoreError>
-        ensures stepped { (dice : _) → OnOk result (Stepped FloodSteps self.now (StimulusOf.Arrive sender.now note.now dice) out.old (flood_after self.now (StimulusOf.Arrive sender.now note.now dice)) out.new) }
+        ensures stepped { (dice : _)
+            → OnOk result (Stepped FloodSteps self.now (StimulusOf.Arrive sender.now note.now dice) out.old
+            (flood_after self.now (StimulusOf.Arrive sender.now note.now dice)) out.new) }
         ensures still { IfOk result (λ prepared. prepared.moved ≡ false) }
         ensures refused { IfErr result (λ e. e ≡ CoreError.OutOfMemory) }
         ensures err { OnErr result (out.new ≡ out.old) }
@@ -223,7 +231,8 @@ impl<A: Allocator + Copy> FloodCore<A> {
 }
 
 impl<A: Allocator + Copy> Core<A> for FloodCore<A> {
-    ghost use Rattle.flood.specs.FloodCore.{flood_after, flood_state, FloodStarts, FloodSteps, FloodIsSpent, IsFloodTurn, IsSoundFlooding};
+    ghost use Rattle.flood.specs.FloodCore.{flood_after, flood_state, FloodStarts, FloodSteps};
+    ghost use Rattle.flood.specs.FloodCore.{FloodIsSpent, IsFloodTurn, IsSoundFlooding};
     ghost use Rattle.flood.specs.lawful.FloodDelivers.{flood_delivers_one};
     ghost use Rattle.flood.specs.lawful.FloodLaws.{flood_lawful};
 

@@ -1,5 +1,6 @@
 -- A field that is read is the field that was written, and what was written is read again.
-use Rattle.std.proofs.Common.{◌≡◌, inl, inr, ℕ, ◌+◌, ◌<◌, ◌≤◌, Bool, true, false, cond, List, [], ◌++◌, length, get_or, take, drop, Result, Ok, Err, refl, sym, ap, subst, ◌∙◌, append_assoc, arith}
+use Rattle.std.proofs.Common.{◌≡◌, inl, inr, ℕ, ◌+◌, ◌<◌, ◌≤◌, Bool, true, false, cond, List, [], ◌++◌, length}
+use Rattle.std.proofs.Common.{get_or, take, drop, Result, Ok, Err, refl, sym, ap, subst, ◌∙◌, append_assoc, arith}
 use Rattle.std.specs.Prelude.{nat_lt}
 use Rattle.std.proofs.lemmas.Bool.{ltb-false, le-ltb, cases_lt}
 use Rattle.std.proofs.lemmas.List.{take_at, drop_at, take-append-drop, length-append, length-take, get_or-drop, get_or-take, get_or_past}
@@ -37,7 +38,8 @@ pub record Agrees {X : Type 0} (r : Reader X) (text : X → List ℕ) (Fits : X 
 -- ---- one after the other
 
 -- what a first reader took, where the second ended well
-pub record First {X Y : Type 0} (r : Reader X) (text : X → List ℕ) (Fits : X → Type 0) (f : X → Reader Y) (bytes : List ℕ) (y : Y) (rest : List ℕ) : Type 0 where
+pub record First {X Y : Type 0} (r : Reader X) (text : X → List ℕ) (Fits : X → Type 0) (f : X → Reader Y) (bytes : List ℕ) (y : Y) (rest : List ℕ) :
+    Type 0 where
   pub value : X
   pub after : List ℕ
   pub parts : bytes ≡ text value ++ after
@@ -48,21 +50,36 @@ pub record First {X Y : Type 0} (r : Reader X) (text : X → List ℕ) (Fits : X
 abbrev pub answer : {X : Type 0} → X × List ℕ → Result (X × List ℕ) FrameFault
 answer x = Ok x
 
-pub bind_ok : {X Y : Type 0} (r : Result (X × List ℕ) FrameFault) (f : X → Reader Y) (y : Y × List ℕ) → go_on f r ≡ Ok y → (x : X × List ℕ) × (r ≡ Ok x) × (f x.0 x.1 ≡ Ok y)
+pub bind_ok : {X Y : Type 0} (r : Result (X × List ℕ) FrameFault) (f : X → Reader Y) (y : Y × List ℕ) →
+    go_on f r ≡ Ok y →
+    (x : X × List ℕ) × (r ≡ Ok x) × (f x.0 x.1 ≡ Ok y)
 bind_ok (Ok x) f y e = (x, refl, e)
 bind_ok (Err d) f y e = absurd cc
 
-pub takes_first : {X Y : Type 0} {r : Reader X} {text : X → List ℕ} {Fits : X → Type 0} → Agrees r text Fits → (f : X → Reader Y) (bytes : List ℕ) (y : Y) (rest : List ℕ) → IsBytes bytes → (r >>= f) bytes ≡ Ok (y, rest) → First r text Fits f bytes y rest
+pub takes_first : {X Y : Type 0} {r : Reader X} {text : X → List ℕ} {Fits : X → Type 0} →
+    Agrees r text Fits →
+    (f : X → Reader Y) (bytes : List ℕ) (y : Y) (rest : List ℕ) →
+    IsBytes bytes →
+    (r >>= f) bytes ≡ Ok (y, rest) →
+    First r text Fits f bytes y rest
 takes_first {r = r} {text = text} a f bytes y rest h e =
     let b = bind_ok (r bytes) f (y, rest) e in
     let t = a.takes bytes b.0.0 b.0.1 h b.1 in
     record { value = b.0.0; after = b.0.1; parts = t.0; fits = t.1; bytes_after = IsBytes-after (text b.0.0) b.0.1 bytes t.0 h; then' = b.2 }
 
-pub again_first : {X Y : Type 0} {r : Reader X} {text : X → List ℕ} {Fits : X → Type 0} → Agrees r text Fits → (f : X → Reader Y) (x : X) (more : List ℕ) → Fits x → (r >>= f) (text x ++ more) ≡ f x more
+pub again_first : {X Y : Type 0} {r : Reader X} {text : X → List ℕ} {Fits : X → Type 0} →
+    Agrees r text Fits →
+    (f : X → Reader Y) (x : X) (more : List ℕ) →
+    Fits x →
+    (r >>= f) (text x ++ more) ≡ f x more
 again_first a f x more h = rw (a.again x more h) refl
 
 -- with the text of the next behind it
-pub again_next : {X Y : Type 0} {r : Reader X} {text : X → List ℕ} {Fits : X → Type 0} → Agrees r text Fits → (f : X → Reader Y) (x : X) (next more : List ℕ) → Fits x → (r >>= f) ((text x ++ next) ++ more) ≡ f x (next ++ more)
+pub again_next : {X Y : Type 0} {r : Reader X} {text : X → List ℕ} {Fits : X → Type 0} →
+    Agrees r text Fits →
+    (f : X → Reader Y) (x : X) (next more : List ℕ) →
+    Fits x →
+    (r >>= f) ((text x ++ next) ++ more) ≡ f x (next ++ more)
 again_next {r = r} {text = text} a f x next more h = ap (r >>= f) (append_assoc (text x) next more) ∙ again_first a f x (next ++ more) h
 
 -- the texts of two that were read
@@ -87,7 +104,9 @@ guard_ok true d x y e = absurd cc
 guard_ok false d x y e = (refl, cc)
 
 -- a judgement that was good
-pub judged : {Y : Type 0} (good : Bool) (fault : FrameFault) (f : Unit {0} → Reader Y) (bytes : List ℕ) (y : Y × List ℕ) → (judge good fault >>= f) bytes ≡ Ok y → (good ≡ true) × (f tt bytes ≡ Ok y)
+pub judged : {Y : Type 0} (good : Bool) (fault : FrameFault) (f : Unit {0} → Reader Y) (bytes : List ℕ) (y : Y × List ℕ) →
+    (judge good fault >>= f) bytes ≡ Ok y →
+    (good ≡ true) × (f tt bytes ≡ Ok y)
 judged true fault f bytes y e = (refl, e)
 judged false fault f bytes y e = absurd cc
 
@@ -177,7 +196,10 @@ module _ {X Y V Z : Type 0} {r : Reader X} {text : X → List ℕ} {Fits : X →
     pub fits' : Fits' two
     pub fits'' : Fits'' three
 
-  pub row3_take : (bytes : List ℕ) (z : Z) (rest : List ℕ) → IsBytes bytes → (r >>= λ x. s >>= λ y. t >>= λ v. done (mk x y v)) bytes ≡ Ok (z, rest) → Row3 bytes z rest
+  pub row3_take : (bytes : List ℕ) (z : Z) (rest : List ℕ) →
+      IsBytes bytes →
+      (r >>= λ x. s >>= λ y. t >>= λ v. done (mk x y v)) bytes ≡ Ok (z, rest) →
+      Row3 bytes z rest
   row3_take bytes z rest h e =
       let p = takes_first a (λ x. s >>= λ y. t >>= λ v. done (mk x y v)) bytes z rest h e in
       let q = row2_take b c (mk p.value) p.after z rest p.bytes_after p.then' in

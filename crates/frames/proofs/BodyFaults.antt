@@ -1,5 +1,6 @@
 -- The faults of a body, among which are no Short and no OutOfMemory.
-use Rattle.std.proofs.Common.{◌≡◌, inl, inr, ℕ, zero, suc, ◌+◌, ◌<◌, ◌≤◌, Bool, true, false, cond, List, [], ◌∷◌, length, take, drop, Option, Some, None, Result, Ok, Err, refl, sym, subst, ◌∙◌, arith}
+use Rattle.std.proofs.Common.{◌≡◌, inl, inr, ℕ, zero, suc, ◌+◌, ◌<◌, ◌≤◌, Bool, true, false, cond, List, [], ◌∷◌}
+use Rattle.std.proofs.Common.{length, take, drop, Option, Some, None, Result, Ok, Err, refl, sym, subst, ◌∙◌, arith}
 use Rattle.std.specs.Prelude.{nat_lt, nat_le, ◌&&◌, ◌||◌, ◌==◌}
 use Rattle.std.specs.Int.{Width, w16, w32, w64, byte_len, from_be_bytes}
 use Rattle.std.specs.List.{list_all}
@@ -12,11 +13,13 @@ use Rattle.frames.specs.declared.body.BodyOf.TheVariants as body
 use Rattle.frames.specs.declared.fault.FrameFault.{FrameFault}
 use Rattle.frames.specs.declared.fault.FrameFault.TheVariants.{Short, TooLong, BadVersion, BadKind, BadName, BadField, BadCount, Trailing, OutOfMemory}
 use Rattle.frames.specs.declared.kind.Kind.{Kind}
-use Rattle.frames.specs.declared.kind.Kind.TheVariants.{Join, ForwardJoin, Neighbor, NeighborReply, Disconnect, Shuffle, ShuffleReply, Gossip, IHave, Graft, Prune, GraftPeer}
+use Rattle.frames.specs.declared.kind.Kind.TheVariants.{Join, ForwardJoin, Neighbor, NeighborReply, Disconnect}
+use Rattle.frames.specs.declared.kind.Kind.TheVariants.{Shuffle, ShuffleReply, Gossip, IHave, Graft, Prune, GraftPeer}
 use Rattle.frames.specs.Answer.{IsFaultOf}
 use Rattle.frames.specs.Frame.{Frame}
 use Rattle.frames.specs.Kind.{kind_numbered, of_version}
-use Rattle.frames.specs.Reading.{Reader, ◌>>=◌, go_on, done, judge, octets, word, byte, flag, name, number, origin, id, times, names, payload, announcement, announcements, version, known, kind, fields, end, alone, frame, with_length, body_of, read}
+use Rattle.frames.specs.Reading.{Reader, ◌>>=◌, go_on, done, judge, octets, word, byte, flag, name, number, origin, id, times, names, payload}
+use Rattle.frames.specs.Reading.{announcement, announcements, version, known, kind, fields, end, alone, frame, with_length, body_of, read}
 use Rattle.frames.proofs.Streams.{read_long, body_long, body_whole, fails, fault_is}
 
 -- the faults that a body may have
@@ -41,7 +44,11 @@ failed fault = Err fault
 same : {X : Type 0} (a b : FrameFault) → failed {X = X} a ≡ failed b → a ≡ b
 same a b e = cc
 
-go_on_faults : {X Y : Type 0} (q : Result (X × List ℕ) FrameFault) (f : X → Reader Y) (fault : FrameFault) → ((e : FrameFault) → q ≡ Err e → IsOfBody e) → ((x : X) → Faults (f x)) → go_on f q ≡ Err fault → IsOfBody fault
+go_on_faults : {X Y : Type 0} (q : Result (X × List ℕ) FrameFault) (f : X → Reader Y) (fault : FrameFault) →
+    ((e : FrameFault) → q ≡ Err e → IsOfBody e) →
+    ((x : X) → Faults (f x)) →
+    go_on f q ≡ Err fault →
+    IsOfBody fault
 go_on_faults (Ok x) f fault h k e = k x.0 x.1 fault e
 go_on_faults {Y = Y} (Err d) f fault h k e = subst IsOfBody (same {X = Y} d fault e) (h d refl)
 
@@ -78,16 +85,20 @@ flag_faults = bind_faults byte _ byte_faults λ b. bind_faults (judge (nat_le b 
 name_faults : Faults name
 unfolding name
 name_faults =
-    bind_faults byte _ byte_faults λ len. bind_faults (judge (nat_le 1 len && nat_le len 32) BadName) _ (judge_faults (nat_le 1 len && nat_le len 32) BadName tt)
-    λ _. bind_faults (octets len) _ (octets_faults len) λ letters. bind_faults (judge (list_all is_name_byte letters) BadName) _ (judge_faults (list_all is_name_byte letters) BadName tt) λ _. done_faults letters
+    bind_faults byte _ byte_faults λ len.
+    bind_faults (judge (nat_le 1 len && nat_le len 32) BadName) _ (judge_faults (nat_le 1 len && nat_le len 32) BadName tt)
+    λ _. bind_faults (octets len) _ (octets_faults len) λ letters.
+    bind_faults (judge (list_all is_name_byte letters) BadName) _ (judge_faults (list_all is_name_byte letters) BadName tt) λ _. done_faults letters
 
 number_faults : Faults number
 unfolding number
-number_faults = bind_faults (word w64) _ (word_faults w64) λ n. bind_faults (judge (nat_lt 0 n) BadField) _ (judge_faults (nat_lt 0 n) BadField tt) λ _. done_faults n
+number_faults =
+    bind_faults (word w64) _ (word_faults w64) λ n. bind_faults (judge (nat_lt 0 n) BadField) _ (judge_faults (nat_lt 0 n) BadField tt) λ _. done_faults n
 
 origin_faults : Faults origin
 unfolding origin
-origin_faults = bind_faults name _ name_faults λ n. bind_faults (word w64) _ (word_faults w64) λ i. done_faults (record { name = n; incarnation = record { 0 = i } })
+origin_faults =
+    bind_faults name _ name_faults λ n. bind_faults (word w64) _ (word_faults w64) λ i. done_faults (record { name = n; incarnation = record { 0 = i } })
 
 id_faults : Faults id
 unfolding id
@@ -100,11 +111,15 @@ times_faults (suc n) r h = bind_faults r _ h λ first. bind_faults (times n r) _
 
 names_faults : Faults names
 unfolding names
-names_faults = bind_faults byte _ byte_faults λ n. bind_faults (judge (nat_le n MAX_NAMES) BadCount) _ (judge_faults (nat_le n MAX_NAMES) BadCount tt) λ _. times_faults n name name_faults
+names_faults =
+    bind_faults byte _ byte_faults λ n. bind_faults (judge (nat_le n MAX_NAMES) BadCount) _
+    (judge_faults (nat_le n MAX_NAMES) BadCount tt) λ _. times_faults n name name_faults
 
 payload_faults : Faults payload
 unfolding payload
-payload_faults = bind_faults (word w32) _ (word_faults w32) λ n. bind_faults (judge (nat_le n MAX_PAYLOAD) BadField) _ (judge_faults (nat_le n MAX_PAYLOAD) BadField tt) λ _. octets_faults n
+payload_faults =
+    bind_faults (word w32) _ (word_faults w32) λ n.
+    bind_faults (judge (nat_le n MAX_PAYLOAD) BadField) _ (judge_faults (nat_le n MAX_PAYLOAD) BadField tt) λ _. octets_faults n
 
 announcement_faults : Faults announcement
 unfolding announcement
@@ -113,12 +128,14 @@ announcement_faults = bind_faults id _ id_faults λ i. bind_faults (word w32) _ 
 announcements_faults : Faults announcements
 unfolding announcements
 announcements_faults =
-    bind_faults (word w16) _ (word_faults w16) λ n. bind_faults (judge (nat_le 1 n && nat_le n MAX_ANNOUNCEMENTS) BadCount) _ (judge_faults (nat_le 1 n && nat_le n MAX_ANNOUNCEMENTS) BadCount tt)
+    bind_faults (word w16) _ (word_faults w16) λ n.
+    bind_faults (judge (nat_le 1 n && nat_le n MAX_ANNOUNCEMENTS) BadCount) _ (judge_faults (nat_le 1 n && nat_le n MAX_ANNOUNCEMENTS) BadCount tt)
     λ _. times_faults n announcement announcement_faults
 
 version_faults : Faults version
 unfolding version
-version_faults = bind_faults byte _ byte_faults λ v. bind_faults (judge (v == 1 || v == 2) BadVersion) _ (judge_faults (v == 1 || v == 2) BadVersion tt) λ _. done_faults v
+version_faults =
+    bind_faults byte _ byte_faults λ v. bind_faults (judge (v == 1 || v == 2) BadVersion) _ (judge_faults (v == 1 || v == 2) BadVersion tt) λ _. done_faults v
 
 known_faults : (o : Option Kind) → Faults (known o)
 known_faults (Some k) bytes fault e = done_faults k bytes fault e
@@ -135,9 +152,11 @@ fields_faults ForwardJoin = bind_faults name _ name_faults λ n. bind_faults byt
 fields_faults Neighbor = bind_faults flag _ flag_faults λ h. done_faults (body.Neighbor h)
 fields_faults NeighborReply = bind_faults flag _ flag_faults λ a. done_faults (body.NeighborReply a)
 fields_faults Disconnect = done_faults body.Disconnect
-fields_faults Shuffle = bind_faults name _ name_faults λ n. bind_faults byte _ byte_faults λ t. bind_faults names _ names_faults λ ns. done_faults (body.Shuffle n t ns)
+fields_faults Shuffle =
+    bind_faults name _ name_faults λ n. bind_faults byte _ byte_faults λ t. bind_faults names _ names_faults λ ns. done_faults (body.Shuffle n t ns)
 fields_faults ShuffleReply = bind_faults names _ names_faults λ ns. done_faults (body.ShuffleReply ns)
-fields_faults Gossip = bind_faults id _ id_faults λ i. bind_faults (word w32) _ (word_faults w32) λ r. bind_faults payload _ payload_faults λ p. done_faults (body.Gossip i r p)
+fields_faults Gossip =
+    bind_faults id _ id_faults λ i. bind_faults (word w32) _ (word_faults w32) λ r. bind_faults payload _ payload_faults λ p. done_faults (body.Gossip i r p)
 fields_faults IHave = bind_faults announcements _ announcements_faults λ es. done_faults (body.IHave es)
 fields_faults Graft = bind_faults id _ id_faults λ i. bind_faults (word w32) _ (word_faults w32) λ r. done_faults (body.Graft i r)
 fields_faults Prune = done_faults body.Prune
@@ -155,7 +174,8 @@ alone_faults r h = bind_faults r _ h λ x. bind_faults end _ end_faults λ _. do
 frame_faults : Faults frame
 unfolding frame
 frame_faults =
-    bind_faults version _ version_faults λ v. bind_faults (kind v) _ (kind_faults v) λ k. bind_faults origin _ origin_faults λ o. bind_faults number _ number_faults
+    bind_faults version _ version_faults λ v. bind_faults (kind v) _ (kind_faults v) λ k.
+    bind_faults origin _ origin_faults λ o. bind_faults number _ number_faults
     λ n. bind_faults (alone (fields k)) _ (alone_faults (fields k) (fields_faults k)) λ b. done_faults (record { sender = o; number = n; body = b })
 
 -- ---- fewer bytes than a frame has, where it is not whole
@@ -170,7 +190,8 @@ body_few len after e =
       | inl long ↦ let both : fails TooLong ≡ fails Short = sym (body_long len after long) ∙ e in absurd cc
       | inr few ↦ elim (cases_lt (length after) len) [
         | inl short ↦ (short, few)
-        | inr enough ↦ absurd (length_faults (4 + len) (frame (take len after)) (λ d. frame_faults (take len after) d) (sym (body_whole len after few enough) ∙ e))
+        | inr enough ↦
+            absurd (length_faults (4 + len) (frame (take len after)) (λ d. frame_faults (take len after) d) (sym (body_whole len after few enough) ∙ e))
       ]
     ]
 

@@ -9,6 +9,11 @@ count_passes : (n : ℕ) → 1 ≤ n → n ≤ 64 → (nat_le 1 n && nat_le n 64
 count_passes n some few = grind (arith, nat_tests)
 
 -- as many announcements are read as the count says
-pub announcements_after : (old after : List ℕ) (count n : ℕ) → word w16 old ≡ Ok (n, after) → count ≡ n → 1 ≤ count → count ≤ 64 → alone announcements old ≡ alone (times count announcement) after
+pub announcements_after : (old after : List ℕ) (count n : ℕ) →
+    word w16 old ≡ Ok (n, after) →
+    count ≡ n →
+    1 ≤ count →
+    count ≤ 64 →
+    alone announcements old ≡ alone (times count announcement) after
 unfolding announcements alone
 announcements_after old after count n read is some few = rw (read, ← is, count_passes count some few) refl

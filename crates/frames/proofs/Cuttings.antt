@@ -40,7 +40,8 @@ none_begins f stream after c d =
 one_cut : (f g : Frame) (stream a b : List ℕ) → Cuts f stream a → Cuts g stream b → (f ≡ g) × (a ≡ b)
 one_cut f g stream a b c d =
     let p = prefix_free f g c.spelling d.spelling a b c.spelled d.spelled (sym c.parts ∙ d.parts) in
-    let rest : drop (length c.spelling) (c.spelling ++ a) ≡ drop (length c.spelling) (d.spelling ++ b) = ap (drop (length c.spelling)) (sym c.parts ∙ d.parts) in
+    let rest : drop (length c.spelling) (c.spelling ++ a) ≡ drop (length c.spelling) (d.spelling ++ b) =
+    ap (drop (length c.spelling)) (sym c.parts ∙ d.parts) in
     (p.1, sym (drop_at c.spelling a (length c.spelling) refl) ∙ rest ∙ drop_at d.spelling b (length c.spelling) (ap length (sym p.0)))
 
 -- one list of frames begins a stream, up to what no frame begins
@@ -54,6 +55,7 @@ one_list (f ∷ fs) (g ∷ gs) stream a b p q d e =
     (rw (one.0, more.0) refl, more.1)
 
 -- two cuttings of one stream
-pub one_stream : (cs ds : List Call) (a b : List ℕ) → Calls cs [] a → Calls ds [] b → fed_by cs ≡ fed_by ds → IsDone a → IsDone b → (given_by cs ≡ given_by ds) × (a ≡ b)
+pub one_stream :
+    (cs ds : List Call) (a b : List ℕ) → Calls cs [] a → Calls ds [] b → fed_by cs ≡ fed_by ds → IsDone a → IsDone b → (given_by cs ≡ given_by ds) × (a ≡ b)
 one_stream cs ds a b p q s d e =
     one_list (given_by cs) (given_by ds) (fed_by cs) a b (given_begin cs [] a p) (subst (λ t. Begins (given_by ds) t b) (sym s) (given_begin ds [] b q)) d e

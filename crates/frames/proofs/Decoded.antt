@@ -14,7 +14,12 @@ use Rattle.frames.proofs.Agree.{IsBytes}
 use Rattle.frames.proofs.FrameAgrees.{frame_takes, layout_within, read_takes, read_again}
 
 -- the parts of a frame that was read are within their limits
-pub parts_within : (bytes a b c d : List ℕ) (w : ℕ) (k : Kind) (o : Origin) (n : ℕ) (v : Body) → IsBytes bytes → version bytes ≡ Ok (w, a) → kind w a ≡ Ok (k, b) → origin b ≡ Ok (o, c) → number c ≡ Ok (n, d)
+pub parts_within : (bytes a b c d : List ℕ) (w : ℕ) (k : Kind) (o : Origin) (n : ℕ) (v : Body) →
+    IsBytes bytes →
+    version bytes ≡ Ok (w, a) →
+    kind w a ≡ Ok (k, b) →
+    origin b ≡ Ok (o, c) →
+    number c ≡ Ok (n, d)
     → alone (fields k) d ≡ Ok (v, []) → IsFrame (record { sender = o; number = n; body = v })
 unfolding frame
 parts_within bytes a b c d w k o n v h p q r s t =
@@ -23,7 +28,10 @@ parts_within bytes a b c d w k o n v h p q r s t =
     layout_within f (frame_takes bytes f [] h whole).fits
 
 -- what was decoded is spelled so
-pub decoded_found : (result : Result (Frame × ℕ) FrameFault) (bytes : List ℕ) → IsBytes bytes → Makes (λ x. x) result (read bytes) → IfOk result (λ x. IsSpelling x.0 (take x.1 bytes) × (x.1 ≤ length bytes))
+pub decoded_found : (result : Result (Frame × ℕ) FrameFault) (bytes : List ℕ) →
+    IsBytes bytes →
+    Makes (λ x. x) result (read bytes) →
+    IfOk result (λ x. IsSpelling x.0 (take x.1 bytes) × (x.1 ≤ length bytes))
 decoded_found (Ok x) bytes h e = read_takes bytes x.0 x.1 h e
 decoded_found (Err fault) bytes h e = tt
 
@@ -34,7 +42,11 @@ pair_is : (x y : Frame × ℕ) → answer x ≡ answer y → x ≡ y
 pair_is x y e = cc
 
 -- what is spelled so is decoded
-pub decoded_only : (result : Result (Frame × ℕ) FrameFault) (bytes : List ℕ) → Makes (λ x. x) result (read bytes) → (f : Frame) (spelling rest : List ℕ) → IsSpelling f spelling → bytes ≡ spelling ++ rest
+pub decoded_only : (result : Result (Frame × ℕ) FrameFault) (bytes : List ℕ) →
+    Makes (λ x. x) result (read bytes) →
+    (f : Frame) (spelling rest : List ℕ) →
+    IsSpelling f spelling →
+    bytes ≡ spelling ++ rest
     → MatchResult result (λ x. (x.0 ≡ f) × (x.1 ≡ length spelling)) (λ fault. fault ≡ OutOfMemory)
 decoded_only (Ok x) bytes e f spelling rest s is =
     let p = pair_is x (f, length spelling) (sym e ∙ ap read is ∙ read_again f spelling rest s) in

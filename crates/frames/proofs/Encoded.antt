@@ -10,11 +10,17 @@ use Rattle.frames.proofs.Sizes.{layout_size}
 -- the room for the length, and the body, have a length that fits
 pub body_fits : (f : Frame) (front items : List ℕ) → length front ≡ 4 → PutsAll (layout f) front items → (4 ≤ length items) × (length items < 2 ^ 32)
 body_fits f front items l p =
-    let size = layout_size f p.hold in
-    (omega (arith, ap length p.bytes, length-append front (spelled (layout f)), l), omega (arith, ap length p.bytes, length-append front (spelled (layout f)), l, size))
+    let size = layout_size f p.hold in (
+      omega (arith, ap length p.bytes, length-append front (spelled (layout f)), l),
+      omega (arith, ap length p.bytes, length-append front (spelled (layout f)), l, size),
+    )
 
 -- with the length in its room they spell the frame
-pub spells : (f : Frame) (front items out : List ℕ) → length front ≡ 4 → PutsAll (layout f) front items → out ≡ to_be_bytes w32 (length items - 4) ++ drop 4 items → IsSpelling f out
+pub spells : (f : Frame) (front items out : List ℕ) →
+    length front ≡ 4 →
+    PutsAll (layout f) front items →
+    out ≡ to_be_bytes w32 (length items - 4) ++ drop 4 items →
+    IsSpelling f out
 spells f front items out l p e =
     let size : length items - 4 ≡ length (spelled (layout f)) = omega (arith, ap length p.bytes, length-append front (spelled (layout f)), l) in
     let rest : drop 4 items ≡ spelled (layout f) = ap (drop 4) p.bytes ∙ drop_at front (spelled (layout f)) 4 l in
@@ -25,7 +31,12 @@ spells f front items out l p e =
     }
 
 -- a slice that was written over the whole of a vector
-pub over_whole : (old new slice out : List ℕ) (len : ℕ) → len ≡ length old → slice ≡ old → 4 ≤ length old → new ≡ to_be_bytes w32 (length slice - 4) ++ drop 4 slice → out ≡ take len (new ++ drop (length new) old)
+pub over_whole : (old new slice out : List ℕ) (len : ℕ) →
+    len ≡ length old →
+    slice ≡ old →
+    4 ≤ length old →
+    new ≡ to_be_bytes w32 (length slice - 4) ++ drop 4 slice →
+    out ≡ take len (new ++ drop (length new) old)
     → out ≡ to_be_bytes w32 (length old - 4) ++ drop 4 old
 over_whole old new slice out len l e long n o =
     let n' : new ≡ to_be_bytes w32 (length old - 4) ++ drop 4 old = subst (λ t. new ≡ to_be_bytes w32 (length t - 4) ++ drop 4 t) e n in

@@ -11,7 +11,8 @@ use Rattle.node_names.specs.declared.ids.MsgId.{MsgId}
 use Rattle.frames.specs.declared.fault.FrameFault.TheVariants.{BadField, BadName}
 use Rattle.frames.specs.Field.{name_octets, origin_octets, id_octets, announcement_octets, IsNumber, IsOrigin, IsId, IsAnnouncement}
 use Rattle.frames.specs.Reading.{◌>>=◌, done, judge, octets, word, byte, flag, name, number, origin, id, announcement}
-use Rattle.frames.proofs.Agree.{IsBytes, IsBytes-before, Agrees, bind_ok, takes_first, again_first, parts_done, done_is, both_take, both_again, judged, octets_takes, octets_again}
+use Rattle.frames.proofs.Agree.{IsBytes, IsBytes-before, Agrees, bind_ok, takes_first, again_first, parts_done}
+use Rattle.frames.proofs.Agree.{done_is, both_take, both_again, judged, octets_takes, octets_again}
 use Rattle.frames.proofs.NameReading.{letters_pass, name_from_pass, len_passes, len_bounds}
 
 -- ---- numbers
@@ -47,13 +48,26 @@ wide64 = record {
   below = λ bytes fits. omega (arith, fits 0, fits 1, fits 2, fits 3, fits 4, fits 5, fits 6, fits 7);
 }
 
-word_parts : (w : Width) (limit : ℕ) → IsWide w limit → (bytes front after rest : List ℕ) (n : ℕ) → IsBytes bytes → bytes ≡ front ++ after → length front ≡ byte_len w → from_be_bytes w front ≡ n → after ≡ rest → (bytes ≡ to_be_bytes w n ++ rest) × (n < limit)
+word_parts : (w : Width) (limit : ℕ) →
+    IsWide w limit →
+    (bytes front after rest : List ℕ) (n : ℕ) →
+    IsBytes bytes →
+    bytes ≡ front ++ after →
+    length front ≡ byte_len w →
+    from_be_bytes w front ≡ n →
+    after ≡ rest →
+    (bytes ≡ to_be_bytes w n ++ rest) × (n < limit)
 word_parts w limit wide bytes front after rest n h p l is is' =
     let small = IsBytes-before front after bytes p h in
     let back : front ≡ to_be_bytes w n = sym (wide.back front l small) ∙ ap (to_be_bytes w) is in
     (p ∙ ap (λ t. t ++ after) back ∙ ap (λ t. to_be_bytes w n ++ t) is', subst (λ k. k < limit) is (wide.below front small))
 
-word_takes : (w : Width) (limit : ℕ) → IsWide w limit → (bytes : List ℕ) (n : ℕ) (rest : List ℕ) → IsBytes bytes → word w bytes ≡ Ok (n, rest) → (bytes ≡ to_be_bytes w n ++ rest) × (n < limit)
+word_takes : (w : Width) (limit : ℕ) →
+    IsWide w limit →
+    (bytes : List ℕ) (n : ℕ) (rest : List ℕ) →
+    IsBytes bytes →
+    word w bytes ≡ Ok (n, rest) →
+    (bytes ≡ to_be_bytes w n ++ rest) × (n < limit)
 unfolding word
 word_takes w limit wide bytes n rest h e =
     let b = bind_ok (octets (byte_len w) bytes) (λ bs. done (from_be_bytes w bs)) (n, rest) e in
@@ -64,7 +78,8 @@ word_takes w limit wide bytes n rest h e =
 word_again : (w : Width) (limit : ℕ) → IsWide w limit → (n : ℕ) (rest : List ℕ) → n < limit → word w (to_be_bytes w n ++ rest) ≡ Ok (n, rest)
 unfolding word
 word_again w limit wide n rest lt =
-    let front : octets (byte_len w) (to_be_bytes w n ++ rest) ≡ Ok (to_be_bytes w n, rest) = subst (λ k. octets k (to_be_bytes w n ++ rest) ≡ Ok (to_be_bytes w n, rest)) (wide.len n) (octets_again (to_be_bytes w n) rest) in
+    let front : octets (byte_len w) (to_be_bytes w n ++ rest) ≡ Ok (to_be_bytes w n, rest) =
+    subst (λ k. octets k (to_be_bytes w n ++ rest) ≡ Ok (to_be_bytes w n, rest)) (wide.len n) (octets_again (to_be_bytes w n) rest) in
     rw (front, wide.again n lt) refl
 
 word_agrees : (w : Width) (limit : ℕ) → IsWide w limit → Agrees (word w) (to_be_bytes w) (λ n. n < limit)
@@ -126,7 +141,12 @@ flag_agrees = record { takes = flag_takes; again = flag_again }
 
 -- ---- names, numbers, origins and ids
 
-name_parts : (bytes after letters after' n rest : List ℕ) (len : ℕ) → bytes ≡ (len ∷ []) ++ after → after ≡ letters ++ after' → length letters ≡ len → letters ≡ n → after' ≡ rest
+name_parts : (bytes after letters after' n rest : List ℕ) (len : ℕ) →
+    bytes ≡ (len ∷ []) ++ after →
+    after ≡ letters ++ after' →
+    length letters ≡ len →
+    letters ≡ n →
+    after' ≡ rest
     → (nat_le 1 len && nat_le len 32) ≡ true → list_all is_name_byte letters ≡ true → (bytes ≡ name_octets n ++ rest) × IsNodeName n
 name_parts bytes after letters after' n rest len p q l is is' j k =
     let front : len ≡ length n = sym l ∙ ap length is in
@@ -137,9 +157,13 @@ name_parts bytes after letters after' n rest len p q l is is' j k =
 name_takes : (bytes n rest : List ℕ) → IsBytes bytes → name bytes ≡ Ok (n, rest) → (bytes ≡ name_octets n ++ rest) × IsNodeName n
 unfolding name
 name_takes bytes n rest h e =
-    let f = λ (len : ℕ). judge (nat_le 1 len && nat_le len 32) BadName >>= λ _. octets len >>= λ (letters : List ℕ). judge (list_all is_name_byte letters) BadName >>= λ _. done letters in
+    let f =
+    λ (len : ℕ). judge (nat_le 1 len && nat_le len 32) BadName >>= λ _. octets len >>= λ (letters : List ℕ).
+    judge (list_all is_name_byte letters) BadName >>= λ _. done letters in
     let a = takes_first byte_agrees f bytes n rest h e in
-    let j = judged (nat_le 1 a.value && nat_le a.value 32) BadName (λ _. octets a.value >>= λ (letters : List ℕ). judge (list_all is_name_byte letters) BadName >>= λ _. done letters) a.after (n, rest) a.then' in
+    let j =
+    judged (nat_le 1 a.value && nat_le a.value 32) BadName
+    (λ _. octets a.value >>= λ (letters : List ℕ). judge (list_all is_name_byte letters) BadName >>= λ _. done letters) a.after (n, rest) a.then' in
     let b = bind_ok (octets a.value a.after) (λ letters. judge (list_all is_name_byte letters) BadName >>= λ _. done letters) (n, rest) j.1 in
     let k = judged (list_all is_name_byte b.0.0) BadName (λ _. done b.0.0) b.0.1 (n, rest) b.2 in
     let d = done_is b.0.0 n b.0.1 rest k.1 in
@@ -169,7 +193,8 @@ number_takes bytes n rest h e =
     let j = judged (positive a.value) BadField (λ _. done a.value) a.after (n, rest) a.then' in
     let d = done_is a.value n a.after rest j.1 in
     let some : 0 < a.value = is_positive a.value j.0 in
-    subst (λ v. (bytes ≡ to_be_bytes w64 v ++ rest) × IsNumber v) d.0 (parts_done bytes (to_be_bytes w64 a.value) a.after rest a.parts d.1, record { positive = some; short = a.fits })
+    subst (λ v. (bytes ≡ to_be_bytes w64 v ++ rest) × IsNumber v) d.0
+    (parts_done bytes (to_be_bytes w64 a.value) a.after rest a.parts d.1, record { positive = some; short = a.fits })
 
 number_again : (n : ℕ) (rest : List ℕ) → IsNumber n → number (to_be_bytes w64 n ++ rest) ≡ Ok (n, rest)
 unfolding number
@@ -213,7 +238,10 @@ id_agrees = record { takes = id_takes; again = id_again }
 abbrev announcement_of : MsgId → ℕ → MsgId × ℕ
 announcement_of i r = (i, r)
 
-announcement_takes : (bytes : List ℕ) (a : MsgId × ℕ) (rest : List ℕ) → IsBytes bytes → announcement bytes ≡ Ok (a, rest) → (bytes ≡ announcement_octets a ++ rest) × IsAnnouncement a
+announcement_takes : (bytes : List ℕ) (a : MsgId × ℕ) (rest : List ℕ) →
+    IsBytes bytes →
+    announcement bytes ≡ Ok (a, rest) →
+    (bytes ≡ announcement_octets a ++ rest) × IsAnnouncement a
 unfolding announcement
 announcement_takes bytes a rest h e =
     let p = both_take id_agrees word32_agrees announcement_of bytes a rest h e in

@@ -1,5 +1,6 @@
 -- A frame is read as it is spelled.
-use Rattle.std.proofs.Common.{◌≡◌, ℕ, ◌+◌, ◌<◌, ◌≤◌, Bool, true, false, cond, List, [], ◌∷◌, ◌++◌, length, take, drop, Result, Ok, Err, refl, sym, ap, subst, ◌∙◌, append_assoc, arith}
+use Rattle.std.proofs.Common.{◌≡◌, ℕ, ◌+◌, ◌<◌, ◌≤◌, Bool, true, false, cond, List, [], ◌∷◌, ◌++◌, length}
+use Rattle.std.proofs.Common.{take, drop, Result, Ok, Err, refl, sym, ap, subst, ◌∙◌, append_assoc, arith}
 use Rattle.std.specs.Prelude.{IsTrue, nat_lt, nat_le}
 use Rattle.std.specs.Int.{w32, w64, to_be_bytes, from_be_bytes}
 use Rattle.std.specs.List.{AllByRecursion}
@@ -14,7 +15,8 @@ use Rattle.frames.specs.declared.body.BodyOf.TheVariants as body
 use Rattle.frames.specs.declared.fault.FrameFault.{FrameFault}
 use Rattle.frames.specs.declared.fault.FrameFault.TheVariants.{Short, TooLong}
 use Rattle.frames.specs.declared.kind.Kind.{Kind}
-use Rattle.frames.specs.declared.kind.Kind.TheVariants.{Join, ForwardJoin, Neighbor, NeighborReply, Disconnect, Shuffle, ShuffleReply, Gossip, IHave, Graft, Prune, GraftPeer}
+use Rattle.frames.specs.declared.kind.Kind.TheVariants.{Join, ForwardJoin, Neighbor, NeighborReply, Disconnect}
+use Rattle.frames.specs.declared.kind.Kind.TheVariants.{Shuffle, ShuffleReply, Gossip, IHave, Graft, Prune, GraftPeer}
 use Rattle.frames.specs.Body.{Body}
 use Rattle.frames.specs.Field.{Holds, origin_octets, IsNumber, IsOrigin, IsAnnouncement}
 use Rattle.frames.specs.Frame.{Frame, IsFrame, has_good_fields, has_good_counts, are_numbered}
@@ -79,10 +81,18 @@ version_small GraftPeer = omega arith
 abbrev frame_of : Origin → ℕ → Body → Frame
 frame_of o n b = record { sender = o; number = n; body = b }
 
-frame_parts : (bytes a b c d : List ℕ) (w : ℕ) (k : Kind) (o : Origin) (n : ℕ) (v : Body) → bytes ≡ (w ∷ []) ++ a → version_of k ≡ w → a ≡ (number_of k ∷ []) ++ b → b ≡ origin_octets o ++ c → c ≡ to_be_bytes w64 n ++ d
+frame_parts : (bytes a b c d : List ℕ) (w : ℕ) (k : Kind) (o : Origin) (n : ℕ) (v : Body) →
+    bytes ≡ (w ∷ []) ++ a →
+    version_of k ≡ w →
+    a ≡ (number_of k ∷ []) ++ b →
+    b ≡ origin_octets o ++ c →
+    c ≡ to_be_bytes w64 n ++ d
     → Row k d v [] → IsOrigin o → IsNumber n → IsWhole bytes (frame_of o n v) []
 frame_parts bytes a b c d w k o n v p of q r s row oh nh = record {
-  parts = p ∙ ap (λ j. j ∷ a) (sym of ∙ ap version_of (sym row.kind)) ∙ ap (λ t. version_of (kind_of v) ∷ t) (q ∙ ap (λ j. number_of j ∷ b) (sym row.kind) ∙ ap (λ t. number_of (kind_of v) ∷ t)
+  parts =
+      p
+      ∙ ap (λ j. j ∷ a) (sym of ∙ ap version_of (sym row.kind))
+      ∙ ap (λ t. version_of (kind_of v) ∷ t) (q ∙ ap (λ j. number_of j ∷ b) (sym row.kind) ∙ ap (λ t. number_of (kind_of v) ∷ t)
       (r ∙ ap (λ t. origin_octets o ++ t) (s ∙ ap (λ t. to_be_bytes w64 n ++ t) (row.parts ∙ append-nil (spelled (fields_of v))))));
   fits = (version_small (kind_of v), (number_small (kind_of v), (oh, (nh, row.fits))));
   nothing = refl;
@@ -94,15 +104,19 @@ whole_of bytes t rest g f w e p q = subst (λ s. IsWhole bytes f s) (sym p ∙ q
 pub frame_takes : (bytes : List ℕ) (f : Frame) (rest : List ℕ) → IsBytes bytes → frame bytes ≡ Ok (f, rest) → IsWhole bytes f rest
 unfolding frame
 frame_takes bytes f rest h e =
-    let p = takes_first version_agrees (λ w. kind w >>= λ k. origin >>= λ o. number >>= λ n. alone (fields k) >>= λ v. done (frame_of o n v)) bytes f rest h e in
-    let q = takes_first (kind_agrees p.value) (λ k. origin >>= λ o. number >>= λ n. alone (fields k) >>= λ v. done (frame_of o n v)) p.after f rest p.bytes_after p.then' in
+    let p =
+    takes_first version_agrees (λ w. kind w >>= λ k. origin >>= λ o. number >>= λ n. alone (fields k) >>= λ v. done (frame_of o n v)) bytes f rest h e in
+    let q =
+    takes_first (kind_agrees p.value)
+    (λ k. origin >>= λ o. number >>= λ n. alone (fields k) >>= λ v. done (frame_of o n v)) p.after f rest p.bytes_after p.then' in
     let r = takes_first origin_agrees (λ o. number >>= λ n. alone (fields q.value) >>= λ v. done (frame_of o n v)) q.after f rest q.bytes_after q.then' in
     let s = takes_first number_agrees (λ n. alone (fields q.value) >>= λ v. done (frame_of r.value n v)) r.after f rest r.bytes_after r.then' in
     let b = bind_ok (alone (fields q.value) s.after) (λ v. done (frame_of r.value s.value v)) (f, rest) s.then' in
     let a = alone_is (fields q.value) s.after b.0.0 b.0.1 b.1 in
     let d = done_is (frame_of r.value s.value b.0.0) f b.0.1 rest b.2 in
     let row = fields_take q.value s.after b.0.0 [] s.bytes_after a.0 in
-    let whole = frame_parts bytes p.after q.after r.after s.after p.value q.value r.value s.value b.0.0 p.parts q.fits q.parts r.parts s.parts row r.fits s.fits in
+    let whole =
+    frame_parts bytes p.after q.after r.after s.after p.value q.value r.value s.value b.0.0 p.parts q.fits q.parts r.parts s.parts row r.fits s.fits in
     whole_of bytes b.0.1 rest (frame_of r.value s.value b.0.0) f whole d.0 a.1 d.1
 
 pub frame_again : (f : Frame) → AllByRecursion Holds (layout f) → frame (spelled (layout f)) ≡ Ok (f, [])
@@ -110,9 +124,15 @@ unfolding frame
 frame_again f h =
     let rows : fields (kind_of f.body) (spelled (fields_of f.body)) ≡ Ok (f.body, []) =
     ap (fields (kind_of f.body)) (sym (append-nil (spelled (fields_of f.body)))) ∙ fields_again f.body [] h.1.1.1.1 in
-    again_first version_agrees (λ w. kind w >>= λ k. origin >>= λ o. number >>= λ n. alone (fields k) >>= λ v. done (frame_of o n v)) (version_of (kind_of f.body)) ((number_of (kind_of f.body) ∷ []) ++ (origin_octets f.sender ++ (to_be_bytes w64 f.number ++ spelled (fields_of f.body)))) (version_again_of (kind_of f.body))
-    ∙ again_first (kind_agrees (version_of (kind_of f.body))) (λ k. origin >>= λ o. number >>= λ n. alone (fields k) >>= λ v. done (frame_of o n v)) (kind_of f.body) (origin_octets f.sender ++ (to_be_bytes w64 f.number ++ spelled (fields_of f.body))) refl
-    ∙ again_first origin_agrees (λ o. number >>= λ n. alone (fields (kind_of f.body)) >>= λ v. done (frame_of o n v)) f.sender (to_be_bytes w64 f.number ++ spelled (fields_of f.body)) h.1.1.0
+    again_first version_agrees
+    (λ w. kind w >>= λ k. origin >>= λ o. number >>= λ n. alone (fields k) >>= λ v. done (frame_of o n v))
+    (version_of (kind_of f.body))
+    ((number_of (kind_of f.body) ∷ []) ++ (origin_octets f.sender ++ (to_be_bytes w64 f.number ++ spelled (fields_of f.body))))
+    (version_again_of (kind_of f.body))
+    ∙ again_first (kind_agrees (version_of (kind_of f.body))) (λ k. origin >>= λ o. number >>= λ n. alone (fields k) >>= λ v. done (frame_of o n v))
+    (kind_of f.body) (origin_octets f.sender ++ (to_be_bytes w64 f.number ++ spelled (fields_of f.body))) refl
+    ∙ again_first origin_agrees (λ o. number >>= λ n. alone (fields (kind_of f.body)) >>= λ v. done (frame_of o n v)) f.sender
+    (to_be_bytes w64 f.number ++ spelled (fields_of f.body)) h.1.1.0
     ∙ again_first number_agrees (λ n. alone (fields (kind_of f.body)) >>= λ v. done (frame_of f.sender n v)) f.number (spelled (fields_of f.body)) h.1.1.1.0
     ∙ rw (alone_again (fields (kind_of f.body)) (spelled (fields_of f.body)) f.body rows) refl
 
@@ -178,19 +198,29 @@ pair_is : (x y : Frame × ℕ) → answer x ≡ answer y → x ≡ y
 pair_is x y e = cc
 
 length_is : (m n : ℕ) (f : Frame) (r : Result (Frame × List ℕ) FrameFault) → with_length m r ≡ Ok (f, n) → (rest : List ℕ) × (r ≡ Ok (f, rest)) × (m ≡ n)
-length_is m n f (Ok x) e = let p = pair_is (x.0, m) (f, n) e in (x.1, ap (λ (g : Frame). Ok (g, x.1)) (ap (λ (q : Frame × ℕ). q.0) p), ap (λ (q : Frame × ℕ). q.1) p)
+length_is m n f (Ok x) e =
+    let p = pair_is (x.0, m) (f, n) e in (x.1, ap (λ (g : Frame). Ok (g, x.1)) (ap (λ (q : Frame × ℕ). q.0) p), ap (λ (q : Frame × ℕ). q.1) p)
 length_is m n f (Err d) e = absurd cc
 
-spelling_from : (bytes word after : List ℕ) (len : ℕ) (f : Frame) (rest : List ℕ) → bytes ≡ word ++ after → length word ≡ 4 → to_be_bytes w32 len ≡ word → len ≤ length after → len ≤ MAX_BODY
+spelling_from : (bytes word after : List ℕ) (len : ℕ) (f : Frame) (rest : List ℕ) →
+    bytes ≡ word ++ after →
+    length word ≡ 4 →
+    to_be_bytes w32 len ≡ word →
+    len ≤ length after →
+    len ≤ MAX_BODY
     → IsWhole (take len after) f rest → IsSpelling f (take (4 + len) bytes) × (4 + len ≤ length bytes)
 spelling_from bytes word after len f rest p l w enough few whole =
     let front = take len after in
     let size : length front ≡ len = omega (arith, length-take len after) in
     let both : length (word ++ front) ≡ 4 + len = omega (arith, length-append word front) in
-    let cut : bytes ≡ (word ++ front) ++ drop len after = p ∙ ap (λ t. word ++ t) (sym (take-append-drop len after)) ∙ sym (append_assoc word front (drop len after)) in
+    let cut : bytes ≡ (word ++ front) ++ drop len after =
+    p ∙ ap (λ t. word ++ t) (sym (take-append-drop len after)) ∙ sym (append_assoc word front (drop len after)) in
     let taken : take (4 + len) bytes ≡ word ++ front = ap (take (4 + len)) cut ∙ take_at (word ++ front) (drop len after) (4 + len) both in
     let sized : length (spelled (layout f)) ≡ len = ap length (sym whole.parts) ∙ size in
-    let parts : word ++ front ≡ to_be_bytes w32 (length (spelled (layout f))) ++ spelled (layout f) = ap (λ t. t ++ front) (sym w) ∙ ap (λ k. to_be_bytes w32 k ++ front) (sym sized) ∙ ap (λ t. to_be_bytes w32 (length (spelled (layout f))) ++ t) whole.parts in
+    let parts : word ++ front ≡ to_be_bytes w32 (length (spelled (layout f))) ++ spelled (layout f) =
+    ap (λ t. t ++ front) (sym w)
+    ∙ ap (λ k. to_be_bytes w32 k ++ front) (sym sized)
+    ∙ ap (λ t. to_be_bytes w32 (length (spelled (layout f))) ++ t) whole.parts in
     (record { fields = whole.fits; short = omega (arith, sized, few); parts = taken ∙ parts }, omega (arith, ap length p, length-append word after, l, enough))
 
 -- what a body of a length that was read comes from
@@ -219,16 +249,23 @@ read_takes bytes f n h e =
     let l : length (take 4 bytes) ≡ 4 = omega (arith, length-take 4 bytes) in
     let small = IsBytes-before (take 4 bytes) (drop 4 bytes) bytes cut h in
     let after = IsBytes-after (take 4 bytes) (drop 4 bytes) bytes cut h in
-    let front = IsBytes-before (take (from_be_bytes w32 (take 4 bytes)) (drop 4 bytes)) (drop (from_be_bytes w32 (take 4 bytes)) (drop 4 bytes)) (drop 4 bytes) (sym (take-append-drop (from_be_bytes w32 (take 4 bytes)) (drop 4 bytes))) after in
+    let front =
+    IsBytes-before (take (from_be_bytes w32 (take 4 bytes)) (drop 4 bytes)) (drop (from_be_bytes w32 (take 4 bytes)) (drop 4 bytes))
+    (drop 4 bytes) (sym (take-append-drop (from_be_bytes w32 (take 4 bytes)) (drop 4 bytes))) after in
     let whole = frame_takes (take (from_be_bytes w32 (take 4 bytes)) (drop 4 bytes)) f b.rest front b.whole in
     subst (λ k. IsSpelling f (take k bytes) × (k ≤ length bytes)) b.size
-    (spelling_from bytes (take 4 bytes) (drop 4 bytes) (from_be_bytes w32 (take 4 bytes)) f b.rest cut l (be_bytes_4 (take 4 bytes) _ l small refl) b.enough b.few whole)
+    (spelling_from bytes (take 4 bytes) (drop 4 bytes) (from_be_bytes w32 (take 4 bytes)) f b.rest cut l
+    (be_bytes_4 (take 4 bytes) _ l small refl) b.enough b.few whole)
 
-body_again : (f : Frame) (rest : List ℕ) → AllByRecursion Holds (layout f) → length (spelled (layout f)) ≤ MAX_BODY → body_of (length (spelled (layout f))) (spelled (layout f) ++ rest) ≡ Ok (f, 4 + length (spelled (layout f)))
+body_again : (f : Frame) (rest : List ℕ) →
+    AllByRecursion Holds (layout f) →
+    length (spelled (layout f)) ≤ MAX_BODY →
+    body_of (length (spelled (layout f))) (spelled (layout f) ++ rest) ≡ Ok (f, 4 + length (spelled (layout f)))
 unfolding body_of
 body_again f rest h few =
     let long : nat_lt MAX_BODY (length (spelled (layout f))) ≡ false = le-ltb _ _ few in
-    let enough : nat_lt (length (spelled (layout f) ++ rest)) (length (spelled (layout f))) ≡ false = le-ltb _ _ (omega (arith, length-append (spelled (layout f)) rest)) in
+    let enough : nat_lt (length (spelled (layout f) ++ rest)) (length (spelled (layout f))) ≡ false =
+    le-ltb _ _ (omega (arith, length-append (spelled (layout f)) rest)) in
     rw (long, enough, take_at (spelled (layout f)) rest (length (spelled (layout f))) refl, frame_again f h) refl
 
 read_of : (bytes word after : List ℕ) (len : ℕ) → bytes ≡ word ++ after → length word ≡ 4 → from_be_bytes w32 word ≡ len → read bytes ≡ body_of len after
@@ -243,8 +280,11 @@ pub read_again : (f : Frame) (spelling rest : List ℕ) → IsSpelling f spellin
 read_again f spelling rest s =
     let b = spelled (layout f) in
     let word = to_be_bytes w32 (length (spelled (layout f))) in
-    let parts : spelling ++ rest ≡ to_be_bytes w32 (length (spelled (layout f))) ++ (spelled (layout f) ++ rest) = ap (λ t. t ++ rest) s.parts ∙ append_assoc (to_be_bytes w32 (length (spelled (layout f)))) (spelled (layout f)) rest in
-    let again : from_be_bytes w32 (to_be_bytes w32 (length (spelled (layout f)))) ≡ length (spelled (layout f)) = from_be_bytes-to_be_bytes_4 (length (spelled (layout f))) (omega (arith, s.short)) in
-    let size : 4 + length (spelled (layout f)) ≡ length spelling = sym (ap length s.parts ∙ length-append (to_be_bytes w32 (length (spelled (layout f)))) (spelled (layout f))) in
+    let parts : spelling ++ rest ≡ to_be_bytes w32 (length (spelled (layout f))) ++ (spelled (layout f) ++ rest) =
+    ap (λ t. t ++ rest) s.parts ∙ append_assoc (to_be_bytes w32 (length (spelled (layout f)))) (spelled (layout f)) rest in
+    let again : from_be_bytes w32 (to_be_bytes w32 (length (spelled (layout f)))) ≡ length (spelled (layout f)) =
+    from_be_bytes-to_be_bytes_4 (length (spelled (layout f))) (omega (arith, s.short)) in
+    let size : 4 + length (spelled (layout f)) ≡ length spelling =
+    sym (ap length s.parts ∙ length-append (to_be_bytes w32 (length (spelled (layout f)))) (spelled (layout f))) in
     read_of (spelling ++ rest) (to_be_bytes w32 (length (spelled (layout f)))) (spelled (layout f) ++ rest) (length (spelled (layout f))) parts refl again
     ∙ body_again f rest s.fields s.short ∙ ap (λ k. Ok (f, k)) size

@@ -51,7 +51,10 @@ module _ {X : Type 0} {r : Reader X} {text : X → List ℕ} {Fits : X → Type 
 
 -- ---- names
 
-names_parts : (bytes after rest : List ℕ) (ns : List Name) (n : ℕ) → bytes ≡ (n ∷ []) ++ after → nat_le n MAX_NAMES ≡ true → Taken name_octets IsNodeName n after ns rest
+names_parts : (bytes after rest : List ℕ) (ns : List Name) (n : ℕ) →
+    bytes ≡ (n ∷ []) ++ after →
+    nat_le n MAX_NAMES ≡ true →
+    Taken name_octets IsNodeName n after ns rest
     → (bytes ≡ octets (names_field ns) ++ rest) × Holds (names_field ns)
 names_parts bytes after rest ns n p j t =
     (p ∙ ap (λ b. n ∷ b) t.parts ∙ ap (λ m. m ∷ (flat_map name_octets ns ++ rest)) (sym t.count), (few, t.fits))
@@ -59,7 +62,10 @@ names_parts bytes after rest ns n p j t =
     few : length ns ≤ 8
     few = grind (arith, nat_tests)
 
-names_takes : (bytes : List ℕ) (ns : List Name) (rest : List ℕ) → IsBytes bytes → names bytes ≡ Ok (ns, rest) → (bytes ≡ octets (names_field ns) ++ rest) × Holds (names_field ns)
+names_takes : (bytes : List ℕ) (ns : List Name) (rest : List ℕ) →
+    IsBytes bytes →
+    names bytes ≡ Ok (ns, rest) →
+    (bytes ≡ octets (names_field ns) ++ rest) × Holds (names_field ns)
 unfolding names
 names_takes bytes ns rest h e =
     let a = takes_first byte_agrees (λ count. judge (nat_le count MAX_NAMES) BadCount >>= λ _. times count name) bytes ns rest h e in
@@ -107,29 +113,40 @@ payload_agrees = record { takes = payload_takes; again = payload_again }
 
 -- ---- announcements
 
-announcements_parts : (bytes after rest : List ℕ) (entries : List (MsgId × ℕ)) (n : ℕ) → bytes ≡ to_be_bytes w16 n ++ after → (nat_le 1 n && nat_le n MAX_ANNOUNCEMENTS) ≡ true
-    → Taken announcement_octets IsAnnouncement n after entries rest → (bytes ≡ octets (announcements_field entries) ++ rest) × Holds (announcements_field entries)
+announcements_parts : (bytes after rest : List ℕ) (entries : List (MsgId × ℕ)) (n : ℕ) →
+    bytes ≡ to_be_bytes w16 n ++ after →
+    (nat_le 1 n && nat_le n MAX_ANNOUNCEMENTS) ≡ true
+    → Taken announcement_octets IsAnnouncement n after entries rest
+    → (bytes ≡ octets (announcements_field entries) ++ rest) × Holds (announcements_field entries)
 announcements_parts bytes after rest entries n p j t =
-    let whole : bytes ≡ (to_be_bytes w16 n ++ flat_map announcement_octets entries) ++ rest = parts_then bytes (to_be_bytes w16 n) after (flat_map announcement_octets entries) rest p t.parts in
+    let whole : bytes ≡ (to_be_bytes w16 n ++ flat_map announcement_octets entries) ++ rest =
+    parts_then bytes (to_be_bytes w16 n) after (flat_map announcement_octets entries) rest p t.parts in
     let some : 1 ≤ n = grind (arith, nat_tests) in
-    let few : n ≤ 64 = grind (arith, nat_tests) in
-    (subst (λ k. bytes ≡ (to_be_bytes w16 k ++ flat_map announcement_octets entries) ++ rest) (sym t.count) whole, (omega (arith, t.count, some), omega (arith, t.count, few), t.fits))
+    let few : n ≤ 64 = grind (arith, nat_tests) in (
+      subst (λ k. bytes ≡ (to_be_bytes w16 k ++ flat_map announcement_octets entries) ++ rest) (sym t.count) whole,
+      (omega (arith, t.count, some), omega (arith, t.count, few), t.fits),
+    )
 
 announcements_takes : (bytes : List ℕ) (entries : List (MsgId × ℕ)) (rest : List ℕ) → IsBytes bytes → announcements bytes ≡ Ok (entries, rest)
     → (bytes ≡ octets (announcements_field entries) ++ rest) × Holds (announcements_field entries)
 unfolding announcements
 announcements_takes bytes entries rest h e =
-    let a = takes_first word16_agrees (λ count. judge (nat_le 1 count && nat_le count MAX_ANNOUNCEMENTS) BadCount >>= λ _. times count announcement) bytes entries rest h e in
+    let a =
+    takes_first word16_agrees
+    (λ count. judge (nat_le 1 count && nat_le count MAX_ANNOUNCEMENTS) BadCount >>= λ _. times count announcement) bytes entries rest h e in
     let j = judged (nat_le 1 a.value && nat_le a.value MAX_ANNOUNCEMENTS) BadCount (λ _. times a.value announcement) a.after (entries, rest) a.then' in
     announcements_parts bytes a.after rest entries a.value a.parts j.0 (times_take announcement_agrees a.value a.after entries rest a.bytes_after j.1)
 
 some_pass : (n : ℕ) → 1 ≤ n → n ≤ 64 → (nat_le 1 n && nat_le n MAX_ANNOUNCEMENTS) ≡ true
 some_pass n some few = grind (arith, nat_tests)
 
-announcements_again : (entries : List (MsgId × ℕ)) (rest : List ℕ) → Holds (announcements_field entries) → announcements (octets (announcements_field entries) ++ rest) ≡ Ok (entries, rest)
+announcements_again : (entries : List (MsgId × ℕ)) (rest : List ℕ) →
+    Holds (announcements_field entries) →
+    announcements (octets (announcements_field entries) ++ rest) ≡ Ok (entries, rest)
 unfolding announcements
 announcements_again entries rest h =
-    again_next word16_agrees (λ count. judge (nat_le 1 count && nat_le count MAX_ANNOUNCEMENTS) BadCount >>= λ _. times count announcement) (length entries) (flat_map announcement_octets entries) rest (omega (arith, h.1))
+    again_next word16_agrees (λ count. judge (nat_le 1 count && nat_le count MAX_ANNOUNCEMENTS) BadCount >>= λ _. times count announcement)
+    (length entries) (flat_map announcement_octets entries) rest (omega (arith, h.1))
     ∙ rw (some_pass (length entries) h.0 h.1) (times_again announcement_agrees entries rest h.2)
 
 pub announcements_agrees : Agrees announcements (λ entries. octets (announcements_field entries)) (λ entries. Holds (announcements_field entries))

@@ -7,7 +7,8 @@ use Rattle.std.proofs.lemmas.Bool.{eqb-true}
 use Rattle.frames.specs.declared.body.BodyOf.TheVariants as body
 use Rattle.frames.specs.declared.fault.FrameFault.TheVariants.{BadVersion}
 use Rattle.frames.specs.declared.kind.Kind.{Kind}
-use Rattle.frames.specs.declared.kind.Kind.TheVariants.{Join, ForwardJoin, Neighbor, NeighborReply, Disconnect, Shuffle, ShuffleReply, Gossip, IHave, Graft, Prune, GraftPeer}
+use Rattle.frames.specs.declared.kind.Kind.TheVariants.{Join, ForwardJoin, Neighbor, NeighborReply, Disconnect}
+use Rattle.frames.specs.declared.kind.Kind.TheVariants.{Shuffle, ShuffleReply, Gossip, IHave, Graft, Prune, GraftPeer}
 use Rattle.frames.specs.Body.{Body}
 use Rattle.frames.specs.Field.{octets, Holds}
 use Rattle.frames.specs.Field.Field.{names as names_field, payload as payload_field}
@@ -73,12 +74,14 @@ fields_again (body.Neighbor high) rest h = again_next flag_agrees (λ high. done
 fields_again (body.NeighborReply accepted) rest h = again_next flag_agrees (λ accepted. done (body.NeighborReply accepted)) accepted [] rest tt
 fields_again body.Disconnect rest h = refl
 fields_again (body.Shuffle from ttl ns) rest h =
-    again_next name_agrees (λ from. byte >>= λ ttl. names >>= λ ns. done (body.Shuffle from ttl ns)) from ((ttl ∷ []) ++ (octets (names_field ns) ++ [])) rest h.0
+    again_next name_agrees (λ from. byte >>= λ ttl. names >>= λ ns. done (body.Shuffle from ttl ns)) from
+    ((ttl ∷ []) ++ (octets (names_field ns) ++ [])) rest h.0
     ∙ again_next byte_agrees (λ ttl. names >>= λ ns. done (body.Shuffle from ttl ns)) ttl (octets (names_field ns) ++ []) rest h.1.0
     ∙ again_next names_agrees (λ ns. done (body.Shuffle from ttl ns)) ns [] rest h.1.1.0
 fields_again (body.ShuffleReply ns) rest h = again_next names_agrees (λ ns. done (body.ShuffleReply ns)) ns [] rest h.0
 fields_again (body.Gossip i round bs) rest h =
-    again_next id_agrees (λ i. word w32 >>= λ round. payload >>= λ bs. done (body.Gossip i round bs)) i (to_be_bytes w32 round ++ (octets (payload_field bs) ++ [])) rest h.0
+    again_next id_agrees (λ i. word w32 >>= λ round. payload >>= λ bs. done (body.Gossip i round bs)) i
+    (to_be_bytes w32 round ++ (octets (payload_field bs) ++ [])) rest h.0
     ∙ again_next word32_agrees (λ round. payload >>= λ bs. done (body.Gossip i round bs)) round (octets (payload_field bs) ++ []) rest h.1.0
     ∙ again_next payload_agrees (λ bs. done (body.Gossip i round bs)) bs [] rest h.1.1.0
 fields_again (body.IHave entries) rest h = again_next announcements_agrees (λ entries. done (body.IHave entries)) entries [] rest h.0
@@ -94,7 +97,9 @@ fields_again body.GraftPeer rest h = refl
 abbrev is_version : ℕ → Bool
 is_version v = v == 1 || v == 2
 
-judged_is : (good : Bool) (v w : ℕ) (after rest : List ℕ) → (judge good BadVersion >>= λ _. done v) after ≡ Ok (w, rest) → (good ≡ true) × (v ≡ w) × (after ≡ rest)
+judged_is : (good : Bool) (v w : ℕ) (after rest : List ℕ) →
+    (judge good BadVersion >>= λ _. done v) after ≡ Ok (w, rest) →
+    (good ≡ true) × (v ≡ w) × (after ≡ rest)
 judged_is true v w after rest e = let d = done_is v w after rest e in (refl, d.0, d.1)
 judged_is false v w after rest e = absurd cc
 
@@ -133,7 +138,11 @@ some_is : (j k : Kind) → some j ≡ some k → j ≡ k
 some_is j k e = cc
 
 -- the first that a number may be, or a later one
-pick : (n m : ℕ) (x k : Kind) (others : Option Kind) → cond (n == m) (Some x) others ≡ Some k → number_of x ≡ m → (others ≡ Some k → number_of k ≡ n) → number_of k ≡ n
+pick : (n m : ℕ) (x k : Kind) (others : Option Kind) →
+    cond (n == m) (Some x) others ≡ Some k →
+    number_of x ≡ m →
+    (others ≡ Some k → number_of k ≡ n) →
+    number_of k ≡ n
 pick n m x k others e is later = pick_by (n == m) refl e
   where
     pick_by : (b : Bool) → (n == m) ≡ b → cond b (Some x) others ≡ Some k → number_of k ≡ n
@@ -173,7 +182,10 @@ of_version_is v (Some j) k e = by_test (version_of j == v) refl e
     by_test true t e = (e, ap version_of (sym (some_is j k e)) ∙ eqb-true _ _ t)
     by_test false t e = absurd cc
 
-kind_takes : (v : ℕ) (bytes : List ℕ) (k : Kind) (rest : List ℕ) → IsBytes bytes → kind v bytes ≡ Ok (k, rest) → (bytes ≡ (number_of k ∷ []) ++ rest) × (version_of k ≡ v)
+kind_takes : (v : ℕ) (bytes : List ℕ) (k : Kind) (rest : List ℕ) →
+    IsBytes bytes →
+    kind v bytes ≡ Ok (k, rest) →
+    (bytes ≡ (number_of k ∷ []) ++ rest) × (version_of k ≡ v)
 unfolding kind
 kind_takes v bytes k rest h e =
     let a = takes_first byte_agrees (λ n. known (of_version v (kind_numbered n))) bytes k rest h e in

@@ -10,7 +10,8 @@ use Rattle.node_names.specs.NodeName.{Name}
 use Rattle.node_names.specs.Same.{same_id, same_id-Decides, same_name, same_name-Decides}
 use Rattle.node_names.specs.declared.ids.MsgId.{MsgId}
 use Rattle.frames.specs.Body.{Body}
-use Rattle.frames.specs.declared.body.BodyOf.TheVariants.{Join, ForwardJoin, Neighbor, NeighborReply, Disconnect, Shuffle, ShuffleReply, Gossip, IHave, Graft, Prune, GraftPeer}
+use Rattle.frames.specs.declared.body.BodyOf.TheVariants.{Join, ForwardJoin, Neighbor, NeighborReply, Disconnect}
+use Rattle.frames.specs.declared.body.BodyOf.TheVariants.{Shuffle, ShuffleReply, Gossip, IHave, Graft, Prune, GraftPeer}
 use Rattle.frames.specs.Sameness.{entries_of, flag_of, kind_number, message_of, names_of, payload_of, walk_of}
 
 -- what stands in for a walk or a message that is not there
@@ -54,7 +55,15 @@ restored Prune = refl
 restored GraftPeer = refl
 
 -- bodies of the same fields are equal
-pub same_fields : (a b : Body) → kind_number a ≡ kind_number b → flag_of a ≡ flag_of b → walk_of a ≡ walk_of b → message_of a ≡ message_of b → names_of a ≡ names_of b → entries_of a ≡ entries_of b → payload_of a ≡ payload_of b → a ≡ b
+pub same_fields : (a b : Body) →
+    kind_number a ≡ kind_number b →
+    flag_of a ≡ flag_of b →
+    walk_of a ≡ walk_of b →
+    message_of a ≡ message_of b →
+    names_of a ≡ names_of b →
+    entries_of a ≡ entries_of b →
+    payload_of a ≡ payload_of b →
+    a ≡ b
 same_fields a b kind flag walk message names entries payload =
     sym (restored a) ∙ (λ i. body_from (kind i) (flag i) (walk i) (message i) (names i) (entries i) (payload i)) ∙ restored b
 

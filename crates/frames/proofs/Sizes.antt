@@ -23,14 +23,21 @@ id_size i h = omega (arith, length-append (origin_octets i.origin) (to_be_bytes 
 
 names_size : (ns : List Name) → AllByRecursion IsNodeName ns → length (flat_map name_octets ns) ≤ 33 * length ns
 names_size [] h = omega arith
-names_size (n ∷ ns) h = omega (arith, ap length (flat_map-cons name_octets n ns), length-append (name_octets n) (flat_map name_octets ns), h.0.short, names_size ns h.1)
+names_size (n ∷ ns) h =
+    omega (arith, ap length (flat_map-cons name_octets n ns), length-append (name_octets n) (flat_map name_octets ns), h.0.short, names_size ns h.1)
 
 announcement_size : (a : MsgId × ℕ) → IsAnnouncement a → length (announcement_octets a) ≤ 53
 announcement_size a h = omega (arith, length-append (id_octets a.0) (to_be_bytes w32 a.1), id_size a.0 h.id)
 
 announcements_size : (es : List (MsgId × ℕ)) → AllByRecursion IsAnnouncement es → length (flat_map announcement_octets es) ≤ 53 * length es
 announcements_size [] h = omega arith
-announcements_size (e ∷ es) h = omega (arith, ap length (flat_map-cons announcement_octets e es), length-append (announcement_octets e) (flat_map announcement_octets es), announcement_size e h.0, announcements_size es h.1)
+announcements_size (e ∷ es) h = omega (
+  arith,
+  ap length (flat_map-cons announcement_octets e es),
+  length-append (announcement_octets e) (flat_map announcement_octets es),
+  announcement_size e h.0,
+  announcements_size es h.1,
+)
 
 -- the most that a field takes
 most : Field → ℕ

@@ -1,5 +1,6 @@
 -- What more bytes of a stream change, and what they don't.
-use Rattle.std.proofs.Common.{◌≡◌, inl, inr, ℕ, ◌+◌, ◌<◌, ◌≤◌, Bool, true, false, List, ◌++◌, length, take, drop, Option, Some, None, Result, Ok, Err, refl, sym, ap, subst, ◌∙◌, arith}
+use Rattle.std.proofs.Common.{◌≡◌, inl, inr, ℕ, ◌+◌, ◌<◌, ◌≤◌, Bool, true, false, List, ◌++◌, length, take}
+use Rattle.std.proofs.Common.{drop, Option, Some, None, Result, Ok, Err, refl, sym, ap, subst, ◌∙◌, arith}
 use Rattle.std.specs.Prelude.{◌≢◌, if◌then◌else◌}
 use Rattle.std.specs.Int.{w32, from_be_bytes}
 use Rattle.std.proofs.lemmas.Bool.{cases_lt, lt-ltb, le-ltb}
@@ -73,7 +74,10 @@ met_more None bytes more h = tt
 met_more (Some fault) bytes more h = (read_more bytes more fault h.0 h.1, h.1)
 
 -- what was fed, or was not, leaves the fault
-pub fed : (r : Bool) (fault : Option FrameFault) (given : ℕ) (old piece new : List ℕ) → new ≡ (if r then old ++ piece else old) → (given + given ≤ length old) × IsMet fault (drop given old) → (given + given ≤ length new) × IsMet fault (drop given new)
+pub fed : (r : Bool) (fault : Option FrameFault) (given : ℕ) (old piece new : List ℕ) →
+    new ≡ (if r then old ++ piece else old) →
+    (given + given ≤ length old) × IsMet fault (drop given old) →
+    (given + given ≤ length new) × IsMet fault (drop given new)
 fed true fault given old piece new e h =
     let more : drop given new ≡ drop given old ++ piece = ap (drop given) e ∙ drop-append-le given old piece (omega (arith, h.0)) in
     (omega (arith, ap length e, length-append old piece, h.0), subst (IsMet fault) (sym more) (met_more fault (drop given old) piece h.1))

@@ -18,7 +18,8 @@ first_is first (Ok x) = refl
 first_is first (Err fault) = refl
 
 -- one more item, which is the front's last or the others' first
-pub regroup : {X : Type 0} (front : List X) (item : X) (read : Result (List X × List ℕ) FrameFault) → with_front front (with_first item read) ≡ with_front (front ++ item ∷ []) read
+pub regroup : {X : Type 0} (front : List X) (item : X) (read : Result (List X × List ℕ) FrameFault) →
+    with_front front (with_first item read) ≡ with_front (front ++ item ∷ []) read
 regroup front item (Ok x) = ap (λ items. Ok (items, x.1)) (sym (append_assoc front (item ∷ []) x.0))
 regroup front item (Err fault) = refl
 
@@ -28,15 +29,18 @@ module _ {X : Type 0} (r : Reader X) where
   times-suc n bytes after item h = rw h (first_is item (times n r after))
 
   -- an item was read
-  pub goes_on : (front : List X) (count i : ℕ) (bytes after : List ℕ) (item : X) (total : Result (List X × List ℕ) FrameFault) → i < count → r bytes ≡ Ok (item, after)
+  pub goes_on :
+      (front : List X) (count i : ℕ) (bytes after : List ℕ) (item : X) (total : Result (List X × List ℕ) FrameFault) → i < count → r bytes ≡ Ok (item, after)
       → with_front front (times (count - i) r bytes) ≡ total → with_front (front ++ item ∷ []) (times (count - (i + 1)) r after) ≡ total
   goes_on front count i bytes after item total lt h so_far =
       let k : count - i ≡ suc (count - (i + 1)) = omega arith in
-      let one : with_front front (times (count - i) r bytes) ≡ with_front (front ++ item ∷ []) (times (count - (i + 1)) r after) = rw (k, times-suc (count - (i + 1)) bytes after item h) (regroup front item (times (count - (i + 1)) r after)) in
+      let one : with_front front (times (count - i) r bytes) ≡ with_front (front ++ item ∷ []) (times (count - (i + 1)) r after) =
+      rw (k, times-suc (count - (i + 1)) bytes after item h) (regroup front item (times (count - (i + 1)) r after)) in
       sym one ∙ so_far
 
   -- an item was not read
-  pub stops : (front : List X) (count i : ℕ) (bytes : List ℕ) (fault : FrameFault) (total : Result (List X × List ℕ) FrameFault) → i < count → r bytes ≡ Err fault
+  pub stops :
+      (front : List X) (count i : ℕ) (bytes : List ℕ) (fault : FrameFault) (total : Result (List X × List ℕ) FrameFault) → i < count → r bytes ≡ Err fault
       → with_front front (times (count - i) r bytes) ≡ total → total ≡ Err fault
   unfolding times
   stops front count i bytes fault total lt h so_far =

@@ -5,7 +5,8 @@ use Rattle.node_names.specs.declared.ids.Origin.{Origin}
 use Rattle.node_names.specs.declared.ids.MsgId.{MsgId}
 use Rattle.protocol.specs.declared.TheConstants.{MAX_PAYLOAD}
 use Rattle.frames.specs.declared.TheConstants.{MAX_NAMES, MAX_ANNOUNCEMENTS}
-use Rattle.frames.specs.declared.body.BodyOf.TheVariants.{Join, ForwardJoin, Neighbor, NeighborReply, Disconnect, Shuffle, ShuffleReply, Gossip, IHave, Graft, Prune, GraftPeer}
+use Rattle.frames.specs.declared.body.BodyOf.TheVariants.{Join, ForwardJoin, Neighbor, NeighborReply, Disconnect}
+use Rattle.frames.specs.declared.body.BodyOf.TheVariants.{Shuffle, ShuffleReply, Gossip, IHave, Graft, Prune, GraftPeer}
 use Rattle.frames.specs.declared.fault.FrameFault.{FrameFault}
 use Rattle.frames.specs.declared.fault.FrameFault.TheVariants.{BadField, BadCount}
 use Rattle.frames.specs.Body.{Body}

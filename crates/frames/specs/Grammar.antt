@@ -3,7 +3,8 @@ use Rattle.std.specs.Prelude.{◌≡◌, ℕ, ◌≤◌, List, [], ◌∷◌, �
 use Rattle.std.specs.List.{AllByRecursion}
 use Rattle.std.specs.Int.{w32, to_be_bytes}
 use Rattle.frames.specs.declared.TheConstants.{MAX_BODY}
-use Rattle.frames.specs.declared.body.BodyOf.TheVariants.{Join, ForwardJoin, Neighbor, NeighborReply, Disconnect, Shuffle, ShuffleReply, Gossip, IHave, Graft, Prune, GraftPeer}
+use Rattle.frames.specs.declared.body.BodyOf.TheVariants.{Join, ForwardJoin, Neighbor, NeighborReply, Disconnect}
+use Rattle.frames.specs.declared.body.BodyOf.TheVariants.{Shuffle, ShuffleReply, Gossip, IHave, Graft, Prune, GraftPeer}
 use Rattle.frames.specs.Body.{Body}
 use Rattle.frames.specs.Field.{Field, octets, Holds}
 use Rattle.frames.specs.Field.Field.{byte, flag, round, number, name, origin, id, names, payload, announcements}

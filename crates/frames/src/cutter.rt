@@ -34,7 +34,8 @@ impl<A: Allocator> Model for Cutter<A> {
     ghost view = { λ c. drop c.given c.buffer.items };
 
     // The cutter holds at most as many bytes of returned frames as bytes that remain.
-    ghost invariant = { λ c. (c.given + c.given ≤ length c.buffer.items) × IsMet c.fault (drop c.given c.buffer.items) };
+    ghost invariant = { λ c.
+        (c.given + c.given ≤ length c.buffer.items) × IsMet c.fault (drop c.given c.buffer.items) };
 }
 
 impl<A: Allocator + Copy> Cutter<A> {

@@ -4,7 +4,10 @@ ghost use Rattle.std.specs.List.{flat_map, AllByRecursion};
 ghost use Rattle.node_names.specs.NodeName.{IsNodeName};
 ghost use Rattle.protocol.specs.declared.TheConstants.{MAX_PAYLOAD};
 ghost use Rattle.frames.specs.Field.{name_octets, announcement_octets, IsAnnouncement};
-ghost use Rattle.frames.specs.Field.Field.{byte as byte_field, flag as flag_field, round as round_field, number as number_field, name as name_field, origin as origin_field, id as id_field, names as names_field, payload as payload_field, announcements as announcements_field};
+ghost use Rattle.frames.specs.Field.Field.{byte as byte_field, flag as flag_field, round as round_field};
+ghost use Rattle.frames.specs.Field.Field.{number as number_field, name as name_field};
+ghost use Rattle.frames.specs.Field.Field.{origin as origin_field, id as id_field, names as names_field};
+ghost use Rattle.frames.specs.Field.Field.{payload as payload_field, announcements as announcements_field};
 ghost use Rattle.frames.specs.Frame.{are_numbered};
 ghost use Rattle.frames.specs.Writing.{Puts};
 

@@ -122,7 +122,9 @@ fn same_named<A: Allocator>(body: &Body<A>, other: &Body<A>) -> bool
 
 /// Returns whether two bodies have the same message, announcements and payload.
 fn same_messages<A: Allocator>(body: &Body<A>, other: &Body<A>) -> bool
-    ensures { Decides result ((message_of body.now ≡ message_of other.now) × (entries_of body.now ≡ entries_of other.now) × (payload_of body.now ≡ payload_of other.now)) }
+    ensures { Decides result ((message_of body.now ≡ message_of other.now)
+        × (entries_of body.now ≡ entries_of other.now)
+        × (payload_of body.now ≡ payload_of other.now)) }
 {
     same_message(body, other) && same_entries(body, other) && same_payload(body, other)
 }

@@ -20,13 +20,19 @@ use Rattle.gossip_core.specs.declared.call.CallOf.TheVariants.{Broadcast, Down, 
 
 -- what contracts see of these fields
 abbrev pub state_of : Origin → ℕ → ℕ → ℕ → PeerSets → Missing → set.FinSet id_cmp → List (MsgId × List ℕ) → GossipState
-state_of me threshold keep spent peers missing known held = record { me = me; threshold = threshold; keep = keep; spent = spent; peers = peers; missing = missing; known = known; held = held }
+state_of me threshold keep spent peers missing known held =
+    record { me = me; threshold = threshold; keep = keep; spent = spent; peers = peers; missing = missing; known = known; held = held }
 
-pub sound_state : (me : Origin) (threshold keep spent : ℕ) (peers : PeerSets) (missing : Missing) (known : set.FinSet id_cmp) (held : List (MsgId × List ℕ)) → AreCounted me known spent → AreKnown known held peers.queued → IsSound (state_of me threshold keep spent peers missing known held)
+pub sound_state : (me : Origin) (threshold keep spent : ℕ) (peers : PeerSets) (missing : Missing) (known : set.FinSet id_cmp) (held : List (MsgId × List ℕ)) →
+    AreCounted me known spent →
+    AreKnown known held peers.queued →
+    IsSound (state_of me threshold keep spent peers missing known held)
 sound_state me threshold keep spent peers missing known held counted are = record { counted = counted.each; held_is_known = are.each_held }
 
 -- the node's next message is not there
-pub lacks_next : (known : set.FinSet id_cmp) (me : Origin) (spent : ℕ) → AreCounted me known spent → set.contains known (record { origin = me; seq = spent + 1 }) ≡ false
+pub lacks_next : (known : set.FinSet id_cmp) (me : Origin) (spent : ℕ) →
+    AreCounted me known spent →
+    set.contains known (record { origin = me; seq = spent + 1 }) ≡ false
 lacks_next known me spent are = go (set.contains known (record { origin = me; seq = spent + 1 })) refl
   where
     go : (b : Bool) → set.contains known (record { origin = me; seq = spent + 1 }) ≡ b → b ≡ false
@@ -45,10 +51,18 @@ counts_none me spent = record { each = λ id is mine. absurd (false≢true (sym 
 module _ (known : set.FinSet id_cmp) (id : MsgId) (me : Origin) (spent : ℕ) (are : AreCounted me known spent) where
   -- a message of another origin is not counted, and the next own one is
   pub counts_foreign : id.origin ≢ me → AreCounted me (set.insert known id) spent
-  counts_foreign foreign = record { each = λ q is mine. elim (found_in_insert known id q is) [ inl was ↦ are.each q was mine | inr same ↦ absurd (foreign (sym (ap (λ (i : MsgId). i.origin) same) ∙ mine)) ] }
+  counts_foreign foreign = record {
+    each = λ q is mine. elim (found_in_insert known id q is) [
+      | inl was ↦ are.each q was mine
+      | inr same ↦ absurd (foreign (sym (ap (λ (i : MsgId). i.origin) same) ∙ mine))
+    ];
+  }
 
   pub counts_next : id.seq ≡ spent + 1 → AreCounted me (set.insert known id) (spent + 1)
-  counts_next next = record { each = λ q is mine. elim (found_in_insert known id q is) [ inl was ↦ older (are.each q was mine) | inr same ↦ newest (ap (λ (i : MsgId). i.seq) same ∙ next) ] }
+  counts_next next = record {
+    each =
+        λ q is mine. elim (found_in_insert known id q is) [ inl was ↦ older (are.each q was mine) | inr same ↦ newest (ap (λ (i : MsgId). i.seq) same ∙ next) ];
+  }
     where
       older : {n : ℕ} → (0 < n) × (n ≤ spent) → (0 < n) × (n ≤ spent + 1)
       older h = (h.0, omega (arith, h.1))
@@ -66,35 +80,48 @@ module _ (me : Origin) (threshold keep spent : ℕ) (peers : PeerSets) (missing 
       → known' ≡ set.insert known (record { origin = me; seq = seq })
       → held' ≡ kept_last keep (held ++ (record { origin = me; seq = seq }, payload) ∷ [])
       → peers' ≡ record peers { queued = with_entries (lazy_but None peers.members) (record { origin = me; seq = seq }) 0 peers.queued }
-      → state_of me threshold keep seq peers' missing known' held' ≡ (outcome (state_of me threshold keep spent peers missing known held) (Broadcast payload)).state
+      → state_of me threshold keep seq peers' missing known' held'
+      ≡ (outcome (state_of me threshold keep spent peers missing known held) (Broadcast payload)).state
 
   pub after_broadcast : (seq : ℕ) → seq ≡ spent + 1 → Broadcasts seq
   after_broadcast seq next =
       subst Broadcasts (sym next)
       (λ payload peers' known' held' is_known is_held is_peers.
-      λ i. record { me = me; threshold = threshold; keep = keep; spent = spent + 1; peers = is_peers i; missing = missing; known = is_known i; held = is_held i })
+      λ i.
+      record { me = me; threshold = threshold; keep = keep; spent = spent + 1; peers = is_peers i; missing = missing; known = is_known i; held = is_held i })
 
   -- the first copy of a message
   abbrev Takes : ℕ → ℕ → Type 0
   Takes round next =
-      (sender : Name) (id : MsgId) (payload : List ℕ) (peers' peers'' : PeerSets) (missing' : Missing) (known' : set.FinSet id_cmp) (held' : List (MsgId × List ℕ))
+      (sender : Name) (id : MsgId) (payload : List ℕ) (peers' peers'' : PeerSets)
+      (missing' : Missing) (known' : set.FinSet id_cmp) (held' : List (MsgId × List ℕ))
       → known' ≡ set.insert known id
       → held' ≡ kept_last keep (held ++ (id, payload) ∷ [])
       → peers' ≡ record peers { queued = with_entries (lazy_but (Some sender) peers.members) id next peers.queued }
       → missing' ≡ got id missing
       → peers'' ≡ record peers' { members = with_kind sender Eager peers'.members }
-      → state_of me threshold keep spent peers'' missing' known' held' ≡ (first_copy sender id round payload (state_of me threshold keep spent peers missing known held)).state
+      → state_of me threshold keep spent peers'' missing' known' held'
+      ≡ (first_copy sender id round payload (state_of me threshold keep spent peers missing known held)).state
 
   pub after_first_copy : (round next : ℕ) → next ≡ next_round round → Takes round next
   after_first_copy round next is_next =
       subst (Takes round) (sym is_next)
       (λ sender id payload peers' peers'' missing' known' held' is_known is_held is_peers is_missing is_eager.
-      let are_peers : peers'' ≡ record { members = with_kind sender Eager peers.members; queued = with_entries (lazy_but (Some sender) peers.members) id (next_round round) peers.queued } = is_eager ∙ ap (λ (p : PeerSets). record p { members = with_kind sender Eager p.members }) is_peers in
-      λ i. record { me = me; threshold = threshold; keep = keep; spent = spent; peers = are_peers i; missing = is_missing i; known = is_known i; held = is_held i })
+      let are_peers : peers'' ≡ record {
+        members = with_kind sender Eager peers.members;
+        queued = with_entries (lazy_but (Some sender) peers.members) id (next_round round) peers.queued;
+      } =
+      is_eager ∙ ap (λ (p : PeerSets). record p { members = with_kind sender Eager p.members }) is_peers in
+      λ i.
+      record { me = me; threshold = threshold; keep = keep; spent = spent; peers = are_peers i; missing = is_missing i; known = is_known i; held = is_held i })
 
 -- ---- links go down and come up
 
-pub after_downs-is : (downs : List Name) (g : GossipState) → after_downs downs g ≡ record g { peers = record { members = without_members downs g.peers.members; queued = without_all_entries downs g.peers.queued }; missing = without_all downs g.missing }
+pub after_downs-is : (downs : List Name) (g : GossipState) →
+    after_downs downs g ≡ record g {
+      peers = record { members = without_members downs g.peers.members; queued = without_all_entries downs g.peers.queued };
+      missing = without_all downs g.missing;
+    }
 after_downs-is [] g = refl
 after_downs-is (name ∷ names) g = after_downs-is names (outcome g (Down name)).state
 
@@ -102,5 +129,10 @@ pub after_ups-is : (ups : List Name) (g : GossipState) → after_ups ups g ≡ r
 after_ups-is [] g = refl
 after_ups-is (name ∷ names) g = after_ups-is names (outcome g (Up name)).state
 
-pub after_links : (downs ups : List Name) (g : GossipState) → record g { peers = relinked downs ups g.peers; missing = without_all downs g.missing } ≡ after_ups ups (after_downs downs g)
-after_links downs ups g = sym (ap (after_ups ups) (after_downs-is downs g) ∙ after_ups-is ups (record g { peers = record { members = without_members downs g.peers.members; queued = without_all_entries downs g.peers.queued }; missing = without_all downs g.missing }))
+pub after_links : (downs ups : List Name) (g : GossipState) →
+    record g { peers = relinked downs ups g.peers; missing = without_all downs g.missing } ≡ after_ups ups (after_downs downs g)
+after_links downs ups g =
+    sym (ap (after_ups ups) (after_downs-is downs g) ∙ after_ups-is ups (record g {
+      peers = record { members = without_members downs g.peers.members; queued = without_all_entries downs g.peers.queued };
+      missing = without_all downs g.missing;
+    }))

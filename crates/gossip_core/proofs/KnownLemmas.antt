@@ -1,5 +1,6 @@
 -- What is held, and what waits to be announced, is known.
-use Rattle.std.proofs.Common.{◌≡◌, ◌∙◌, ◌⊎◌, inl, inr, ◌||◌, ℕ, suc, zero, Bool, true, false, not, cond, List, [], ◌∷◌, ◌++◌, Option, None, Some, map, filter, sym, ap, refl}
+use Rattle.std.proofs.Common.{◌≡◌, ◌∙◌, ◌⊎◌, inl, inr, ◌||◌, ℕ, suc, zero, Bool, true, false, not, cond}
+use Rattle.std.proofs.Common.{List, [], ◌∷◌, ◌++◌, Option, None, Some, map, filter, sym, ap, refl}
 use Rattle.std.specs.Prelude.{◌-◌, drop, is_some, length, nat_eq}
 use Rattle.std.specs.FinSet as set
 use Rattle.std.specs.List.{AllByRecursion as Each}
@@ -20,7 +21,8 @@ none_from : {X : Type 0} (o : Option X) → (is_some o ≡ true → ⊥) → o �
 none_from None lacks = refl
 none_from (Some x) lacks = absurd (lacks refl)
 
-module _ (known : set.FinSet id_cmp) (held : List (MsgId × List ℕ)) (queued : List (Name × MsgId × ℕ)) (are : AreKnown known held queued) (id : MsgId) (unknown : set.contains known id ≡ false) where
+module _ (known : set.FinSet id_cmp) (held : List (MsgId × List ℕ)) (queued : List (Name × MsgId × ℕ))
+    (are : AreKnown known held queued) (id : MsgId) (unknown : set.contains known id ≡ false) where
   -- is not held
   pub not_held : lookup (same_id id) held ≡ None
   not_held = none_from (lookup (same_id id) held) (λ is. false≢true (sym unknown ∙ are.each_held id is))
@@ -39,7 +41,9 @@ module _ (known : set.FinSet id_cmp) (held : List (MsgId × List ℕ)) (queued :
 
 -- ---- what is kept of a list
 
-found_in_drop : (n : ℕ) (held : List (MsgId × List ℕ)) (q : MsgId) → is_some (lookup (same_id q) (drop n held)) ≡ true → is_some (lookup (same_id q) held) ≡ true
+found_in_drop : (n : ℕ) (held : List (MsgId × List ℕ)) (q : MsgId) →
+    is_some (lookup (same_id q) (drop n held)) ≡ true →
+    is_some (lookup (same_id q) held) ≡ true
 found_in_drop zero held q is = is
 found_in_drop (suc n) [] q is = is
 found_in_drop (suc n) (message ∷ held) q is = go (same_id q message.0) (found_in_drop n held q is)
@@ -49,7 +53,9 @@ found_in_drop (suc n) (message ∷ held) q is = go (same_id q message.0) (found_
     go false later = later
 
 -- was there before
-pub found_in_kept : (keep : ℕ) (held : List (MsgId × List ℕ)) (q : MsgId) → is_some (lookup (same_id q) (kept_last keep held)) ≡ true → is_some (lookup (same_id q) held) ≡ true
+pub found_in_kept : (keep : ℕ) (held : List (MsgId × List ℕ)) (q : MsgId) →
+    is_some (lookup (same_id q) (kept_last keep held)) ≡ true →
+    is_some (lookup (same_id q) held) ≡ true
 found_in_kept keep held q = go (nat_eq keep 0)
   where
     go : (b : Bool) → is_some (lookup (same_id q) (cond b held (drop (length held - keep) held))) ≡ true → is_some (lookup (same_id q) held) ≡ true
@@ -81,7 +87,9 @@ module _ (known : set.FinSet id_cmp) (id : MsgId) where
   is_there = contains-more id ∙ ap (λ b. b || set.contains known id) ((same_id-Decides id id).1 refl)
 
   -- it is held, or another one is
-  held_in_push : (payload : List ℕ) (q : MsgId) (held : List (MsgId × List ℕ)) → is_some (lookup (same_id q) (held ++ (id, payload) ∷ [])) ≡ true → (is_some (lookup (same_id q) held) ≡ true) ⊎ (q ≡ id)
+  held_in_push : (payload : List ℕ) (q : MsgId) (held : List (MsgId × List ℕ)) →
+      is_some (lookup (same_id q) (held ++ (id, payload) ∷ [])) ≡ true →
+      (is_some (lookup (same_id q) held) ≡ true) ⊎ (q ≡ id)
   held_in_push payload q [] is = go (same_id q id) refl is
     where
       go : (b : Bool) → same_id q id ≡ b → is_some (cond b (Some payload) None) ≡ true → (false ≡ true) ⊎ (q ≡ id)
@@ -89,15 +97,24 @@ module _ (known : set.FinSet id_cmp) (id : MsgId) where
       go false other e = inl e
   held_in_push payload q (message ∷ held) is = go (same_id q message.0) (held_in_push payload q held) is
     where
-      go : (b : Bool) → (is_some (lookup (same_id q) (held ++ (id, payload) ∷ [])) ≡ true → (is_some (lookup (same_id q) held) ≡ true) ⊎ (q ≡ id)) → is_some (cond b (Some message.1) (lookup (same_id q) (held ++ (id, payload) ∷ []))) ≡ true → (is_some (cond b (Some message.1) (lookup (same_id q) held)) ≡ true) ⊎ (q ≡ id)
+      go : (b : Bool) →
+          (is_some (lookup (same_id q) (held ++ (id, payload) ∷ [])) ≡ true → (is_some (lookup (same_id q) held) ≡ true) ⊎ (q ≡ id)) →
+          is_some (cond b (Some message.1) (lookup (same_id q) (held ++ (id, payload) ∷ []))) ≡ true →
+          (is_some (cond b (Some message.1) (lookup (same_id q) held)) ≡ true) ⊎ (q ≡ id)
       go true later e = inl refl
       go false later e = later e
 
   -- and its entries wait, whatever is kept
-  pub known-with_entries : (names : List Name) (round : ℕ) (payload : List ℕ) (keep : ℕ) (held : List (MsgId × List ℕ)) (queued : List (Name × MsgId × ℕ)) → AreKnown known held queued → AreKnown (set.insert known id) (kept_last keep (held ++ (id, payload) ∷ [])) (with_entries names id round queued)
+  pub known-with_entries : (names : List Name) (round : ℕ) (payload : List ℕ) (keep : ℕ) (held : List (MsgId × List ℕ)) (queued : List (Name × MsgId × ℕ)) →
+      AreKnown known held queued →
+      AreKnown (set.insert known id) (kept_last keep (held ++ (id, payload) ∷ [])) (with_entries names id round queued)
   known-with_entries names round payload keep held queued are =
       record {
-        each_held = λ q is. elim (held_in_push payload q held (found_in_kept keep (held ++ (id, payload) ∷ []) q is)) [ inl was ↦ stays q (are.each_held q was) | inr same ↦ ap (set.contains (set.insert known id)) same ∙ is_there ];
+        each_held =
+            λ q is. elim (held_in_push payload q held (found_in_kept keep (held ++ (id, payload) ∷ []) q is)) [
+              | inl was ↦ stays q (are.each_held q was)
+              | inr same ↦ ap (set.contains (set.insert known id)) same ∙ is_there
+            ];
         each_queued = both queued are.each_queued;
       }
     where
@@ -105,7 +122,10 @@ module _ (known : set.FinSet id_cmp) (id : MsgId) where
       new [] = tt
       new (peer ∷ peers) = (is_there, new peers)
 
-      both : (entries : List (Name × MsgId × ℕ)) → Each (λ entry. set.contains known entry.1 ≡ true) entries → Each (λ entry. set.contains (set.insert known id) entry.1 ≡ true) (entries ++ map (λ peer. (peer, id, round)) (filter (λ peer. not (is_queued peer id queued)) names))
+      both : (entries : List (Name × MsgId × ℕ)) →
+          Each (λ entry. set.contains known entry.1 ≡ true) entries →
+          Each (λ entry. set.contains (set.insert known id) entry.1 ≡ true)
+          (entries ++ map (λ peer. (peer, id, round)) (filter (λ peer. not (is_queued peer id queued)) names))
       both [] h = new (filter (λ peer. not (is_queued peer id queued)) names)
       both (entry ∷ entries) h = (stays entry.1 h.0, both entries h.1)
 
@@ -115,15 +135,21 @@ module _ (known : set.FinSet id_cmp) (held : List (MsgId × List ℕ)) where
   pub known-without_entries : (peer : Name) (queued : List (Name × MsgId × ℕ)) → AreKnown known held queued → AreKnown known held (without_entries peer queued)
   known-without_entries peer queued are = record { each_held = are.each_held; each_queued = go queued are.each_queued }
     where
-      go : (entries : List (Name × MsgId × ℕ)) → Each (λ entry. set.contains known entry.1 ≡ true) entries → Each (λ entry. set.contains known entry.1 ≡ true) (without_entries peer entries)
+      go : (entries : List (Name × MsgId × ℕ)) →
+          Each (λ entry. set.contains known entry.1 ≡ true) entries →
+          Each (λ entry. set.contains known entry.1 ≡ true) (without_entries peer entries)
       go [] h = tt
       go (entry ∷ entries) h = either (same_name peer entry.0) (go entries h.1)
         where
-          either : (same : Bool) → Each (λ entry. set.contains known entry.1 ≡ true) (without_entries peer entries) → Each (λ entry. set.contains known entry.1 ≡ true) (cond (not same) (entry ∷ without_entries peer entries) (without_entries peer entries))
+          either : (same : Bool) →
+              Each (λ entry. set.contains known entry.1 ≡ true) (without_entries peer entries) →
+              Each (λ entry. set.contains known entry.1 ≡ true) (cond (not same) (entry ∷ without_entries peer entries) (without_entries peer entries))
           either true later = later
           either false later = (h.0, later)
 
-  pub known-without_all_entries : (peers : List Name) (queued : List (Name × MsgId × ℕ)) → AreKnown known held queued → AreKnown known held (without_all_entries peers queued)
+  pub known-without_all_entries : (peers : List Name) (queued : List (Name × MsgId × ℕ)) →
+      AreKnown known held queued →
+      AreKnown known held (without_all_entries peers queued)
   known-without_all_entries [] queued are = are
   known-without_all_entries (peer ∷ peers) queued are = known-without_all_entries peers (without_entries peer queued) (known-without_entries peer queued are)
 

@@ -154,7 +154,10 @@ outcome g (OnPrune sender) = quiet (with_peer sender Lazy g)
 outcome g Flush = record { state = record g { peers = record g.peers { queued = [] } }; sends = announcements g.peers.queued; delivered = None }
 outcome g (Up peer) = quiet (record g { peers = record g.peers { members = with_member peer g.peers.members } })
 outcome g (Down peer) =
-    quiet (record g { peers = record { members = without_member peer g.peers.members; queued = without_entries peer g.peers.queued }; missing = without peer g.missing })
+    quiet (record g {
+      peers = record { members = without_member peer g.peers.members; queued = without_entries peer g.peers.queued };
+      missing = without peer g.missing;
+    })
 
 -- the state after the links to these peers went down
 abbrev pub after_downs : List Name → GossipState → GossipState

@@ -20,7 +20,10 @@ fn to_broadcast<A: Allocator + Copy>(
     payload: &Bytes<A>,
 ) -> Result<Answer<A>, AllocError>
     requires { CanTake node.now (CallOf.Broadcast payload.now) }
-    ensures { IfOk result (λ answer. answer ≡ record { sends = (outcome node.now (CallOf.Broadcast payload.now)).sends; delivered = (outcome node.now (CallOf.Broadcast payload.now)).delivered }) }
+    ensures { IfOk result (λ answer. answer ≡ record {
+      sends = (outcome node.now (CallOf.Broadcast payload.now)).sends;
+      delivered = (outcome node.now (CallOf.Broadcast payload.now)).delivered;
+    }) }
 {
     let id = MsgId {
         origin: node.me(),
@@ -35,7 +38,10 @@ fn to_repeated<A: Allocator + Copy>(
     node: &Gossip<A>,
     sender: &NodeName,
 ) -> Result<Answer<A>, AllocError>
-    ensures { IfOk result (λ answer. answer ≡ record { sends = (repeated sender.now node.now).sends; delivered = (repeated sender.now node.now).delivered }) }
+    ensures { IfOk result (λ answer. answer ≡ record {
+      sends = (repeated sender.now node.now).sends;
+      delivered = (repeated sender.now node.now).delivered;
+    }) }
 {
     if node.peers().is_member(sender) {
         Ok(Answer::packet(alloc, sender, BodyOf::Prune))
@@ -50,7 +56,9 @@ fn send_swap<A: Allocator + Copy>(
     sender: &NodeName,
     announcer: &NodeName,
 ) -> Result<(), AllocError>
-    ensures { OnOk result (answer.new ≡ record answer.old { sends = answer.old.sends ++ (announcer.now, BodyOf.GraftPeer) ∷ (sender.now, BodyOf.Prune) ∷ [] }) }
+    ensures { OnOk result (answer.new ≡ record answer.old {
+      sends = answer.old.sends ++ (announcer.now, BodyOf.GraftPeer) ∷ (sender.now, BodyOf.Prune) ∷ [];
+    }) }
 {
     answer.send(announcer, BodyOf::GraftPeer)?;
     answer.send(sender, BodyOf::Prune)
@@ -65,7 +73,10 @@ fn to_gossip<A: Allocator + Copy>(
     round: u32,
     payload: &Bytes<A>,
 ) -> Result<Answer<A>, AllocError>
-    ensures { IfOk result (λ answer. answer ≡ record { sends = (outcome node.now (CallOf.OnGossip sender.now id.now round payload.now)).sends; delivered = (outcome node.now (CallOf.OnGossip sender.now id.now round payload.now)).delivered }) }
+    ensures { IfOk result (λ answer. answer ≡ record {
+      sends = (outcome node.now (CallOf.OnGossip sender.now id.now round payload.now)).sends;
+      delivered = (outcome node.now (CallOf.OnGossip sender.now id.now round payload.now)).delivered;
+    }) }
 {
     if node.knows(id) {
         return to_repeated(alloc, node, sender);
@@ -88,7 +99,10 @@ fn to_fire<A: Allocator + Copy>(
     node: &Gossip<A>,
     id: &MsgId,
 ) -> Result<Answer<A>, AllocError>
-    ensures { IfOk result (λ answer. answer ≡ record { sends = (outcome node.now (CallOf.Fire id.now)).sends; delivered = (outcome node.now (CallOf.Fire id.now)).delivered }) }
+    ensures { IfOk result (λ answer. answer ≡ record {
+      sends = (outcome node.now (CallOf.Fire id.now)).sends;
+      delivered = (outcome node.now (CallOf.Fire id.now)).delivered;
+    }) }
 {
     if !node.missing().armed(id) {
         return Ok(Answer::new(alloc));
@@ -107,7 +121,10 @@ fn to_graft<A: Allocator + Copy>(
     id: &MsgId,
     round: u32,
 ) -> Result<Answer<A>, AllocError>
-    ensures { IfOk result (λ answer. answer ≡ record { sends = (outcome node.now (CallOf.OnGraft sender.now id.now round)).sends; delivered = (outcome node.now (CallOf.OnGraft sender.now id.now round)).delivered }) }
+    ensures { IfOk result (λ answer. answer ≡ record {
+      sends = (outcome node.now (CallOf.OnGraft sender.now id.now round)).sends;
+      delivered = (outcome node.now (CallOf.OnGraft sender.now id.now round)).delivered;
+    }) }
 {
     match node.payload(id) {
         Some(payload) => Ok(Answer::packet(alloc, sender, gossip(id, round, payload)?)),
@@ -117,7 +134,8 @@ fn to_graft<A: Allocator + Copy>(
 
 /// Returns the packets that announce everything in the queue.
 fn to_flush<A: Allocator + Copy>(alloc: A, node: &Gossip<A>) -> Result<Answer<A>, AllocError>
-    ensures { IfOk result (λ answer. answer ≡ record { sends = (outcome node.now CallOf.Flush).sends; delivered = None }) }
+    ensures { IfOk result
+        (λ answer. answer ≡ record { sends = (outcome node.now CallOf.Flush).sends; delivered = None }) }
 {
     let packets = announcements(alloc, node.peers())?;
     Ok(Answer::of_sends(Listed::from_vec(packets)))
@@ -130,7 +148,10 @@ pub(crate) fn answers<A: Allocator + Copy>(
     call: &Call<'_, A>,
 ) -> Result<Answer<A>, AllocError>
     requires { CanTake node.now (lent call.now) }
-    ensures { IfOk result (λ answer. answer ≡ record { sends = (outcome node.now (lent call.now)).sends; delivered = (outcome node.now (lent call.now)).delivered }) }
+    ensures { IfOk result (λ answer. answer ≡ record {
+      sends = (outcome node.now (lent call.now)).sends;
+      delivered = (outcome node.now (lent call.now)).delivered;
+    }) }
 {
     match call {
         CallOf::Broadcast { payload } => to_broadcast(alloc, node, payload),

@@ -61,7 +61,8 @@ impl<A: Allocator + Copy> Effects<A> {
         first: Option<(NodeName, Body<A>)>,
         others: Listed<(NodeName, Body<A>), A>,
     ) -> Result<(), AllocError>
-        ensures ok { OnOk result (self.new ≡ record self.old { sends = self.old.sends ++ (option_to_list first ++ others) }) }
+        ensures ok { OnOk result
+            (self.new ≡ record self.old { sends = self.old.sends ++ (option_to_list first ++ others) }) }
         ensures err { OnErr result (self.new ≡ self.old) }
     {
         let kept = self.sends.len();

@@ -1,5 +1,6 @@
 //! The gossip of one node.
-ghost use Rattle.std.specs.Prelude.{◌≡◌, ◌≢◌, ◌↔◌, false, ◌+◌, ◌<◌, ◌≤◌, [], length, filter, IfOk, OnOk, OnErr, IsErrOf};
+ghost use Rattle.std.specs.Prelude.{◌≡◌, ◌≢◌, ◌↔◌, false, ◌+◌, ◌<◌, ◌≤◌, []};
+ghost use Rattle.std.specs.Prelude.{length, filter, IfOk, OnOk, OnErr, IsErrOf};
 ghost use Rattle.std.specs.FinSet as set;
 ghost use Rattle.std.specs.List.{IsDistinct};
 ghost use Rattle.std.specs.Map.{keys_of, lookup};
@@ -9,8 +10,10 @@ ghost use Rattle.known_messages.specs.Known.{IsSpan};
 ghost use Rattle.peer_sets.specs.Members.{all_eager};
 ghost use Rattle.gossip_core.specs.Refusals.{CanTake, IsTooLong, IsSpent};
 ghost use Rattle.gossip_core.specs.State.{GossipState, IsSound};
-ghost use Rattle.gossip_core.specs.Table.{lent, Does, outcome, is_news, next_id, repeated, first_copy, shortcut, with_peer, after_downs, after_ups};
-ghost use Rattle.gossip_core.specs.declared.call.CallOf.TheVariants.{Broadcast, OnGossip, OnIHave, Fire, OnGraft, OnGraftPeer, OnPrune, Flush, Up, Down};
+ghost use Rattle.gossip_core.specs.Table.{lent, Does, outcome, is_news, next_id, repeated};
+ghost use Rattle.gossip_core.specs.Table.{first_copy, shortcut, with_peer, after_downs, after_ups};
+ghost use Rattle.gossip_core.specs.declared.call.CallOf.TheVariants.{Broadcast, OnGossip, OnIHave, Fire, OnGraft};
+ghost use Rattle.gossip_core.specs.declared.call.CallOf.TheVariants.{OnGraftPeer, OnPrune, Flush, Up, Down};
 
 use crate::answer::Answer;
 use crate::answers::answers;
@@ -60,9 +63,19 @@ impl<A: Allocator> Model for Gossip<A> {
 
     ghost coded = { Prim.hlevel (codes, set.code {R = id_cmp} id.the_row.coded) };
 
-    ghost view = { λ g. record { me = g.me; threshold = g.threshold; keep = g.keep; spent = g.spent; peers = g.peers; missing = g.missing; known = ids g.known; held = g.held.messages } };
+    ghost view = { λ g. record {
+      me = g.me;
+      threshold = g.threshold;
+      keep = g.keep;
+      spent = g.spent;
+      peers = g.peers;
+      missing = g.missing;
+      known = ids g.known;
+      held = g.held.messages;
+    } };
 
-    ghost invariant = { λ g. AreCounted g.me (ids g.known) g.spent × AreKnown (ids g.known) g.held.messages g.peers.queued };
+    ghost invariant = { λ g.
+        AreCounted g.me (ids g.known) g.spent × AreKnown (ids g.known) g.held.messages g.peers.queued };
 }
 
 impl<A: Allocator + Copy> Gossip<A> {
@@ -123,7 +136,10 @@ impl<A: Allocator + Copy> Gossip<A> {
 
     /// Returns what the call will send and deliver; changes nothing. Errors are tested in the order of `GossipFault`.
     pub fn answer(&self, call: &Call<'_, A>) -> Result<Answer<A>, GossipFault>
-        ensures ok { IfOk result (λ answer. answer ≡ record { sends = (outcome self.now (lent call.now)).sends; delivered = (outcome self.now (lent call.now)).delivered }) }
+        ensures ok { IfOk result (λ answer. answer ≡ record {
+          sends = (outcome self.now (lent call.now)).sends;
+          delivered = (outcome self.now (lent call.now)).delivered;
+        }) }
         ensures taken { OnOk result (CanTake self.now (lent call.now)) }
         ensures too_long { IsErrOf result GossipFault.PayloadTooLong ↔ IsTooLong (lent call.now) }
         ensures spent { IsErrOf result GossipFault.SeqSpent ↔ IsSpent self.now (lent call.now) }
@@ -373,7 +389,8 @@ impl<A: Allocator + Copy> Gossip<A> {
         ensures id { IfOk result (λ id. id ≡ next_id self.old) }
         ensures ok { OnOk result (Does (Broadcast payload.now) self.old out.old self.new out.new) }
         ensures too_long { IsErrOf result GossipFault.PayloadTooLong ↔ (MAX_PAYLOAD < length payload.now) }
-        ensures spent { IsErrOf result GossipFault.SeqSpent ↔ ((length payload.now ≤ MAX_PAYLOAD) × (self.old.spent ≡ u64.MAX)) }
+        ensures spent { IsErrOf result GossipFault.SeqSpent
+            ↔ ((length payload.now ≤ MAX_PAYLOAD) × (self.old.spent ≡ u64.MAX)) }
         ensures err { OnErr result ((self.new ≡ self.old) × (out.new ≡ out.old)) }
     {
         self.validate_broadcast(payload)?;
@@ -394,7 +411,8 @@ impl<A: Allocator + Copy> Gossip<A> {
         payload: &Bytes<A>,
         out: &mut Effects<A>,
     ) -> Result<(), AllocError>
-        ensures ok { OnOk result (Does (OnGossip sender.now id.now round payload.now) self.old out.old self.new out.new) }
+        ensures ok { OnOk result
+            (Does (OnGossip sender.now id.now round payload.now) self.old out.old self.new out.new) }
         ensures err { OnErr result ((self.new ≡ self.old) × (out.new ≡ out.old)) }
     {
         let call = CallOf::OnGossip {

@@ -34,7 +34,8 @@ fn pushes<A: Allocator + Copy>(
     round: u32,
     payload: &Bytes<A>,
 ) -> Result<Vec<(NodeName, Body<A>), A>, AllocError>
-    ensures { IfOk result (λ sends. sends.items ≡ map (gossip_to id.now round payload.now) (eager_but left_out.now members.now)) }
+    ensures { IfOk result
+        (λ sends. sends.items ≡ map (gossip_to id.now round payload.now) (eager_but left_out.now members.now)) }
 {
     let mut sends = Vec::new(alloc);
     for member in members {
@@ -55,7 +56,10 @@ pub(crate) fn spread<A: Allocator + Copy>(
     round: u32,
     payload: &Bytes<A>,
 ) -> Result<Answer<A>, AllocError>
-    ensures { IfOk result (λ answer. answer ≡ record { sends = map (gossip_to id.now round payload.now) (eager_but left_out.now members.now); delivered = Some (id.now, payload.now) }) }
+    ensures { IfOk result (λ answer. answer ≡ record {
+      sends = map (gossip_to id.now round payload.now) (eager_but left_out.now members.now);
+      delivered = Some (id.now, payload.now);
+    }) }
 {
     let sends = pushes(alloc, members, left_out, id, round, payload)?;
     Ok(Answer {

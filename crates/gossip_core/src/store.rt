@@ -30,8 +30,11 @@ pub(crate) fn keep<A: Allocator + Copy>(
     requires unqueued { has_entry_of id.now peers.old.queued ≡ false }
     ensures known { OnOk result (ids known.new ≡ set.insert (ids known.old) id.now) }
     ensures held { OnOk result (held.new.messages ≡ kept_last keep (held.old.messages ++ (id.now, payload.now) ∷ [])) }
-    ensures peers { OnOk result (peers.new ≡ record peers.old { queued = with_entries (lazy_but left_out.now peers.old.members) id.now round peers.old.queued }) }
-    ensures err { OnErr result ((ids known.new ≡ ids known.old) × (held.new.messages ≡ held.old.messages) × (peers.new ≡ peers.old)) }
+    ensures peers { OnOk result (peers.new ≡ record peers.old {
+      queued = with_entries (lazy_but left_out.now peers.old.members) id.now round peers.old.queued;
+    }) }
+    ensures err { OnErr result
+        ((ids known.new ≡ ids known.old) × (held.new.messages ≡ held.old.messages) × (peers.new ≡ peers.old)) }
 {
     let kept = payload.clone()?;
     held.make_room()?;

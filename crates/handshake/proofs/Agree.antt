@@ -1,8 +1,10 @@
 -- A part that is read is the part that was written; what was written is read again, and its beginning is short.
-use Rattle.std.proofs.Common.{◌≡◌, inl, inr, ℕ, ◌+◌, ◌<◌, ◌≤◌, Bool, true, false, cond, List, [], ◌++◌, length, get_or, take, drop, Result, Ok, Err, refl, sym, ap, subst, ◌∙◌, append_assoc, arith}
+use Rattle.std.proofs.Common.{◌≡◌, inl, inr, ℕ, ◌+◌, ◌<◌, ◌≤◌, Bool, true, false, cond, List, [], ◌++◌, length}
+use Rattle.std.proofs.Common.{get_or, take, drop, Result, Ok, Err, refl, sym, ap, subst, ◌∙◌, append_assoc, arith}
 use Rattle.std.specs.Prelude.{nat_lt}
 use Rattle.std.proofs.lemmas.Bool.{ltb-false, le-ltb, lt-ltb, cases_lt}
-use Rattle.std.proofs.lemmas.List.{take_at, drop_at, take-append-drop, take-append-le, drop-append-le, length-append, length-take, length-drop, get_or-drop, get_or-take, get_or_past}
+use Rattle.std.proofs.lemmas.List.{take_at, drop_at, take-append-drop, take-append-le, drop-append-le}
+use Rattle.std.proofs.lemmas.List.{length-append, length-take, length-drop, get_or-drop, get_or-take, get_or_past}
 use Rattle.handshake.specs.declared.error.HelloError.{HelloError}
 use Rattle.handshake.specs.declared.error.HelloError.TheVariants.{Short}
 use Rattle.handshake.specs.Reading.{Reader, ◌>>=◌, go_on, done, judge, octets}
@@ -39,7 +41,8 @@ pub record Agrees {X : Type 0} (r : Reader X) (text : X → List ℕ) (Fits : X 
 -- ---- one after the other
 
 -- what a first reader took, where the second ended well
-pub record First {X Y : Type 0} (r : Reader X) (text : X → List ℕ) (Fits : X → Type 0) (f : X → Reader Y) (bytes : List ℕ) (y : Y) (rest : List ℕ) : Type 0 where
+pub record First {X Y : Type 0} (r : Reader X) (text : X → List ℕ) (Fits : X → Type 0) (f : X → Reader Y) (bytes : List ℕ) (y : Y) (rest : List ℕ) :
+    Type 0 where
   pub value : X
   pub after : List ℕ
   pub parts : bytes ≡ text value ++ after
@@ -50,21 +53,36 @@ pub record First {X Y : Type 0} (r : Reader X) (text : X → List ℕ) (Fits : X
 abbrev pub answer : {X : Type 0} → X × List ℕ → Result (X × List ℕ) HelloError
 answer x = Ok x
 
-pub bind_ok : {X Y : Type 0} (r : Result (X × List ℕ) HelloError) (f : X → Reader Y) (y : Y × List ℕ) → go_on f r ≡ Ok y → (x : X × List ℕ) × (r ≡ Ok x) × (f x.0 x.1 ≡ Ok y)
+pub bind_ok : {X Y : Type 0} (r : Result (X × List ℕ) HelloError) (f : X → Reader Y) (y : Y × List ℕ) →
+    go_on f r ≡ Ok y →
+    (x : X × List ℕ) × (r ≡ Ok x) × (f x.0 x.1 ≡ Ok y)
 bind_ok (Ok x) f y e = (x, refl, e)
 bind_ok (Err d) f y e = absurd cc
 
-pub takes_first : {X Y : Type 0} {r : Reader X} {text : X → List ℕ} {Fits : X → Type 0} → Agrees r text Fits → (f : X → Reader Y) (bytes : List ℕ) (y : Y) (rest : List ℕ) → IsBytes bytes → (r >>= f) bytes ≡ Ok (y, rest) → First r text Fits f bytes y rest
+pub takes_first : {X Y : Type 0} {r : Reader X} {text : X → List ℕ} {Fits : X → Type 0} →
+    Agrees r text Fits →
+    (f : X → Reader Y) (bytes : List ℕ) (y : Y) (rest : List ℕ) →
+    IsBytes bytes →
+    (r >>= f) bytes ≡ Ok (y, rest) →
+    First r text Fits f bytes y rest
 takes_first {r = r} {text = text} a f bytes y rest h e =
     let b = bind_ok (r bytes) f (y, rest) e in
     let t = a.takes bytes b.0.0 b.0.1 h b.1 in
     record { value = b.0.0; after = b.0.1; parts = t.0; fits = t.1; bytes_after = IsBytes-after (text b.0.0) b.0.1 bytes t.0 h; then' = b.2 }
 
-pub again_first : {X Y : Type 0} {r : Reader X} {text : X → List ℕ} {Fits : X → Type 0} → Agrees r text Fits → (f : X → Reader Y) (x : X) (more : List ℕ) → Fits x → (r >>= f) (text x ++ more) ≡ f x more
+pub again_first : {X Y : Type 0} {r : Reader X} {text : X → List ℕ} {Fits : X → Type 0} →
+    Agrees r text Fits →
+    (f : X → Reader Y) (x : X) (more : List ℕ) →
+    Fits x →
+    (r >>= f) (text x ++ more) ≡ f x more
 again_first a f x more h = rw (a.again x more h) refl
 
 -- with the text of the next behind it
-pub again_next : {X Y : Type 0} {r : Reader X} {text : X → List ℕ} {Fits : X → Type 0} → Agrees r text Fits → (f : X → Reader Y) (x : X) (next more : List ℕ) → Fits x → (r >>= f) ((text x ++ next) ++ more) ≡ f x (next ++ more)
+pub again_next : {X Y : Type 0} {r : Reader X} {text : X → List ℕ} {Fits : X → Type 0} →
+    Agrees r text Fits →
+    (f : X → Reader Y) (x : X) (next more : List ℕ) →
+    Fits x →
+    (r >>= f) ((text x ++ next) ++ more) ≡ f x (next ++ more)
 again_next {r = r} {text = text} a f x next more h = ap (r >>= f) (append_assoc (text x) next more) ∙ again_first a f x (next ++ more) h
 
 -- a value that was read
@@ -86,7 +104,9 @@ judged_last true error bytes rest e = (refl, (done_is tt tt bytes rest e).1)
 judged_last false error bytes rest e = absurd cc
 
 -- a judgement that was good
-pub judged : {Y : Type 0} (good : Bool) (error : HelloError) (f : Unit {0} → Reader Y) (bytes : List ℕ) (y : Y × List ℕ) → (judge good error >>= f) bytes ≡ Ok y → (good ≡ true) × (f tt bytes ≡ Ok y)
+pub judged : {Y : Type 0} (good : Bool) (error : HelloError) (f : Unit {0} → Reader Y) (bytes : List ℕ) (y : Y × List ℕ) →
+    (judge good error >>= f) bytes ≡ Ok y →
+    (good ≡ true) × (f tt bytes ≡ Ok y)
 judged true error f bytes y e = (refl, e)
 judged false error f bytes y e = absurd cc
 
@@ -102,11 +122,15 @@ none_left front more e some =
 cut_before : (a next front more : List ℕ) → a ++ next ≡ front ++ more → length front < length a → a ≡ front ++ drop (length front) a
 cut_before a next front more e lt =
     let le : length front ≤ length a = omega arith in
-    let head : take (length front) a ≡ front = sym (take-append-le (length front) a next le) ∙ ap (take (length front)) e ∙ take_at front more (length front) refl in
+    let head : take (length front) a ≡ front =
+    sym (take-append-le (length front) a next le) ∙ ap (take (length front)) e ∙ take_at front more (length front) refl in
     sym (take-append-drop (length front) a) ∙ ap (λ t. t ++ drop (length front) a) head
 
 -- the beginning of two parts that ends after the first
-cut_after : (a next front more : List ℕ) → a ++ next ≡ front ++ more → length a ≤ length front → (front ≡ a ++ drop (length a) front) × (next ≡ drop (length a) front ++ more)
+cut_after : (a next front more : List ℕ) →
+    a ++ next ≡ front ++ more →
+    length a ≤ length front →
+    (front ≡ a ++ drop (length a) front) × (next ≡ drop (length a) front ++ more)
 cut_after a next front more e le =
     let head : take (length a) front ≡ a = sym (take-append-le (length a) front more le) ∙ ap (take (length a)) (sym e) ∙ take_at a next (length a) refl in (
       sym (take-append-drop (length a) front) ∙ ap (λ t. t ++ drop (length a) front) head,
@@ -114,15 +138,27 @@ cut_after a next front more e le =
     )
 
 -- the one part is cut
-pub cut_only : {X Y : Type 0} {r : Reader X} {text : X → List ℕ} {Fits : X → Type 0} → Agrees r text Fits → (f : X → Reader Y) (x : X) (front more : List ℕ) → Fits x → text x ≡ front ++ more → 0 < length more → (r >>= f) front ≡ Err Short
+pub cut_only : {X Y : Type 0} {r : Reader X} {text : X → List ℕ} {Fits : X → Type 0} →
+    Agrees r text Fits →
+    (f : X → Reader Y) (x : X) (front more : List ℕ) →
+    Fits x →
+    text x ≡ front ++ more →
+    0 < length more →
+    (r >>= f) front ≡ Err Short
 cut_only a f x front more h e some = rw (a.cut x front more h e some) refl
 
 -- the first part is cut, or what comes after it
-pub cut_first : {X Y : Type 0} {r : Reader X} {text : X → List ℕ} {Fits : X → Type 0} → Agrees r text Fits → (f : X → Reader Y) (x : X) (next front more : List ℕ) → Fits x → text x ++ next ≡ front ++ more → 0 < length more
+pub cut_first : {X Y : Type 0} {r : Reader X} {text : X → List ℕ} {Fits : X → Type 0} →
+    Agrees r text Fits →
+    (f : X → Reader Y) (x : X) (next front more : List ℕ) →
+    Fits x →
+    text x ++ next ≡ front ++ more →
+    0 < length more
     → ((rest : List ℕ) → next ≡ rest ++ more → f x rest ≡ Err Short) → (r >>= f) front ≡ Err Short
 cut_first {r = r} {text = text} a f x next front more h e some then-cut =
     elim (cases_lt (length front) (length (text x))) [
-      | inl lt ↦ cut_only a f x front (drop (length front) (text x)) h (cut_before (text x) next front more e lt) (omega (arith, length-drop (length front) (text x)))
+      | inl lt ↦
+          cut_only a f x front (drop (length front) (text x)) h (cut_before (text x) next front more e lt) (omega (arith, length-drop (length front) (text x)))
       | inr le ↦
           let c = cut_after (text x) next front more e le in
           ap (r >>= f) c.0 ∙ again_first a f x (drop (length (text x)) front) h ∙ then-cut (drop (length (text x)) front) c.1

@@ -1,5 +1,6 @@
 -- The text of a connection is read as it was written.
-use Rattle.std.proofs.Common.{◌≡◌, ℕ, zero, suc, ◌-◌, ◌<◌, ◌≤◌, Bool, true, false, eqb, ltb, List, [], ◌∷◌, ◌++◌, length, drop, map, Some, None, Ok, refl, sym, ap, ◌∙◌, arith}
+use Rattle.std.proofs.Common.{◌≡◌, ℕ, zero, suc, ◌-◌, ◌<◌, ◌≤◌, Bool, true, false, eqb, ltb, List, []}
+use Rattle.std.proofs.Common.{◌∷◌, ◌++◌, length, drop, map, Some, None, Ok, refl, sym, ap, ◌∙◌, arith}
 use Rattle.std.specs.Prelude.{◌||◌, All}
 use Rattle.std.specs.Int.{to_be_bytes, w16}
 use Rattle.std.specs.List.{flat_map}
@@ -52,7 +53,12 @@ second_more true len some few =
     let short : ltb 0 len ≡ true = lt-ltb _ _ some in
     rw (right, short) refl
 
-all_given : (is_open : Bool) (len : ℕ) (bytes : List ℕ) (r : Record) → length bytes ≡ len → 0 < len → len ≤ max_text is_open → read_record is_open bytes ≡ Ok r → judged is_open (kind_of is_open ∷ len ∷ bytes) ≡ Ok (Some r)
+all_given : (is_open : Bool) (len : ℕ) (bytes : List ℕ) (r : Record) →
+    length bytes ≡ len →
+    0 < len →
+    len ≤ max_text is_open →
+    read_record is_open bytes ≡ Ok r →
+    judged is_open (kind_of is_open ∷ len ∷ bytes) ≡ Ok (Some r)
 all_given false len bytes r is some few reads =
     let right = right_len 90 len some few in
     let whole : ltb (length bytes) len ≡ false = le-ltb _ _ (omega arith) in
@@ -84,12 +90,21 @@ kind_read is_open =
     let s : State = at is_open [] in
     record_runs s (kind_of is_open) [] (first_other is_open) refl (omega arith) ∙ ap (answered s (kind_of is_open ∷ [])) (first_more is_open)
 
-len_read : (is_open : Bool) (len : ℕ) → 0 < len → len ≤ max_text is_open → run (at is_open (kind_of is_open ∷ [])) (len ∷ []) ≡ Ok (at is_open (kind_of is_open ∷ len ∷ []), [])
+len_read : (is_open : Bool) (len : ℕ) →
+    0 < len →
+    len ≤ max_text is_open →
+    run (at is_open (kind_of is_open ∷ [])) (len ∷ []) ≡ Ok (at is_open (kind_of is_open ∷ len ∷ []), [])
 len_read is_open len some few =
     let s : State = at is_open (kind_of is_open ∷ []) in
-    record_runs s len [] (second_other is_open (kind_of is_open) len) (first_more is_open) (omega arith) ∙ ap (answered s (kind_of is_open ∷ len ∷ [])) (second_more is_open len some few)
+    record_runs s len [] (second_other is_open (kind_of is_open) len) (first_more is_open) (omega arith)
+    ∙ ap (answered s (kind_of is_open ∷ len ∷ [])) (second_more is_open len some few)
 
-text_read : (is_open : Bool) (len : ℕ) (bytes : List ℕ) (r : Record) → length bytes ≡ len → 0 < len → len ≤ max_text is_open → read_record is_open bytes ≡ Ok r → run (at is_open (kind_of is_open ∷ len ∷ [])) bytes ≡ Ok (opened, gave r ∷ [])
+text_read : (is_open : Bool) (len : ℕ) (bytes : List ℕ) (r : Record) →
+    length bytes ≡ len →
+    0 < len →
+    len ≤ max_text is_open →
+    read_record is_open bytes ≡ Ok r →
+    run (at is_open (kind_of is_open ∷ len ∷ [])) bytes ≡ Ok (opened, gave r ∷ [])
 text_read is_open len [] r is some few reads = absurd (omega arith)
 text_read is_open len (b ∷ bytes) r is some few reads =
     let s : State = at is_open (kind_of is_open ∷ len ∷ []) in
@@ -125,7 +140,8 @@ hello_read : (h : Hello) → IsHello h → run start (hello_record h) ≡ Ok (op
 hello_read h i = record_read false (text h) (Told.Hello h) (omega arith) (hello_fits h i) (read_record_again false (Told.Hello h) i)
 
 introduction_read : (i : Introduction) → IsIntroduction i → run opened (introduction_record i) ≡ Ok (opened, gave (Told.Introduction i) ∷ [])
-introduction_read i h = record_read true (introduction_text i) (Told.Introduction i) (omega arith) (introduction_fits i h) (read_record_again true (Told.Introduction i) h)
+introduction_read i h =
+    record_read true (introduction_text i) (Told.Introduction i) (omega arith) (introduction_fits i h) (read_record_again true (Told.Introduction i) h)
 
 -- ---- frames
 
@@ -133,12 +149,15 @@ introduction_read i h = record_read true (introduction_text i) (Told.Introductio
 whole_body : (n : ℕ) (body : List ℕ) → n ≡ length body → place.after (place.body n) body ≡ Boundary
 whole_body n body is =
     let none : n - n ≡ 0 = omega arith in
-    body_after n n body (omega arith) (omega arith) ∙ ap (λ k. place.after (place.body k) (drop n body)) none ∙ ap (place.after Boundary) (drop_all n body (omega arith))
+    body_after n n body (omega arith) (omega arith)
+    ∙ ap (λ k. place.after (place.body k) (drop n body)) none
+    ∙ ap (place.after Boundary) (drop_all n body (omega arith))
 
 whole_count : (n : ℕ) (body : List ℕ) → n ≡ length body → place.frames (place.body n) body ≡ length body
 whole_count n body is =
     let none : n - n ≡ 0 = omega arith in
-    let left : place.frames (place.body (n - n)) (drop n body) ≡ 0 = ap (λ k. place.frames (place.body k) (drop n body)) none ∙ ap (place.frames Boundary) (drop_all n body (omega arith)) in
+    let left : place.frames (place.body (n - n)) (drop n body) ≡ 0 =
+    ap (λ k. place.frames (place.body k) (drop n body)) none ∙ ap (place.frames Boundary) (drop_all n body (omega arith)) in
     omega (arith, body_frames n n body (omega arith) (omega arith), left)
 
 frame_ends : (bytes : List ℕ) → IsFrame bytes → place.after Boundary bytes ≡ Boundary
@@ -167,7 +186,10 @@ parts_read (part ∷ parts) all =
     ∙ ap (λ r. and_then r (λ t. run t rest)) (part_read part (all 0 part (omega arith)))
     ∙ ap (with_yields (part_yields part)) (parts_read parts (λ k d lt. all (suc k) d (omega arith)))
 
-pub connection_read : (h : Hello) (parts : List Part) → IsHello h → All IsPart parts → run start (connection_text h parts) ≡ Ok (opened, connection_yields h parts)
+pub connection_read : (h : Hello) (parts : List Part) →
+    IsHello h →
+    All IsPart parts →
+    run start (connection_text h parts) ≡ Ok (opened, connection_yields h parts)
 connection_read h parts i all =
     let rest : List ℕ = flat_map part_text parts in
     run-append start (hello_record h) rest

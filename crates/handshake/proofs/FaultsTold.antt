@@ -1,5 +1,6 @@
 -- Which error reading gives, and when.
-use Rattle.std.proofs.Common.{◌≡◌, ◌≢◌, ◌⊎◌, inl, inr, ℕ, zero, suc, ◌+◌, ◌<◌, ◌≤◌, Bool, true, false, cond, List, [], ◌∷◌, ◌++◌, length, take, drop, Result, Ok, Err, refl, sym, ap, subst, ◌∙◌, arith}
+use Rattle.std.proofs.Common.{◌≡◌, ◌≢◌, ◌⊎◌, inl, inr, ℕ, zero, suc, ◌+◌, ◌<◌, ◌≤◌, Bool, true, false, cond, List}
+use Rattle.std.proofs.Common.{[], ◌∷◌, ◌++◌, length, take, drop, Result, Ok, Err, refl, sym, ap, subst, ◌∙◌, arith}
 use Rattle.std.specs.Prelude.{nat_lt, ◌==◌}
 use Rattle.std.specs.Int.{w16, from_be_bytes}
 use Rattle.std.specs.List.{list_all}
@@ -23,7 +24,9 @@ use Rattle.handshake.proofs.HelloAgrees.{after_start, after_version, after_label
 -- ---- one after the other
 
 -- an error of two readers is one of the first, or of the second
-bind_err : {X Y : Type 0} (r : Result (X × List ℕ) HelloError) (f : X → Reader Y) (e : HelloError) → go_on f r ≡ Err e → (r ≡ Err e) ⊎ ((x : X × List ℕ) × (r ≡ Ok x) × (f x.0 x.1 ≡ Err e))
+bind_err : {X Y : Type 0} (r : Result (X × List ℕ) HelloError) (f : X → Reader Y) (e : HelloError) →
+    go_on f r ≡ Err e →
+    (r ≡ Err e) ⊎ ((x : X × List ℕ) × (r ≡ Ok x) × (f x.0 x.1 ≡ Err e))
 bind_err (Ok x) f e p = inr (x, refl, p)
 bind_err (Err d) f e p = let q : d ≡ e = cc in inl (ap Err q)
 
@@ -50,7 +53,9 @@ judge_err true error e bytes p = absurd cc
 judge_err false error e bytes p = let q : e ≡ error = cc in (refl, q)
 
 -- an error of a judgement, or of what comes after it
-judge_then_err : {Y : Type 0} (good : Bool) (error e : HelloError) (f : Unit {0} → Reader Y) (bytes : List ℕ) → (judge good error >>= f) bytes ≡ Err e → ((good ≡ false) × (e ≡ error)) ⊎ ((good ≡ true) × (f tt bytes ≡ Err e))
+judge_then_err : {Y : Type 0} (good : Bool) (error e : HelloError) (f : Unit {0} → Reader Y) (bytes : List ℕ) →
+    (judge good error >>= f) bytes ≡ Err e →
+    ((good ≡ false) × (e ≡ error)) ⊎ ((good ≡ true) × (f tt bytes ≡ Err e))
 judge_then_err true error e f bytes p = inr (refl, p)
 judge_then_err false error e f bytes p = let q : e ≡ error = cc in inl (refl, q)
 
@@ -125,7 +130,10 @@ len_wrong (suc len) rest fails = elim (cases_lt 32 (suc len)) [
   | inr le ↦ absurd (torn (fits_len (suc len)) (len_passes (suc len) (omega arith) le) fails)
 ]
 
-letters_err : (bad e : HelloError) (len : ℕ) (rest : List ℕ) → len ≤ 32 → (octets len >>= after_letters bad) rest ≡ Err e → ((e ≡ Short) × (length rest < 32)) ⊎ ((e ≡ bad) × ((len ≤ length rest) × ¬ IsNodeName (take len rest)))
+letters_err : (bad e : HelloError) (len : ℕ) (rest : List ℕ) →
+    len ≤ 32 →
+    (octets len >>= after_letters bad) rest ≡ Err e →
+    ((e ≡ Short) × (length rest < 32)) ⊎ ((e ≡ bad) × ((len ≤ length rest) × ¬ IsNodeName (take len rest)))
 letters_err bad e len rest few p = elim (bind_err (octets len rest) (after_letters bad) e p) [
   | inl q ↦ let o = octets_err len rest e q in inl (o.0, omega (arith, o.1))
   | inr q ↦
@@ -154,11 +162,16 @@ len_refused : (bad : HelloError) (len : ℕ) (rest : List ℕ) → fits_len len 
 len_refused bad len rest fails = rw fails refl
 
 -- a name is refused by its letters
-letters_refused : (bad : HelloError) (len : ℕ) (rest : List ℕ) → fits_len len ≡ true → len ≤ length rest → ¬ IsNodeName (take len rest) → after_len bad len rest ≡ Err bad
+letters_refused : (bad : HelloError) (len : ℕ) (rest : List ℕ) →
+    fits_len len ≡ true →
+    len ≤ length rest →
+    ¬ IsNodeName (take len rest) →
+    after_len bad len rest ≡ Err bad
 letters_refused bad len rest fits le not-name =
     let bounds = len_bounds len fits in
     let l = length-take-le len rest le in
-    let fails : list_all is_name_byte (take len rest) ≡ false = refuted (list_all is_name_byte (take len rest)) (λ p. not-name (name_from_pass (take len rest) (omega arith) (omega arith) p)) in
+    let fails : list_all is_name_byte (take len rest) ≡ false =
+    refuted (list_all is_name_byte (take len rest)) (λ p. not-name (name_from_pass (take len rest) (omega arith) (omega arith) p)) in
     rw (fits, octets_ok len rest le, fails) refl
 
 len_over : (len : ℕ) → 32 < len → fits_len len ≡ false
@@ -206,7 +219,11 @@ record OtherKind (e : HelloError) (bytes : List ℕ) : Type 0 where
   not_v4 : kind ≢ 4
   not_v6 : kind ≢ 6
 
-chosen_err : (four six : Bool) (kind : ℕ) (bytes : List ℕ) (e : HelloError) → (kind ≡ 4 → four ≡ true) → (kind ≡ 6 → six ≡ true) → chosen four six kind bytes ≡ Err e → ((e ≡ Short) × (length bytes < 18)) ⊎ OtherKind e (kind ∷ bytes)
+chosen_err : (four six : Bool) (kind : ℕ) (bytes : List ℕ) (e : HelloError) →
+    (kind ≡ 4 → four ≡ true) →
+    (kind ≡ 6 → six ≡ true) →
+    chosen four six kind bytes ≡ Err e →
+    ((e ≡ Short) × (length bytes < 18)) ⊎ OtherKind e (kind ∷ bytes)
 unfolding v4 v6
 chosen_err true six kind bytes e is-four is-six p = let o = octets_port_err 4 mk4 bytes e p in inl (o.0, omega (arith, o.1))
 chosen_err false true kind bytes e is-four is-six p = let o = octets_port_err 16 mk6 bytes e p in inl (o.0, omega (arith, o.1))
@@ -244,10 +261,17 @@ Told (BadAddress kind) bytes = HasBadAddress kind bytes
 told : (d e : HelloError) (bytes : List ℕ) → e ≡ d → Told d bytes → Told e bytes
 told d e bytes is t = subst (λ x. Told x bytes) (sym is) t
 
-after_name_told : (l n : Name) (bytes rest : List ℕ) (e : HelloError) → IsNodeName l → IsNodeName n → bytes ≡ plum ++ (1 ∷ (name_text l ++ (name_text n ++ rest))) → after_name l n rest ≡ Err e → Told e bytes
+after_name_told : (l n : Name) (bytes rest : List ℕ) (e : HelloError) →
+    IsNodeName l →
+    IsNodeName n →
+    bytes ≡ plum ++ (1 ∷ (name_text l ++ (name_text n ++ rest))) →
+    after_name l n rest ≡ Err e →
+    Told e bytes
 after_name_told l n bytes rest e il in' is p = elim (bind_err (address rest) (λ a. done (of_parts l n a)) e p) [
   | inl q ↦ elim (address_err rest e q) [
-    | inl s ↦ told Short e bytes s.0 (omega (arith, s.1, il.short, in'.short, ap length is, length-append (name_text l) (name_text n ++ rest), length-append (name_text n) rest))
+    | inl s ↦
+        told Short e bytes s.0
+        (omega (arith, s.1, il.short, in'.short, ap length is, length-append (name_text l) (name_text n ++ rest), length-append (name_text n) rest))
     | inr o ↦ told (BadAddress o.kind) e bytes o.is (record {
       label = l;
       name = n;
@@ -262,7 +286,12 @@ after_name_told l n bytes rest e il in' is p = elim (bind_err (address rest) (λ
   | inr q ↦ absurd (done_no_err (of_parts l n q.0.0) q.0.1 e q.2)
 ]
 
-after_label_told : (l : Name) (bytes rest : List ℕ) (e : HelloError) → IsBytes rest → IsNodeName l → bytes ≡ plum ++ (1 ∷ (name_text l ++ rest)) → after_label l rest ≡ Err e → Told e bytes
+after_label_told : (l : Name) (bytes rest : List ℕ) (e : HelloError) →
+    IsBytes rest →
+    IsNodeName l →
+    bytes ≡ plum ++ (1 ∷ (name_text l ++ rest)) →
+    after_label l rest ≡ Err e →
+    Told e bytes
 after_label_told l bytes rest e small il is p = elim (bind_err (name BadName rest) (after_name l) e p) [
   | inl q ↦ elim (name_err BadName rest e q) [
     | inl s ↦ told Short e bytes s.0 (omega (arith, s.1, il.short, ap length is, length-append (name_text l) rest))
@@ -327,13 +356,17 @@ unfolding hello
 other_start bytes h = err_first start after_start bytes NotPlumtree (start_refused bytes h)
 
 other_version : (v : ℕ) (bytes : List ℕ) → HasOtherVersion v bytes → hello bytes ≡ Err (OtherVersion v)
-other_version v bytes h = ap hello h.begins ∙ past_start (v ∷ h.rest) ∙ err_first version after_version (v ∷ h.rest) (OtherVersion v) (version_refused v h.rest h.other)
+other_version v bytes h =
+    ap hello h.begins ∙ past_start (v ∷ h.rest) ∙ err_first version after_version (v ∷ h.rest) (OtherVersion v) (version_refused v h.rest h.other)
 
 bad_label : (bytes : List ℕ) → HasBadLabel bytes → hello bytes ≡ Err BadLabel
 bad_label bytes h = ap hello h.begins ∙ past_version h.rest ∙ err_first (name BadLabel) after_label h.rest BadLabel (name_refused_by BadLabel h.rest h.wrong)
 
 bad_name : (bytes : List ℕ) → HasBadName bytes → hello bytes ≡ Err BadName
-bad_name bytes h = ap hello h.begins ∙ past_label h.label h.rest h.is_label ∙ err_first (name BadName) (after_name h.label) h.rest BadName (name_refused_by BadName h.rest h.wrong)
+bad_name bytes h =
+    ap hello h.begins
+    ∙ past_label h.label h.rest h.is_label
+    ∙ err_first (name BadName) (after_name h.label) h.rest BadName (name_refused_by BadName h.rest h.wrong)
 
 bad_address : (kind : ℕ) (bytes : List ℕ) → HasBadAddress kind bytes → hello bytes ≡ Err (BadAddress kind)
 bad_address kind bytes h =
@@ -346,7 +379,8 @@ length_err : (n : ℕ) (r : Result (Hello × List ℕ) HelloError) (e : HelloErr
 length_err n (Ok x) e p = absurd cc
 length_err n (Err d) e p = let q : d ≡ e = cc in ap Err q
 
-pub decoded_told : (bytes : List ℕ) (result : Result (Hello × ℕ) HelloError) → IsBytes bytes → result ≡ read bytes → (e : HelloError) → result ≡ Err e → Told e bytes
+pub decoded_told :
+    (bytes : List ℕ) (result : Result (Hello × ℕ) HelloError) → IsBytes bytes → result ≡ read bytes → (e : HelloError) → result ≡ Err e → Told e bytes
 unfolding read
 decoded_told bytes result small is e p = hello_told bytes e small (length_err (length bytes) (hello bytes) e (sym is ∙ p))
 
@@ -367,6 +401,7 @@ hello_refused BadLabel bytes h t = bad_label bytes t
 hello_refused BadName bytes h t = bad_name bytes t
 hello_refused (BadAddress kind) bytes h t = bad_address kind bytes t
 
-pub decoded_refused : (bytes : List ℕ) (result : Result (Hello × ℕ) HelloError) → result ≡ read bytes → (e : HelloError) → NotShort e → Told e bytes → result ≡ Err e
+pub decoded_refused :
+    (bytes : List ℕ) (result : Result (Hello × ℕ) HelloError) → result ≡ read bytes → (e : HelloError) → NotShort e → Told e bytes → result ≡ Err e
 unfolding read
 decoded_refused bytes result is e h t = is ∙ ap (with_length (length bytes)) (hello_refused e bytes h t)

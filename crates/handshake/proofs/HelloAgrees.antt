@@ -41,7 +41,14 @@ then_more : (bytes a b c rest : List ℕ) → bytes ≡ a ++ b → b ≡ c ++ re
 then_more bytes a b c rest p q = p ∙ ap (λ t. a ++ t) q ∙ sym (append_assoc a c rest)
 
 -- the texts of all parts, one after the other
-all_parts : (x : Hello) (bytes s v l n a rest : List ℕ) → bytes ≡ plum ++ s → s ≡ (1 ∷ []) ++ v → v ≡ name_text x.label ++ l → l ≡ name_text x.name ++ n → n ≡ address_text x.at ++ a → a ≡ rest → bytes ≡ text x ++ rest
+all_parts : (x : Hello) (bytes s v l n a rest : List ℕ) →
+    bytes ≡ plum ++ s →
+    s ≡ (1 ∷ []) ++ v →
+    v ≡ name_text x.label ++ l →
+    l ≡ name_text x.name ++ n →
+    n ≡ address_text x.at ++ a →
+    a ≡ rest →
+    bytes ≡ text x ++ rest
 all_parts x bytes s v l n a rest p q r t u w =
     let at : n ≡ address_text x.at ++ rest = u ∙ ap (λ z. address_text x.at ++ z) w in
     let names : l ≡ label_then x ++ rest = then_more l (name_text x.name) n (address_text x.at) rest t at in
@@ -112,12 +119,23 @@ pub decoded_ok : (bytes : List ℕ) (result : Result (Hello × ℕ) HelloError) 
 unfolding read
 decoded_ok bytes result small e = subst (λ r. IfOk r (Begins bytes)) (sym e) (read_begins bytes (hello bytes) small refl)
 
-pub decoded_whole : (bytes : List ℕ) (result : Result (Hello × ℕ) HelloError) → result ≡ read bytes → (h : Hello) (rest : List ℕ) → IsHello h → bytes ≡ text h ++ rest → result ≡ Ok (h, length (text h))
+pub decoded_whole : (bytes : List ℕ) (result : Result (Hello × ℕ) HelloError) →
+    result ≡ read bytes →
+    (h : Hello) (rest : List ℕ) →
+    IsHello h →
+    bytes ≡ text h ++ rest →
+    result ≡ Ok (h, length (text h))
 unfolding read
 decoded_whole bytes result e h rest i is =
     let n : length bytes - length rest ≡ length (text h) = omega (arith, ap length is, length-append (text h) rest) in
     e ∙ ap (with_length (length bytes)) (ap hello is ∙ hello_again h rest i) ∙ ap (λ k. Ok (h, k)) n
 
-pub decoded_short : (bytes : List ℕ) (result : Result (Hello × ℕ) HelloError) → result ≡ read bytes → (h : Hello) (more : List ℕ) → IsHello h → text h ≡ bytes ++ more → 0 < length more → result ≡ Err Short
+pub decoded_short : (bytes : List ℕ) (result : Result (Hello × ℕ) HelloError) →
+    result ≡ read bytes →
+    (h : Hello) (more : List ℕ) →
+    IsHello h →
+    text h ≡ bytes ++ more →
+    0 < length more →
+    result ≡ Err Short
 unfolding read
 decoded_short bytes result e h more i is some = e ∙ ap (with_length (length bytes)) (hello_cut h bytes more i is some)

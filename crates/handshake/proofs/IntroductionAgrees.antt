@@ -18,7 +18,10 @@ of_parts n a = record { name = n; at = a }
 abbrev after_name : Name → Reader Introduction
 after_name n = address >>= λ a. done (of_parts n a)
 
-pub introduction_takes : (bytes : List ℕ) (i : Introduction) (rest : List ℕ) → IsBytes bytes → introduction bytes ≡ Ok (i, rest) → (bytes ≡ introduction_text i ++ rest) × IsIntroduction i
+pub introduction_takes : (bytes : List ℕ) (i : Introduction) (rest : List ℕ) →
+    IsBytes bytes →
+    introduction bytes ≡ Ok (i, rest) →
+    (bytes ≡ introduction_text i ++ rest) × IsIntroduction i
 unfolding introduction
 introduction_takes bytes i rest small e =
     let n = takes_first (name_agrees BadName) after_name bytes i rest small e in
@@ -26,7 +29,8 @@ introduction_takes bytes i rest small e =
     let d = done_is (of_parts n.value a.value) i a.after rest a.then' in
     let x = of_parts n.value a.value in
     let at : n.after ≡ address_text a.value ++ rest = a.parts ∙ ap (λ t. address_text a.value ++ t) d.1 in
-    let whole : bytes ≡ introduction_text x ++ rest = n.parts ∙ ap (λ t. name_text n.value ++ t) at ∙ sym (append_assoc (name_text n.value) (address_text a.value) rest) in
+    let whole : bytes ≡ introduction_text x ++ rest =
+    n.parts ∙ ap (λ t. name_text n.value ++ t) at ∙ sym (append_assoc (name_text n.value) (address_text a.value) rest) in
     let holds : IsIntroduction x = record { name = n.fits; at = a.fits } in
     subst (λ y. (bytes ≡ introduction_text y ++ rest) × IsIntroduction y) d.0 (whole, holds)
 

@@ -1,5 +1,6 @@
 -- A record that was judged whole has exactly its bytes, and those bytes are judged to be it.
-use Rattle.std.proofs.Common.{◌≡◌, ℕ, zero, suc, ◌<◌, ◌≤◌, Bool, true, false, cond, eqb, ltb, List, [], ◌∷◌, ◌++◌, length, take, Option, Some, None, Result, Ok, Err, refl, sym, ap, subst, ◌∙◌, arith}
+use Rattle.std.proofs.Common.{◌≡◌, ℕ, zero, suc, ◌<◌, ◌≤◌, Bool, true, false, cond, eqb, ltb, List, [], ◌∷◌, ◌++◌}
+use Rattle.std.proofs.Common.{length, take, Option, Some, None, Result, Ok, Err, refl, sym, ap, subst, ◌∙◌, arith}
 use Rattle.std.specs.Prelude.{◌||◌, IfOk}
 use Rattle.std.proofs.lemmas.Bool.{ltb-false, ltb-true}
 use Rattle.std.proofs.lemmas.Bool.Decides.{Decides-eqb}
@@ -11,7 +12,8 @@ use Rattle.handshake.specs.declared.hello.Hello.{Hello}
 use Rattle.handshake.specs.declared.introduction.Introduction.{Introduction}
 use Rattle.handshake.specs.declared.record.Record.{Record}
 use Rattle.handshake.specs.declared.record.Record.TheVariants as Told
-use Rattle.handshake.specs.Judging.{hello_told, introduction_told, judged, judged_rest, kind_of, lacking, max_text, read_hello, read_introduction, read_record, told, unknown, whole_hello, whole_introduction}
+use Rattle.handshake.specs.Judging.{hello_told, introduction_told, judged, judged_rest, kind_of, lacking, max_text, read_hello}
+use Rattle.handshake.specs.Judging.{read_introduction, read_record, told, unknown, whole_hello, whole_introduction}
 use Rattle.handshake.specs.Reading.{introduction, read}
 use Rattle.handshake.specs.Records.{IsIntroduction, IsRecord, introduction_text, record_text}
 use Rattle.handshake.specs.Text.{IsHello, text}
@@ -78,7 +80,9 @@ hello_told_is : (q : Result Hello HandshakeError) (r : Record) → hello_told q 
 hello_told_is (Ok h) r e = (h, refl, cc)
 hello_told_is (Err error) r e = absurd cc
 
-introduction_told_is : (q : Result Introduction HandshakeError) (r : Record) → introduction_told q ≡ Ok r → (i : Introduction) × (q ≡ Ok i) × (Told.Introduction i ≡ r)
+introduction_told_is : (q : Result Introduction HandshakeError) (r : Record) →
+    introduction_told q ≡ Ok r →
+    (i : Introduction) × (q ≡ Ok i) × (Told.Introduction i ≡ r)
 introduction_told_is (Ok i) r e = (i, refl, cc)
 introduction_told_is (Err error) r e = absurd cc
 
@@ -130,17 +134,25 @@ within_taken is_open (kind ∷ len ∷ text) bytes n e few =
     omega (arith, length-append text (take n bytes), length-take n bytes)
 
 -- bytes that are judged to be a record
-given_text : (wrong short : Bool) (error : HandshakeError) (q : Result Record HandshakeError) (r : Record) → cond wrong (Err error) (cond short (Ok None) (told q)) ≡ Ok (Some r) → (short ≡ false) × (q ≡ Ok r)
+given_text : (wrong short : Bool) (error : HandshakeError) (q : Result Record HandshakeError) (r : Record) →
+    cond wrong (Err error) (cond short (Ok None) (told q)) ≡ Ok (Some r) →
+    (short ≡ false) × (q ≡ Ok r)
 given_text true short error q r e = absurd cc
 given_text false true error q r e = absurd cc
 given_text false false error (Ok x) r e = let same : x ≡ r = cc in (refl, ap Ok same)
 given_text false false error (Err d) r e = absurd cc
 
-given_rest : (right : Bool) (error : HandshakeError) (q : Result (Option Record) HandshakeError) (r : Record) → cond right q (Err error) ≡ Ok (Some r) → (right ≡ true) × (q ≡ Ok (Some r))
+given_rest : (right : Bool) (error : HandshakeError) (q : Result (Option Record) HandshakeError) (r : Record) →
+    cond right q (Err error) ≡ Ok (Some r) →
+    (right ≡ true) × (q ≡ Ok (Some r))
 given_rest true error q r e = (refl, e)
 given_rest false error q r e = absurd cc
 
-judged_is : (is_open : Bool) (kind len : ℕ) (bytes : List ℕ) (r : Record) → IsBytes bytes → length bytes ≤ len → judged is_open (kind ∷ len ∷ bytes) ≡ Ok (Some r) → (kind ∷ len ∷ bytes ≡ record_text r) × IsRecord is_open r
+judged_is : (is_open : Bool) (kind len : ℕ) (bytes : List ℕ) (r : Record) →
+    IsBytes bytes →
+    length bytes ≤ len →
+    judged is_open (kind ∷ len ∷ bytes) ≡ Ok (Some r) →
+    (kind ∷ len ∷ bytes ≡ record_text r) × IsRecord is_open r
 judged_is is_open kind len bytes r small within e =
     let rest = given_rest (eqb kind (kind_of is_open)) (unknown is_open kind) (judged_rest is_open (len ∷ bytes)) r e in
     let whole = given_text (eqb len 0 || ltb (max_text is_open) len) (ltb (length bytes) len) (Fault.BadLength len) (read_record is_open bytes) r rest.1 in
@@ -150,7 +162,11 @@ judged_is is_open kind len bytes r small within e =
     let t = read_record_is is_open bytes r small whole.1 in
     ((λ i. same-kind i ∷ same-len i ∷ bytes) ∙ t.0, t.1)
 
-pub given_is : (is_open : Bool) (kept : List ℕ) (r : Record) → IsBytes kept → Within kept → judged is_open kept ≡ Ok (Some r) → (kept ≡ record_text r) × IsRecord is_open r
+pub given_is : (is_open : Bool) (kept : List ℕ) (r : Record) →
+    IsBytes kept →
+    Within kept →
+    judged is_open kept ≡ Ok (Some r) →
+    (kept ≡ record_text r) × IsRecord is_open r
 given_is is_open [] r small within e = absurd cc
 given_is is_open (kind ∷ []) r small within e =
     let none = (given_rest (eqb kind (kind_of is_open)) (unknown is_open kind) (Ok None) r e).1 in

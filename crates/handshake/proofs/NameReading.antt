@@ -35,12 +35,24 @@ pub len_bounds : (len : ℕ) → (nat_le 1 len && nat_le len 32) ≡ true → (1
 len_bounds len h = (grind (arith, nat_tests), grind (arith, nat_tests))
 
 -- a name is read where its length and its bytes are those of a name
-pub name_read : (bad : HelloError) (old after letters rest : List ℕ) (len : ℕ) → byte old ≡ Ok (len, after) → 1 ≤ len → len ≤ 32 → octets len after ≡ Ok (letters, rest) → IsNodeName letters → name bad old ≡ Ok (letters, rest)
+pub name_read : (bad : HelloError) (old after letters rest : List ℕ) (len : ℕ) →
+    byte old ≡ Ok (len, after) →
+    1 ≤ len →
+    len ≤ 32 →
+    octets len after ≡ Ok (letters, rest) →
+    IsNodeName letters →
+    name bad old ≡ Ok (letters, rest)
 unfolding name
 name_read bad old after letters rest len b some few o h = rw (b, len_passes len some few, o, letters_pass letters h) refl
 
 -- a name is refused if its length is right but its bytes are not those of a name
-pub name_refused : (bad : HelloError) (old after letters rest : List ℕ) (len : ℕ) → byte old ≡ Ok (len, after) → 1 ≤ len → len ≤ 32 → octets len after ≡ Ok (letters, rest) → (IsNodeName letters → ⊥) → name bad old ≡ Err bad
+pub name_refused : (bad : HelloError) (old after letters rest : List ℕ) (len : ℕ) →
+    byte old ≡ Ok (len, after) →
+    1 ≤ len →
+    len ≤ 32 →
+    octets len after ≡ Ok (letters, rest) →
+    (IsNodeName letters → ⊥) →
+    name bad old ≡ Err bad
 unfolding name
 name_refused bad old after letters rest len b some few o h =
     let l = (octets_takes len after letters rest o).1 in

@@ -14,7 +14,8 @@ use Rattle.handshake.specs.declared.error.HelloError.{HelloError}
 use Rattle.handshake.specs.declared.error.HelloError.TheVariants.{Short, NotPlumtree, OtherVersion, BadAddress}
 use Rattle.handshake.specs.Text.{plum, name_text, address_text, IsAddress}
 use Rattle.handshake.specs.Reading.{◌>>=◌, Reader, done, judge, octets, byte, start, version, name, port, v4, v6, address, address_of}
-use Rattle.handshake.proofs.Agree.{IsBytes, IsBytes-before, Agrees, bind_ok, takes_first, again_first, again_next, cut_first, cut_only, done_is, judged, judged_last, octets_agrees, octets_takes}
+use Rattle.handshake.proofs.Agree.{IsBytes, IsBytes-before, Agrees, bind_ok, takes_first, again_first, again_next}
+use Rattle.handshake.proofs.Agree.{cut_first, cut_only, done_is, judged, judged_last, octets_agrees, octets_takes}
 use Rattle.handshake.proofs.NameReading.{letters_pass, name_from_pass, len_passes, len_bounds}
 
 -- ---- bytes
@@ -99,7 +100,12 @@ after_letters bad letters = judge (list_all is_name_byte letters) bad >>= λ _. 
 abbrev pub after_len : HelloError → ℕ → Reader Name
 after_len bad len = judge (fits_len len) bad >>= λ _. octets len >>= after_letters bad
 
-name_parts : (bytes after letters after' n rest : List ℕ) (len : ℕ) → bytes ≡ (len ∷ []) ++ after → after ≡ letters ++ after' → length letters ≡ len → letters ≡ n → after' ≡ rest
+name_parts : (bytes after letters after' n rest : List ℕ) (len : ℕ) →
+    bytes ≡ (len ∷ []) ++ after →
+    after ≡ letters ++ after' →
+    length letters ≡ len →
+    letters ≡ n →
+    after' ≡ rest
     → fits_len len ≡ true → list_all is_name_byte letters ≡ true → (bytes ≡ name_text n ++ rest) × IsNodeName n
 name_parts bytes after letters after' n rest len p q l is is' j k =
     let front : len ≡ length n = sym l ∙ ap length is in
@@ -179,7 +185,10 @@ record Taken (n : ℕ) (mk : List ℕ → ℕ → Address) (bytes : List ℕ) (x
   len : length octets ≡ n
   fits : port < 2 ^ 16
 
-octets_port_takes : (n : ℕ) (mk : List ℕ → ℕ → Address) (bytes : List ℕ) (x : Address) (rest : List ℕ) → IsBytes bytes → octets_port n mk bytes ≡ Ok (x, rest) → Taken n mk bytes x rest
+octets_port_takes : (n : ℕ) (mk : List ℕ → ℕ → Address) (bytes : List ℕ) (x : Address) (rest : List ℕ) →
+    IsBytes bytes →
+    octets_port n mk bytes ≡ Ok (x, rest) →
+    Taken n mk bytes x rest
 octets_port_takes n mk bytes x rest h e =
     let a = takes_first (octets_agrees n) (λ o. port >>= λ p. done (mk o p)) bytes x rest h e in
     let b = takes_first port_agrees (λ p. done (mk a.value p)) a.after x rest a.bytes_after a.then' in
@@ -188,16 +197,25 @@ octets_port_takes n mk bytes x rest h e =
       octets = a.value;
       port = b.value;
       is = d.0;
-      parts = a.parts ∙ ap (λ t. a.value ++ t) (b.parts ∙ ap (λ t. to_be_bytes w16 b.value ++ t) d.1) ∙ sym (append_assoc a.value (to_be_bytes w16 b.value) rest);
+      parts =
+          a.parts ∙ ap (λ t. a.value ++ t) (b.parts ∙ ap (λ t. to_be_bytes w16 b.value ++ t) d.1) ∙ sym (append_assoc a.value (to_be_bytes w16 b.value) rest);
       len = a.fits;
       fits = b.fits;
     }
 
-octets_port_again : (n : ℕ) (mk : List ℕ → ℕ → Address) (o : List ℕ) (p : ℕ) (rest : List ℕ) → length o ≡ n → p < 2 ^ 16 → octets_port n mk ((o ++ to_be_bytes w16 p) ++ rest) ≡ Ok (mk o p, rest)
+octets_port_again : (n : ℕ) (mk : List ℕ → ℕ → Address) (o : List ℕ) (p : ℕ) (rest : List ℕ) →
+    length o ≡ n →
+    p < 2 ^ 16 →
+    octets_port n mk ((o ++ to_be_bytes w16 p) ++ rest) ≡ Ok (mk o p, rest)
 octets_port_again n mk o p rest l lt =
     again_next (octets_agrees n) (λ o. port >>= λ p. done (mk o p)) o (to_be_bytes w16 p) rest l ∙ again_first port_agrees (λ p. done (mk o p)) p rest lt
 
-octets_port_cut : (n : ℕ) (mk : List ℕ → ℕ → Address) (o : List ℕ) (p : ℕ) (front more : List ℕ) → length o ≡ n → p < 2 ^ 16 → o ++ to_be_bytes w16 p ≡ front ++ more → 0 < length more → octets_port n mk front ≡ Err Short
+octets_port_cut : (n : ℕ) (mk : List ℕ → ℕ → Address) (o : List ℕ) (p : ℕ) (front more : List ℕ) →
+    length o ≡ n →
+    p < 2 ^ 16 →
+    o ++ to_be_bytes w16 p ≡ front ++ more →
+    0 < length more →
+    octets_port n mk front ≡ Err Short
 octets_port_cut n mk o p front more l lt e some =
     cut_first (octets_agrees n) (λ o. port >>= λ p. done (mk o p)) o (to_be_bytes w16 p) front more l e some
     (λ rest is. cut_only port_agrees (λ p. done (mk o p)) p rest more lt is some)
@@ -212,7 +230,11 @@ mk6 o p = V6 o p
 abbrev pub chosen : Bool → Bool → ℕ → Reader Address
 chosen four six kind bytes = if four then v4 bytes else if six then v6 bytes else Err (BadAddress kind)
 
-chosen_takes : (four six : Bool) (kind : ℕ) (bytes : List ℕ) (x : Address) (rest : List ℕ) → (four ≡ true → kind ≡ 4) → (six ≡ true → kind ≡ 6) → IsBytes bytes → chosen four six kind bytes ≡ Ok (x, rest)
+chosen_takes : (four six : Bool) (kind : ℕ) (bytes : List ℕ) (x : Address) (rest : List ℕ) →
+    (four ≡ true → kind ≡ 4) →
+    (six ≡ true → kind ≡ 6) →
+    IsBytes bytes →
+    chosen four six kind bytes ≡ Ok (x, rest)
     → (kind ∷ bytes ≡ address_text x ++ rest) × IsAddress x
 unfolding v4 v6
 chosen_takes true six kind bytes x rest is-four is-six h e =

@@ -1,5 +1,6 @@
 -- Several bytes of a connection at once.
-use Rattle.std.proofs.Common.{◌≡◌, ℕ, zero, suc, ◌+◌, ◌<◌, ◌≤◌, Bool, true, false, cond, eqb, ltb, List, [], ◌∷◌, ◌++◌, length, take, drop, map, Option, Some, None, Result, Ok, Err, refl, sym, ap, ◌∙◌, append_assoc, arith}
+use Rattle.std.proofs.Common.{◌≡◌, ℕ, zero, suc, ◌+◌, ◌<◌, ◌≤◌, Bool, true, false, cond, eqb, ltb, List, [], ◌∷◌, ◌++◌, length}
+use Rattle.std.proofs.Common.{take, drop, map, Option, Some, None, Result, Ok, Err, refl, sym, ap, ◌∙◌, append_assoc, arith}
 use Rattle.std.specs.Prelude.{◌&&◌, ◌||◌}
 use Rattle.std.proofs.Math.Dec.{eqb-suc-zero}
 use Rattle.std.proofs.lemmas.Bool.{ltb-false, ltb-true, lt-ltb}
@@ -40,7 +41,8 @@ then_then (Err error) next more = refl
 pub run-append : (s : State) (xs ys : List ℕ) → run s (xs ++ ys) ≡ and_then (run s xs) (λ t. run t ys)
 run-append s [] ys = sym (none_before (run s ys))
 run-append s (b ∷ xs) ys =
-    let next : and_then (step s b) (λ t. run t (xs ++ ys)) ≡ and_then (step s b) (λ t. and_then (run t xs) (λ u. run u ys)) = λ i. and_then (step s b) (λ t. run-append t xs ys i) in
+    let next : and_then (step s b) (λ t. run t (xs ++ ys)) ≡ and_then (step s b) (λ t. and_then (run t xs) (λ u. run u ys)) =
+    λ i. and_then (step s b) (λ t. run-append t xs ys i) in
     next ∙ then_then (step s b) (λ t. run t xs) (λ u. run u ys)
 
 -- a fault stays one, whatever bytes follow
@@ -61,13 +63,17 @@ answered_same s k kept (Ok (Some r)) = refl
 answered_same s k kept (Err error) = refl
 
 -- more bytes have to come, so the length of the text is in its range, and the text is not whole
-more_text : (wrong short : Bool) (error : HandshakeError) (r : Result Record HandshakeError) → cond wrong (Err error) (cond short (Ok None) (told r)) ≡ Ok None → (wrong ≡ false) × (short ≡ true)
+more_text : (wrong short : Bool) (error : HandshakeError) (r : Result Record HandshakeError) →
+    cond wrong (Err error) (cond short (Ok None) (told r)) ≡ Ok None →
+    (wrong ≡ false) × (short ≡ true)
 more_text true short error r e = absurd cc
 more_text false true error r e = (refl, refl)
 more_text false false error (Ok r) e = absurd cc
 more_text false false error (Err d) e = absurd cc
 
-more_rest : (right : Bool) (error : HandshakeError) (r : Result (Option Record) HandshakeError) → cond right r (Err error) ≡ Ok None → (right ≡ true) × (r ≡ Ok None)
+more_rest : (right : Bool) (error : HandshakeError) (r : Result (Option Record) HandshakeError) →
+    cond right r (Err error) ≡ Ok None →
+    (right ≡ true) × (r ≡ Ok None)
 more_rest true error r e = (refl, e)
 more_rest false error r e = absurd cc
 
@@ -139,7 +145,8 @@ record_runs s b (c ∷ xs) other more few =
     let still = still_more s.is_open s.kept b more (omega arith) in
     let here : step s b ≡ Ok (next, []) = ap (λ t. step_by t s b) other ∙ ap (answered s kept) still in
     let after : run s (b ∷ c ∷ xs) ≡ run next (c ∷ xs) = ap (λ r. and_then r (λ t. run t (c ∷ xs))) here ∙ none_before (run next (c ∷ xs)) in
-    let rest = record_runs next c xs (none_first _ (place.goes_on s.place c) (not_in_frames s.is_open s.kept b)) still (lacking_less s.kept b (length xs) few) in
+    let rest =
+    record_runs next c xs (none_first _ (place.goes_on s.place c) (not_in_frames s.is_open s.kept b)) still (lacking_less s.kept b (length xs) few) in
     let same : kept ++ c ∷ xs ≡ s.kept ++ b ∷ c ∷ xs = append_assoc s.kept (b ∷ []) (c ∷ xs) in
     after ∙ rest ∙ answered_same s kept (kept ++ c ∷ xs) (judged s.is_open (kept ++ c ∷ xs)) ∙ ap (λ k. answered s k (judged s.is_open k)) same
 
@@ -149,7 +156,13 @@ tests_fail true false n e = refl
 tests_fail false q n e = refl
 
 -- bytes where no frame stands
-pub taken_run : (s : State) (bytes kept : List ℕ) (count : ℕ) → frames s bytes ≡ 0 → judged s.is_open s.kept ≡ Ok None → 0 < count → count ≤ length bytes → count ≤ lacking s.kept → kept ≡ s.kept ++ take count bytes
+pub taken_run : (s : State) (bytes kept : List ℕ) (count : ℕ) →
+    frames s bytes ≡ 0 →
+    judged s.is_open s.kept ≡ Ok None →
+    0 < count →
+    count ≤ length bytes →
+    count ≤ lacking s.kept →
+    kept ≡ s.kept ++ take count bytes
     → run s (take count bytes) ≡ answered s kept (judged s.is_open kept)
 taken_run s bytes kept zero none more some within few is = absurd (omega arith)
 taken_run s [] kept (suc n) none more some within few is = absurd (omega arith)

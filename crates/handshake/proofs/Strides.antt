@@ -1,5 +1,6 @@
 -- Going on by several bytes at once.
-use Rattle.std.proofs.Common.{◌≡◌, ◌≢◌, ◌⊎◌, inl, inr, ℕ, zero, suc, ◌+◌, ◌-◌, ◌<◌, ◌≤◌, Bool, true, false, cond, eqb, List, [], ◌∷◌, length, take, drop, get_or, refl, sym, ap, subst, ◌∙◌, arith}
+use Rattle.std.proofs.Common.{◌≡◌, ◌≢◌, ◌⊎◌, inl, inr, ℕ, zero, suc, ◌+◌, ◌-◌, ◌<◌, ◌≤◌, Bool, true, false, cond}
+use Rattle.std.proofs.Common.{eqb, List, [], ◌∷◌, length, take, drop, get_or, refl, sym, ap, subst, ◌∙◌, arith}
 use Rattle.std.proofs.lemmas.Bool.Decides.{Decides-eqb}
 use Rattle.handshake.specs.declared.place.Place.{Place}
 use Rattle.handshake.specs.declared.place.Place.TheVariants.{Body}
@@ -51,15 +52,30 @@ body_some : (left : ℕ) → 0 < left → body left ≡ Body left
 body_some zero some = absurd (omega arith)
 body_some (suc left) some = refl
 
-pub strides_after : (n left : ℕ) (to : Place) (bytes : List ℕ) → 0 < left → n ≤ left → n ≤ length bytes → to ≡ body (left - n) → after (Body left) bytes ≡ after to (drop n bytes)
+pub strides_after : (n left : ℕ) (to : Place) (bytes : List ℕ) →
+    0 < left →
+    n ≤ left →
+    n ≤ length bytes →
+    to ≡ body (left - n) →
+    after (Body left) bytes ≡ after to (drop n bytes)
 strides_after n left to bytes some few within is =
     ap (λ p. after p bytes) (sym (body_some left some)) ∙ body_after n left bytes few within ∙ ap (λ p. after p (drop n bytes)) (sym is)
 
-pub strides_frames : (n left : ℕ) (to : Place) (bytes : List ℕ) → 0 < left → n ≤ left → n ≤ length bytes → to ≡ body (left - n) → frames (Body left) bytes ≡ n + frames to (drop n bytes)
+pub strides_frames : (n left : ℕ) (to : Place) (bytes : List ℕ) →
+    0 < left →
+    n ≤ left →
+    n ≤ length bytes →
+    to ≡ body (left - n) →
+    frames (Body left) bytes ≡ n + frames to (drop n bytes)
 strides_frames n left to bytes some few within is =
     ap (λ p. frames p bytes) (sym (body_some left some)) ∙ body_frames n left bytes few within ∙ ap (λ p. n + frames p (drop n bytes)) (sym is)
 
-pub strides_cut : (n left : ℕ) (to : Place) (bytes : List ℕ) → 0 < left → n ≤ left → n ≤ length bytes → to ≡ body (left - n) → cut (Body left) bytes ≡ n + cut to (drop n bytes)
+pub strides_cut : (n left : ℕ) (to : Place) (bytes : List ℕ) →
+    0 < left →
+    n ≤ left →
+    n ≤ length bytes →
+    to ≡ body (left - n) →
+    cut (Body left) bytes ≡ n + cut to (drop n bytes)
 strides_cut n left to bytes some few within is =
     ap (λ p. cut p bytes) (sym (body_some left some)) ∙ body_cut n left bytes few within ∙ ap (λ p. n + cut p (drop n bytes)) (sym is)
 
@@ -69,13 +85,19 @@ pub one_after : (place : Place) (bytes : List ℕ) → 0 < length bytes → afte
 one_after place [] some = absurd (omega arith)
 one_after place (b ∷ bytes) some = refl
 
-pub one_frames : (place : Place) (bytes : List ℕ) → 0 < length bytes → goes_on place (get_or bytes 0 0) ≡ true → frames place bytes ≡ 1 + frames (next_place place (get_or bytes 0 0)) (drop 1 bytes)
+pub one_frames : (place : Place) (bytes : List ℕ) →
+    0 < length bytes →
+    goes_on place (get_or bytes 0 0) ≡ true →
+    frames place bytes ≡ 1 + frames (next_place place (get_or bytes 0 0)) (drop 1 bytes)
 one_frames place [] some on = absurd (omega arith)
 one_frames place (b ∷ bytes) some on =
     let is : frames place (b ∷ bytes) ≡ suc (frames (next_place place b) bytes) = rw on refl in
     omega (arith, is)
 
-pub one_cut : (place : Place) (bytes : List ℕ) → 0 < length bytes → is_boundary place ≡ false → cut place bytes ≡ 1 + cut (next_place place (get_or bytes 0 0)) (drop 1 bytes)
+pub one_cut : (place : Place) (bytes : List ℕ) →
+    0 < length bytes →
+    is_boundary place ≡ false →
+    cut place bytes ≡ 1 + cut (next_place place (get_or bytes 0 0)) (drop 1 bytes)
 one_cut place [] some on = absurd (omega arith)
 one_cut place (b ∷ bytes) some on =
     let is : cut place (b ∷ bytes) ≡ suc (cut (next_place place b) bytes) = rw on refl in
@@ -120,7 +142,9 @@ abbrev StopsAt : Place → List ℕ → ℕ → Type 0
 StopsAt place bytes n = (is_boundary (after place (take n bytes)) ≡ true) × (get_or bytes n 0 ≢ 0)
 
 -- the bytes of frames end with the last byte, or before one that begins another record
-pub frames_stop : (place : Place) (bytes : List ℕ) → frames place bytes < length bytes → (is_boundary (after place (take (frames place bytes) bytes)) ≡ true) × (get_or bytes (frames place bytes) 0 ≢ 0)
+pub frames_stop : (place : Place) (bytes : List ℕ) →
+    frames place bytes < length bytes →
+    (is_boundary (after place (take (frames place bytes) bytes)) ≡ true) × (get_or bytes (frames place bytes) 0 ≢ 0)
 frames_stop place [] fewer = absurd (omega arith)
 frames_stop place (b ∷ bytes) fewer = elim (decided (goes_on place b)) [
   | inl on ↦

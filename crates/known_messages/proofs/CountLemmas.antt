@@ -55,11 +55,15 @@ module _ (known : set.FinSet id_cmp) (origin : Origin) (unbroken : ℕ) (past : 
     where
       each : (q : MsgId) → set.contains (ids_past origin unbroken known) q ≡ set.contains (its origin past) q
       each q =
-          set.contains-retain known (λ id. same_origin id.origin origin && nat_lt unbroken id.seq) q (λ x tie. ap (λ (id : MsgId). same_origin id.origin origin && nat_lt unbroken id.seq) (sym (order.id_antisymmetric q x tie)))
+          set.contains-retain known (λ id. same_origin id.origin origin && nat_lt unbroken id.seq) q
+          (λ x tie. ap (λ (id : MsgId). same_origin id.origin origin && nat_lt unbroken id.seq) (sym (order.id_antisymmetric q x tie)))
           ∙ go (same_origin q.origin origin) (nat_lt unbroken q.seq) refl refl
           ∙ sym (contains-its origin past q)
         where
-          go : (b c : Bool) → same_origin q.origin origin ≡ b → nat_lt unbroken q.seq ≡ c → (set.contains known q && (same_origin q.origin origin && nat_lt unbroken q.seq)) ≡ (same_origin q.origin origin && list_any (nat_eq q.seq) past)
+          go : (b c : Bool) →
+              same_origin q.origin origin ≡ b →
+              nat_lt unbroken q.seq ≡ c →
+              (set.contains known q && (same_origin q.origin origin && nat_lt unbroken q.seq)) ≡ (same_origin q.origin origin && list_any (nat_eq q.seq) past)
           go false c other is =
               ap (λ b. set.contains known q && (b && nat_lt unbroken q.seq)) other
               ∙ sym (and_false (set.contains known q))

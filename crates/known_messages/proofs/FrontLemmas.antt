@@ -1,5 +1,6 @@
 -- What stands behind the front that was forgotten.
-use Rattle.std.proofs.Common.{◌≡◌, ◌∙◌, ◌<◌, ◌≤◌, ℕ, zero, suc, Bool, true, false, List, [], ◌∷◌, None, Some, is_some, slice_get, drop, sym, ap, refl, true≢false, unwrap_or, arith}
+use Rattle.std.proofs.Common.{◌≡◌, ◌∙◌, ◌<◌, ◌≤◌, ℕ, zero, suc, Bool, true, false, List, [], ◌∷◌, None}
+use Rattle.std.proofs.Common.{Some, is_some, slice_get, drop, sym, ap, refl, true≢false, unwrap_or, arith}
 use Rattle.std.proofs.lemmas.List.Elements.{All-drop, All-from_recursion, recursion_from_All}
 use Rattle.std.proofs.lemmas.Map.{lookup-none, none_passes_from_lookup}
 use Rattle.std.proofs.lemmas.Map.Entries.{lookup_from_place, none_past_head}
@@ -23,10 +24,17 @@ module _ {K X : Type 0} where
 
   -- what is found nowhere is not found behind the front
   pub lookup-drop-none : (test : K → Bool) (n : ℕ) (entries : List (K × X)) → None ≡ lookup test entries → None ≡ lookup test (drop n entries)
-  lookup-drop-none test n entries none = sym (lookup-none test (drop n entries) (each-drop (λ e. test e.0 ≡ false) n entries (none_passes_from_lookup test entries (sym none))))
+  lookup-drop-none test n entries none =
+      sym (lookup-none test (drop n entries) (each-drop (λ e. test e.0 ≡ false) n entries (none_passes_from_lookup test entries (sym none))))
 
   -- a key that stands in the front does not stand behind it
-  in_front : {eq : K → K → Bool} → IsEquivalence eq → (entries : List (K × X)) (gone place : ℕ) (key : K) (v : X) → IsDistinct eq (keys_of entries) → slice_get entries place ≡ Some (key, v) → place < gone → None ≡ lookup (eq key) (drop gone entries)
+  in_front : {eq : K → K → Bool} →
+      IsEquivalence eq →
+      (entries : List (K × X)) (gone place : ℕ) (key : K) (v : X) →
+      IsDistinct eq (keys_of entries) →
+      slice_get entries place ≡ Some (key, v) →
+      place < gone →
+      None ≡ lookup (eq key) (drop gone entries)
   in_front laws entries zero place key v distinct here before = absurd (omega arith)
   in_front laws [] (suc gone) place key v distinct here before = refl
   in_front {eq} laws (e ∷ entries) (suc gone) zero key v distinct here before =
@@ -37,7 +45,13 @@ module _ {K X : Type 0} where
       in_front laws entries gone place key v (IsDistinct-tail eq e.0 (keys_of entries) distinct) here (omega arith)
 
   -- a key that stands behind the front is found there
-  behind_front : {eq : K → K → Bool} → IsEquivalence eq → (entries : List (K × X)) (gone place : ℕ) (key : K) (v : X) → IsDistinct eq (keys_of entries) → slice_get entries place ≡ Some (key, v) → gone ≤ place → Some v ≡ lookup (eq key) (drop gone entries)
+  behind_front : {eq : K → K → Bool} →
+      IsEquivalence eq →
+      (entries : List (K × X)) (gone place : ℕ) (key : K) (v : X) →
+      IsDistinct eq (keys_of entries) →
+      slice_get entries place ≡ Some (key, v) →
+      gone ≤ place →
+      Some v ≡ lookup (eq key) (drop gone entries)
   behind_front laws entries zero place key v distinct here behind = sym (lookup_from_place laws entries place key v distinct here)
   behind_front laws [] (suc gone) place key v distinct here behind = absurd (true≢false (sym (ap is_some here)))
   behind_front laws (e ∷ entries) (suc gone) zero key v distinct here behind = absurd (omega arith)

@@ -12,10 +12,15 @@ use Rattle.node_names.specs.declared.ids.Origin.{Origin}
 use Rattle.node_names.specs.declared.ids.MsgId.{MsgId}
 
 pub id_total : IsTotalOrder id_cmp
-id_total = then_total (on_total (λ (id : MsgId). id.origin) (then_total (on_total (λ (o : Origin). o.name) nat_list_cmp_total) (on_total (λ (o : Origin). o.incarnation.0) nat_cmp_total))) (on_total (λ (id : MsgId). id.seq) nat_cmp_total)
+id_total =
+    then_total (on_total (λ (id : MsgId). id.origin)
+    (then_total (on_total (λ (o : Origin). o.name) nat_list_cmp_total) (on_total (λ (o : Origin). o.incarnation.0) nat_cmp_total)))
+    (on_total (λ (id : MsgId). id.seq) nat_cmp_total)
 
 pub id_ties : (a b : MsgId) → same_id a b ≡ is_eq (id_cmp a b)
-id_ties a b = both_tied _ _ _ _ (both_tied _ _ _ _ (texts_ties a.origin.name b.origin.name) (unsigned_ties a.origin.incarnation.0 b.origin.incarnation.0)) (unsigned_ties a.seq b.seq)
+id_ties a b =
+    both_tied _ _ _ _ (both_tied _ _ _ _ (texts_ties a.origin.name b.origin.name) (unsigned_ties a.origin.incarnation.0 b.origin.incarnation.0))
+    (unsigned_ties a.seq b.seq)
 
 pub id_antisymmetric : set.IsAntisymmetric id_cmp
 id_antisymmetric a b e = (same_id-Decides a b).0 (id_ties a b ∙ ap is_eq e)

@@ -1,5 +1,6 @@
 -- Numbers from 1 on, and those past a gap.
-use Rattle.std.proofs.Common.{◌≡◌, ◌∙◌, ℕ, zero, suc, ◌+◌, ◌^◌, ◌<◌, ◌≤◌, ◌||◌, Bool, true, false, List, [], ◌∷◌, ◌++◌, length, get_or, ap, refl, arith, append_assoc}
+use Rattle.std.proofs.Common.{◌≡◌, ◌∙◌, ℕ, zero, suc, ◌+◌, ◌^◌, ◌<◌, ◌≤◌, ◌||◌, Bool, true, false}
+use Rattle.std.proofs.Common.{List, [], ◌∷◌, ◌++◌, length, get_or, ap, refl, arith, append_assoc}
 use Rattle.std.specs.Prelude.{nat_eq, insert}
 use Rattle.std.specs.Cmp.{unsigned_Decides}
 use Rattle.std.specs.List.{list_any, range_with_len}
@@ -8,7 +9,8 @@ use Rattle.known_messages.specs.Span.{Ascends, counted}
 -- one number more
 pub range_with_len-suc : (a n : ℕ) → range_with_len a (suc n) ≡ range_with_len a n ++ (a + n) ∷ []
 range_with_len-suc a zero = let e : a ≡ a + 0 = omega arith in ap (λ (x : ℕ). x ∷ []) e
-range_with_len-suc a (suc n) = let e : (a + 1) + n ≡ a + suc n = omega arith in ap (λ xs. a ∷ xs) (range_with_len-suc (a + 1) n ∙ ap (λ x. range_with_len (a + 1) n ++ x ∷ []) e)
+range_with_len-suc a (suc n) =
+    let e : (a + 1) + n ≡ a + suc n = omega arith in ap (λ xs. a ∷ xs) (range_with_len-suc (a + 1) n ∙ ap (λ x. range_with_len (a + 1) n ++ x ∷ []) e)
 
 -- the number behind the unbroken ones is counted with them
 pub counted-next : (unbroken next : ℕ) (rest : List ℕ) → next ≡ unbroken + 1 → counted next rest ≡ range_with_len 1 unbroken ++ next ∷ rest
@@ -40,12 +42,23 @@ rises low (n ∷ ns) up (suc i) zero le within = absurd (omega (arith, le))
 rises low (n ∷ ns) up (suc i) (suc j) le within = rises n ns up.2 i j (omega (arith, le)) (omega (arith, within))
 
 -- one more number, between the lesser and the greater ones
-pub Ascends-insert : (low n : ℕ) (ns : List ℕ) (i : ℕ) → n < 2 ^ 64 → low < n → i ≤ length ns → ((k : ℕ) → k < i → get_or ns k 0 < n) → ((k : ℕ) → i ≤ k → k < length ns → n < get_or ns k 0) → Ascends low ns → Ascends low (insert ns i n)
+pub Ascends-insert : (low n : ℕ) (ns : List ℕ) (i : ℕ) →
+    n < 2 ^ 64 →
+    low < n →
+    i ≤ length ns →
+    ((k : ℕ) → k < i → get_or ns k 0 < n) →
+    ((k : ℕ) → i ≤ k → k < length ns → n < get_or ns k 0) →
+    Ascends low ns →
+    Ascends low (insert ns i n)
 Ascends-insert low n [] zero fits greater within before after up = (greater, fits, tt)
 Ascends-insert low n [] (suc i) fits greater within before after up = absurd (omega (arith, within))
 Ascends-insert low n (m ∷ ms) zero fits greater within before after up = (greater, fits, (after 0 (omega arith) (omega arith), up.1, up.2))
-Ascends-insert low n (m ∷ ms) (suc i) fits greater within before after up =
-    (up.0, up.1, Ascends-insert m n ms i fits (before 0 (omega arith)) (omega (arith, within)) (λ k h. before (suc k) (omega (arith, h))) (λ k h j. after (suc k) (omega (arith, h)) (omega (arith, j))) up.2)
+Ascends-insert low n (m ∷ ms) (suc i) fits greater within before after up = (
+  up.0,
+  up.1,
+  Ascends-insert m n ms i fits (before 0 (omega arith)) (omega (arith, within))
+      (λ k h. before (suc k) (omega (arith, h))) (λ k h j. after (suc k) (omega (arith, h)) (omega (arith, j))) up.2,
+)
 
 -- ---- which numbers are there
 

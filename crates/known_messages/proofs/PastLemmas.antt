@@ -1,5 +1,6 @@
 -- The numbers past a gap, by the edges of their runs.
-use Rattle.std.proofs.Common.{◌≡◌, ◌∙◌, ℕ, zero, suc, ◌+◌, ◌-◌, ◌%◌, ◌^◌, ◌<◌, ◌≤◌, ◌||◌, ◌⊎◌, Bool, true, false, not, List, [], ◌∷◌, ◌++◌, length, get_or, drop, sym, ap, subst, refl, arith, append-nil, append_assoc, length-append, ⊎_elim, inl, inr}
+use Rattle.std.proofs.Common.{◌≡◌, ◌∙◌, ℕ, zero, suc, ◌+◌, ◌-◌, ◌%◌, ◌^◌, ◌<◌, ◌≤◌, ◌||◌, ◌⊎◌, Bool, true, false, not, List, [], ◌∷◌, ◌++◌}
+use Rattle.std.proofs.Common.{length, get_or, drop, sym, ap, subst, refl, arith, append-nil, append_assoc, length-append, ⊎_elim, inl, inr}
 use Rattle.std.specs.Prelude.{nat_eq, nat_le, insert}
 use Rattle.std.specs.Cmp.{unsigned_Decides}
 use Rattle.std.specs.List.{list_any, range_with_len, remove}
@@ -56,7 +57,11 @@ abbrev odd : ℕ → Bool
 odd zero = false
 odd (suc n) = not (odd n)
 
-counted_below : (n : ℕ) (edges : List ℕ) (i : ℕ) → i ≤ length edges → ((k : ℕ) → k < i → get_or edges k 0 ≤ n) → ((k : ℕ) → i ≤ k → k < length edges → n < get_or edges k 0) → is_covered edges n ≡ odd i
+counted_below : (n : ℕ) (edges : List ℕ) (i : ℕ) →
+    i ≤ length edges →
+    ((k : ℕ) → k < i → get_or edges k 0 ≤ n) →
+    ((k : ℕ) → i ≤ k → k < length edges → n < get_or edges k 0) →
+    is_covered edges n ≡ odd i
 counted_below n [] zero within before after = refl
 counted_below n [] (suc i) within before after = absurd (omega (arith, within))
 counted_below n (e ∷ edges) zero within before after =
@@ -64,7 +69,8 @@ counted_below n (e ∷ edges) zero within before after =
     ∙ counted_below n edges 0 (omega arith) (λ k h. absurd (omega (arith, h))) (λ k h j. after (suc k) (omega arith) (omega (arith, j)))
 counted_below n (e ∷ edges) (suc i) within before after =
     ap (λ b. toggled b (is_covered edges n)) (le-leb e n (before 0 (omega arith)))
-    ∙ ap not (counted_below n edges i (omega (arith, within)) (λ k h. before (suc k) (omega (arith, h))) (λ k h j. after (suc k) (omega (arith, h)) (omega (arith, j))))
+    ∙ ap not
+    (counted_below n edges i (omega (arith, within)) (λ k h. before (suc k) (omega (arith, h))) (λ k h j. after (suc k) (omega (arith, h)) (omega (arith, j))))
 
 climbs : (low : ℕ) (ns : List ℕ) → Ascends low ns → (i j : ℕ) → i < j → j < length ns → get_or ns i 0 < get_or ns j 0
 climbs low [] up i j lt within = absurd (omega (arith, within))
@@ -79,23 +85,39 @@ odd-rem (suc i) = go (odd-rem i) (parts i)
     parts : (i : ℕ) → ((i % 2 ≡ 0) × (suc i % 2 ≡ 1)) ⊎ ((i % 2 ≡ 1) × (suc i % 2 ≡ 0))
     parts i = ⊎_elim (λ h. inl (omega (arith, h), omega (arith, h))) (λ h. inr (omega (arith, h), omega (arith, h))) (cases_lt (i % 2) 1)
 
-    go : ((odd i ≡ nat_eq (i % 2) 1) × (not (odd i) ≡ nat_eq (i % 2) 0)) → (((i % 2 ≡ 0) × (suc i % 2 ≡ 1)) ⊎ ((i % 2 ≡ 1) × (suc i % 2 ≡ 0))) → (not (odd i) ≡ nat_eq (suc i % 2) 1) × (not (not (odd i)) ≡ nat_eq (suc i % 2) 0)
-    go is (inl h) = let no : odd i ≡ false = is.0 ∙ ap (λ r. nat_eq r 1) h.0 in (ap not no ∙ sym (ap (λ r. nat_eq r 1) h.1), ap (λ b. not (not b)) no ∙ sym (ap (λ r. nat_eq r 0) h.1))
-    go is (inr h) = let yes : odd i ≡ true = is.0 ∙ ap (λ r. nat_eq r 1) h.0 in (ap not yes ∙ sym (ap (λ r. nat_eq r 1) h.1), ap (λ b. not (not b)) yes ∙ sym (ap (λ r. nat_eq r 0) h.1))
+    go : ((odd i ≡ nat_eq (i % 2) 1) × (not (odd i) ≡ nat_eq (i % 2) 0)) →
+        (((i % 2 ≡ 0) × (suc i % 2 ≡ 1)) ⊎ ((i % 2 ≡ 1) × (suc i % 2 ≡ 0))) →
+        (not (odd i) ≡ nat_eq (suc i % 2) 1) × (not (not (odd i)) ≡ nat_eq (suc i % 2) 0)
+    go is (inl h) =
+        let no : odd i ≡ false = is.0 ∙ ap (λ r. nat_eq r 1) h.0 in
+        (ap not no ∙ sym (ap (λ r. nat_eq r 1) h.1), ap (λ b. not (not b)) no ∙ sym (ap (λ r. nat_eq r 0) h.1))
+    go is (inr h) =
+        let yes : odd i ≡ true = is.0 ∙ ap (λ r. nat_eq r 1) h.0 in
+        (ap not yes ∙ sym (ap (λ r. nat_eq r 1) h.1), ap (λ b. not (not b)) yes ∙ sym (ap (λ r. nat_eq r 0) h.1))
 
 -- an edge in an even place covers its number
-pub covered_at : (n : ℕ) (edges : List ℕ) (place : ℕ) → Ascends 0 edges → place < length edges → get_or edges place 0 ≡ n → nat_eq (place % 2) 0 ≡ is_covered edges n
+pub covered_at : (n : ℕ) (edges : List ℕ) (place : ℕ) →
+    Ascends 0 edges →
+    place < length edges →
+    get_or edges place 0 ≡ n →
+    nat_eq (place % 2) 0 ≡ is_covered edges n
 covered_at n edges place up within is =
     sym (odd-rem place).1
-    ∙ sym (counted_below n edges (suc place) (omega (arith, within)) (λ k h. to k h (cases_lt k place)) (λ k h j. subst (λ m. m < get_or edges k 0) is (climbs 0 edges up place k (omega (arith, h)) j)))
+    ∙ sym (counted_below n edges (suc place) (omega (arith, within)) (λ k h. to k h (cases_lt k place))
+    (λ k h j. subst (λ m. m < get_or edges k 0) is (climbs 0 edges up place k (omega (arith, h)) j)))
   where
     to : (k : ℕ) → k < suc place → (k < place) ⊎ (place ≤ k) → get_or edges k 0 ≤ n
     to k h (inl lt) = let under = climbs 0 edges up k place lt within in omega (arith, under, is)
     to k h (inr ge) = let same : k ≡ place = omega (arith, h, ge) in subst (λ (m : ℕ). get_or edges m 0 ≤ n) (sym same) (omega (arith, is))
 
 -- a number without an edge is covered if an odd number of edges are less
-pub covered_behind : (n : ℕ) (edges : List ℕ) (place : ℕ) → place ≤ length edges → ((k : ℕ) → k < place → get_or edges k 0 < n) → ((k : ℕ) → place ≤ k → k < length edges → n < get_or edges k 0) → nat_eq (place % 2) 1 ≡ is_covered edges n
-covered_behind n edges place within before after = sym (odd-rem place).0 ∙ sym (counted_below n edges place within (λ k h. let lt = before k h in omega (arith, lt)) after)
+pub covered_behind : (n : ℕ) (edges : List ℕ) (place : ℕ) →
+    place ≤ length edges →
+    ((k : ℕ) → k < place → get_or edges k 0 < n) →
+    ((k : ℕ) → place ≤ k → k < length edges → n < get_or edges k 0) →
+    nat_eq (place % 2) 1 ≡ is_covered edges n
+covered_behind n edges place within before after =
+    sym (odd-rem place).0 ∙ sym (counted_below n edges place within (λ k h. let lt = before k h in omega (arith, lt)) after)
 
 -- ---- one number more
 
@@ -103,7 +125,10 @@ order : (m n : ℕ) → (m < n) ⊎ ((m ≡ n) ⊎ (n < m))
 order m n = ⊎_elim (λ lt. inl lt) (λ ge. ⊎_elim (λ lt. inr (inr lt)) (λ le. inr (inl (omega (arith, ge, le)))) (cases_lt n m)) (cases_lt m n)
 
 -- a last edge covers its own number alone, and no greater one is asked for
-pub covered_last : (edges : List ℕ) (n m : ℕ) → m ≤ n → is_covered edges n ≡ false → toggled (nat_le n m) (is_covered edges m) ≡ (nat_eq m n || is_covered edges m)
+pub covered_last : (edges : List ℕ) (n m : ℕ) →
+    m ≤ n →
+    is_covered edges n ≡ false →
+    toggled (nat_le n m) (is_covered edges m) ≡ (nat_eq m n || is_covered edges m)
 covered_last edges n m le lacks = go (order m n)
   where
     go : (m < n) ⊎ ((m ≡ n) ⊎ (n < m)) → toggled (nat_le n m) (is_covered edges m) ≡ (nat_eq m n || is_covered edges m)
@@ -117,7 +142,9 @@ covered_last edges n m le lacks = go (order m n)
     go (inr (inr gt)) = absurd (omega (arith, gt, le))
 
 -- an edge and the next number cover the first of them
-pub covered_pair : (edges : List ℕ) (n m : ℕ) → is_covered edges n ≡ false → toggled (nat_le (n + 1) m) (toggled (nat_le n m) (is_covered edges m)) ≡ (nat_eq m n || is_covered edges m)
+pub covered_pair : (edges : List ℕ) (n m : ℕ) →
+    is_covered edges n ≡ false →
+    toggled (nat_le (n + 1) m) (toggled (nat_le n m) (is_covered edges m)) ≡ (nat_eq m n || is_covered edges m)
 covered_pair edges n m lacks = go (cases_lt n m)
   where
     go : (n < m) ⊎ (m ≤ n) → toggled (nat_le (n + 1) m) (toggled (nat_le n m) (is_covered edges m)) ≡ (nat_eq m n || is_covered edges m)
@@ -176,16 +203,21 @@ module _ (top : ℕ) (is_top : top ≡ 2 ^ 64) where
       rest : Bool
       rest = is_covered edges n
 
-      go : (n < a) ⊎ (a ≤ n) → (n < b) ⊎ (b ≤ n) → (list_any (nat_eq n) (range_with_len a (b - a)) || is_covered edges n) ≡ toggled (nat_le a n) (toggled (nat_le b n) (is_covered edges n))
+      go : (n < a) ⊎ (a ≤ n) →
+          (n < b) ⊎ (b ≤ n) →
+          (list_any (nat_eq n) (range_with_len a (b - a)) || is_covered edges n) ≡ toggled (nat_le a n) (toggled (nat_le b n) (is_covered edges n))
       go (inl lt) before =
           ap (λ c. c || rest) (any_before n a (b - a) lt)
           ∙ sym (ap (λ c. toggled c (toggled (nat_le b n) rest)) (lt-leb a n lt) ∙ ap (λ c. toggled c rest) (lt-leb b n (omega (arith, lt, up.2.0))))
       go (inr ge) (inl lt) =
           ap (λ c. c || rest) (any_within n a (b - a) ge (omega (arith, lt, ge)))
-          ∙ sym (ap (λ c. toggled c (toggled (nat_le b n) rest)) (le-leb a n ge) ∙ ap (λ c. not (toggled c rest)) (lt-leb b n lt) ∙ ap not (none_covered n b edges (omega (arith, lt)) up.2.2))
+          ∙ sym (ap (λ c. toggled c (toggled (nat_le b n) rest)) (le-leb a n ge)
+          ∙ ap (λ c. not (toggled c rest)) (lt-leb b n lt)
+          ∙ ap not (none_covered n b edges (omega (arith, lt)) up.2.2))
       go (inr ge) (inr beyond) =
           ap (λ c. c || rest) (any_after n a (b - a) (omega (arith, beyond, up.2.0)))
-          ∙ sym (ap (λ c. toggled c (toggled (nat_le b n) rest)) (le-leb a n ge) ∙ ap (λ c. toggled true (toggled c rest)) (le-leb b n beyond) ∙ twice true rest)
+          ∙ sym
+          (ap (λ c. toggled c (toggled (nat_le b n) rest)) (le-leb a n ge) ∙ ap (λ c. toggled true (toggled c rest)) (le-leb b n beyond) ∙ twice true rest)
 
   Ascends-range : (low a n : ℕ) (rest : List ℕ) → low < a → a + n ≤ top → Ascends (a + n) rest → Ascends low (range_with_len a n ++ rest)
   Ascends-range low a zero rest lt fits up = Ascends-weaker (a + 0) low rest (omega (arith, lt)) up
@@ -195,10 +227,12 @@ module _ (top : ℕ) (is_top : top ≡ 2 ^ 64) where
 
   pub Ascends-between : (low : ℕ) (edges : List ℕ) → Ascends low edges → Ascends low (between top edges)
   Ascends-between low [] up = tt
-  Ascends-between low (a ∷ []) up = subst (Ascends low) (append-nil (range_with_len a (top - a))) (Ascends-range low a (top - a) [] up.0 (omega (arith, up.1, is_top)) tt)
+  Ascends-between low (a ∷ []) up =
+      subst (Ascends low) (append-nil (range_with_len a (top - a))) (Ascends-range low a (top - a) [] up.0 (omega (arith, up.1, is_top)) tt)
   Ascends-between low (a ∷ b ∷ edges) up =
       let on : b ≡ a + (b - a) = omega (arith, up.2.0) in
-      Ascends-range low a (b - a) (between top edges) up.0 (omega (arith, up.2.0, up.2.1, is_top)) (subst (λ k. Ascends k (between top edges)) on (Ascends-between b edges up.2.2))
+      Ascends-range low a (b - a) (between top edges) up.0 (omega (arith, up.2.0, up.2.1, is_top))
+      (subst (λ k. Ascends k (between top edges)) on (Ascends-between b edges up.2.2))
 
   -- the first number is the first edge
   pub Ascends-edges : (low : ℕ) (edges : List ℕ) → Ascends 0 edges → Ascends low (between top edges) → Ascends low edges
@@ -206,7 +240,10 @@ module _ (top : ℕ) (is_top : top ≡ 2 ^ 64) where
   Ascends-edges low (a ∷ edges) up apart = (⊎_elim (λ lt. lt) (λ ge. absurd (first ge)) (cases_lt low a), up.1, up.2)
     where
       there : list_any (nat_eq a) (between top (a ∷ edges)) ≡ true
-      there = any-between 0 a (a ∷ edges) (omega (arith, up.1, is_top)) up ∙ ap (λ b. toggled b (is_covered edges a)) (le-leb a a (omega arith)) ∙ ap not (none_covered a a edges (omega arith) up.2)
+      there =
+          any-between 0 a (a ∷ edges) (omega (arith, up.1, is_top)) up
+          ∙ ap (λ b. toggled b (is_covered edges a)) (le-leb a a (omega arith))
+          ∙ ap not (none_covered a a edges (omega arith) up.2)
 
       first : a ≤ low → ⊥
       first le = true≢false (sym there ∙ none_below a low (between top (a ∷ edges)) le apart)
@@ -221,20 +258,33 @@ module _ (top : ℕ) (is_top : top ≡ 2 ^ 64) where
       omega (arith, len, run, later, up.0, up.2.0)
 
   -- what is covered is what is between
-  pub more-between : (edges now : List ℕ) (n : ℕ) → n < top → Ascends 0 edges → Ascends 0 now → ((m : ℕ) → m < top → is_covered now m ≡ (nat_eq m n || is_covered edges m)) → (m : ℕ) → list_any (nat_eq m) (between top now) ≡ (nat_eq m n || list_any (nat_eq m) (between top edges))
+  pub more-between : (edges now : List ℕ) (n : ℕ) →
+      n < top →
+      Ascends 0 edges →
+      Ascends 0 now →
+      ((m : ℕ) → m < top → is_covered now m ≡ (nat_eq m n || is_covered edges m)) →
+      (m : ℕ) →
+      list_any (nat_eq m) (between top now) ≡ (nat_eq m n || list_any (nat_eq m) (between top edges))
   more-between edges now n fits up up_now more m = go (cases_lt m top)
     where
       go : (m < top) ⊎ (top ≤ m) → list_any (nat_eq m) (between top now) ≡ (nat_eq m n || list_any (nat_eq m) (between top edges))
       go (inl lt) = any-between 0 m now lt up_now ∙ more m lt ∙ sym (ap (λ b. nat_eq m n || b) (any-between 0 m edges lt up))
       go (inr ge) =
           none_above m 0 (between top now) (omega (arith, ge, is_top)) (Ascends-between 0 now up_now)
-          ∙ sym (ap (λ b. b || list_any (nat_eq m) (between top edges)) (differ m n (λ e. omega (arith, e, ge, fits))) ∙ none_above m 0 (between top edges) (omega (arith, ge, is_top)) (Ascends-between 0 edges up))
+          ∙ sym (ap (λ b. b || list_any (nat_eq m) (between top edges)) (differ m n (λ e. omega (arith, e, ge, fits)))
+          ∙ none_above m 0 (between top edges) (omega (arith, ge, is_top)) (Ascends-between 0 edges up))
 
   -- ---- the run behind the unbroken numbers
 
   module _ (last first : ℕ) where
     -- where the first edge does not follow, the next number is not there
-    pub apart_from : (edges : List ℕ) → 0 < length edges → first ≡ get_or edges 0 first → Ascends 0 edges → Ascends last (between top edges) → (first - 1 ≡ last → ⊥) → Ascends (last + 1) (between top edges)
+    pub apart_from : (edges : List ℕ) →
+        0 < length edges →
+        first ≡ get_or edges 0 first →
+        Ascends 0 edges →
+        Ascends last (between top edges) →
+        (first - 1 ≡ last → ⊥) →
+        Ascends (last + 1) (between top edges)
     apart_from [] some is up apart gap = absurd (omega (arith, some))
     apart_from (a ∷ edges) some is up apart gap =
         let beyond = Ascends-edges last (a ∷ edges) up apart in
@@ -244,7 +294,14 @@ module _ (top : ℕ) (is_top : top ≡ 2 ^ 64) where
         further lt same off = omega (arith, lt, same, off)
 
     -- where it follows, its run joins the unbroken numbers
-    pub absorbed : (edges rest : List ℕ) (end : ℕ) → 0 < length edges → first ≡ get_or edges 0 first → first - 1 ≡ last → Ascends 0 edges → Ascends last (between top edges) → drop 1 edges ≡ end ∷ rest → Ascends (end - 1 + 1) (between top rest) × (counted (end - 1) (between top rest) ≡ counted last (between top edges))
+    pub absorbed : (edges rest : List ℕ) (end : ℕ) →
+        0 < length edges →
+        first ≡ get_or edges 0 first →
+        first - 1 ≡ last →
+        Ascends 0 edges →
+        Ascends last (between top edges) →
+        drop 1 edges ≡ end ∷ rest →
+        Ascends (end - 1 + 1) (between top rest) × (counted (end - 1) (between top rest) ≡ counted last (between top edges))
     absorbed [] rest end some is follows up apart left = absurd (omega (arith, some))
     absorbed (a ∷ edges) rest end some is follows up apart left =
         let at : edges ≡ end ∷ rest = left in
@@ -254,28 +311,49 @@ module _ (top : ℕ) (is_top : top ≡ 2 ^ 64) where
         let here : end ≡ end - 1 + 1 = omega (arith, tail.0) in
         let whole : last + (end - a) ≡ end - 1 = omega (arith, next, tail.0) in (
           subst (λ k. Ascends k (between top rest)) here (Ascends-between end rest tail.2),
-          sym (ap (λ es. counted last (between top (a ∷ es))) at ∙ joined last a (end - a) (between top rest) next ∙ ap (λ k. counted k (between top rest)) whole),
+          sym (ap (λ es. counted last (between top (a ∷ es))) at
+              ∙ joined last a (end - a) (between top rest) next
+              ∙ ap (λ k. counted k (between top rest)) whole),
         )
 
-    pub absorbed_all : (edges : List ℕ) → 0 < length edges → first ≡ get_or edges 0 first → first - 1 ≡ last → Ascends 0 edges → Ascends last (between top edges) → drop 1 edges ≡ [] → counted (top - 1) [] ≡ counted last (between top edges)
+    pub absorbed_all : (edges : List ℕ) →
+        0 < length edges →
+        first ≡ get_or edges 0 first →
+        first - 1 ≡ last →
+        Ascends 0 edges →
+        Ascends last (between top edges) →
+        drop 1 edges ≡ [] →
+        counted (top - 1) [] ≡ counted last (between top edges)
     absorbed_all [] some is follows up apart left = absurd (omega (arith, some))
     absorbed_all (a ∷ edges) some is follows up apart left =
         let at : edges ≡ [] = left in
         let beyond : last < a = (Ascends-edges last (a ∷ edges) up apart).0 in
         let next : a ≡ last + 1 = omega (arith, beyond, is, follows) in
         let whole : last + (top - a) ≡ top - 1 = omega (arith, next, up.1, is_top) in
-        sym (ap (λ es. counted last (between top (a ∷ es))) at ∙ ap (counted last) (sym (append-nil (range_with_len a (top - a)))) ∙ joined last a (top - a) [] next ∙ ap (λ k. counted k []) whole)
+        sym (ap (λ es. counted last (between top (a ∷ es))) at
+        ∙ ap (counted last) (sym (append-nil (range_with_len a (top - a))))
+        ∙ joined last a (top - a) [] next
+        ∙ ap (λ k. counted k []) whole)
 
   -- ---- how many there are
 
-  pub length-run : (edges rest : List ℕ) (first end : ℕ) → edges ≡ first ∷ end ∷ rest → Ascends 0 edges → Ascends 0 rest × (length (between top edges) ≡ (end - first) + length (between top rest))
+  pub length-run : (edges rest : List ℕ) (first end : ℕ) →
+      edges ≡ first ∷ end ∷ rest →
+      Ascends 0 edges →
+      Ascends 0 rest × (length (between top edges) ≡ (end - first) + length (between top rest))
   length-run edges rest first end is up =
       let parts : Ascends 0 (first ∷ end ∷ rest) = subst (Ascends 0) is up in (
         Ascends-weaker end 0 rest (omega arith) parts.2.2,
-        ap (λ es. length (between top es)) is ∙ length-append (range_with_len first (end - first)) (between top rest) ∙ ap (λ n. n + length (between top rest)) (length-range_with_len first (end - first)),
+        ap (λ es. length (between top es)) is
+            ∙ length-append (range_with_len first (end - first)) (between top rest)
+            ∙ ap (λ n. n + length (between top rest)) (length-range_with_len first (end - first)),
       )
 
-  pub length-last : (edges rest : List ℕ) (first : ℕ) → edges ≡ first ∷ rest → length rest ≡ 0 → Ascends 0 edges → (length (between top edges) ≡ top - first) × (0 < first) × (first < top)
+  pub length-last : (edges rest : List ℕ) (first : ℕ) →
+      edges ≡ first ∷ rest →
+      length rest ≡ 0 →
+      Ascends 0 edges →
+      (length (between top edges) ≡ top - first) × (0 < first) × (first < top)
   length-last edges [] first is none up =
       let parts : Ascends 0 (first ∷ []) = subst (Ascends 0) is up in
       (ap (λ es. length (between top es)) is ∙ length-range_with_len first (top - first), parts.0, omega (arith, parts.1, is_top))

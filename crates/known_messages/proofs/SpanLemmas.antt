@@ -28,7 +28,10 @@ pub any_within : (m a n : ℕ) → a ≤ m → m < a + n → list_any (nat_eq m)
 any_within m a zero from to = absurd (omega (arith, from, to))
 any_within m a (suc n) from to = go (nat_eq m a) refl (any_within m (a + 1) n)
   where
-    go : (b : Bool) → nat_eq m a ≡ b → (a + 1 ≤ m → m < a + 1 + n → list_any (nat_eq m) (range_with_len (a + 1) n) ≡ true) → (b || list_any (nat_eq m) (range_with_len (a + 1) n)) ≡ true
+    go : (b : Bool) →
+        nat_eq m a ≡ b →
+        (a + 1 ≤ m → m < a + 1 + n → list_any (nat_eq m) (range_with_len (a + 1) n) ≡ true) →
+        (b || list_any (nat_eq m) (range_with_len (a + 1) n)) ≡ true
     go true is later = refl
     go false is later = later (beyond (λ e. false≢true (sym is ∙ (unsigned_Decides m a).1 e))) (omega (arith, to))
       where
@@ -51,7 +54,8 @@ none_below m low (n ∷ ns) le up =
 
 -- ---- the numbers of a span
 
-any-counted : (m unbroken : ℕ) (past : List ℕ) → list_any (nat_eq m) (counted unbroken past) ≡ (list_any (nat_eq m) (range_with_len 1 unbroken) || list_any (nat_eq m) past)
+any-counted : (m unbroken : ℕ) (past : List ℕ) →
+    list_any (nat_eq m) (counted unbroken past) ≡ (list_any (nat_eq m) (range_with_len 1 unbroken) || list_any (nat_eq m) past)
 any-counted m unbroken past = list_any-append (nat_eq m) (range_with_len 1 unbroken) past
 
 -- 0 is there if it is marked
@@ -96,12 +100,21 @@ or_swap true false c = refl
 or_swap false b c = refl
 
 -- where one more number is counted, one more is known
-pub has-more : (zero : Bool) (unbroken longer : ℕ) (past others : List ℕ) (room left n : ℕ) → ((m : ℕ) → list_any (nat_eq m) (counted longer others) ≡ (nat_eq m n || list_any (nat_eq m) (counted unbroken past))) → (m : ℕ) → has_number (record { zero = zero; unbroken = longer; past = others; room = left }) m ≡ (nat_eq m n || has_number (record { zero = zero; unbroken = unbroken; past = past; room = room }) m)
-has-more true unbroken longer past others room left n more m = ap (λ b. nat_eq m 0 || b) (more m) ∙ or_swap (nat_eq m 0) (nat_eq m n) (list_any (nat_eq m) (counted unbroken past))
+pub has-more : (zero : Bool) (unbroken longer : ℕ) (past others : List ℕ) (room left n : ℕ) →
+    ((m : ℕ) → list_any (nat_eq m) (counted longer others) ≡ (nat_eq m n || list_any (nat_eq m) (counted unbroken past))) →
+    (m : ℕ) →
+    has_number (record { zero = zero; unbroken = longer; past = others; room = left }) m
+    ≡ (nat_eq m n || has_number (record { zero = zero; unbroken = unbroken; past = past; room = room }) m)
+has-more true unbroken longer past others room left n more m =
+    ap (λ b. nat_eq m 0 || b) (more m) ∙ or_swap (nat_eq m 0) (nat_eq m n) (list_any (nat_eq m) (counted unbroken past))
 has-more false unbroken longer past others room left n more m = more m
 
 -- the next number, and what follows it, extend the unbroken ones
-pub extended : (unbroken longer n : ℕ) (past others : List ℕ) → n ≡ unbroken + 1 → counted longer others ≡ counted n past → (m : ℕ) → list_any (nat_eq m) (counted longer others) ≡ (nat_eq m n || list_any (nat_eq m) (counted unbroken past))
+pub extended : (unbroken longer n : ℕ) (past others : List ℕ) →
+    n ≡ unbroken + 1 →
+    counted longer others ≡ counted n past →
+    (m : ℕ) →
+    list_any (nat_eq m) (counted longer others) ≡ (nat_eq m n || list_any (nat_eq m) (counted unbroken past))
 extended unbroken longer n past others next same m =
     ap (list_any (nat_eq m)) (same ∙ counted-next unbroken n past next)
     ∙ list_any-append (nat_eq m) (range_with_len 1 unbroken) (n ∷ past)

@@ -14,10 +14,10 @@ use std::marker::Model;
 
 /// A set of known message ids.
 ///
-/// For each origin it keeps the highest number up to which all numbers from 1 are known, and of each run of known numbers
-/// past the gap after it where it begins and where it ends. So its memory grows with the origins and with the gaps, and not
-/// with the numbers known. Looking up an id hashes its origin and searches the runs in logarithmic time; adding the next
-/// number of an origin, or of its last run, takes amortized constant time.
+/// For each origin it keeps the highest number up to which all numbers from 1 are known, and of each run of known
+/// numbers past the gap after it where it begins and where it ends. So its memory grows with the origins and with the
+/// gaps, and not with the numbers known. Looking up an id hashes its origin and searches the runs in logarithmic time;
+/// adding the next number of an origin, or of its last run, takes amortized constant time.
 ///
 /// An id is added in two steps: `make_room` allocates and may fail, `insert` does not allocate. A new message needs
 /// room in four places, and only one of them could be refused last.

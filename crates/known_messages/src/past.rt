@@ -11,9 +11,10 @@ use std::marker::Model;
 
 /// The known numbers past the first gap, by the edges of their runs.
 ///
-/// A run of numbers without a gap is kept by two edges, its first number and the number behind its last, so memory grows
-/// with the gaps and not with the numbers. A run that ends with the greatest number has its first edge alone. A number is
-/// known where an odd number of edges are not greater than it, so one number more toggles two edges: itself and the next.
+/// A run of numbers without a gap is kept by two edges, its first number and the number behind its last, so memory
+/// grows with the gaps and not with the numbers. A run that ends with the greatest number has its first edge alone. A
+/// number is known where an odd number of edges are not greater than it, so one number more toggles two edges: itself
+/// and the next.
 #[derive(Drop)]
 pub(crate) struct Past<A: Allocator> {
     edges: VecDeque<u64, A>,
@@ -27,7 +28,10 @@ impl<A: Allocator> Model for Past<A> {
 
     ghost Value = { Past };
 
-    ghost view = { λ p. record { numbers = between (2 ^ 64) p.edges.items; room = deque_capacity p.edges - deque_len p.edges } };
+    ghost view = { λ p. record {
+      numbers = between (2 ^ 64) p.edges.items;
+      room = deque_capacity p.edges - deque_len p.edges;
+    } };
 
     ghost invariant = { λ p. Ascends 0 p.edges.items };
 }
@@ -98,7 +102,8 @@ impl<A: Allocator> Past<A> {
         requires positive { 0 < n }
         requires room { 1 < self.old.room }
         ensures order { (low : ℕ) → low < n → Ascends low self.old.numbers → Ascends low self.new.numbers }
-        ensures numbers { (m : ℕ) → list_any (nat_eq m) self.new.numbers ≡ (nat_eq m n || list_any (nat_eq m) self.old.numbers) }
+        ensures numbers { (m : ℕ)
+            → list_any (nat_eq m) self.new.numbers ≡ (nat_eq m n || list_any (nat_eq m) self.old.numbers) }
     {
         if self.contains(n) {
             return;
@@ -109,7 +114,8 @@ impl<A: Allocator> Past<A> {
         }
     }
 
-    /// Takes out the run that follows `last` without a gap, if there is one. Returns the last number of that run, or `last`.
+    /// Takes out the run that follows `last` without a gap, if there is one. Returns the last number of that run, or
+    /// `last`.
     pub(crate) fn absorb(&mut self, last: u64) -> u64
         requires { Ascends last self.old.numbers }
         ensures apart { Ascends (result + 1) self.new.numbers }

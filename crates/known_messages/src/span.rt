@@ -8,8 +8,8 @@ use std::marker::Model;
 
 /// The known sequence numbers of one origin.
 ///
-/// Of the numbers that are known from 1 on without a gap, only the last is kept, and of each run of numbers past the first
-/// gap its two edges. Messages count from 1; 0 is kept apart, since a caller may name it.
+/// Of the numbers that are known from 1 on without a gap, only the last is kept, and of each run of numbers past the
+/// first gap its two edges. Messages count from 1; 0 is kept apart, since a caller may name it.
 #[derive(Drop)]
 pub(crate) struct Span<A: Allocator> {
     zero: bool,

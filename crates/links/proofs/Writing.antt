@@ -15,20 +15,30 @@ take_whole : (n : ℕ) (xs : List ℕ) → length xs ≤ n → take n xs ≡ xs
 take_whole n xs h = sym (append-nil (take n xs)) ∙ ap (λ t. take n xs ++ t) (sym (drop_of_length-le xs h)) ∙ take-append-drop n xs
 
 -- one more call of the writer
-pub put_on : (a b c : Option (List ℕ)) (bytes : List ℕ) (at n : ℕ) → at ≤ length bytes → Appends a b (take at bytes) → n ≤ length (take (length bytes - at) (drop at bytes))
+pub put_on : (a b c : Option (List ℕ)) (bytes : List ℕ) (at n : ℕ) →
+    at ≤ length bytes →
+    Appends a b (take at bytes) →
+    n ≤ length (take (length bytes - at) (drop at bytes))
     → Appends b c (take n (take (length bytes - at) (drop at bytes))) → (at + n ≤ length bytes) × Appends a c (take (at + n) bytes)
 put_on a b c bytes at n h p few q =
     let all : take (length bytes - at) (drop at bytes) ≡ drop at bytes = take_whole (length bytes - at) (drop at bytes) (omega (arith, length-drop at bytes)) in
     let size : n ≤ length (drop at bytes) = subst (λ t. n ≤ length t) all few in
-    let q' : Appends b c (take n (drop at bytes)) = subst (λ t. Appends b c (take n t)) all q in
-    (omega (arith, size, length-drop at bytes), subst (Appends a c) (sym (take-add at n bytes)) (Appends-trans a b c (take at bytes) (take n (drop at bytes)) p q'))
+    let q' : Appends b c (take n (drop at bytes)) = subst (λ t. Appends b c (take n t)) all q in (
+      omega (arith, size, length-drop at bytes),
+      subst (Appends a c) (sym (take-add at n bytes)) (Appends-trans a b c (take at bytes) (take n (drop at bytes)) p q'),
+    )
 
 -- the bytes of one more item
 pub joined-more : (items : List (List ℕ)) (item : List ℕ) → joined (items ++ item ∷ []) ≡ joined items ++ item
 joined-more items item = flat_map-append (λ i. i) items (item ∷ []) ∙ ap (λ t. joined items ++ t) (flat_map-cons (λ i. i) item [] ∙ append-nil item)
 
 -- an item went out whole
-pub drained_on : (a b c : Option (List ℕ)) (items : List (List ℕ)) (item : List ℕ) (bytes n : ℕ) → Appends a b (joined items) → Appends b c (take n item) → n ≤ length item → length item ≤ n → bytes ≡ length (joined items)
+pub drained_on : (a b c : Option (List ℕ)) (items : List (List ℕ)) (item : List ℕ) (bytes n : ℕ) →
+    Appends a b (joined items) →
+    Appends b c (take n item) →
+    n ≤ length item →
+    length item ≤ n →
+    bytes ≡ length (joined items)
     → Appends a c (joined (items ++ item ∷ [])) × (bytes + n ≡ length (joined (items ++ item ∷ [])))
 drained_on a b c items item bytes n p q few whole size =
     let all : take n item ≡ item = take_whole n item whole in (
@@ -37,8 +47,14 @@ drained_on a b c items item bytes n p q few whole size =
     )
 
 -- an item went out in part
-pub drained_in_part : (is_spent : Type 0) (frames : ℕ) (given given' : List (List ℕ)) (a b c : Option (List ℕ)) (items : List (List ℕ)) (item : List ℕ) (bytes n : ℕ)
-    → given' ≡ given ++ (items ++ item ∷ []) → length items < frames → Appends a b (joined items) → Appends b c (take n item) → n < length item → bytes ≡ length (joined items)
+pub drained_in_part : (is_spent : Type 0) (frames : ℕ) (given given' : List (List ℕ))
+    (a b c : Option (List ℕ)) (items : List (List ℕ)) (item : List ℕ) (bytes n : ℕ)
+    → given' ≡ given ++ (items ++ item ∷ [])
+    → length items < frames
+    → Appends a b (joined items)
+    → Appends b c (take n item)
+    → n < length item
+    → bytes ≡ length (joined items)
     → Drains (Err (WriteFault (bytes + n))) is_spent frames given given' a c
 drained_in_part is_spent frames given given' a b c items item bytes n asked few p q part size =
     let front : take (bytes + n) (joined (items ++ item ∷ [])) ≡ joined items ++ take n item =

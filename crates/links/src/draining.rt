@@ -14,7 +14,8 @@ fn put<W: MeteredWrite>(writer: &mut W, bytes: &[u8]) -> usize
     ensures some { result ≤ length bytes.now }
     ensures written { Appends (W.contents writer.old) (W.contents writer.new) (take result bytes.now) }
     ensures all { result ≡ length bytes.now → W.failed writer.new ≡ W.failed writer.old }
-    ensures part { result < length bytes.now → IsTrue (has_risen (W.failed writer.old) (W.failed writer.new) || W.took_none writer.new) }
+    ensures part { result < length bytes.now
+        → IsTrue (has_risen (W.failed writer.old) (W.failed writer.new) || W.took_none writer.new) }
 {
     let mut at = 0;
     while at < bytes.len() {

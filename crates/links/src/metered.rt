@@ -33,7 +33,8 @@ pub trait MeteredRead: Read {
         ensures last { gave_none self.new ≡ moves_none result buf.new }
         ensures ok { OnOk result (failed self.new ≡ failed self.old) }
         ensures err { OnErr result (failed self.old ≤ failed self.new) }
-        ensures failure { IfErr result (λ e. error_kind e ≢ ErrorKind.Interrupted → IsTrue (has_risen (failed self.old) (failed self.new))) };
+        ensures failure { IfErr result
+            (λ e. error_kind e ≢ ErrorKind.Interrupted → IsTrue (has_risen (failed self.old) (failed self.new))) };
 }
 
 /// A writer that counts its failed calls. The count saturates at `u64::MAX`.

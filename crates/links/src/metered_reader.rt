@@ -52,7 +52,8 @@ impl<R> MeteredReader<R> {
 
     /// Counts a failed call, unless `error` is `Interrupted`, and returns `error`.
     fn count(&mut self, error: io::Error) -> io::Error
-        ensures failure { error_kind result ≢ ErrorKind.Interrupted → IsTrue (has_risen self.old.failures self.new.failures) }
+        ensures failure { error_kind result ≢ ErrorKind.Interrupted
+            → IsTrue (has_risen self.old.failures self.new.failures) }
         ensures more { self.old.failures ≤ self.new.failures }
         ensures rest { self.new ≡ record self.old { failures = self.new.failures } }
     {
@@ -76,7 +77,8 @@ impl<R: Read> Read for MeteredReader<R> {
         ensures last { self.new.gave_none ≡ moves_none result buf.new }
         ensures ok { OnOk result (self.new.failures ≡ self.old.failures) }
         ensures err { OnErr result (self.old.failures ≤ self.new.failures) }
-        ensures failure { IfErr result (λ e. error_kind e ≢ ErrorKind.Interrupted → IsTrue (has_risen self.old.failures self.new.failures)) }
+        ensures failure { IfErr result
+            (λ e. error_kind e ≢ ErrorKind.Interrupted → IsTrue (has_risen self.old.failures self.new.failures)) }
     {
         self.reads = self.reads.saturating_add(1);
         self.gave_none = false;

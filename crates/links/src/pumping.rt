@@ -19,7 +19,8 @@ fn give<S: Sink<Frame<A>>, A: Allocator + Copy>(
     sink: &mut S,
 ) -> Option<LinkEnd>
     ensures given { Gives result cutter.old cutter.new (S.taken sink.old) (S.taken sink.new) }
-    ensures refused { result ≡ Some LinkEnd.SinkClosed → IsTrue (has_risen (S.refusals sink.old) (S.refusals sink.new)) }
+    ensures refused { result ≡ Some LinkEnd.SinkClosed
+        → IsTrue (has_risen (S.refusals sink.old) (S.refusals sink.new)) }
     ensures willing { result ≢ Some LinkEnd.SinkClosed → S.refusals sink.new ≡ S.refusals sink.old }
 {
     loop {

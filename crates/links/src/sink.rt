@@ -37,7 +37,9 @@ pub trait Source<A: Allocator> {
 
     /// Returns the next item, or `Ok(None)` if there is none at the moment.
     fn next(&mut self) -> Result<Option<Bytes<A>>, AllocError>
-        ensures some { (item : List ℕ) → result ≡ Ok (Some item) → (given self.new ≡ given self.old ++ item ∷ []) × (length item ≤ 32880) }
+        ensures some { (item : List ℕ)
+            → result ≡ Ok (Some item)
+            → (given self.new ≡ given self.old ++ item ∷ []) × (length item ≤ 32880) }
         ensures none { result ≡ Ok None → (given self.new ≡ given self.old) × is_spent self.new }
         ensures err { OnErr result (given self.new ≡ given self.old) };
 }

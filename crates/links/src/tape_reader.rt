@@ -28,14 +28,28 @@ impl<A: Allocator> Model for TapeReader<A> {
 
     ghost Value = { ReadTape };
 
-    ghost view = { λ t. record { bytes = t.bytes; pieces = t.pieces.items; fails = t.fails; calls = t.calls; failures = t.failures; gave_none = t.gave_none } };
+    ghost view = { λ t. record {
+      bytes = t.bytes;
+      pieces = t.pieces.items;
+      fails = t.fails;
+      calls = t.calls;
+      failures = t.failures;
+      gave_none = t.gave_none;
+    } };
 }
 
 impl<A: Allocator> TapeReader<A> {
     /// Creates a reader of `bytes`. Call number `k`, counted from 0, reads at most `pieces[k]` bytes, where 0 counts as
     /// 1, or as many as are left and fit if `pieces` is too short. Call number `fails` fails and reads nothing.
     pub fn new(bytes: Bytes<A>, pieces: Vec<usize, A>, fails: Option<usize>) -> TapeReader<A>
-        ensures { result ≡ record { bytes = bytes; pieces = pieces.items; fails = fails; calls = 0; failures = 0; gave_none = false } }
+        ensures { result ≡ record {
+          bytes = bytes;
+          pieces = pieces.items;
+          fails = fails;
+          calls = 0;
+          failures = 0;
+          gave_none = false;
+        } }
     {
         TapeReader {
             bytes,

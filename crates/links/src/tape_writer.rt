@@ -26,14 +26,22 @@ impl<A: Allocator> Model for TapeWriter<A> {
 
     ghost Value = { WriteTape };
 
-    ghost view = { λ t. record { bytes = t.bytes.items; most = t.most; fails = t.fails; calls = t.calls; failures = t.failures; took_none = t.took_none } };
+    ghost view = { λ t. record {
+      bytes = t.bytes.items;
+      most = t.most;
+      fails = t.fails;
+      calls = t.calls;
+      failures = t.failures;
+      took_none = t.took_none;
+    } };
 }
 
 impl<A: Allocator> TapeWriter<A> {
     /// Creates a writer that takes at most `most` bytes in each call. Call number `fails`, counted from 0, fails and
     /// takes nothing, as does a call whose allocation is refused.
     pub fn new(alloc: A, most: usize, fails: Option<usize>) -> TapeWriter<A>
-        ensures { result ≡ record { bytes = []; most = most; fails = fails; calls = 0; failures = 0; took_none = false } }
+        ensures { result
+            ≡ record { bytes = []; most = most; fails = fails; calls = 0; failures = 0; took_none = false } }
     {
         TapeWriter {
             bytes: Vec::new(alloc),

@@ -67,7 +67,8 @@ impl Read for TcpReader {
         ensures last { self.new.metered.gave_none ≡ moves_none result buf.new }
         ensures ok { OnOk result (self.new.metered.failures ≡ self.old.metered.failures) }
         ensures err { OnErr result (self.old.metered.failures ≤ self.new.metered.failures) }
-        ensures failure { IfErr result (λ e. error_kind e ≢ ErrorKind.Interrupted → IsTrue (has_risen self.old.metered.failures self.new.metered.failures)) }
+        ensures failure { IfErr result (λ e. error_kind e ≢ ErrorKind.Interrupted
+            → IsTrue (has_risen self.old.metered.failures self.new.metered.failures)) }
     {
         self.metered.read(buf)
     }

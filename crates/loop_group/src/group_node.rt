@@ -7,8 +7,8 @@ use protocol::{Delivery, Trace};
 use std::alloc::{AllocError, Global};
 use wire_node::WireError;
 
-/// A node of a group that one event loop runs: a `WireNode`, which records its steps or not. Each call does what the one of the
-/// same name of a `WireNode` does.
+/// A node of a group that one event loop runs: a `WireNode`, which records its steps or not. Each call does what the
+/// one of the same name of a `WireNode` does.
 ///
 /// The group is generic in it, since each function that owns a node takes the prover a minute if its type is named.
 pub trait GroupNode: LoopNode<Global> {

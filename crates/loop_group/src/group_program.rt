@@ -35,8 +35,8 @@ fn are_over(seats: &[Seat]) -> bool {
 }
 
 impl<R: Clock + Drop, V: Watch + Drop> GroupProgram<'_, R, V> {
-    /// How many messages the node of this place may broadcast at this tick. The watch is asked once a round: a node that
-    /// is called again begins the next one.
+    /// How many messages the node of this place may broadcast at this tick. The watch is asked once a round: a node
+    /// that is called again begins the next one.
     fn allowed(&mut self, place: usize, now: u64) -> Option<usize> {
         let seat = self.seats.get_mut(place)?;
         if now < self.quiet {
@@ -58,8 +58,8 @@ impl<R: Clock + Drop, V: Watch + Drop> GroupProgram<'_, R, V> {
         }
     }
 
-    /// Has the node of this place broadcast at most `most` of its texts, and takes what it delivered. Returns whether it
-    /// has more to broadcast.
+    /// Has the node of this place broadcast at most `most` of its texts, and takes what it delivered. Returns whether
+    /// it has more to broadcast.
     fn hear<N: GroupNode>(
         &mut self,
         place: usize,

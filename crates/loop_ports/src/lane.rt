@@ -9,8 +9,8 @@ use std::alloc::Allocator;
 use std::vec::IntoIter;
 use wire_node::WireError;
 
-/// How many messages a turn broadcasts at most: the more these are, the longer each waits on its way for those that were
-/// broadcast with it.
+/// How many messages a turn broadcasts at most: the more these are, the longer each waits on its way for those that
+/// were broadcast with it.
 const BROADCASTS: usize = 16;
 /// From so many bytes on a turn broadcasts nothing more.
 const TURN: usize = 32_768;
@@ -59,8 +59,8 @@ impl<A: Allocator + Copy> Lane<A> {
     }
 
     /// Hands out news, broadcasts what was handed in, if the node may, and hands out what was delivered. As long as not
-    /// all deliveries can be handed out, none are taken, and no messages. News do not wait for deliveries, nor these for
-    /// them.
+    /// all deliveries can be handed out, none are taken, and no messages. News do not wait for deliveries, nor these
+    /// for them.
     pub(crate) fn turn<N: PortNode<A>>(
         &mut self,
         may_broadcast: bool,

@@ -1,5 +1,5 @@
-//! The ends of an event loop's nodes for other threads: messages to broadcast go in, and deliveries and news come out, by
-//! rings of a fixed size, and no call waits.
+//! The ends of an event loop's nodes for other threads: messages to broadcast go in, and deliveries and news come out,
+//! by rings of a fixed size, and no call waits.
 #![tactic(auto)]
 
 mod error;

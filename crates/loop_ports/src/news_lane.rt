@@ -30,8 +30,8 @@ impl<A: Allocator + Copy> NewsLane<A> {
         self.ring.is_abandoned()
     }
 
-    /// Hands out what the node tells. As long as not all can be handed out, no more news are taken of the node. If memory
-    /// is refused, they wait in the node.
+    /// Hands out what the node tells. As long as not all can be handed out, no more news are taken of the node. If
+    /// memory is refused, they wait in the node.
     pub(crate) fn turn<N: PortNode<A>>(&mut self, node: &mut N) {
         if !self.hand_out() {
             return;

@@ -41,8 +41,10 @@ impl<A: Allocator + Copy> Port<A> {
 
     /// Hands in a message to be broadcast. Where it is not taken, the error gives it back.
     pub fn broadcast(&mut self, payload: Bytes<A>) -> Result<(), PortError<A>>
-        ensures ok { OnOk result ((length payload ≤ MAX_PAYLOAD) × (sent self.new.sender.broadcasts ≡ sent self.old.sender.broadcasts ++ payload ∷ [])) }
-        ensures err { IfErr result (λ e. (e.payload ≡ payload) × (sent self.new.sender.broadcasts ≡ sent self.old.sender.broadcasts)) }
+        ensures ok { OnOk result ((length payload ≤ MAX_PAYLOAD)
+            × (sent self.new.sender.broadcasts ≡ sent self.old.sender.broadcasts ++ payload ∷ [])) }
+        ensures err { IfErr result
+            (λ e. (e.payload ≡ payload) × (sent self.new.sender.broadcasts ≡ sent self.old.sender.broadcasts)) }
         ensures too_long { IfErr result (λ e. e.fault ≡ PortFault.TooLong → MAX_PAYLOAD < length payload) }
     {
         self.sender.broadcast(payload)
@@ -50,16 +52,18 @@ impl<A: Allocator + Copy> Port<A> {
 
     /// Takes the next message that was delivered, if there is one.
     pub fn next(&mut self) -> Option<Delivery<A>>
-        ensures some { IfSome result (λ message. received self.new.receiver.deliveries ≡ received self.old.receiver.deliveries ++ message ∷ []) }
+        ensures some { IfSome result
+            (λ message. received self.new.receiver.deliveries ≡ received self.old.receiver.deliveries ++ message ∷ []) }
         ensures none { IfNone result (received self.new.receiver.deliveries ≡ received self.old.receiver.deliveries) }
     {
         self.receiver.next()
     }
 
-    /// Takes the next news of the node, if there are some: which neighbours came and went, each once and in order. A port
-    /// has none that `Ports::open_with_news` did not open.
+    /// Takes the next news of the node, if there are some: which neighbours came and went, each once and in order. A
+    /// port has none that `Ports::open_with_news` did not open.
     pub fn next_news(&mut self) -> Option<News>
-        ensures some { IfSome result (λ news. received self.new.receiver.news ≡ received self.old.receiver.news ++ news ∷ []) }
+        ensures some { IfSome result
+            (λ news. received self.new.receiver.news ≡ received self.old.receiver.news ++ news ∷ []) }
         ensures none { IfNone result (received self.new.receiver.news ≡ received self.old.receiver.news) }
         ensures deliveries { received self.new.receiver.deliveries ≡ received self.old.receiver.deliveries }
     {

@@ -32,8 +32,8 @@ impl<A: Allocator + Copy> Ports<A> {
     }
 
     /// Opens the port of the node at this place, by which at most `capacity` messages wait to be broadcast, and as many
-    /// deliveries to be taken. It takes the place of a port of the node that was opened before, but for news, which that one
-    /// still has until it is dropped. If the call is refused, nothing changes.
+    /// deliveries to be taken. It takes the place of a port of the node that was opened before, but for news, which
+    /// that one still has until it is dropped. If the call is refused, nothing changes.
     pub fn open<N, S>(
         &mut self,
         event_loop: &EventLoop<N, S, A>,

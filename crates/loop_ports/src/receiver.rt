@@ -36,7 +36,8 @@ impl<A: Allocator + Copy> PortReceiver<A> {
 
     /// Takes the next message that was delivered, if there is one.
     pub fn next(&mut self) -> Option<Delivery<A>>
-        ensures some { IfSome result (λ message. received self.new.deliveries ≡ received self.old.deliveries ++ message ∷ []) }
+        ensures some { IfSome result
+            (λ message. received self.new.deliveries ≡ received self.old.deliveries ++ message ∷ []) }
         ensures none { IfNone result (received self.new.deliveries ≡ received self.old.deliveries) }
     {
         let message = self.deliveries.pop().ok()?;
@@ -48,8 +49,8 @@ impl<A: Allocator + Copy> PortReceiver<A> {
         Some(message)
     }
 
-    /// Takes the next news of the node, if there are some: which neighbours came and went, each once and in order. A port
-    /// has none that `Ports::open_with_news` did not open.
+    /// Takes the next news of the node, if there are some: which neighbours came and went, each once and in order. A
+    /// port has none that `Ports::open_with_news` did not open.
     pub fn next_news(&mut self) -> Option<News>
         ensures some { IfSome result (λ news. received self.new.news ≡ received self.old.news ++ news ∷ []) }
         ensures none { IfNone result (received self.new.news ≡ received self.old.news) }

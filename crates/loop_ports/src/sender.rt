@@ -27,8 +27,10 @@ impl<A: Allocator + Copy> PortSender<A> {
 
     /// Hands in a message to be broadcast. Where it is not taken, the error gives it back.
     pub fn broadcast(&mut self, payload: Bytes<A>) -> Result<(), PortError<A>>
-        ensures ok { OnOk result ((length payload ≤ MAX_PAYLOAD) × (sent self.new.broadcasts ≡ sent self.old.broadcasts ++ payload ∷ [])) }
-        ensures err { IfErr result (λ e. (e.payload ≡ payload) × (sent self.new.broadcasts ≡ sent self.old.broadcasts)) }
+        ensures ok { OnOk result
+            ((length payload ≤ MAX_PAYLOAD) × (sent self.new.broadcasts ≡ sent self.old.broadcasts ++ payload ∷ [])) }
+        ensures err { IfErr result
+            (λ e. (e.payload ≡ payload) × (sent self.new.broadcasts ≡ sent self.old.broadcasts)) }
         ensures too_long { IfErr result (λ e. e.fault ≡ PortFault.TooLong → MAX_PAYLOAD < length payload) }
     {
         if payload.len() > MAX_PAYLOAD {

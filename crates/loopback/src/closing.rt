@@ -90,7 +90,8 @@ fn close_node<R: Threads + Wait, C: NodeCore<Global> + Drop>(
     node: Node<C>,
     ran: &mut RunReport,
 ) -> Result<(), RunError>
-    ensures histories { OnOk result (All (IsHistory C.starts C.steps) ran.old.traces.items → All (IsHistory C.starts C.steps) ran.new.traces.items) }
+    ensures histories { OnOk result (All (IsHistory C.starts C.steps) ran.old.traces.items
+        → All (IsHistory C.starts C.steps) ran.new.traces.items) }
     ensures one { OnOk result (length ran.new.traces.items ≡ length ran.old.traces.items + 1) }
 {
     let Node {
@@ -132,7 +133,9 @@ fn close_each<R: Threads + Wait, C: NodeCore<Global> + Drop>(
     nodes: Vec<Node<C>>,
     ran: &mut RunReport,
 ) -> Option<RunError>
-    ensures histories { result ≡ None → All (IsHistory C.starts C.steps) ran.old.traces.items → All (IsHistory C.starts C.steps) ran.new.traces.items }
+    ensures histories { result ≡ None
+        → All (IsHistory C.starts C.steps) ran.old.traces.items
+        → All (IsHistory C.starts C.steps) ran.new.traces.items }
     ensures each { result ≡ None → length ran.new.traces.items ≡ length ran.old.traces.items + length nodes.items }
 {
     let mut first = None;

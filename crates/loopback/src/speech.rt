@@ -43,8 +43,8 @@ impl Speech {
     /// The most texts that a node broadcasts in one turn, so that what waits for its links does not overflow.
     pub const TEXTS: usize = 64;
 
-    /// Makes the speech of a node that is to broadcast these texts, in order. The run began at `start`, if the clock could
-    /// be read.
+    /// Makes the speech of a node that is to broadcast these texts, in order. The run began at `start`, if the clock
+    /// could be read.
     pub fn new(
         alloc: Global,
         start: Option<Instant>,

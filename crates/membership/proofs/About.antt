@@ -29,13 +29,19 @@ all_are body is (name ∷ names) = (is, all_are body is names)
 about-send : (t : Turn) → AreAboutMembership t → (to : Name) (body : Body) → body_content body ≡ membership → AreAboutMembership (send to body t)
 about-send t h to body is = each-append IsAbout t.sends _ h (is, tt)
 
-about-send_all : (t : Turn) → AreAboutMembership t → (body : Body) → body_content body ≡ membership → (names : List Name) → AreAboutMembership (send_all body names t)
+about-send_all : (t : Turn) →
+    AreAboutMembership t →
+    (body : Body) →
+    body_content body ≡ membership →
+    (names : List Name) →
+    AreAboutMembership (send_all body names t)
 about-send_all t h body is names = each-append IsAbout t.sends _ h (each-sent IsAbout body names (all_are body is names))
 
 about-admit : (dice : Dice) (name : Name) (t : Turn) → AreAboutMembership t → AreAboutMembership (admit dice name t)
 about-admit dice name t h =
     if_either AreAboutMembership (view.is_settled t.views name) _ _ (λ settled. h)
-    (λ new. each-append IsAbout t.sends _ h (each-sent IsAbout body.Disconnect (option_to_list (view.dropped_for dice name t.views)) (all_are body.Disconnect refl (option_to_list (view.dropped_for dice name t.views)))))
+    (λ new. each-append IsAbout t.sends _ h (each-sent IsAbout body.Disconnect (option_to_list (view.dropped_for dice name t.views))
+    (all_are body.Disconnect refl (option_to_list (view.dropped_for dice name t.views)))))
 
 about-welcome : (dice : Dice) (name : Name) (t : Turn) → AreAboutMembership t → AreAboutMembership (welcome dice name t)
 about-welcome dice name t h = about-send (admit dice name t) (about-admit dice name t h) name (body.Neighbor true) refl
@@ -49,7 +55,8 @@ about-close name t h = if_either AreAboutMembership (is_asked name t.asked) _ _ 
 about-promote : (dice : Dice) (excepted : List Name) (t : Turn) → AreAboutMembership t → AreAboutMembership (promote dice excepted t)
 about-promote dice excepted t h =
     if_either AreAboutMembership (view.has_room t.views && is_none t.asked) _ _
-    (λ may. option_either AreAboutMembership (chosen (word dice 2) (others excepted t.views.passive)) _ _ (λ name is. each-append IsAbout t.sends _ h (refl, tt)) h)
+    (λ may. option_either AreAboutMembership (chosen (word dice 2) (others excepted t.views.passive)) _ _
+    (λ name is. each-append IsAbout t.sends _ h (refl, tt)) h)
     (λ may. h)
 
 -- ---- the rows
@@ -57,7 +64,8 @@ about-promote dice excepted t h =
 module _ (m : Membership) (dice : Dice) where
   about-walk_on : (v : view.Views) (sender new : Name) (ttl : ℕ) → AreAboutMembership (walk_on dice sender new ttl (record (still m) { views = v }))
   about-walk_on v sender new ttl =
-      option_either AreAboutMembership (chosen (word dice 1) (others (sender ∷ new ∷ []) v.active)) _ _ (λ next is. (refl, tt)) (about-welcome dice new (record (still m) { views = v }) tt)
+      option_either AreAboutMembership (chosen (word dice 1) (others (sender ∷ new ∷ []) v.active)) _ _
+      (λ next is. (refl, tt)) (about-welcome dice new (record (still m) { views = v }) tt)
 
   about-forward_join : (sender new : Name) (ttl : ℕ) → AreAboutMembership (on_forward_join dice sender new ttl (still m))
   about-forward_join sender new ttl =
@@ -84,7 +92,8 @@ module _ (m : Membership) (dice : Dice) where
 
   about-disconnect : (sender : Name) → AreAboutMembership (on_disconnect dice sender (still m))
   about-disconnect sender =
-      if_either AreAboutMembership (has_name m.views.active sender) _ _ (λ there. about-promote dice (sender ∷ []) (step_down dice sender (still m)) (about-step_down dice sender (still m) tt)) (λ absent. tt)
+      if_either AreAboutMembership (has_name m.views.active sender) _ _
+      (λ there. about-promote dice (sender ∷ []) (step_down dice sender (still m)) (about-step_down dice sender (still m) tt)) (λ absent. tt)
 
   about-down : (peer : Name) → AreAboutMembership (on_down dice peer (still m))
   about-down peer =
@@ -115,7 +124,9 @@ module _ (m : Membership) (dice : Dice) where
 
 pub table_is_about_membership : (m : Membership) (event : Event) (dice : Dice) → AreAboutMembership (table event dice (still m))
 table_is_about_membership m (Joins contact) dice = (refl, tt)
-table_is_about_membership m (Join sender) dice = about-send_all (welcome dice sender (still m)) (about-welcome dice sender (still m) tt) (body.ForwardJoin sender m.views.limits.arwl) refl (others (sender ∷ []) (welcome dice sender (still m)).views.active)
+table_is_about_membership m (Join sender) dice =
+    about-send_all (welcome dice sender (still m)) (about-welcome dice sender (still m) tt)
+    (body.ForwardJoin sender m.views.limits.arwl) refl (others (sender ∷ []) (welcome dice sender (still m)).views.active)
 table_is_about_membership m (ForwardJoin sender new ttl) dice = about-forward_join m dice sender new ttl
 table_is_about_membership m (Neighbor sender high) dice = about-neighbor m dice sender high
 table_is_about_membership m (Reply sender accepted) dice = about-reply m dice sender accepted

@@ -1,5 +1,6 @@
 -- Every message of the table fits a frame.
-use Rattle.std.proofs.Common.{◌≡◌, ◌≤◌, ◌+◌, ◌-◌, ℕ, Bool, true, false, ◌||◌, ◌&&◌, ◌==◌, List, [], ◌∷◌, ◌++◌, length, length-append, drop, take, refl, arith, None, is_none, nat_lt, nat_le}
+use Rattle.std.proofs.Common.{◌≡◌, ◌≤◌, ◌+◌, ◌-◌, ℕ, Bool, true, false, ◌||◌, ◌&&◌, ◌==◌, List, [], ◌∷◌, ◌++◌}
+use Rattle.std.proofs.Common.{length, length-append, drop, take, refl, arith, None, is_none, nat_lt, nat_le}
 use Rattle.std.specs.Option.{option_to_list}
 use Rattle.std.specs.List.{AllByRecursion as Each}
 use Rattle.std.proofs.lemmas.List.{length-take}
@@ -17,7 +18,8 @@ use Rattle.views.proofs.CallerLemmas.{length-sample}
 use Rattle.membership.specs.Membership.{Membership, Turn, still}
 use Rattle.membership.specs.Event.{Event}
 use Rattle.membership.specs.declared.event.EventOf.TheVariants.{Joins, Join, ForwardJoin, Neighbor, Reply, Disconnect, Shuffle, ShuffleReply, Down, Tick}
-use Rattle.membership.specs.Blocks.{send, send_all, admit, step_down, lose, forget, is_asked, close_request, promote, welcome, words, shuffled_active, shuffled_passive}
+use Rattle.membership.specs.Blocks.{send, send_all, admit, step_down, lose, forget, is_asked, close_request}
+use Rattle.membership.specs.Blocks.{promote, welcome, words, shuffled_active, shuffled_passive}
 use Rattle.membership.specs.Table.{walk_on, on_forward_join, on_neighbor, on_reply, on_disconnect, on_down, start_shuffle, on_tick, on_shuffle, table}
 use Rattle.membership.specs.Laws.{FitsFrame, FitFrames}
 use Rattle.membership.proofs.Lawful.{if_either, option_either, each-append, each-sent}
@@ -33,13 +35,20 @@ all_fit body fields counts (name ∷ names) = ((fields, counts), all_fit body fi
 fit-send : (t : Turn) → FitFrames t → (to : Name) (body : Body) → has_good_fields body ≡ true → has_good_counts body ≡ true → FitFrames (send to body t)
 fit-send t h to body fields counts = each-append Fits t.sends _ h ((fields, counts), tt)
 
-fit-send_all : (t : Turn) → FitFrames t → (body : Body) → has_good_fields body ≡ true → has_good_counts body ≡ true → (names : List Name) → FitFrames (send_all body names t)
+fit-send_all : (t : Turn) →
+    FitFrames t →
+    (body : Body) →
+    has_good_fields body ≡ true →
+    has_good_counts body ≡ true →
+    (names : List Name) →
+    FitFrames (send_all body names t)
 fit-send_all t h body fields counts names = each-append Fits t.sends _ h (each-sent Fits body names (all_fit body fields counts names))
 
 fit-admit : (dice : Dice) (name : Name) (t : Turn) → FitFrames t → FitFrames (admit dice name t)
 fit-admit dice name t h =
     if_either FitFrames (view.is_settled t.views name) _ _ (λ settled. h)
-    (λ new. each-append Fits t.sends _ h (each-sent Fits body.Disconnect (option_to_list (view.dropped_for dice name t.views)) (all_fit body.Disconnect refl refl (option_to_list (view.dropped_for dice name t.views)))))
+    (λ new. each-append Fits t.sends _ h (each-sent Fits body.Disconnect (option_to_list (view.dropped_for dice name t.views))
+    (all_fit body.Disconnect refl refl (option_to_list (view.dropped_for dice name t.views)))))
 
 fit-welcome : (dice : Dice) (name : Name) (t : Turn) → FitFrames t → FitFrames (welcome dice name t)
 fit-welcome dice name t h = fit-send (admit dice name t) (fit-admit dice name t h) name (body.Neighbor true) refl refl
@@ -72,19 +81,32 @@ answer_fits dice n candidates =
     fits_count (sample (take n (words dice 4 8)) candidates) (omega (arith, some, length-take n (words dice 4 8), few_words 8 (drop 4 dice.0)))
 
 -- a shuffle has the owner's name and at most 7 others
-shuffle_fits : (dice : Dice) (target : Name) (v : view.Views) → view.AreSound v → nat_le (length (v.owner ∷ (shuffled_active dice target v ++ shuffled_passive dice v))) MAX_NAMES ≡ true
+shuffle_fits : (dice : Dice) (target : Name) (v : view.Views) →
+    view.AreSound v →
+    nat_le (length (v.owner ∷ (shuffled_active dice target v ++ shuffled_passive dice v))) MAX_NAMES ≡ true
 shuffle_fits dice target v sound =
-    let active : length (shuffled_active dice target v) ≤ length (words dice 4 v.limits.ka) = length-sample (words dice 4 v.limits.ka) (others (target ∷ []) v.active) in
-    let passive : length (shuffled_passive dice v) ≤ length (words dice (4 + v.limits.ka) v.limits.kp) = length-sample (words dice (4 + v.limits.ka) v.limits.kp) v.passive in
+    let active : length (shuffled_active dice target v) ≤ length (words dice 4 v.limits.ka) =
+    length-sample (words dice 4 v.limits.ka) (others (target ∷ []) v.active) in
+    let passive : length (shuffled_passive dice v) ≤ length (words dice (4 + v.limits.ka) v.limits.kp) =
+    length-sample (words dice (4 + v.limits.ka) v.limits.kp) v.passive in
     fits_count (v.owner ∷ (shuffled_active dice target v ++ shuffled_passive dice v))
-    (omega (arith, active, passive, few_words v.limits.ka (drop 4 dice.0), few_words v.limits.kp (drop (4 + v.limits.ka) dice.0), length-append (shuffled_active dice target v) (shuffled_passive dice v), sound.allowed.shuffle_to))
+    (omega (
+      arith,
+      active,
+      passive,
+      few_words v.limits.ka (drop 4 dice.0),
+      few_words v.limits.kp (drop (4 + v.limits.ka) dice.0),
+      length-append (shuffled_active dice target v) (shuffled_passive dice v),
+      sound.allowed.shuffle_to,
+    ))
 
 -- ---- the rows
 
 module _ (m : Membership) (dice : Dice) where
   fit-walk_on : (v : view.Views) (sender new : Name) (ttl : ℕ) → FitFrames (walk_on dice sender new ttl (record (still m) { views = v }))
   fit-walk_on v sender new ttl =
-      option_either FitFrames (chosen (word dice 1) (others (sender ∷ new ∷ []) v.active)) _ _ (λ next is. ((refl, refl), tt)) (fit-welcome dice new (record (still m) { views = v }) tt)
+      option_either FitFrames (chosen (word dice 1) (others (sender ∷ new ∷ []) v.active)) _ _
+      (λ next is. ((refl, refl), tt)) (fit-welcome dice new (record (still m) { views = v }) tt)
 
   fit-forward_join : (sender new : Name) (ttl : ℕ) → FitFrames (on_forward_join dice sender new ttl (still m))
   fit-forward_join sender new ttl =
@@ -111,7 +133,8 @@ module _ (m : Membership) (dice : Dice) where
 
   fit-disconnect : (sender : Name) → FitFrames (on_disconnect dice sender (still m))
   fit-disconnect sender =
-      if_either FitFrames (has_name m.views.active sender) _ _ (λ there. fit-promote dice (sender ∷ []) (step_down dice sender (still m)) (fit-step_down dice sender (still m) tt)) (λ absent. tt)
+      if_either FitFrames (has_name m.views.active sender) _ _
+      (λ there. fit-promote dice (sender ∷ []) (step_down dice sender (still m)) (fit-step_down dice sender (still m) tt)) (λ absent. tt)
 
   fit-down : (peer : Name) → FitFrames (on_down dice peer (still m))
   fit-down peer =
@@ -142,7 +165,9 @@ module _ (m : Membership) (dice : Dice) where
 
 pub table_fits_frames : (m : Membership) (event : Event) (dice : Dice) → view.AreSound m.views → FitsFrame event → FitFrames (table event dice (still m))
 table_fits_frames m (Joins contact) dice sound few = ((refl, refl), tt)
-table_fits_frames m (Join sender) dice sound few = fit-send_all (welcome dice sender (still m)) (fit-welcome dice sender (still m) tt) (body.ForwardJoin sender m.views.limits.arwl) refl refl (others (sender ∷ []) (welcome dice sender (still m)).views.active)
+table_fits_frames m (Join sender) dice sound few =
+    fit-send_all (welcome dice sender (still m)) (fit-welcome dice sender (still m) tt)
+    (body.ForwardJoin sender m.views.limits.arwl) refl refl (others (sender ∷ []) (welcome dice sender (still m)).views.active)
 table_fits_frames m (ForwardJoin sender new ttl) dice sound few = fit-forward_join m dice sender new ttl
 table_fits_frames m (Neighbor sender high) dice sound few = fit-neighbor m dice sender high
 table_fits_frames m (Reply sender accepted) dice sound few = fit-reply m dice sender accepted

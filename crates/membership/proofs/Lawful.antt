@@ -1,5 +1,6 @@
 -- Every row of the table keeps the laws.
-use Rattle.std.proofs.Common.{◌≡◌, ◌≢◌, ◌≤◌, Bool, true, false, if◌then◌else◌, ◌&&◌, List, [], ◌∷◌, ◌++◌, length, map, refl, sym, ap, subst, ◌∙◌, true≢false, arith, Option, None, Some, is_none}
+use Rattle.std.proofs.Common.{◌≡◌, ◌≢◌, ◌≤◌, Bool, true, false, if◌then◌else◌, ◌&&◌, List, [], ◌∷◌, ◌++◌, length}
+use Rattle.std.proofs.Common.{map, refl, sym, ap, subst, ◌∙◌, true≢false, arith, Option, None, Some, is_none}
 use Rattle.std.specs.Option.{option_map_or, option_to_list}
 use Rattle.std.specs.List.{AllByRecursion as Each}
 use Rattle.node_names.specs.NodeName.{Name}
@@ -9,7 +10,8 @@ use Rattle.frames.specs.Body.{Body}
 use Rattle.frames.specs.declared.body.BodyOf.TheVariants as body
 use Rattle.views.specs.Names.{word, chosen, others, evicted}
 use Rattle.views.specs.Views as view
-use Rattle.views.proofs.CallerLemmas.{others-none, chosen_other_is_there, is_another, active-demote, active-forget, active-add_active, dropped_was_active, sound-demote, sound-add_active, sound-forget, owner-demote, limits-demote, owner-add_active, limits-add_active}
+use Rattle.views.proofs.CallerLemmas.{others-none, chosen_other_is_there, is_another, active-demote, active-forget, active-add_active, dropped_was_active}
+use Rattle.views.proofs.CallerLemmas.{sound-demote, sound-add_active, sound-forget, owner-demote, limits-demote, owner-add_active, limits-add_active}
 use Rattle.views.proofs.CallerLemmas.{or_left, or_right}
 use Rattle.membership.specs.Membership.{Membership, Turn}
 use Rattle.membership.specs.Blocks.{send, admit, step_down, lose, is_asked, close_request, ask, promote}
@@ -23,7 +25,10 @@ if_either P true x y f g = f refl
 if_either P false x y f g = g refl
 
 -- and of a choice by whether there is a name
-pub option_either : (P : Turn → Type 0) (o : Option Name) (f : Name → Turn) (y : Turn) → ((name : Name) → o ≡ Some name → P (f name)) → P y → P (option_map_or f o y)
+pub option_either : (P : Turn → Type 0) (o : Option Name) (f : Name → Turn) (y : Turn) →
+    ((name : Name) → o ≡ Some name → P (f name)) →
+    P y →
+    P (option_map_or f o y)
 option_either P None f y g h = h
 option_either P (Some name) f y g h = g name refl
 
@@ -44,8 +49,10 @@ each-sent P body (name ∷ names) h = (h.0, each-sent P body names h.1)
 -- the names of a list that lacks the owner are other names
 pub each_another : (names : List Name) (owner : Name) → has_name names owner ≡ false → Each (λ name. name ≢ owner) names
 each_another [] owner lacks = tt
-each_another (name ∷ names) owner lacks =
-    (differ name owner (same_name-laws.symm name owner ∙ or_left (same_name owner name) _ lacks), each_another names owner (or_right (same_name owner name) _ lacks))
+each_another (name ∷ names) owner lacks = (
+  differ name owner (same_name-laws.symm name owner ∙ or_left (same_name owner name) _ lacks),
+  each_another names owner (or_right (same_name owner name) _ lacks),
+)
 
 -- ---- the blocks
 
@@ -88,20 +95,41 @@ module _ (m : Membership) where
     active_another name there = subst (λ owner. name ≢ owner) alike.owner (is_another v.active name v.owner there alike.sound.active_of_others)
 
     pub lawful-admit : (dice : Dice) (name : Name) → Lawful m (admit dice name (quiet v asked shuffled sends))
-    lawful-admit dice name = if_either (Lawful m) (view.is_settled v name) _ _ (λ settled. lawful-quiet) (λ new. by new (evicted v.limits.active (word dice 0) v.active) refl)
+    lawful-admit dice name =
+        if_either (Lawful m) (view.is_settled v name) _ _ (λ settled. lawful-quiet) (λ new. by new (evicted v.limits.active (word dice 0) v.active) refl)
       where
-        by : view.is_settled v name ≡ false → (o : Option Name) → evicted v.limits.active (word dice 0) v.active ≡ o → Lawful m (record { views = view.add_active dice name v; asked = asked; shuffled = shuffled; sends = sends ++ map (λ other. (other, body.Disconnect)) (option_to_list (view.dropped_for dice name v)); downs = option_to_list (view.dropped_for dice name v); ups = name ∷ [] })
+        by : view.is_settled v name ≡ false → (o : Option Name) → evicted v.limits.active (word dice 0) v.active ≡ o → Lawful m (record {
+          views = view.add_active dice name v;
+          asked = asked;
+          shuffled = shuffled;
+          sends = sends ++ map (λ other. (other, body.Disconnect)) (option_to_list (view.dropped_for dice name v));
+          downs = option_to_list (view.dropped_for dice name v);
+          ups = name ∷ [];
+        })
         by new o is =
             let dropped : view.dropped_for dice name v ≡ o = ap (λ b. if b then None else evicted v.limits.active (word dice 0) v.active) new ∙ is in
-            subst (λ gone. Lawful m (record { views = view.add_active dice name v; asked = asked; shuffled = shuffled; sends = sends ++ map (λ other. (other, body.Disconnect)) (option_to_list gone); downs = option_to_list gone; ups = name ∷ [] })) (sym dropped)
+            subst (λ gone. Lawful m (record {
+              views = view.add_active dice name v;
+              asked = asked;
+              shuffled = shuffled;
+              sends = sends ++ map (λ other. (other, body.Disconnect)) (option_to_list gone);
+              downs = option_to_list gone;
+              ups = name ∷ [];
+            }))
+            (sym dropped)
             (record {
               sound = sound-add_active dice name v alike.sound;
               owner_stays = owner-add_active dice name v ∙ alike.owner;
               limits_stay = limits-add_active dice name v ∙ alike.limits;
-              to_others = each-append (λ send. send.0 ≢ m.views.owner) sends _ to_others (each-sent (λ send. send.0 ≢ m.views.owner) body.Disconnect (option_to_list o) (others_told o is));
+              to_others =
+                  each-append (λ send. send.0 ≢ m.views.owner) sends _ to_others
+                  (each-sent (λ send. send.0 ≢ m.views.owner) body.Disconnect (option_to_list o) (others_told o is));
               downs_were_active = were_active o is;
               ups_were_not = (subst (λ names. has_name names name ≡ false) alike.active (or_right (same_name name v.owner) (has_name v.active name) new), tt);
-              active_now = active-add_active dice name v alike.sound new ∙ ap (λ gone. others (option_to_list gone) v.active ++ name ∷ []) is ∙ ap (λ names. others (option_to_list o) names ++ name ∷ []) alike.active;
+              active_now =
+                  active-add_active dice name v alike.sound new
+                  ∙ ap (λ gone. others (option_to_list gone) v.active ++ name ∷ []) is
+                  ∙ ap (λ names. others (option_to_list o) names ++ name ∷ []) alike.active;
               one_down = one_at_most o;
               one_up = omega arith;
             })
@@ -110,9 +138,12 @@ module _ (m : Membership) where
             others_told None is = tt
             others_told (Some gone) is = (active_another gone (dropped_was_active v.limits.active (word dice 0) v.active gone is), tt)
 
-            were_active : (o : Option Name) → evicted v.limits.active (word dice 0) v.active ≡ o → Each (λ other. has_name m.views.active other ≡ true) (option_to_list o)
+            were_active : (o : Option Name) →
+                evicted v.limits.active (word dice 0) v.active ≡ o →
+                Each (λ other. has_name m.views.active other ≡ true) (option_to_list o)
             were_active None is = tt
-            were_active (Some gone) is = (subst (λ names. has_name names gone ≡ true) alike.active (dropped_was_active v.limits.active (word dice 0) v.active gone is), tt)
+            were_active (Some gone) is =
+                (subst (λ names. has_name names gone ≡ true) alike.active (dropped_was_active v.limits.active (word dice 0) v.active gone is), tt)
 
             one_at_most : (o : Option Name) → length (option_to_list o) ≤ 1
             one_at_most None = omega arith
@@ -121,7 +152,8 @@ module _ (m : Membership) where
     pub lawful-step_down : (dice : Dice) (name : Name) → Lawful m (step_down dice name (quiet v asked shuffled sends))
     lawful-step_down dice name = if_either (Lawful m) (has_name v.active name) _ _ by (λ absent. lawful-quiet)
       where
-        by : has_name v.active name ≡ true → Lawful m (record { views = view.demote dice name v; asked = asked; shuffled = shuffled; sends = sends; downs = name ∷ []; ups = [] })
+        by : has_name v.active name ≡ true →
+            Lawful m (record { views = view.demote dice name v; asked = asked; shuffled = shuffled; sends = sends; downs = name ∷ []; ups = [] })
         by there =
             record {
               sound = sound-demote dice name v alike.sound;
@@ -130,7 +162,8 @@ module _ (m : Membership) where
               to_others = to_others;
               downs_were_active = (subst (λ names. has_name names name ≡ true) alike.active there, tt);
               ups_were_not = tt;
-              active_now = active-demote dice name v alike.sound there ∙ ap (others (name ∷ [])) alike.active ∙ sym (no_more (others (name ∷ []) m.views.active));
+              active_now =
+                  active-demote dice name v alike.sound there ∙ ap (others (name ∷ [])) alike.active ∙ sym (no_more (others (name ∷ []) m.views.active));
               one_down = omega arith;
               one_up = omega arith;
             }
@@ -188,11 +221,15 @@ module _ (m : Membership) where
 
     -- a promotion asks a passive name
     pub lawful-promote : (dice : Dice) (excepted : List Name) → Lawful m (promote dice excepted t)
-    lawful-promote dice excepted = if_either (Lawful m) (view.has_room t.views && is_none t.asked) _ _ (λ may. option_either (Lawful m) (chosen (word dice 2) (others excepted t.views.passive)) _ _ by h) (λ may. h)
+    lawful-promote dice excepted =
+        if_either (Lawful m) (view.has_room t.views && is_none t.asked) _ _
+        (λ may. option_either (Lawful m) (chosen (word dice 2) (others excepted t.views.passive)) _ _ by h) (λ may. h)
       where
         by : (name : Name) → chosen (word dice 2) (others excepted t.views.passive) ≡ Some name → Lawful m (ask name t)
         by name is =
-            let another : name ≢ m.views.owner = subst (λ owner. name ≢ owner) h.owner_stays (is_another t.views.passive name t.views.owner (chosen_other_is_there (word dice 2) excepted t.views.passive name is) h.sound.passive_of_others) in
+            let another : name ≢ m.views.owner =
+            subst (λ owner. name ≢ owner) h.owner_stays
+            (is_another t.views.passive name t.views.owner (chosen_other_is_there (word dice 2) excepted t.views.passive name is) h.sound.passive_of_others) in
             record {
               sound = h.sound;
               owner_stays = h.owner_stays;

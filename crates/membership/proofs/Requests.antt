@@ -1,5 +1,6 @@
 -- One request stands at a time.
-use Rattle.std.proofs.Common.{◌≡◌, ◌-◌, ◌⊎◌, inl, inr, ℕ, Bool, true, false, ◌||◌, ◌&&◌, ◌==◌, List, [], ◌∷◌, length, refl, sym, ap, subst, ◌∙◌, true≢false, None, Some, is_none, nat_lt, nat_le}
+use Rattle.std.proofs.Common.{◌≡◌, ◌-◌, ◌⊎◌, inl, inr, ℕ, Bool, true, false, ◌||◌, ◌&&◌, ◌==◌, List, [], ◌∷◌}
+use Rattle.std.proofs.Common.{length, refl, sym, ap, subst, ◌∙◌, true≢false, None, Some, is_none, nat_lt, nat_le}
 use Rattle.node_names.specs.NodeName.{Name}
 use Rattle.node_names.specs.Same.{same_name, has_name, same_name-Decides}
 use Rattle.node_names.specs.declared.dice.Dice.{Dice}
@@ -45,13 +46,19 @@ promote-keeps dice excepted t q stands =
     (λ may. stands)
 
 -- and sends the request to the name that it asks
-promote-tells : (dice : Dice) (excepted : List Name) (t : Turn) (q : Name) → (promote dice excepted t).asked ≡ Some q → (t.asked ≡ Some q) ⊎ IsAsking q (promote dice excepted t)
+promote-tells : (dice : Dice) (excepted : List Name) (t : Turn) (q : Name) →
+    (promote dice excepted t).asked ≡ Some q →
+    (t.asked ≡ Some q) ⊎ IsAsking q (promote dice excepted t)
 promote-tells dice excepted t q =
     if_either (λ u. u.asked ≡ Some q → (t.asked ≡ Some q) ⊎ IsAsking q u) (view.has_room t.views && is_none t.asked) _ _
-    (λ may. option_either (λ u. u.asked ≡ Some q → (t.asked ≡ Some q) ⊎ IsAsking q u) (chosen (word dice 2) (others excepted t.views.passive)) _ _ asks (λ e. inl e))
+    (λ may. option_either (λ u. u.asked ≡ Some q → (t.asked ≡ Some q) ⊎ IsAsking q u)
+    (chosen (word dice 2) (others excepted t.views.passive)) _ _ asks (λ e. inl e))
     (λ may e. inl e)
   where
-    asks : (name : Name) → chosen (word dice 2) (others excepted t.views.passive) ≡ Some name → Some name ≡ Some q → (t.asked ≡ Some q) ⊎ IsAsking q (ask name t)
+    asks : (name : Name) →
+        chosen (word dice 2) (others excepted t.views.passive) ≡ Some name →
+        Some name ≡ Some q →
+        (t.asked ≡ Some q) ⊎ IsAsking q (ask name t)
     asks name is e =
         let same : name ≡ q = cc in
         subst (λ other. (t.asked ≡ Some other) ⊎ IsAsking other (ask name t)) same
@@ -67,7 +74,8 @@ module _ (m : Membership) (event : Event) where
 module _ (m : Membership) (dice : Dice) where
   asked-walk_on : (v : view.Views) (sender new : Name) (ttl : ℕ) → (walk_on dice sender new ttl (record (still m) { views = v })).asked ≡ m.asked
   asked-walk_on v sender new ttl =
-      option_either (λ t. t.asked ≡ m.asked) (chosen (word dice 1) (others (sender ∷ new ∷ []) v.active)) _ _ (λ next is. refl) (asked-admit dice new (record (still m) { views = v }))
+      option_either (λ t. t.asked ≡ m.asked) (chosen (word dice 1) (others (sender ∷ new ∷ []) v.active)) _ _
+      (λ next is. refl) (asked-admit dice new (record (still m) { views = v }))
 
   asked-forward_join : (sender new : Name) (ttl : ℕ) → (on_forward_join dice sender new ttl (still m)).asked ≡ m.asked
   asked-forward_join sender new ttl =
@@ -80,7 +88,8 @@ module _ (m : Membership) (dice : Dice) where
 
   asked-neighbor : (sender : Name) (high : Bool) → (on_neighbor dice sender high (still m)).asked ≡ m.asked
   asked-neighbor sender high =
-      if_either (λ t. t.asked ≡ m.asked) (high || (has_name m.views.active sender || view.has_room m.views)) _ _ (λ accepted. asked-admit dice sender (still m)) (λ refused. refl)
+      if_either (λ t. t.asked ≡ m.asked) (high || (has_name m.views.active sender || view.has_room m.views)) _ _
+      (λ accepted. asked-admit dice sender (still m)) (λ refused. refl)
 
   asked-shuffle : (sender origin : Name) (ttl : ℕ) (names : List Name) → (on_shuffle dice sender origin ttl names (still m)).asked ≡ m.asked
   asked-shuffle sender origin ttl names =
@@ -96,7 +105,8 @@ module _ (m : Membership) (dice : Dice) where
   asked-reply : (sender : Name) (accepted : Bool) → (on_reply dice sender accepted (still m)).asked ≡ (close_request sender (still m)).asked
   asked-reply sender true =
       if_either (λ t. t.asked ≡ (close_request sender (still m)).asked) (has_name (close_request sender (still m)).views.active sender) _ _ (λ there. refl)
-      (λ absent. if_either (λ t. t.asked ≡ (close_request sender (still m)).asked) (view.has_room (close_request sender (still m)).views) _ _ (λ room. asked-admit dice sender (close_request sender (still m))) (λ full. refl))
+      (λ absent. if_either (λ t. t.asked ≡ (close_request sender (still m)).asked) (view.has_room (close_request sender (still m)).views) _ _
+      (λ room. asked-admit dice sender (close_request sender (still m))) (λ full. refl))
   asked-reply sender false = asked-step_down dice sender (close_request sender (still m))
 
   one-reply : (sender : Name) (accepted : Bool) → OneRequest m (Reply sender accepted) (on_reply dice sender accepted (still m))
@@ -110,7 +120,11 @@ module _ (m : Membership) (dice : Dice) where
   one-disconnect sender =
       if_either (OneRequest m (Disconnect sender)) (has_name m.views.active sender) _ _
       (λ there. record {
-        told = λ name is. elim (promote-tells dice (sender ∷ []) (step_down dice sender (still m)) name is) [ inl was ↦ inl (sym (asked-step_down dice sender (still m)) ∙ was) | inr asking ↦ inr asking ];
+        told =
+            λ name is. elim (promote-tells dice (sender ∷ []) (step_down dice sender (still m)) name is) [
+              | inl was ↦ inl (sym (asked-step_down dice sender (still m)) ∙ was)
+              | inr asking ↦ inr asking
+            ];
         stands = λ name is. inl (promote-keeps dice (sender ∷ []) (step_down dice sender (still m)) name (asked-step_down dice sender (still m) ∙ is));
       })
       (λ absent. unasked m (Disconnect sender) (still m) refl)
@@ -119,20 +133,33 @@ module _ (m : Membership) (dice : Dice) where
   one-left : (peer : Name) (t : Turn) → t.asked ≡ m.asked → OneRequest m (Down peer) (promote dice [] (close_request peer t))
   one-left peer t same =
       record {
-        told = λ name is. elim (promote-tells dice [] (close_request peer t) name is) [ inl was ↦ inl (sym same ∙ asked-close peer t name was) | inr asking ↦ inr asking ];
-        stands = λ name is. elim (close-keeps peer t name (same ∙ is)) [ inl stays ↦ inl (promote-keeps dice [] (close_request peer t) name stays) | inr closes ↦ inr closes ];
+        told =
+            λ name is. elim (promote-tells dice [] (close_request peer t) name is) [
+              | inl was ↦ inl (sym same ∙ asked-close peer t name was)
+              | inr asking ↦ inr asking
+            ];
+        stands =
+            λ name is. elim (close-keeps peer t name (same ∙ is)) [
+              | inl stays ↦ inl (promote-keeps dice [] (close_request peer t) name stays)
+              | inr closes ↦ inr closes
+            ];
       }
 
   one-down : (peer : Name) → OneRequest m (Down peer) (on_down dice peer (still m))
   one-down peer =
       if_either (OneRequest m (Down peer)) (has_name m.views.active peer) _ _ (λ there. one-left peer (lose peer (still m)) refl)
-      (λ absent. if_either (OneRequest m (Down peer)) (is_asked peer m.asked) _ _ (λ is. one-left peer (forget peer (still m)) refl) (λ is. unasked m (Down peer) (still m) refl))
+      (λ absent. if_either (OneRequest m (Down peer)) (is_asked peer m.asked) _ _
+      (λ is. one-left peer (forget peer (still m)) refl) (λ is. unasked m (Down peer) (still m) refl))
 
   one-tick : OneRequest m Tick (on_tick dice (still m))
   one-tick =
       if_either (OneRequest m Tick) (view.has_room (start_shuffle dice (still m)).views) _ _
       (λ room. record {
-        told = λ name is. elim (promote-tells dice [] (record (start_shuffle dice (still m)) { asked = None }) name is) [ inl was ↦ absurd cc | inr asking ↦ inr asking ];
+        told =
+            λ name is. elim (promote-tells dice [] (record (start_shuffle dice (still m)) { asked = None }) name is) [
+              | inl was ↦ absurd cc
+              | inr asking ↦ inr asking
+            ];
         stands = λ name is. inr tt;
       })
       (λ full. unasked m Tick (start_shuffle dice (still m)) asked-start_shuffle)

@@ -1,5 +1,6 @@
 -- How many walks a row starts or passes on.
-use Rattle.std.proofs.Common.{◌≡◌, ◌≢◌, ◌≤◌, ◌<◌, ◌-◌, inl, inr, ℕ, zero, suc, Bool, true, false, if◌then◌else◌, ◌||◌, ◌==◌, List, [], ◌∷◌, ◌++◌, length, map, refl, sym, ap, subst, ◌∙◌, true≢false, arith, nat_le}
+use Rattle.std.proofs.Common.{◌≡◌, ◌≢◌, ◌≤◌, ◌<◌, ◌-◌, inl, inr, ℕ, zero, suc, Bool, true, false, if◌then◌else◌, ◌||◌}
+use Rattle.std.proofs.Common.{◌==◌, List, [], ◌∷◌, ◌++◌, length, map, refl, sym, ap, subst, ◌∙◌, true≢false, arith, nat_le}
 use Rattle.std.specs.Option.{option_to_list}
 use Rattle.std.proofs.lemmas.List.Folds.{list_any-append}
 use Rattle.node_names.specs.NodeName.{Name}
@@ -24,14 +25,18 @@ walks-append : (xs ys : List (Name × Body)) → walks (xs ++ ys) ≡ walks xs +
 walks-append [] ys = refl
 walks-append (x ∷ xs) ys = by (is_walk x.1) (walks-append xs ys)
   where
-    by : (b : Bool) → walks (xs ++ ys) ≡ walks xs ++ walks ys → (if b then x ∷ walks (xs ++ ys) else walks (xs ++ ys)) ≡ (if b then x ∷ walks xs else walks xs) ++ walks ys
+    by : (b : Bool) →
+        walks (xs ++ ys) ≡ walks xs ++ walks ys →
+        (if b then x ∷ walks (xs ++ ys) else walks (xs ++ ys)) ≡ (if b then x ∷ walks xs else walks xs) ++ walks ys
     by true rest = ap (λ zs. x ∷ zs) rest
     by false rest = rest
 
 -- sending a message that is no walk adds no walk
 walks-none : (body : Body) → is_walk body ≡ false → (names : List Name) → walks (map (λ name. (name, body)) names) ≡ []
 walks-none body not_one [] = refl
-walks-none body not_one (name ∷ names) = ap (λ b. if b then (name, body) ∷ walks (map (λ other. (other, body)) names) else walks (map (λ other. (other, body)) names)) not_one ∙ walks-none body not_one names
+walks-none body not_one (name ∷ names) =
+    ap (λ b. if b then (name, body) ∷ walks (map (λ other. (other, body)) names) else walks (map (λ other. (other, body)) names)) not_one
+    ∙ walks-none body not_one names
 
 -- no more walks than messages
 walks-few : (sends : List (Name × Body)) → length (walks sends) ≤ length sends
@@ -53,7 +58,9 @@ walks-welcome dice name t none =
   where
     admits : walks (admit dice name t).sends ≡ []
     admits = if_either (λ turn. walks turn.sends ≡ []) (view.is_settled t.views name) _ _ (λ settled. none)
-        (λ new. walks-append t.sends _ ∙ ap (λ front. front ++ walks (map (λ other. (other, body.Disconnect)) (option_to_list (view.dropped_for dice name t.views)))) none ∙ walks-none body.Disconnect refl (option_to_list (view.dropped_for dice name t.views)))
+        (λ new. walks-append t.sends _
+        ∙ ap (λ front. front ++ walks (map (λ other. (other, body.Disconnect)) (option_to_list (view.dropped_for dice name t.views)))) none
+        ∙ walks-none body.Disconnect refl (option_to_list (view.dropped_for dice name t.views)))
 
 -- ---- a JOIN
 
@@ -74,25 +81,44 @@ true_or true b e = refl
 true_or false b e = e
 
 -- a name that is welcomed is active afterwards
-welcomed_is_active : (m : Membership) → view.AreSound m.views → (dice : Dice) (name : Name) → name ≢ m.views.owner → has_name (welcome dice name (still m)).views.active name ≡ true
+welcomed_is_active : (m : Membership) →
+    view.AreSound m.views →
+    (dice : Dice) (name : Name) →
+    name ≢ m.views.owner →
+    has_name (welcome dice name (still m)).views.active name ≡ true
 welcomed_is_active m sound dice name another =
     if_either (λ t. has_name t.views.active name ≡ true) (view.is_settled m.views name) _ _
     (λ settled. or_true (same_name name m.views.owner) (has_name m.views.active name) settled (not_same name m.views.owner another))
     (λ new. subst (λ names. has_name names name ≡ true) (sym (active-add_active dice name m.views sound new))
     (list_any-append (same_name name) (others (option_to_list (evicted m.views.limits.active (word dice 0) m.views.active)) m.views.active) (name ∷ [])
-    ∙ true_or (has_name (others (option_to_list (evicted m.views.limits.active (word dice 0) m.views.active)) m.views.active) name) (same_name name name || false) (ap (λ b. b || false) (same_name-laws.refl name))))
+    ∙ true_or (has_name (others (option_to_list (evicted m.views.limits.active (word dice 0) m.views.active)) m.views.active) name)
+    (same_name name name || false) (ap (λ b. b || false) (same_name-laws.refl name))))
 
 -- a JOIN starts fewer walks than the active view has places
-pub join_is_bounded : (m : Membership) → view.AreSound m.views → (dice : Dice) (sender : Name) → sender ≢ m.views.owner → length (walks (on_join dice sender (still m)).sends) < m.views.limits.active
+pub join_is_bounded : (m : Membership) →
+    view.AreSound m.views →
+    (dice : Dice) (sender : Name) →
+    sender ≢ m.views.owner →
+    length (walks (on_join dice sender (still m)).sends) < m.views.limits.active
 join_is_bounded m sound dice sender another =
     let active = (welcome dice sender (still m)).views.active in
     let lawful = lawful-join m sound dice sender another in
-    let front : walks (on_join dice sender (still m)).sends ≡ walks (map (λ other. (other, body.ForwardJoin sender m.views.limits.arwl)) (others (sender ∷ []) active)) =
-    walks-append (welcome dice sender (still m)).sends _ ∙ ap (λ none. none ++ walks (map (λ other. (other, body.ForwardJoin sender m.views.limits.arwl)) (others (sender ∷ []) active))) (walks-welcome dice sender (still m) refl) in
+    let front : walks (on_join dice sender (still m)).sends
+    ≡ walks (map (λ other. (other, body.ForwardJoin sender m.views.limits.arwl)) (others (sender ∷ []) active)) =
+    walks-append (welcome dice sender (still m)).sends _
+    ∙ ap (λ none. none ++ walks (map (λ other. (other, body.ForwardJoin sender m.views.limits.arwl)) (others (sender ∷ []) active)))
+    (walks-welcome dice sender (still m) refl) in
     let few : length (others (sender ∷ []) active) < length active = fewer-others sender active (welcomed_is_active m sound dice sender another) in
-    let within : length active ≤ m.views.limits.active = subst (λ (limits : Limits). length active ≤ limits.active) lawful.limits_stay lawful.sound.active_within in
+    let within : length active ≤ m.views.limits.active =
+    subst (λ (limits : Limits). length active ≤ limits.active) lawful.limits_stay lawful.sound.active_within in
     subst (λ sent. length sent < m.views.limits.active) (sym front)
-    (omega (arith, walks-few (map (λ other. (other, body.ForwardJoin sender m.views.limits.arwl)) (others (sender ∷ []) active)), length-sent (body.ForwardJoin sender m.views.limits.arwl) (others (sender ∷ []) active), few, within))
+    (omega (
+      arith,
+      walks-few (map (λ other. (other, body.ForwardJoin sender m.views.limits.arwl)) (others (sender ∷ []) active)),
+      length-sent (body.ForwardJoin sender m.views.limits.arwl) (others (sender ∷ []) active),
+      few,
+      within,
+    ))
 
 -- ---- a FORWARDJOIN
 

@@ -5,7 +5,8 @@ ghost use Rattle.node_names.specs.declared.dice.Dice.{Dice};
 ghost use Rattle.views.specs.Views.{AreSound};
 ghost use Rattle.membership.specs.Event.{Event};
 ghost use Rattle.membership.specs.declared.event.EventOf.TheVariants as Event;
-ghost use Rattle.membership.specs.Laws.{AreAboutMembership, FitFrames, FitsFrame, GoesOnOnce, IsFromAnother, Lawful, OneRequest, walks};
+ghost use Rattle.membership.specs.Laws.{AreAboutMembership, FitFrames, FitsFrame, GoesOnOnce};
+ghost use Rattle.membership.specs.Laws.{IsFromAnother, Lawful, OneRequest, walks};
 ghost use Rattle.membership.specs.Membership.{Membership, still};
 ghost use Rattle.membership.specs.Table.{table};
 

@@ -133,7 +133,8 @@ impl<A: Allocator + Copy> Membership<A> {
         dice: &Dice,
         moves: &mut Moves<A>,
     ) -> Result<(), AllocError>
-        ensures ok { OnOk result (Ends (table (lent event.now) dice.now (still self.old)) moves.old self.new moves.new) }
+        ensures ok { OnOk result
+            (Ends (table (lent event.now) dice.now (still self.old)) moves.old self.new moves.new) }
         ensures err { OnErr result ((self.new ≡ self.old) × (moves.new ≡ moves.old)) }
     {
         let (next, made) = self.prepare(event, dice)?;
@@ -144,7 +145,8 @@ impl<A: Allocator + Copy> Membership<A> {
 
     /// Joins the group through `contact`, to which it sends JOIN.
     pub fn join(&mut self, contact: NodeName, moves: &mut Moves<A>) -> Result<(), AllocError>
-        ensures ok { (dice : _) → OnOk result (Ends (table (Event.Joins contact) dice (still self.old)) moves.old self.new moves.new) }
+        ensures ok { (dice : _)
+            → OnOk result (Ends (table (Event.Joins contact) dice (still self.old)) moves.old self.new moves.new) }
         ensures err { OnErr result ((self.new ≡ self.old) × (moves.new ≡ moves.old)) }
     {
         self.take(&EventOf::Joins { contact }, &Dice([0; 16]), moves)
@@ -157,7 +159,8 @@ impl<A: Allocator + Copy> Membership<A> {
         dice: &Dice,
         moves: &mut Moves<A>,
     ) -> Result<(), AllocError>
-        ensures ok { OnOk result (Ends (table (Event.Join sender) dice.now (still self.old)) moves.old self.new moves.new) }
+        ensures ok { OnOk result
+            (Ends (table (Event.Join sender) dice.now (still self.old)) moves.old self.new moves.new) }
         ensures err { OnErr result ((self.new ≡ self.old) × (moves.new ≡ moves.old)) }
     {
         self.take(&EventOf::Join { sender }, dice, moves)
@@ -172,7 +175,8 @@ impl<A: Allocator + Copy> Membership<A> {
         dice: &Dice,
         moves: &mut Moves<A>,
     ) -> Result<(), AllocError>
-        ensures ok { OnOk result (Ends (table (Event.ForwardJoin sender new ttl) dice.now (still self.old)) moves.old self.new moves.new) }
+        ensures ok { OnOk result
+            (Ends (table (Event.ForwardJoin sender new ttl) dice.now (still self.old)) moves.old self.new moves.new) }
         ensures err { OnErr result ((self.new ≡ self.old) × (moves.new ≡ moves.old)) }
     {
         self.take(&EventOf::ForwardJoin { sender, new, ttl }, dice, moves)
@@ -186,7 +190,8 @@ impl<A: Allocator + Copy> Membership<A> {
         dice: &Dice,
         moves: &mut Moves<A>,
     ) -> Result<(), AllocError>
-        ensures ok { OnOk result (Ends (table (Event.Neighbor sender high) dice.now (still self.old)) moves.old self.new moves.new) }
+        ensures ok { OnOk result
+            (Ends (table (Event.Neighbor sender high) dice.now (still self.old)) moves.old self.new moves.new) }
         ensures err { OnErr result ((self.new ≡ self.old) × (moves.new ≡ moves.old)) }
     {
         self.take(&EventOf::Neighbor { sender, high }, dice, moves)
@@ -200,7 +205,8 @@ impl<A: Allocator + Copy> Membership<A> {
         dice: &Dice,
         moves: &mut Moves<A>,
     ) -> Result<(), AllocError>
-        ensures ok { OnOk result (Ends (table (Event.Reply sender accepted) dice.now (still self.old)) moves.old self.new moves.new) }
+        ensures ok { OnOk result
+            (Ends (table (Event.Reply sender accepted) dice.now (still self.old)) moves.old self.new moves.new) }
         ensures err { OnErr result ((self.new ≡ self.old) × (moves.new ≡ moves.old)) }
     {
         self.take(&EventOf::Reply { sender, accepted }, dice, moves)
@@ -213,7 +219,8 @@ impl<A: Allocator + Copy> Membership<A> {
         dice: &Dice,
         moves: &mut Moves<A>,
     ) -> Result<(), AllocError>
-        ensures ok { OnOk result (Ends (table (Event.Disconnect sender) dice.now (still self.old)) moves.old self.new moves.new) }
+        ensures ok { OnOk result
+            (Ends (table (Event.Disconnect sender) dice.now (still self.old)) moves.old self.new moves.new) }
         ensures err { OnErr result ((self.new ≡ self.old) × (moves.new ≡ moves.old)) }
     {
         self.take(&EventOf::Disconnect { sender }, dice, moves)
@@ -229,7 +236,8 @@ impl<A: Allocator + Copy> Membership<A> {
         dice: &Dice,
         moves: &mut Moves<A>,
     ) -> Result<(), AllocError>
-        ensures ok { OnOk result (Ends (table (Event.Shuffle sender origin ttl names.now) dice.now (still self.old)) moves.old self.new moves.new) }
+        ensures ok { OnOk result (Ends (table (Event.Shuffle sender origin ttl names.now) dice.now (still self.old))
+            moves.old self.new moves.new) }
         ensures err { OnErr result ((self.new ≡ self.old) × (moves.new ≡ moves.old)) }
     {
         self.take(
@@ -252,7 +260,8 @@ impl<A: Allocator + Copy> Membership<A> {
         dice: &Dice,
         moves: &mut Moves<A>,
     ) -> Result<(), AllocError>
-        ensures ok { OnOk result (Ends (table (Event.ShuffleReply sender names.now) dice.now (still self.old)) moves.old self.new moves.new) }
+        ensures ok { OnOk result (Ends
+            (table (Event.ShuffleReply sender names.now) dice.now (still self.old)) moves.old self.new moves.new) }
         ensures err { OnErr result ((self.new ≡ self.old) × (moves.new ≡ moves.old)) }
     {
         self.take(&EventOf::ShuffleReply { sender, names }, dice, moves)
@@ -265,7 +274,8 @@ impl<A: Allocator + Copy> Membership<A> {
         dice: &Dice,
         moves: &mut Moves<A>,
     ) -> Result<(), AllocError>
-        ensures ok { OnOk result (Ends (table (Event.Down peer) dice.now (still self.old)) moves.old self.new moves.new) }
+        ensures ok { OnOk result
+            (Ends (table (Event.Down peer) dice.now (still self.old)) moves.old self.new moves.new) }
         ensures err { OnErr result ((self.new ≡ self.old) × (moves.new ≡ moves.old)) }
     {
         self.take(&EventOf::Down { peer }, dice, moves)

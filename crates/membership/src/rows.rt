@@ -66,7 +66,8 @@ impl<A: Allocator + Copy> Draft<A> {
         ttl: u8,
         receivers: &[NodeName],
     ) -> Result<(), AllocError>
-        ensures { OnOk result (turn_of self.new ≡ block.send_all (body.ForwardJoin new ttl) (others (new ∷ []) receivers.now) (turn_of self.old)) }
+        ensures { OnOk result (turn_of self.new
+            ≡ block.send_all (body.ForwardJoin new ttl) (others (new ∷ []) receivers.now) (turn_of self.old)) }
     {
         for receiver in receivers {
             if *receiver != new {
@@ -263,8 +264,8 @@ impl<A: Allocator + Copy> Draft<A> {
         self.send(origin, BodyOf::ShuffleReply { names: answer })
     }
 
-    /// Handles a SHUFFLE: passes it on with one step less, or accepts it if no step is left, at most one name is active,
-    /// or there is no active name to pass it on to. Does nothing for a shuffle of the owner.
+    /// Handles a SHUFFLE: passes it on with one step less, or accepts it if no step is left, at most one name is
+    /// active, or there is no active name to pass it on to. Does nothing for a shuffle of the owner.
     fn on_shuffle(
         &mut self,
         sender: NodeName,
@@ -273,7 +274,8 @@ impl<A: Allocator + Copy> Draft<A> {
         names: &[NodeName],
         dice: &Dice,
     ) -> Result<(), AllocError>
-        ensures { OnOk result (turn_of self.new ≡ row.on_shuffle dice.now sender origin ttl names.now (turn_of self.old)) }
+        ensures { OnOk result
+            (turn_of self.new ≡ row.on_shuffle dice.now sender origin ttl names.now (turn_of self.old)) }
     {
         if origin == self.views.owner() {
             return Ok(());

@@ -78,8 +78,8 @@ fn entry<R: Files<File = File>>(
     }
 }
 
-/// Looks up where in the files of the folders the fault stands, which reading them had: it reads the heads of all records
-/// again, and one record up to the fault.
+/// Looks up where in the files of the folders the fault stands, which reading them had: it reads the heads of all
+/// records again, and one record up to the fault.
 pub fn place_of<R>(
     rt: &R,
     folders: &[&str],

@@ -90,8 +90,8 @@ where
     Ok(())
 }
 
-/// Reads the records of the folders, and replays them: the runs of a group, in the order of the folders and of the names
-/// of their files. Says of each record that is cut, as after a crash, that it is so.
+/// Reads the records of the folders, and replays them: the runs of a group, in the order of the folders and of the
+/// names of their files. Says of each record that is cut, as after a crash, that it is so.
 pub fn read_group<R, F>(
     rt: &R,
     folders: &[&str],

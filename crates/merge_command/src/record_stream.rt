@@ -177,8 +177,8 @@ impl RecordStream {
         }
     }
 
-    /// Reads the record from its beginning up to the stimulus at this place. Returns the path of its file, and how many of
-    /// the file's bytes come before it. `None` if the record has no such stimulus.
+    /// Reads the record from its beginning up to the stimulus at this place. Returns the path of its file, and how many
+    /// of the file's bytes come before it. `None` if the record has no such stimulus.
     pub(crate) fn find<R: Files<File = File>>(
         &mut self,
         source: &mut Source<'_, R>,

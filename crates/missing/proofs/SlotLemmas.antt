@@ -1,5 +1,6 @@
 -- Slots, and the places of what they hold.
-use Rattle.std.proofs.Common.{◌≡◌, ◌∙◌, ◌||◌, ◌+◌, ◌<◌, ◌≤◌, ℕ, zero, suc, Bool, true, false, not, cond, List, [], ◌∷◌, ◌++◌, Option, None, Some, filter, map, length, take, drop, sym, ap, subst, refl, arith}
+use Rattle.std.proofs.Common.{◌≡◌, ◌∙◌, ◌||◌, ◌+◌, ◌<◌, ◌≤◌, ℕ, zero, suc, Bool, true, false, not, cond, List, [], ◌∷◌}
+use Rattle.std.proofs.Common.{◌++◌, Option, None, Some, filter, map, length, take, drop, sym, ap, subst, refl, arith}
 use Rattle.std.specs.Prelude.{set, slice_get, is_some, unwrap_or}
 use Rattle.std.specs.Bool.{Decides}
 use Rattle.std.specs.List.{AllByRecursion as Each, IsDistinct, list_any}
@@ -42,7 +43,10 @@ module _ {X : Type 0} (t : X → Bool) where
       shift true = refl
       shift false = refl
 
-      go : (b : Bool) → cond b (Some zero) (later (place t xs)) ≡ None → (place t xs ≡ None → place t (xs ++ y ∷ []) ≡ cond (t y) (Some (length xs)) None) → cond b (Some zero) (later (place t (xs ++ y ∷ []))) ≡ cond (t y) (Some (suc (length xs))) None
+      go : (b : Bool) →
+          cond b (Some zero) (later (place t xs)) ≡ None →
+          (place t xs ≡ None → place t (xs ++ y ∷ []) ≡ cond (t y) (Some (length xs)) None) →
+          cond b (Some zero) (later (place t (xs ++ y ∷ []))) ≡ cond (t y) (Some (suc (length xs))) None
       go true is rest = absurd (true≢false (ap is_some is))
       go false is rest = ap later (rest (later-None (place t xs) is)) ∙ shift (t y)
 
@@ -50,11 +54,18 @@ module _ {X : Type 0} (t : X → Bool) where
   place-push_old [] ys n is = absurd (false≢true (ap is_some is))
   place-push_old (x ∷ xs) ys n is = go (t x) is (λ m h. place-push_old xs ys m h)
     where
-      by : (r : Option ℕ) → place t xs ≡ r → later r ≡ Some n → ((m : ℕ) → place t xs ≡ Some m → place t (xs ++ ys) ≡ Some m) → later (place t (xs ++ ys)) ≡ Some n
+      by : (r : Option ℕ) →
+          place t xs ≡ r →
+          later r ≡ Some n →
+          ((m : ℕ) → place t xs ≡ Some m → place t (xs ++ ys) ≡ Some m) →
+          later (place t (xs ++ ys)) ≡ Some n
       by None at h rest = absurd (false≢true (ap is_some h))
       by (Some m) at h rest = ap later (rest m at) ∙ h
 
-      go : (b : Bool) → cond b (Some zero) (later (place t xs)) ≡ Some n → ((m : ℕ) → place t xs ≡ Some m → place t (xs ++ ys) ≡ Some m) → cond b (Some zero) (later (place t (xs ++ ys))) ≡ Some n
+      go : (b : Bool) →
+          cond b (Some zero) (later (place t xs)) ≡ Some n →
+          ((m : ℕ) → place t xs ≡ Some m → place t (xs ++ ys) ≡ Some m) →
+          cond b (Some zero) (later (place t (xs ++ ys))) ≡ Some n
       go true h rest = h
       go false h rest = by (place t xs) refl h rest
 
@@ -77,7 +88,8 @@ module _ {X : Type 0} (t : X → Bool) where
   -- one that does not pass takes the place of one that does not
   pub place-set : (xs : List X) (n : ℕ) (y x : X) → slice_get xs n ≡ Some x → t x ≡ false → t y ≡ false → place t (set xs n y) ≡ place t xs
   place-set [] n y x at fails new = refl
-  place-set (z ∷ xs) zero y x at fails new = ap (λ b. cond b (Some zero) (later (place t xs))) (new ∙ sym fails) ∙ ap (λ o. cond (t (unwrap_or o x)) (Some zero) (later (place t xs))) (sym at)
+  place-set (z ∷ xs) zero y x at fails new =
+      ap (λ b. cond b (Some zero) (later (place t xs))) (new ∙ sym fails) ∙ ap (λ o. cond (t (unwrap_or o x)) (Some zero) (later (place t xs))) (sym at)
   place-set (z ∷ xs) (suc n) y x at fails new = ap (λ r. cond (t z) (Some zero) (later r)) (place-set xs n y x at fails new)
 
 -- a place is one of a slot
@@ -131,49 +143,90 @@ module _ {K X : Type 0} (eq : K → K → Bool) (decides : (a b : K) → Decides
   unplaced k (Some x ∷ slots) h = ap (λ b. cond b (Some zero) (later (place (holds eq key k) slots))) h.0 ∙ ap later (unplaced k slots h.1)
 
   -- one that is taken out has no place any more
-  pub taken_out : (k : K) (slots : List (Option X)) (n : ℕ) → IsDistinct eq (map key (somes slots)) → place (holds eq key k) slots ≡ Some n → place (holds eq key k) (set slots n None) ≡ None
+  pub taken_out : (k : K) (slots : List (Option X)) (n : ℕ) →
+      IsDistinct eq (map key (somes slots)) →
+      place (holds eq key k) slots ≡ Some n →
+      place (holds eq key k) (set slots n None) ≡ None
   taken_out k [] n distinct is = absurd (false≢true (ap is_some is))
   taken_out k (None ∷ slots) n distinct is = by (place (holds eq key k) slots) refl is (λ m h. taken_out k slots m distinct h)
     where
-      by : (r : Option ℕ) → place (holds eq key k) slots ≡ r → later r ≡ Some n → ((m : ℕ) → place (holds eq key k) slots ≡ Some m → place (holds eq key k) (set slots m None) ≡ None) → place (holds eq key k) (set (None ∷ slots) n None) ≡ None
+      by : (r : Option ℕ) →
+          place (holds eq key k) slots ≡ r →
+          later r ≡ Some n →
+          ((m : ℕ) → place (holds eq key k) slots ≡ Some m → place (holds eq key k) (set slots m None) ≡ None) →
+          place (holds eq key k) (set (None ∷ slots) n None) ≡ None
       by None at h rest = absurd (false≢true (ap is_some h))
       by (Some m) at h rest = subst (λ i. place (holds eq key k) (set (None ∷ slots) i None) ≡ None) (some_same (suc m) n h) (ap later (rest m at))
-  taken_out k (Some x ∷ slots) n distinct is = go (eq k (key x)) refl is (λ m h. taken_out k slots m (IsDistinct-tail eq (key x) (map key (somes slots)) distinct) h)
+  taken_out k (Some x ∷ slots) n distinct is =
+      go (eq k (key x)) refl is (λ m h. taken_out k slots m (IsDistinct-tail eq (key x) (map key (somes slots)) distinct) h)
     where
-      by : (r : Option ℕ) → place (holds eq key k) slots ≡ r → later r ≡ Some n → eq k (key x) ≡ false → ((m : ℕ) → place (holds eq key k) slots ≡ Some m → place (holds eq key k) (set slots m None) ≡ None) → place (holds eq key k) (set (Some x ∷ slots) n None) ≡ None
+      by : (r : Option ℕ) →
+          place (holds eq key k) slots ≡ r →
+          later r ≡ Some n →
+          eq k (key x) ≡ false →
+          ((m : ℕ) → place (holds eq key k) slots ≡ Some m → place (holds eq key k) (set slots m None) ≡ None) →
+          place (holds eq key k) (set (Some x ∷ slots) n None) ≡ None
       by None at h fails rest = absurd (false≢true (ap is_some h))
-      by (Some m) at h fails rest = subst (λ i. place (holds eq key k) (set (Some x ∷ slots) i None) ≡ None) (some_same (suc m) n h) (ap (λ b. cond b (Some zero) (later (place (holds eq key k) (set slots m None)))) fails ∙ ap later (rest m at))
+      by (Some m) at h fails rest =
+          subst (λ i. place (holds eq key k) (set (Some x ∷ slots) i None) ≡ None) (some_same (suc m) n h)
+          (ap (λ b. cond b (Some zero) (later (place (holds eq key k) (set slots m None)))) fails ∙ ap later (rest m at))
 
-      go : (b : Bool) → eq k (key x) ≡ b → cond b (Some zero) (later (place (holds eq key k) slots)) ≡ Some n → ((m : ℕ) → place (holds eq key k) slots ≡ Some m → place (holds eq key k) (set slots m None) ≡ None) → place (holds eq key k) (set (Some x ∷ slots) n None) ≡ None
-      go true same h rest = subst (λ i. place (holds eq key k) (set (Some x ∷ slots) i None) ≡ None) (some_same 0 n h) (ap later (unplaced k slots (subst (λ j. Each (λ other. eq j other ≡ false) (map key (somes slots))) (sym ((decides k (key x)).0 same)) (IsDistinct-head eq (key x) (map key (somes slots)) distinct))))
+      go : (b : Bool) →
+          eq k (key x) ≡ b →
+          cond b (Some zero) (later (place (holds eq key k) slots)) ≡ Some n →
+          ((m : ℕ) → place (holds eq key k) slots ≡ Some m → place (holds eq key k) (set slots m None) ≡ None) →
+          place (holds eq key k) (set (Some x ∷ slots) n None) ≡ None
+      go true same h rest =
+          subst (λ i. place (holds eq key k) (set (Some x ∷ slots) i None) ≡ None) (some_same 0 n h)
+          (ap later (unplaced k slots (subst (λ j. Each (λ other. eq j other ≡ false) (map key (somes slots)))
+          (sym ((decides k (key x)).0 same)) (IsDistinct-head eq (key x) (map key (somes slots)) distinct))))
       go false fails h rest = by (place (holds eq key k) slots) refl h fails rest
 
   -- a filter that takes nothing out
   filter-others : (k : K) (xs : List X) → Each (λ other. eq k other ≡ false) (map key xs) → filter (λ x. not (eq k (key x))) xs ≡ xs
   filter-others k [] h = refl
-  filter-others k (x ∷ xs) h = ap (λ b. cond (not b) (x ∷ filter (λ y. not (eq k (key y))) xs) (filter (λ y. not (eq k (key y))) xs)) h.0 ∙ ap (λ ys. x ∷ ys) (filter-others k xs h.1)
+  filter-others k (x ∷ xs) h =
+      ap (λ b. cond (not b) (x ∷ filter (λ y. not (eq k (key y))) xs) (filter (λ y. not (eq k (key y))) xs)) h.0 ∙ ap (λ ys. x ∷ ys) (filter-others k xs h.1)
 
   -- what is left without it
-  pub somes-taken_out : (k : K) (slots : List (Option X)) (n : ℕ) → IsDistinct eq (map key (somes slots)) → place (holds eq key k) slots ≡ Some n → somes (set slots n None) ≡ filter (λ x. not (eq k (key x))) (somes slots)
+  pub somes-taken_out : (k : K) (slots : List (Option X)) (n : ℕ) →
+      IsDistinct eq (map key (somes slots)) →
+      place (holds eq key k) slots ≡ Some n →
+      somes (set slots n None) ≡ filter (λ x. not (eq k (key x))) (somes slots)
   somes-taken_out k [] n distinct is = absurd (false≢true (ap is_some is))
   somes-taken_out k (None ∷ slots) n distinct is = by (place (holds eq key k) slots) refl is (λ m h. somes-taken_out k slots m distinct h)
     where
-      by : (r : Option ℕ) → place (holds eq key k) slots ≡ r → later r ≡ Some n → ((m : ℕ) → place (holds eq key k) slots ≡ Some m → somes (set slots m None) ≡ filter (λ x. not (eq k (key x))) (somes slots)) → somes (set (None ∷ slots) n None) ≡ filter (λ x. not (eq k (key x))) (somes slots)
+      by : (r : Option ℕ) →
+          place (holds eq key k) slots ≡ r →
+          later r ≡ Some n →
+          ((m : ℕ) → place (holds eq key k) slots ≡ Some m → somes (set slots m None) ≡ filter (λ x. not (eq k (key x))) (somes slots)) →
+          somes (set (None ∷ slots) n None) ≡ filter (λ x. not (eq k (key x))) (somes slots)
       by None at h rest = absurd (false≢true (ap is_some h))
-      by (Some m) at h rest = subst (λ i. somes (set (None ∷ slots) i None) ≡ filter (λ x. not (eq k (key x))) (somes slots)) (some_same (suc m) n h) (rest m at)
-  somes-taken_out k (Some x ∷ slots) n distinct is = go (eq k (key x)) refl is (λ m h. somes-taken_out k slots m (IsDistinct-tail eq (key x) (map key (somes slots)) distinct) h)
+      by (Some m) at h rest =
+          subst (λ i. somes (set (None ∷ slots) i None) ≡ filter (λ x. not (eq k (key x))) (somes slots)) (some_same (suc m) n h) (rest m at)
+  somes-taken_out k (Some x ∷ slots) n distinct is =
+      go (eq k (key x)) refl is (λ m h. somes-taken_out k slots m (IsDistinct-tail eq (key x) (map key (somes slots)) distinct) h)
     where
       others : List X
       others = filter (λ y. not (eq k (key y))) (somes slots)
 
-      by : (r : Option ℕ) → place (holds eq key k) slots ≡ r → later r ≡ Some n → ((m : ℕ) → place (holds eq key k) slots ≡ Some m → somes (set slots m None) ≡ others) → somes (set (Some x ∷ slots) n None) ≡ x ∷ others
+      by : (r : Option ℕ) →
+          place (holds eq key k) slots ≡ r →
+          later r ≡ Some n →
+          ((m : ℕ) → place (holds eq key k) slots ≡ Some m → somes (set slots m None) ≡ others) →
+          somes (set (Some x ∷ slots) n None) ≡ x ∷ others
       by None at h rest = absurd (false≢true (ap is_some h))
       by (Some m) at h rest = subst (λ i. somes (set (Some x ∷ slots) i None) ≡ x ∷ others) (some_same (suc m) n h) (ap (λ ys. x ∷ ys) (rest m at))
 
-      go : (b : Bool) → eq k (key x) ≡ b → cond b (Some zero) (later (place (holds eq key k) slots)) ≡ Some n → ((m : ℕ) → place (holds eq key k) slots ≡ Some m → somes (set slots m None) ≡ others) → somes (set (Some x ∷ slots) n None) ≡ cond (not (eq k (key x))) (x ∷ others) others
+      go : (b : Bool) →
+          eq k (key x) ≡ b →
+          cond b (Some zero) (later (place (holds eq key k) slots)) ≡ Some n →
+          ((m : ℕ) → place (holds eq key k) slots ≡ Some m → somes (set slots m None) ≡ others) →
+          somes (set (Some x ∷ slots) n None) ≡ cond (not (eq k (key x))) (x ∷ others) others
       go true same h rest =
           subst (λ i. somes (set (Some x ∷ slots) i None) ≡ somes slots) (some_same 0 n h) refl
-          ∙ sym (filter-others k (somes slots) (subst (λ j. Each (λ other. eq j other ≡ false) (map key (somes slots))) (sym ((decides k (key x)).0 same)) (IsDistinct-head eq (key x) (map key (somes slots)) distinct)))
+          ∙ sym (filter-others k (somes slots) (subst (λ j. Each (λ other. eq j other ≡ false) (map key (somes slots)))
+          (sym ((decides k (key x)).0 same)) (IsDistinct-head eq (key x) (map key (somes slots)) distinct)))
           ∙ ap (λ b. cond (not b) (x ∷ others) others) (sym same)
       go false fails h rest = by (place (holds eq key k) slots) refl h rest ∙ ap (λ b. cond (not b) (x ∷ others) others) (sym fails)
 
@@ -186,11 +239,16 @@ module _ {K X : Type 0} (eq : K → K → Bool) (decides : (a b : K) → Decides
   each-at P (Some y ∷ slots) (suc n) x h at = each-at P slots n x h.1 at
 
   -- none before one has its key
-  pub none_before : (slots : List (Option X)) (n : ℕ) (x : X) → IsDistinct eq (map key (somes slots)) → slice_get slots n ≡ Some (Some x) → list_any (λ y. eq (key x) (key y)) (somes (take n slots)) ≡ false
+  pub none_before : (slots : List (Option X)) (n : ℕ) (x : X) →
+      IsDistinct eq (map key (somes slots)) →
+      slice_get slots n ≡ Some (Some x) →
+      list_any (λ y. eq (key x) (key y)) (somes (take n slots)) ≡ false
   none_before [] n x distinct at = absurd (false≢true (ap is_some at))
   none_before (slot ∷ slots) zero x distinct at = refl
   none_before (None ∷ slots) (suc n) x distinct at = none_before slots n x distinct at
-  none_before (Some y ∷ slots) (suc n) x distinct at = ap (λ b. b || list_any (λ z. eq (key x) (key z)) (somes (take n slots))) (turned (eq (key x) (key y)) refl) ∙ none_before slots n x (IsDistinct-tail eq (key y) (map key (somes slots)) distinct) at
+  none_before (Some y ∷ slots) (suc n) x distinct at =
+      ap (λ b. b || list_any (λ z. eq (key x) (key z)) (somes (take n slots))) (turned (eq (key x) (key y)) refl)
+      ∙ none_before slots n x (IsDistinct-tail eq (key y) (map key (somes slots)) distinct) at
     where
       apart : eq (key y) (key x) ≡ false
       apart = each-at (λ other. eq (key y) other ≡ false) slots n x (IsDistinct-head eq (key y) (map key (somes slots)) distinct) at
@@ -205,7 +263,9 @@ module _ {K X : Type 0} (eq : K → K → Bool) (decides : (a b : K) → Decides
   any-place k (None ∷ slots) = any-place k slots ∙ is_some-later (place (holds eq key k) slots)
   any-place k (Some x ∷ slots) = go (eq k (key x)) (any-place k slots ∙ is_some-later (place (holds eq key k) slots))
     where
-      go : (b : Bool) → list_any (λ y. eq k (key y)) (somes slots) ≡ is_some (later (place (holds eq key k) slots)) → (b || list_any (λ y. eq k (key y)) (somes slots)) ≡ is_some (cond b (Some zero) (later (place (holds eq key k) slots)))
+      go : (b : Bool) →
+          list_any (λ y. eq k (key y)) (somes slots) ≡ is_some (later (place (holds eq key k) slots)) →
+          (b || list_any (λ y. eq k (key y)) (somes slots)) ≡ is_some (cond b (Some zero) (later (place (holds eq key k) slots)))
       go true rest = refl
       go false rest = rest
 
@@ -218,7 +278,10 @@ module _ {K X : Type 0} (eq : K → K → Bool) (decides : (a b : K) → Decides
       others : List X
       others = filter (λ y. not (eq k (key y))) (somes slots)
 
-      go : (b : Bool) → cond b (Some zero) (later (place (holds eq key k) slots)) ≡ None → (place (holds eq key k) slots ≡ None → others ≡ somes slots) → cond (not b) (x ∷ others) others ≡ x ∷ somes slots
+      go : (b : Bool) →
+          cond b (Some zero) (later (place (holds eq key k) slots)) ≡ None →
+          (place (holds eq key k) slots ≡ None → others ≡ somes slots) →
+          cond (not b) (x ∷ others) others ≡ x ∷ somes slots
       go true h rest = absurd (true≢false (ap is_some h))
       go false h rest = ap (λ ys. x ∷ ys) (rest (later-None (place (holds eq key k) slots) h))
 
@@ -226,10 +289,17 @@ module _ {K X : Type 0} (eq : K → K → Bool) (decides : (a b : K) → Decides
 
   module _ (slots : List (Option X)) (old new : K → Option ℕ) (are : (k : K) → old k ≡ place (holds eq key k) slots) where
     -- after one with a new key was appended
-    pub placed-push : (x : X) → old (key x) ≡ None → ((k : K) → new k ≡ cond (eq (key x) k) (Some (length slots)) (old k)) → (k : K) → new k ≡ place (holds eq key k) (slots ++ Some x ∷ [])
+    pub placed-push : (x : X) →
+        old (key x) ≡ None →
+        ((k : K) → new k ≡ cond (eq (key x) k) (Some (length slots)) (old k)) →
+        (k : K) →
+        new k ≡ place (holds eq key k) (slots ++ Some x ∷ [])
     placed-push x none updates k = go (eq (key x) k) refl
       where
-        by : (r : Option ℕ) → place (holds eq key k) slots ≡ r → eq k (key x) ≡ false → place (holds eq key k) slots ≡ place (holds eq key k) (slots ++ Some x ∷ [])
+        by : (r : Option ℕ) →
+            place (holds eq key k) slots ≡ r →
+            eq k (key x) ≡ false →
+            place (holds eq key k) slots ≡ place (holds eq key k) (slots ++ Some x ∷ [])
         by None at apart = at ∙ sym (place-push_new (holds eq key k) slots (Some x) at ∙ ap (λ b. cond b (Some (length slots)) None) apart)
         by (Some n) at apart = at ∙ sym (place-push_old (holds eq key k) slots (Some x ∷ []) n at)
 
@@ -240,11 +310,18 @@ module _ {K X : Type 0} (eq : K → K → Bool) (decides : (a b : K) → Decides
         go : (b : Bool) → eq (key x) k ≡ b → new k ≡ place (holds eq key k) (slots ++ Some x ∷ [])
         go true same =
             updates k ∙ ap (λ b. cond b (Some (length slots)) (old k)) same
-            ∙ sym (place-push_new (holds eq key k) slots (Some x) (sym (are k) ∙ ap old (sym ((decides (key x) k).0 same)) ∙ none) ∙ ap (λ b. cond b (Some (length slots)) None) (ap (λ j. eq j (key x)) (sym ((decides (key x) k).0 same)) ∙ (decides (key x) (key x)).1 refl))
-        go false apart = updates k ∙ ap (λ b. cond b (Some (length slots)) (old k)) apart ∙ are k ∙ by (place (holds eq key k) slots) refl (turned (eq k (key x)) refl apart)
+            ∙ sym (place-push_new (holds eq key k) slots (Some x) (sym (are k) ∙ ap old (sym ((decides (key x) k).0 same)) ∙ none)
+            ∙ ap (λ b. cond b (Some (length slots)) None) (ap (λ j. eq j (key x)) (sym ((decides (key x) k).0 same)) ∙ (decides (key x) (key x)).1 refl))
+        go false apart =
+            updates k ∙ ap (λ b. cond b (Some (length slots)) (old k)) apart ∙ are k ∙ by (place (holds eq key k) slots) refl (turned (eq k (key x)) refl apart)
 
     -- after the one with this key was taken out
-    pub placed-taken_out : (gone : K) (n : ℕ) → IsDistinct eq (map key (somes slots)) → old gone ≡ Some n → ((k : K) → new k ≡ cond (eq gone k) None (old k)) → (k : K) → new k ≡ place (holds eq key k) (set slots n None)
+    pub placed-taken_out : (gone : K) (n : ℕ) →
+        IsDistinct eq (map key (somes slots)) →
+        old gone ≡ Some n →
+        ((k : K) → new k ≡ cond (eq gone k) None (old k)) →
+        (k : K) →
+        new k ≡ place (holds eq key k) (set slots n None)
     placed-taken_out gone n distinct is updates k = go (eq gone k) refl
       where
         at : place (holds eq key gone) slots ≡ Some n
@@ -259,5 +336,12 @@ module _ {K X : Type 0} (eq : K → K → Bool) (decides : (a b : K) → Decides
         fails (Some x) has apart true h = absurd (false≢true (sym apart ∙ ap (eq gone) ((decides k (key x)).0 h) ∙ has))
 
         go : (b : Bool) → eq gone k ≡ b → new k ≡ place (holds eq key k) (set slots n None)
-        go true same = updates k ∙ ap (λ b. cond b None (old k)) same ∙ sym (subst (λ j. place (holds eq key j) (set slots n None) ≡ None) ((decides gone k).0 same) (taken_out gone slots n distinct at))
-        go false apart = updates k ∙ ap (λ b. cond b None (old k)) apart ∙ are k ∙ sym (place-set (holds eq key k) slots n None found.0 found.1 (fails found.0 found.2 apart (holds eq key k found.0) refl) refl)
+        go true same =
+            updates k
+            ∙ ap (λ b. cond b None (old k)) same
+            ∙ sym (subst (λ j. place (holds eq key j) (set slots n None) ≡ None) ((decides gone k).0 same) (taken_out gone slots n distinct at))
+        go false apart =
+            updates k
+            ∙ ap (λ b. cond b None (old k)) apart
+            ∙ are k
+            ∙ sym (place-set (holds eq key k) slots n None found.0 found.1 (fails found.0 found.2 apart (holds eq key k found.0) refl) refl)

@@ -48,7 +48,8 @@ is_armed_now id timers = go (has_id timers id) refl
   where
     go : (b : Bool) → has_id timers id ≡ b → has_id (if b then timers else timers ++ id ∷ []) id ≡ true
     go true is = is
-    go false is = list_any-append (same_id id) timers (id ∷ []) ∙ ap (λ b. has_id timers id || (b || false)) ((same_id-Decides id id).1 refl) ∙ or_true (has_id timers id)
+    go false is =
+        list_any-append (same_id id) timers (id ∷ []) ∙ ap (λ b. has_id timers id || (b || false)) ((same_id-Decides id id).1 refl) ∙ or_true (has_id timers id)
 
 distinct-with_timer : (id : MsgId) (timers : List MsgId) → IsDistinct same_id timers → IsDistinct same_id (with_timer id timers)
 distinct-with_timer id timers distinct = go (has_id timers id) refl
@@ -58,25 +59,38 @@ distinct-with_timer id timers distinct = go (has_id timers id) refl
     go false is = IsDistinct-push same_id-laws timers id distinct is
 
 -- another timer goes
-stays_without : (id : MsgId) (timers : List MsgId) (other : MsgId) → has_id timers other ≡ true → not (same_id id other) ≡ true → has_id (without_timer id timers) other ≡ true
+stays_without : (id : MsgId) (timers : List MsgId) (other : MsgId) →
+    has_id timers other ≡ true →
+    not (same_id id other) ≡ true →
+    has_id (without_timer id timers) other ≡ true
 stays_without id timers other is apart =
-    any-filter_same (same_id other) (λ armed. not (same_id id armed)) true (λ armed same. ap (λ i. not (same_id id i)) (sym ((same_id-Decides other armed).0 same)) ∙ apart) timers
+    any-filter_same (same_id other) (λ armed. not (same_id id armed)) true
+    (λ armed same. ap (λ i. not (same_id id i)) (sym ((same_id-Decides other armed).0 same)) ∙ apart) timers
     ∙ is
 
 -- ---- entries
 
-pub once-filter : (test : MsgId × Name × ℕ → Bool) (wants : List (MsgId × Name × ℕ)) → IsDistinct same_place (map place_of wants) → IsDistinct same_place (map place_of (filter test wants))
+pub once-filter : (test : MsgId × Name × ℕ → Bool) (wants : List (MsgId × Name × ℕ)) →
+    IsDistinct same_place (map place_of wants) →
+    IsDistinct same_place (map place_of (filter test wants))
 once-filter test [] once = once
 once-filter test (entry ∷ wants) once = go (test entry) (once-filter test wants (IsDistinct-tail same_place (place_of entry) (map place_of wants) once))
   where
     others : Each (λ place. same_place (place_of entry) place ≡ false) (map place_of (filter test wants))
-    others = each-map place_of (λ place. same_place (place_of entry) place ≡ false) (filter test wants) (each-filter (λ e. same_place (place_of entry) (place_of e) ≡ false) (λ e. same_place (place_of entry) (place_of e) ≡ false) test (λ e apart passes. apart) wants (from_map wants (IsDistinct-head same_place (place_of entry) (map place_of wants) once)))
+    others =
+        each-map place_of (λ place. same_place (place_of entry) place ≡ false) (filter test wants)
+        (each-filter (λ e. same_place (place_of entry) (place_of e) ≡ false) (λ e. same_place (place_of entry) (place_of e) ≡ false) test
+        (λ e apart passes. apart) wants (from_map wants (IsDistinct-head same_place (place_of entry) (map place_of wants) once)))
       where
-        from_map : (es : List (MsgId × Name × ℕ)) → Each (λ place. same_place (place_of entry) place ≡ false) (map place_of es) → Each (λ e. same_place (place_of entry) (place_of e) ≡ false) es
+        from_map : (es : List (MsgId × Name × ℕ)) →
+            Each (λ place. same_place (place_of entry) place ≡ false) (map place_of es) →
+            Each (λ e. same_place (place_of entry) (place_of e) ≡ false) es
         from_map [] h = tt
         from_map (e ∷ es) h = (h.0, from_map es h.1)
 
-    go : (b : Bool) → IsDistinct same_place (map place_of (filter test wants)) → IsDistinct same_place (map place_of (cond b (entry ∷ filter test wants) (filter test wants)))
+    go : (b : Bool) →
+        IsDistinct same_place (map place_of (filter test wants)) →
+        IsDistinct same_place (map place_of (cond b (entry ∷ filter test wants) (filter test wants)))
     go true later = IsDistinct-cons same_place (place_of entry) (map place_of (filter test wants)) others later
     go false later = later
 
@@ -89,18 +103,30 @@ each-without_first P id (entry ∷ wants) h = go (same_id id entry.0) (each-with
     go true later = h.1
     go false later = (h.0, later)
 
-once-without_first : (id : MsgId) (wants : List (MsgId × Name × ℕ)) → IsDistinct same_place (map place_of wants) → IsDistinct same_place (map place_of (without_first id wants))
+once-without_first : (id : MsgId) (wants : List (MsgId × Name × ℕ)) →
+    IsDistinct same_place (map place_of wants) →
+    IsDistinct same_place (map place_of (without_first id wants))
 once-without_first id [] once = once
-once-without_first id (entry ∷ wants) once = go (same_id id entry.0) (IsDistinct-tail same_place (place_of entry) (map place_of wants) once) (once-without_first id wants (IsDistinct-tail same_place (place_of entry) (map place_of wants) once))
+once-without_first id (entry ∷ wants) once =
+    go (same_id id entry.0) (IsDistinct-tail same_place (place_of entry) (map place_of wants) once)
+    (once-without_first id wants (IsDistinct-tail same_place (place_of entry) (map place_of wants) once))
   where
     others : Each (λ place. same_place (place_of entry) place ≡ false) (map place_of (without_first id wants))
-    others = each-map place_of (λ place. same_place (place_of entry) place ≡ false) (without_first id wants) (each-without_first (λ e. same_place (place_of entry) (place_of e) ≡ false) id wants (from_map wants (IsDistinct-head same_place (place_of entry) (map place_of wants) once)))
+    others =
+        each-map place_of (λ place. same_place (place_of entry) place ≡ false) (without_first id wants)
+        (each-without_first (λ e. same_place (place_of entry) (place_of e) ≡ false) id wants
+        (from_map wants (IsDistinct-head same_place (place_of entry) (map place_of wants) once)))
       where
-        from_map : (es : List (MsgId × Name × ℕ)) → Each (λ place. same_place (place_of entry) place ≡ false) (map place_of es) → Each (λ e. same_place (place_of entry) (place_of e) ≡ false) es
+        from_map : (es : List (MsgId × Name × ℕ)) →
+            Each (λ place. same_place (place_of entry) place ≡ false) (map place_of es) →
+            Each (λ e. same_place (place_of entry) (place_of e) ≡ false) es
         from_map [] h = tt
         from_map (e ∷ es) h = (h.0, from_map es h.1)
 
-    go : (b : Bool) → IsDistinct same_place (map place_of wants) → IsDistinct same_place (map place_of (without_first id wants)) → IsDistinct same_place (map place_of (if b then wants else entry ∷ without_first id wants))
+    go : (b : Bool) →
+        IsDistinct same_place (map place_of wants) →
+        IsDistinct same_place (map place_of (without_first id wants)) →
+        IsDistinct same_place (map place_of (if b then wants else entry ∷ without_first id wants))
     go true rest later = rest
     go false rest later = IsDistinct-cons same_place (place_of entry) (map place_of (without_first id wants)) others later
 
@@ -109,7 +135,11 @@ none_of : (id : MsgId) (wants : List (MsgId × Name × ℕ)) → is_some (first_
 none_of id [] none = tt
 none_of id (entry ∷ wants) none = go (same_id id entry.0) none (none_of id wants) refl
   where
-    go : (b : Bool) → is_some (if b then Some (entry.1, entry.2) else first_want id wants) ≡ false → (is_some (first_want id wants) ≡ false → Each (λ e. not (same_id id e.0) ≡ true) wants) → same_id id entry.0 ≡ b → Each (λ e. not (same_id id e.0) ≡ true) (entry ∷ wants)
+    go : (b : Bool) →
+        is_some (if b then Some (entry.1, entry.2) else first_want id wants) ≡ false →
+        (is_some (first_want id wants) ≡ false → Each (λ e. not (same_id id e.0) ≡ true) wants) →
+        same_id id entry.0 ≡ b →
+        Each (λ e. not (same_id id e.0) ≡ true) (entry ∷ wants)
     go true none later is = absurd (true≢false none)
     go false none later is = (ap not is, later none)
 
@@ -128,26 +158,39 @@ module _ (peer : Name) where
         distinct = distinct-with_timer id missing.timers sound.distinct;
       }
     where
-      once : (b : Bool) → is_wanted id peer missing.wants ≡ b → IsDistinct same_place (map place_of (if b then missing.wants else missing.wants ++ (id, peer, round) ∷ []))
+      once : (b : Bool) →
+          is_wanted id peer missing.wants ≡ b →
+          IsDistinct same_place (map place_of (if b then missing.wants else missing.wants ++ (id, peer, round) ∷ []))
       once true is = sound.once
-      once false is = subst (IsDistinct same_place) (sym (map-append place_of missing.wants ((id, peer, round) ∷ []))) (IsDistinct-push same_place-laws (map place_of missing.wants) (id, peer) sound.once (is_wanted-places id peer missing.wants ∙ is))
+      once false is =
+          subst (IsDistinct same_place) (sym (map-append place_of missing.wants ((id, peer, round) ∷ [])))
+          (IsDistinct-push same_place-laws (map place_of missing.wants) (id, peer) sound.once (is_wanted-places id peer missing.wants ∙ is))
 
       old : Each (λ entry. has_id (with_timer id missing.timers) entry.0 ≡ true) missing.wants
-      old = each-weaker (λ entry. has_id missing.timers entry.0 ≡ true) (λ entry. has_id (with_timer id missing.timers) entry.0 ≡ true) (λ entry. stays_armed id missing.timers entry.0) missing.wants sound.armed
+      old =
+          each-weaker (λ entry. has_id missing.timers entry.0 ≡ true) (λ entry. has_id (with_timer id missing.timers) entry.0 ≡ true)
+          (λ entry. stays_armed id missing.timers entry.0) missing.wants sound.armed
 
-      armed : (b : Bool) → Each (λ entry. has_id (with_timer id missing.timers) entry.0 ≡ true) (if b then missing.wants else missing.wants ++ (id, peer, round) ∷ [])
+      armed : (b : Bool) →
+          Each (λ entry. has_id (with_timer id missing.timers) entry.0 ≡ true) (if b then missing.wants else missing.wants ++ (id, peer, round) ∷ [])
       armed true = old
-      armed false = each-append (λ entry. has_id (with_timer id missing.timers) entry.0 ≡ true) missing.wants ((id, peer, round) ∷ []) old (is_armed_now id missing.timers, tt)
+      armed false = each-append (λ entry. has_id (with_timer id missing.timers) entry.0 ≡ true) missing.wants ((id, peer, round) ∷ []) old (
+        is_armed_now id missing.timers,
+        tt,
+      )
 
   pub sound-announced_all : (entries : List (MsgId × ℕ)) (missing : Missing) → IsSound missing → IsSound (announced_all peer entries missing)
   sound-announced_all [] missing sound = sound
-  sound-announced_all (one ∷ entries) missing sound = sound-announced_all entries (announced peer one.0 one.1 missing) (sound-announced one.0 one.1 missing sound)
+  sound-announced_all (one ∷ entries) missing sound =
+      sound-announced_all entries (announced peer one.0 one.1 missing) (sound-announced one.0 one.1 missing sound)
 
   pub sound-without : (missing : Missing) → IsSound missing → IsSound (without peer missing)
   sound-without missing sound =
       record {
         once = once-filter (λ entry. not (same_name peer entry.1)) missing.wants sound.once;
-        armed = each-filter (λ entry. has_id missing.timers entry.0 ≡ true) (λ entry. has_id missing.timers entry.0 ≡ true) (λ entry. not (same_name peer entry.1)) (λ entry is passes. is) missing.wants sound.armed;
+        armed =
+            each-filter (λ entry. has_id missing.timers entry.0 ≡ true) (λ entry. has_id missing.timers entry.0 ≡ true)
+            (λ entry. not (same_name peer entry.1)) (λ entry is passes. is) missing.wants sound.armed;
         distinct = sound.distinct;
       }
 
@@ -159,18 +202,25 @@ pub sound-got : (id : MsgId) (missing : Missing) → IsSound missing → IsSound
 sound-got id missing sound =
     record {
       once = once-filter (λ entry. not (same_id id entry.0)) missing.wants sound.once;
-      armed = each-filter (λ entry. has_id missing.timers entry.0 ≡ true) (λ entry. has_id (without_timer id missing.timers) entry.0 ≡ true) (λ entry. not (same_id id entry.0)) (λ entry is passes. stays_without id missing.timers entry.0 is passes) missing.wants sound.armed;
+      armed =
+          each-filter (λ entry. has_id missing.timers entry.0 ≡ true) (λ entry. has_id (without_timer id missing.timers) entry.0 ≡ true)
+          (λ entry. not (same_id id entry.0)) (λ entry is passes. stays_without id missing.timers entry.0 is passes) missing.wants sound.armed;
       distinct = distinct-filter same_id (λ armed. not (same_id id armed)) missing.timers sound.distinct;
     }
 
 pub sound-taken_first : (id : MsgId) (missing : Missing) → IsSound missing → IsSound (taken_first id missing)
 sound-taken_first id missing sound = go (is_some (first_want id missing.wants)) refl
   where
-    kept : (wants : List (MsgId × Name × ℕ)) → Each (λ entry. has_id missing.timers entry.0 ≡ true) wants → Each (λ entry. not (same_id id entry.0) ≡ true) wants → Each (λ entry. has_id (without_timer id missing.timers) entry.0 ≡ true) wants
+    kept : (wants : List (MsgId × Name × ℕ)) →
+        Each (λ entry. has_id missing.timers entry.0 ≡ true) wants →
+        Each (λ entry. not (same_id id entry.0) ≡ true) wants →
+        Each (λ entry. has_id (without_timer id missing.timers) entry.0 ≡ true) wants
     kept [] armed others = tt
     kept (entry ∷ wants) armed others = (stays_without id missing.timers entry.0 armed.0 others.0, kept wants armed.1 others.1)
 
-    go : (b : Bool) → is_some (first_want id missing.wants) ≡ b → IsSound (record { wants = without_first id missing.wants; timers = if b then missing.timers else without_timer id missing.timers })
+    go : (b : Bool) →
+        is_some (first_want id missing.wants) ≡ b →
+        IsSound (record { wants = without_first id missing.wants; timers = if b then missing.timers else without_timer id missing.timers })
     go true is =
         record {
           once = once-without_first id missing.wants sound.once;
@@ -180,6 +230,8 @@ sound-taken_first id missing sound = go (is_some (first_want id missing.wants)) 
     go false is =
         record {
           once = once-without_first id missing.wants sound.once;
-          armed = each-without_first (λ entry. has_id (without_timer id missing.timers) entry.0 ≡ true) id missing.wants (kept missing.wants sound.armed (none_of id missing.wants is));
+          armed =
+              each-without_first (λ entry. has_id (without_timer id missing.timers) entry.0 ≡ true) id missing.wants
+              (kept missing.wants sound.armed (none_of id missing.wants is));
           distinct = distinct-filter same_id (λ armed. not (same_id id armed)) missing.timers sound.distinct;
         }

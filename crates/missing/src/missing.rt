@@ -1,5 +1,6 @@
 //! The messages that were announced to a node and that it lacks.
-ghost use Rattle.std.specs.Prelude.{◌≡◌, ◌+◌, ◌<◌, ◌≤◌, [], not, true, is_some, length, map, vec_len, vec_capacity, if◌then◌else◌, IfOk, OnOk, OnErr};
+ghost use Rattle.std.specs.Prelude.{◌≡◌, ◌+◌, ◌<◌, ◌≤◌, [], not, true, is_some, length, map};
+ghost use Rattle.std.specs.Prelude.{vec_len, vec_capacity, if◌then◌else◌, IfOk, OnOk, OnErr};
 ghost use Rattle.indexmap.specs.IndexMap.{spare};
 ghost use Rattle.node_names.specs.Same.{has_id, has_name};
 ghost use Rattle.node_names.specs.Slots.{somes};
@@ -38,7 +39,9 @@ impl<A: Allocator> Model for Missing<A> {
 
     ghost view = { λ m. record { wants = somes m.wants.slots.items; timers = somes m.timers.slots.items } };
 
-    ghost invariant = { λ m. IsSound (record { wants = somes m.wants.slots.items; timers = somes m.timers.slots.items }) × IsKept m.wants.slots.items m.wants.places m.wants.peers.keys × AreTimed m.timers.slots.items m.timers.places m.timers.gone };
+    ghost invariant = { λ m. IsSound (record { wants = somes m.wants.slots.items; timers = somes m.timers.slots.items })
+        × IsKept m.wants.slots.items m.wants.places m.wants.peers.keys
+        × AreTimed m.timers.slots.items m.timers.places m.timers.gone };
 }
 
 /// Whether most slots are empty, and enough of them to be worth a copy.
@@ -57,7 +60,8 @@ fn put<A: Allocator + Copy>(wants: &mut Wants<A>, timers: &mut Timers<A>, entry:
     requires kept { IsKept wants.old.slots.items wants.old.places wants.old.peers.keys }
     requires timed { AreTimed timers.old.slots.items timers.old.places timers.old.gone }
     ensures new { result ≡ not (has_id (somes timers.old.slots.items) entry.now.0) }
-    ensures wants { somes wants.new.slots.items ≡ with_want entry.now.0 entry.now.1 entry.now.2 (somes wants.old.slots.items) }
+    ensures wants { somes wants.new.slots.items
+        ≡ with_want entry.now.0 entry.now.1 entry.now.2 (somes wants.old.slots.items) }
     ensures peers { wants.new.peers.keys ≡ wants.old.peers.keys }
     ensures kept { IsKept wants.new.slots.items wants.new.places wants.new.peers.keys }
     ensures timers { somes timers.new.slots.items ≡ with_timer entry.now.0 (somes timers.old.slots.items) }
@@ -111,7 +115,10 @@ fn take_first<A: Allocator>(
     ensures taken { result ≡ first_want id.now (somes wants.old.slots.items) }
     ensures wants { somes wants.new.slots.items ≡ without_first id.now (somes wants.old.slots.items) }
     ensures kept { IsKept wants.new.slots.items wants.new.places wants.new.peers.keys }
-    ensures timers { somes timers.new.slots.items ≡ (if is_some (first_want id.now (somes wants.old.slots.items)) then somes timers.old.slots.items else without_timer id.now (somes timers.old.slots.items)) }
+    ensures timers { somes timers.new.slots.items
+        ≡ (if is_some (first_want id.now (somes wants.old.slots.items))
+        then somes timers.old.slots.items
+        else without_timer id.now (somes timers.old.slots.items)) }
     ensures timed { AreTimed timers.new.slots.items timers.new.places timers.new.gone }
 {
     let first = wants::take_first(wants, id);

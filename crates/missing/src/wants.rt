@@ -5,7 +5,8 @@ ghost use Rattle.indexmap.specs.IndexMap.{spare};
 ghost use Rattle.node_names.specs.Same.{same_id, same_name};
 ghost use Rattle.node_names.specs.Slots.{somes};
 ghost use Rattle.missing.specs.Slots.{AreArmed, ArePlaced, AreBy, IsKept, earlier, is_of, place};
-ghost use Rattle.missing.specs.Wants.{place_of, same_place, with_slot, with_want, first_want, without_first, without_id, without_peer, without_peers, without_place, without_slot};
+ghost use Rattle.missing.specs.Wants.{place_of, same_place, with_slot, with_want, first_want, without_first};
+ghost use Rattle.missing.specs.Wants.{without_id, without_peer, without_peers, without_place, without_slot};
 
 use indexmap::IndexMap;
 use node_names::{MsgId, NameSet, NodeName};

@@ -30,7 +30,9 @@ empty_if : {X : Type 0} (b : Bool) (xs : List X) → b ≡ true → (if b then [
 empty_if true xs e = refl
 empty_if false xs e = absurd (false≢true e)
 
-none_gone : (farewell : Option Farewell) (after names : List Name) → ((name : Name) → has_name names name ≡ true → has_name after name ≡ true) → flat_map (departure_of farewell after) names ≡ []
+none_gone : (farewell : Option Farewell) (after names : List Name) →
+    ((name : Name) → has_name names name ≡ true → has_name after name ≡ true) →
+    flat_map (departure_of farewell after) names ≡ []
 none_gone farewell after [] all = refl
 none_gone farewell after (name ∷ names) all =
     ap (λ (l : List News). l ++ flat_map (departure_of farewell after) names) (empty_if (has_name after name) _ (all name (has_first name names)))
@@ -75,12 +77,15 @@ tells_of s old new change moved before after none kept is same =
       tells =
           ap (λ (c : Option Change). old.news ++ last_news c after) kept
           ∙ ap (λ (l : List News). old.news ++ l) (last_is old.tells moved s before after same)
-          ∙ ap (λ (l : List News). l ++ (if old.tells then news_of s before after else [])) (sym (ap (λ (c : Option Change). old.news ++ last_news c before) none ∙ append-nil old.news));
+          ∙ ap (λ (l : List News). l ++ (if old.tells then news_of s before after else []))
+          (sym (ap (λ (c : Option Change). old.news ++ last_news c before) none ∙ append-nil old.news));
       goes_on = refl;
     })
 
 -- ---- news that are worked out
 
 -- they are the same news
-pub settled_news : (old new : Telling) (active : List Name) → new ≡ record { tells = old.tells; news = all_news old active; last = None } → all_news new active ≡ all_news old active
+pub settled_news : (old new : Telling) (active : List Name) →
+    new ≡ record { tells = old.tells; news = all_news old active; last = None } →
+    all_news new active ≡ all_news old active
 settled_news old new active is = ap (λ (t : Telling). all_news t active) is ∙ append-nil (all_news old active)

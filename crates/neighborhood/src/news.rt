@@ -1,7 +1,8 @@
 //! What a node tells of its active view: which neighbours came and went, and why.
 ghost use Rattle.std.specs.Prelude.{◌≡◌, ◌++◌, IfOk, OnOk};
 ghost use Rattle.std.specs.List.{flat_map};
-ghost use Rattle.neighborhood.specs.News.{arrival_of, changes, departure_of, farewell_of, is_farewell, parting_of, turn_of};
+ghost use Rattle.neighborhood.specs.News.{arrival_of, changes, departure_of};
+ghost use Rattle.neighborhood.specs.News.{farewell_of, is_farewell, parting_of, turn_of};
 
 use frames::{BodyOf, Frame};
 use node_names::{NameSet, NodeName, has_name};
@@ -101,7 +102,8 @@ fn add_departures<A: Allocator>(
     left: &NameSet<A>,
     names: &[NodeName],
 ) -> Result<(), AllocError>
-    ensures { OnOk result (news.new.items ≡ news.old.items ++ flat_map (departure_of farewell.now left.now.keys) names.now) }
+    ensures { OnOk result
+        (news.new.items ≡ news.old.items ++ flat_map (departure_of farewell.now left.now.keys) names.now) }
 {
     for name in names {
         add_departure(news, farewell, left, *name)?;
@@ -153,8 +155,8 @@ fn add_turn<A: Allocator>(
     Ok(())
 }
 
-/// The news of a step that changed the active view: those that went, in the order of the view before; those that came, in
-/// the order of the view after; and last, whether the view became empty or is so no longer. The only error is that
+/// The news of a step that changed the active view: those that went, in the order of the view before; those that came,
+/// in the order of the view after; and last, whether the view became empty or is so no longer. The only error is that
 /// memory is refused.
 pub fn changes_of<A: Allocator + Copy>(
     alloc: A,

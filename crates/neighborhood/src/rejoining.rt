@@ -1,5 +1,6 @@
 //! By whom a node without neighbours joins again, and when.
-ghost use Rattle.std.specs.Prelude.{◌≡◌, ◌≤◌, ◌<◌, ◌+◌, ◌*◌, ◌^◌, Contains, IfSome, IsSome, IsSomeAnd, IsTrue, None, [], OnErr, OnOk, false, min};
+ghost use Rattle.std.specs.Prelude.{◌≡◌, ◌≤◌, ◌<◌, ◌+◌, ◌*◌, ◌^◌, Contains, IfSome, IsSome};
+ghost use Rattle.std.specs.Prelude.{IsSomeAnd, IsTrue, None, [], OnErr, OnOk, false, min};
 ghost use Rattle.neighborhood.specs.declared.rejoining.TheConstants.{FIRST, LONGEST};
 
 use node_names::NodeName;

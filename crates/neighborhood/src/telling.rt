@@ -68,7 +68,8 @@ impl<A: Allocator + Copy> Telling<A> {
 
     /// Works out the news of the last step, where they are not: the active view is as it left it.
     pub fn settle(&mut self, active: &NameSet<A>) -> Result<(), AllocError>
-        ensures ok { OnOk result (self.new ≡ record { tells = self.old.tells; news = all_news self.old active.now.keys; last = None }) }
+        ensures ok { OnOk result
+            (self.new ≡ record { tells = self.old.tells; news = all_news self.old active.now.keys; last = None }) }
         ensures err { OnErr result (self.new ≡ self.old) }
     {
         let Some(change) = &self.last else {
@@ -89,7 +90,9 @@ impl<A: Allocator + Copy> Telling<A> {
         stimulus: &Stimulus<Frame<A>, A>,
         active: &NameSet<A>,
     ) -> Result<Option<Change<A>>, AllocError>
-        ensures { IfOk result (λ change. change ≡ (if self.now.tells && is_moved then Some (record { before = active.now.keys; farewell = farewell_of stimulus.now }) else None)) }
+        ensures { IfOk result (λ change. change ≡ (if self.now.tells && is_moved
+            then Some (record { before = active.now.keys; farewell = farewell_of stimulus.now })
+            else None)) }
     {
         if !self.tells || !is_moved {
             return Ok(None);

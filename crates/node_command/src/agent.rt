@@ -155,8 +155,8 @@ impl<R: Clock + Eprint + Files<File = File> + Copy + Drop> Agent<R> {
         }
     }
 
-    /// Takes messages to be broadcast, and hands deliveries out. Where the node is recorded, its steps are recorded before
-    /// that, and before their frames are sent.
+    /// Takes messages to be broadcast, and hands deliveries out. Where the node is recorded, its steps are recorded
+    /// before that, and before their frames are sent.
     fn turn_ports<N: SteppedNode<Global>>(
         &mut self,
         at: Situation,

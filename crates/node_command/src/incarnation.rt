@@ -62,8 +62,8 @@ fn keep<R: AllocGlobal + Files<File = File> + Clock>(
     fs::open(rt, folder)?.sync_all()
 }
 
-/// The incarnation of this start: above the last one that is kept in the folder, and above the clock, and kept there now.
-/// Without a folder it is the clock's microseconds.
+/// The incarnation of this start: above the last one that is kept in the folder, and above the clock, and kept there
+/// now. Without a folder it is the clock's microseconds.
 pub(crate) fn begin<R: AllocGlobal + Files<File = File> + Clock>(
     rt: &R,
     folder: Option<&str>,

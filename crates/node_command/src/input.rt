@@ -80,8 +80,8 @@ fn read_all<R: Input + Eprint + Clock>(
     Ok(())
 }
 
-/// Has each line of standard input be broadcast. At its end, and where it cannot be read, the sender is dropped, so that
-/// the node ends, if it is to end then. Else it is kept.
+/// Has each line of standard input be broadcast. At its end, and where it cannot be read, the sender is dropped, so
+/// that the node ends, if it is to end then. Else it is kept.
 fn read_input<R: Input + Eprint + Clock>(
     rt: &R,
     alloc: Global,

@@ -45,8 +45,8 @@ impl Recording {
         self.error().is_none()
     }
 
-    /// Records what the node took since this was called last, at this time of the clock. If that fails, it is given up, and
-    /// the error is returned once.
+    /// Records what the node took since this was called last, at this time of the clock. If that fails, it is given up,
+    /// and the error is returned once.
     pub(crate) fn record<R: Files<File = File>, N: SteppedNode<Global>>(
         &mut self,
         rt: &R,

@@ -139,8 +139,8 @@ fn add<R: System, N: SteppedNode<Global>>(
     }
 }
 
-/// Adds the server of the node's pages to the loop, if it is to have one, and says where that answers. Returns what keeps
-/// the node's status.
+/// Adds the server of the node's pages to the loop, if it is to have one, and says where that answers. Returns what
+/// keeps the node's status.
 fn add_pages<R: System + Eprint, N: SteppedNode<Global>>(
     rt: &R,
     alloc: Global,
@@ -346,8 +346,8 @@ fn page_place<R: RandomSource>(
     }
 }
 
-/// Runs a node as it is told, until it ends: with its input, if it is to, where it is asked to, or where standard output
-/// fails.
+/// Runs a node as it is told, until it ends: with its input, if it is to, where it is asked to, or where standard
+/// output fails.
 ///
 /// Without a folder for its state, its incarnation is the clock's microseconds: where the clock is set back between two
 /// starts, the others take the later one for the earlier.

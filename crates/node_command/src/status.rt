@@ -8,9 +8,9 @@ use protocol::Core;
 use std::alloc::{AllocError, Global};
 use std::net::SocketAddr;
 
-/// What a node says of itself: what does not change, and how it was at its last tick. The server of pages is a member of
-/// the same loop, which never waits for another, and to look at the node for each request would let whoever asks slow it
-/// down.
+/// What a node says of itself: what does not change, and how it was at its last tick. The server of pages is a member
+/// of the same loop, which never waits for another, and to look at the node for each request would let whoever asks
+/// slow it down.
 #[derive(Drop)]
 pub(crate) struct StatusKeeper {
     alloc: Global,

@@ -17,9 +17,13 @@ middle_fits xs zs x all e fit = go xs (subst AreFit (sym e) fit)
     go (y ∷ ys) h = go ys h.1
 
 -- the body that comes last has the next number
-pub numbered-push : (me : Origin) (framed : ℕ) (sends : List (Name × Body)) (send : Name × Body) (number : ℕ) → number ≡ framed + length sends → numbered me framed (sends ++ send ∷ []) ≡ numbered me framed sends ++ (send.0, record { sender = me; number = number + 1; body = send.1 }) ∷ []
+pub numbered-push : (me : Origin) (framed : ℕ) (sends : List (Name × Body)) (send : Name × Body) (number : ℕ) →
+    number ≡ framed + length sends →
+    numbered me framed (sends ++ send ∷ []) ≡ numbered me framed sends ++ (send.0, record { sender = me; number = number + 1; body = send.1 }) ∷ []
 numbered-push me framed [] send number e = ap (λ n. (send.0, record { sender = me; number = n + 1; body = send.1 }) ∷ []) (omega (arith, e))
-numbered-push me framed (first ∷ sends) send number e = ap (λ rest. (first.0, record { sender = me; number = framed + 1; body = first.1 }) ∷ rest) (numbered-push me (framed + 1) sends send number (e ∙ shift framed (length sends)))
+numbered-push me framed (first ∷ sends) send number e =
+    ap (λ rest. (first.0, record { sender = me; number = framed + 1; body = first.1 }) ∷ rest)
+    (numbered-push me (framed + 1) sends send number (e ∙ shift framed (length sends)))
   where
     shift : (a b : ℕ) → a + suc b ≡ (a + 1) + b
     shift a b = omega arith

@@ -31,13 +31,36 @@ pub newcomer_fits : (me : Origin) (limits : Limits) (peers : List Name) (spent f
 newcomer_fits me limits peers spent framed = record { held = tt; queued = tt; wants = tt }
 
 -- the contact is sent JOIN, and the membership stays as it was
-pub greets : (m : Membership) (o : Option Name) (contact : Name) → o ≡ Some contact → (none moves : Moves) (new : Membership) → none ≡ record { sends = []; downs = []; ups = [] } → ((dice : Dice) → Ends (table (on.Joins contact) dice (still m)) none new moves) → (sends : List (Name × Body)) → sends ≡ moves.sends → (new ≡ m) × (sends ≡ opening o)
+pub greets : (m : Membership) (o : Option Name) (contact : Name) →
+    o ≡ Some contact →
+    (none moves : Moves) (new : Membership) →
+    none ≡ record { sends = []; downs = []; ups = [] } →
+    ((dice : Dice) → Ends (table (on.Joins contact) dice (still m)) none new moves) →
+    (sends : List (Name × Body)) →
+    sends ≡ moves.sends →
+    (new ≡ m) × (sends ≡ opening o)
 greets m o contact is none moves new is_none ends sends are_sent =
-    let end : Ends (table (on.Joins contact) (record { 0 = [] }) (still m)) none new moves = ends (record { 0 = [] }) in
-    (end.node, are_sent ∙ end.sends ∙ ap (λ (n : Moves). n.sends ++ (table (on.Joins contact) (record { 0 = [] }) (still m)).sends) is_none ∙ ap opening (sym is))
+    let end : Ends (table (on.Joins contact) (record { 0 = [] }) (still m)) none new moves = ends (record { 0 = [] }) in (
+      end.node,
+      are_sent ∙ end.sends ∙ ap (λ (n : Moves). n.sends ++ (table (on.Joins contact) (record { 0 = [] }) (still m)).sends) is_none ∙ ap opening (sym is),
+    )
 
 -- the parts are those of a newcomer, and what was opened with is given
-pub started_is : (me : Origin) (limits : Limits) (peers : List Name) (contact : Option Name) (spent framed : ℕ) → AreAllowed limits → (m : Membership) → m ≡ (newcomer me limits peers spent framed).membership → (g : GossipState) → g ≡ (newcomer me limits peers spent framed).gossip → (effects : Effects) → effects ≡ record { sends = opening contact; delivered = None } → (before after : Output Frame) → after ≡ record { sends = before.sends ++ numbered me framed effects.sends; deliveries = before.deliveries ++ delivered_at me effects.delivered } → (last : ℕ) → last ≡ framed + length effects.sends → (sends : List (Name × Frame)) × PlumStartsCounted spent framed me limits peers contact sends (record { me = me; membership = m; gossip = g; framed = last }) × (after ≡ record before { sends = before.sends ++ sends })
+pub started_is : (me : Origin) (limits : Limits) (peers : List Name) (contact : Option Name) (spent framed : ℕ) →
+    AreAllowed limits →
+    (m : Membership) →
+    m ≡ (newcomer me limits peers spent framed).membership →
+    (g : GossipState) →
+    g ≡ (newcomer me limits peers spent framed).gossip →
+    (effects : Effects) →
+    effects ≡ record { sends = opening contact; delivered = None } →
+    (before after : Output Frame) →
+    after ≡ record { sends = before.sends ++ numbered me framed effects.sends; deliveries = before.deliveries ++ delivered_at me effects.delivered } →
+    (last : ℕ) →
+    last ≡ framed + length effects.sends →
+    (sends : List (Name × Frame))
+    × PlumStartsCounted spent framed me limits peers contact sends (record { me = me; membership = m; gossip = g; framed = last })
+    × (after ≡ record before { sends = before.sends ++ sends })
 started_is me limits peers contact spent framed allowed m is_m g is_g effects is_effects before after is_after last is_last = (
   numbered me framed effects.sends,
   record {
@@ -45,7 +68,10 @@ started_is me limits peers contact spent framed allowed m is_m g is_g effects is
     leaves = λ i. record { me = me; membership = is_m i; gossip = is_g i; framed = (is_last ∙ ap (λ (e : Effects). framed + length e.sends) is_effects) i };
     sent = ap (λ (e : Effects). numbered me framed e.sends) is_effects;
   },
-  is_after ∙ ap (λ (e : Effects). record { sends = before.sends ++ numbered me framed effects.sends; deliveries = before.deliveries ++ delivered_at me e.delivered }) is_effects ∙ ap (λ deliveries. record { sends = before.sends ++ numbered me framed effects.sends; deliveries = deliveries }) (append-nil before.deliveries),
+  is_after
+      ∙ ap (λ (e : Effects). record { sends = before.sends ++ numbered me framed effects.sends; deliveries = before.deliveries ++ delivered_at me e.delivered })
+      is_effects
+      ∙ ap (λ deliveries. record { sends = before.sends ++ numbered me framed effects.sends; deliveries = deliveries }) (append-nil before.deliveries),
 )
 
 -- Why a start is refused.
@@ -53,11 +79,21 @@ abbrev pub IsRefusal : Option Name → ℕ → CoreError → Type 0
 IsRefusal contact framed e = (e ≡ OutOfMemory) ⊎ ((e ≡ SeqSpent) × IsSome contact × (framed ≡ 2 ^ 64 - 1))
 
 -- more numbers are needed than are left: those of the JOIN
-join_needs_one : (contact : Option Name) (framed : ℕ) → framed ≤ 2 ^ 64 - 1 → 2 ^ 64 - 1 < framed + length (opening contact) → IsSome contact × (framed ≡ 2 ^ 64 - 1)
+join_needs_one : (contact : Option Name) (framed : ℕ) →
+    framed ≤ 2 ^ 64 - 1 →
+    2 ^ 64 - 1 < framed + length (opening contact) →
+    IsSome contact × (framed ≡ 2 ^ 64 - 1)
 join_needs_one None framed fits more = absurd (omega (arith, fits, more))
 join_needs_one (Some contact) framed fits more = (refl, omega (arith, fits, more))
 
-pub refused_for : (contact : Option Name) (framed : ℕ) → framed ≤ 2 ^ 64 - 1 → (effects : Effects) → effects ≡ record { sends = opening contact; delivered = None } → (e : CoreError) → (e ≡ PayloadTooLong → ⊥) → (e ≡ SeqSpent → 2 ^ 64 - 1 < framed + length effects.sends) → IsRefusal contact framed e
+pub refused_for : (contact : Option Name) (framed : ℕ) →
+    framed ≤ 2 ^ 64 - 1 →
+    (effects : Effects) →
+    effects ≡ record { sends = opening contact; delivered = None } →
+    (e : CoreError) →
+    (e ≡ PayloadTooLong → ⊥) →
+    (e ≡ SeqSpent → 2 ^ 64 - 1 < framed + length effects.sends) →
+    IsRefusal contact framed e
 refused_for contact framed fits effects is_effects PayloadTooLong no_payload spent = absurd (no_payload refl)
 refused_for contact framed fits effects is_effects SeqSpent no_payload spent =
     let more : 2 ^ 64 - 1 < framed + length (opening contact) = subst (λ (e : Effects). 2 ^ 64 - 1 < framed + length e.sends) is_effects (spent refl) in
@@ -72,6 +108,7 @@ only_memory (Err e) contact (inl memory) = memory
 only_memory (Err e) contact (inr spent) = absurd (omega (arith, spent.2))
 
 -- what holds of an error holds of what a refusal passes on
-pub passed_on : {T : Type 0} (result : Result T CoreError) (P : CoreError → Type 0) (e : CoreError) → IsErrAnd result (λ passed. passed ≡ e) → P e → IfErr result P
+pub passed_on :
+    {T : Type 0} (result : Result T CoreError) (P : CoreError → Type 0) (e : CoreError) → IsErrAnd result (λ passed. passed ≡ e) → P e → IfErr result P
 passed_on (Ok x) P e is p = tt
 passed_on (Err passed) P e is p = subst P (sym is) p

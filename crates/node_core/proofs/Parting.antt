@@ -72,7 +72,8 @@ pub turned_by : (me : Origin) (m : Membership) (g : GossipState) (stimulus : Sti
 turned_by me m g (Broadcast payload) = refl
 turned_by me m g (Arrive sender frame dice) = go (same_name sender.name me.name)
   where
-    go : (b : Bool) → (if b then idle m g else heard m g sender.name frame.body dice) ≡ by_part m g (if b then Nobody else part_heard sender.name frame.body dice)
+    go : (b : Bool) →
+        (if b then idle m g else heard m g sender.name frame.body dice) ≡ by_part m g (if b then Nobody else part_heard sender.name frame.body dice)
     go true = refl
     go false = heard_by m g sender.name frame.body dice
 turned_by me m g (Fire id) = refl
@@ -104,7 +105,8 @@ too_long_by me m (Join contact) = (go (is_joined me m contact), (λ h. absurd h)
     go false h = h
 
 -- and finds no number where its stimulus finds none
-pub spent_by : (core : Plum) (stimulus : Stimulus Frame) → IsSpentPart core.gossip (part_of core.me core.membership stimulus) ↔ IsOutOfNumbers (plum_state core) stimulus
+pub spent_by : (core : Plum) (stimulus : Stimulus Frame) →
+    IsSpentPart core.gossip (part_of core.me core.membership stimulus) ↔ IsOutOfNumbers (plum_state core) stimulus
 spent_by core (Broadcast payload) = ((λ h. h), (λ h. h))
 spent_by core (Arrive sender frame dice) = (go (same_name sender.name core.me.name), (λ h. absurd h))
   where
@@ -132,7 +134,9 @@ allowed_by (Shuffle dice) short = tt
 allowed_by (Join contact) short = tt
 
 -- what did not refuse as too long may be taken
-pub ok_allowed : {T : Type 0} (result : Result T CoreError) (stimulus : Stimulus Frame) → IsErrOf result PayloadTooLong ↔ IsTooLong stimulus → OnOk result (IsAllowed stimulus)
+pub ok_allowed : {T : Type 0} (result : Result T CoreError) (stimulus : Stimulus Frame) →
+    IsErrOf result PayloadTooLong ↔ IsTooLong stimulus →
+    OnOk result (IsAllowed stimulus)
 ok_allowed (Err e) stimulus long = tt
 ok_allowed (Ok x) stimulus long = allowed_by stimulus (λ h. no_error x PayloadTooLong (long.1 h))
 
@@ -150,7 +154,10 @@ same_error : {T : Type 0} (e x : CoreError) → ◌≡◌ {A = Result T CoreErro
 same_error e x same = cc
 
 -- a refusal that is passed on comes as it came
-pub passes_on : {T U : Type 0} (result : Result U CoreError) (e x : CoreError) (P : Type 0) → IsErrAnd result (λ passed. passed ≡ e) → (◌≡◌ {A = Result T CoreError} (Err e) (Err x)) ↔ P → IsErrOf result x ↔ P
+pub passes_on : {T U : Type 0} (result : Result U CoreError) (e x : CoreError) (P : Type 0) →
+    IsErrAnd result (λ passed. passed ≡ e) →
+    (◌≡◌ {A = Result T CoreError} (Err e) (Err x)) ↔ P →
+    IsErrOf result x ↔ P
 passes_on (Ok v) e x P is came = absurd is
 passes_on (Err passed) e x P is came = (
   (λ returned. came.0 (ap Err (sym is ∙ same_error passed x returned))),

@@ -12,7 +12,10 @@ equal_from_both false true f g = g refl
 equal_from_both false false f g = refl
 
 -- each list has what the other has
-pub same_from_subsets : (names others : List Name) → ((q : Name) → has_name names q ≡ true → has_name others q ≡ true) → ((q : Name) → has_name others q ≡ true → has_name names q ≡ true) → SameNames names others
+pub same_from_subsets : (names others : List Name) →
+    ((q : Name) → has_name names q ≡ true → has_name others q ≡ true) →
+    ((q : Name) → has_name others q ≡ true → has_name names q ≡ true) →
+    SameNames names others
 same_from_subsets names others f g name = equal_from_both (has_name names name) (has_name others name) (f name) (g name)
 
 -- what is not true is false

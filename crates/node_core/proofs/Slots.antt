@@ -20,7 +20,10 @@ module _ {X : Type 0} where
   one_left false o x h = ap option_to_list (sym h)
 
   -- a slot gives its value, if it has one
-  pub slot_yields : {slot : _} (o : Option X) → option_iter_item slot ≡ o → option_iter_done slot ≡ false → YieldsList (option_iter_steps {A = X}) (λ y. y.now) slot (option_to_list o)
+  pub slot_yields : {slot : _} (o : Option X) →
+      option_iter_item slot ≡ o →
+      option_iter_done slot ≡ false →
+      YieldsList (option_iter_steps {A = X}) (λ y. y.now) slot (option_to_list o)
   slot_yields {slot} o item fresh =
       subst (λ xs. YieldsList (option_iter_steps {A = X}) (λ y. y.now) slot xs)
       (ap (λ done. cond done [] (option_to_list (option_iter_item slot))) fresh ∙ ap option_to_list item)
@@ -41,13 +44,21 @@ module _ {X : Type 0} where
   somes-append (Some x ∷ xs) ys = ap (λ zs. x ∷ zs) (somes-append xs ys)
 
   -- one slot more that has a value
-  pub somes_some : (slots : List (Option X)) (i : ℕ) (slot : Option X) (x : X) → i < length slots → slot ≡ get_or slots i slot → slot ≡ Some x → somes (take (i + 1) slots) ≡ somes (take i slots) ++ x ∷ []
+  pub somes_some : (slots : List (Option X)) (i : ℕ) (slot : Option X) (x : X) →
+      i < length slots →
+      slot ≡ get_or slots i slot →
+      slot ≡ Some x →
+      somes (take (i + 1) slots) ≡ somes (take i slots) ++ x ∷ []
   somes_some slots i slot x within at is =
       ap (λ (front : List (Option X)). somes front) (take_more slots i slot within ∙ ap (λ (last : Option X). take i slots ++ last ∷ []) (sym at ∙ is))
       ∙ somes-append (take i slots) (Some x ∷ [])
 
   -- one slot more that is empty
-  pub somes_none : (slots : List (Option X)) (i : ℕ) (slot : Option X) → i < length slots → slot ≡ get_or slots i slot → slot ≡ None → somes (take (i + 1) slots) ≡ somes (take i slots)
+  pub somes_none : (slots : List (Option X)) (i : ℕ) (slot : Option X) →
+      i < length slots →
+      slot ≡ get_or slots i slot →
+      slot ≡ None →
+      somes (take (i + 1) slots) ≡ somes (take i slots)
   somes_none slots i slot within at is =
       ap (λ (front : List (Option X)). somes front) (take_more slots i slot within ∙ ap (λ (last : Option X). take i slots ++ last ∷ []) (sym at ∙ is))
       ∙ somes-append (take i slots) (None ∷ []) ∙ append-nil (somes (take i slots))

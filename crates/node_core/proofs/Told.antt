@@ -12,7 +12,17 @@ use Rattle.node_core.specs.Plum.{Plum}
 use Rattle.node_core.specs.Steps.{IsAllowed, PlumSteps, delivered_at, numbered, plum_after, turned}
 
 -- what the parts give is given
-pub stepped_is : (core : Plum) (stimulus : Stimulus Frame) → IsAllowed stimulus → (effects : Effects) → effects ≡ record { sends = (turned core.me core.membership core.gossip stimulus).sends; delivered = (turned core.me core.membership core.gossip stimulus).delivered } → (before after : Output Frame) → after ≡ record { sends = before.sends ++ numbered core.me core.framed effects.sends; deliveries = before.deliveries ++ delivered_at core.me effects.delivered } → Stepped PlumSteps core stimulus before (plum_after core stimulus) after
+pub stepped_is : (core : Plum) (stimulus : Stimulus Frame) →
+    IsAllowed stimulus →
+    (effects : Effects) →
+    effects ≡ record {
+      sends = (turned core.me core.membership core.gossip stimulus).sends;
+      delivered = (turned core.me core.membership core.gossip stimulus).delivered;
+    } →
+    (before after : Output Frame) →
+    after
+    ≡ record { sends = before.sends ++ numbered core.me core.framed effects.sends; deliveries = before.deliveries ++ delivered_at core.me effects.delivered } →
+    Stepped PlumSteps core stimulus before (plum_after core stimulus) after
 stepped_is core stimulus allowed effects is before after is_after =
     record {
       sends = numbered core.me core.framed effects.sends;

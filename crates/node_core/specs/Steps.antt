@@ -127,12 +127,23 @@ newcomer me limits peers spent framed =
     record {
       me = me;
       membership = record { views = fresh me.name limits peers; asked = None; shuffled = [] };
-      gossip = record { me = me; threshold = limits.threshold; keep = limits.keep; spent = spent; peers = record { members = all_eager peers; queued = [] }; missing = record { wants = []; timers = [] }; known = set.empty; held = [] };
+      gossip =
+          record {
+            me = me;
+            threshold = limits.threshold;
+            keep = limits.keep;
+            spent = spent;
+            peers = record { members = all_eager peers; queued = [] };
+            missing = record { wants = []; timers = [] };
+            known = set.empty;
+            held = [];
+          };
       framed = framed;
     }
 
 -- The core starts with its peers and allowed limits, and joins by its contact.
-pub record PlumStartsCounted (spent framed : ℕ) (me : Origin) (limits : Limits) (peers : List Name) (contact : Option Name) (sends : List (Name × Frame)) (core : Plum) : Type 0 where
+pub record PlumStartsCounted (spent framed : ℕ) (me : Origin) (limits : Limits)
+    (peers : List Name) (contact : Option Name) (sends : List (Name × Frame)) (core : Plum) : Type 0 where
   pub allowed : AreAllowed limits
   pub leaves : core ≡ newcomer me limits peers spent (framed + length (opening contact))
   pub sent : sends ≡ numbered me framed (opening contact)
@@ -144,7 +155,8 @@ PlumStarts = PlumStartsCounted 0 0
 -- The numbers are used up: no message number is left for a broadcast, or fewer frame numbers are left than the step
 -- needs.
 abbrev pub PlumIsSpent : Plum → Stimulus Frame → Type 0
-PlumIsSpent core stimulus = IsOutOfNumbers (plum_state core) stimulus ⊎ (2 ^ 64 - 1 < core.framed + length (turned core.me core.membership core.gossip stimulus).sends)
+PlumIsSpent core stimulus =
+    IsOutOfNumbers (plum_state core) stimulus ⊎ (2 ^ 64 - 1 < core.framed + length (turned core.me core.membership core.gossip stimulus).sends)
 
 -- the core after the stimulus
 abbrev pub plum_after : Plum → Stimulus Frame → Plum

@@ -16,6 +16,10 @@ pub fn core_is_lawful()
 
 /// If what the core holds and the stimulus fit frames, then so do what the core holds afterwards and what it sends.
 pub fn packets_fit_frames()
-    ensures { (core : Plum) (stimulus : Stimulus Frame) → FitsFrames core.gossip → AreSound core.membership.views → ComesFit stimulus
-        → FitsFrames (turned core.me core.membership core.gossip stimulus).gossip × AreFit (turned core.me core.membership core.gossip stimulus).sends }
+    ensures { (core : Plum) (stimulus : Stimulus Frame)
+        → FitsFrames core.gossip
+        → AreSound core.membership.views
+        → ComesFit stimulus
+        → FitsFrames (turned core.me core.membership core.gossip stimulus).gossip
+        × AreFit (turned core.me core.membership core.gossip stimulus).sends }
 {}

@@ -18,7 +18,8 @@ fn push_frame<A: Allocator + Copy>(
 ) -> Result<(), AllocError>
     requires numbered { 0 < number }
     requires fit { IsFit body }
-    ensures ok { OnOk result (frames.new ≡ frames.old ++ (to, record { sender = me.now; number = number; body = body }) ∷ []) }
+    ensures ok { OnOk result
+        (frames.new ≡ frames.old ++ (to, record { sender = me.now; number = number; body = body }) ∷ []) }
     ensures err { OnErr result (frames.new ≡ frames.old) }
 {
     let Ok(frame) = Frame::new(*me, number, body) else {

@@ -18,7 +18,8 @@ fn deliver<A: Allocator + Copy>(
     delivered: Option<(MsgId, Bytes<A>)>,
     out: &mut Out<Frame<A>, A>,
 ) -> Result<(), AllocError>
-    ensures ok { OnOk result (out.new ≡ record out.old { deliveries = out.old.deliveries ++ delivered_at me.now delivered }) }
+    ensures ok { OnOk result
+        (out.new ≡ record out.old { deliveries = out.old.deliveries ++ delivered_at me.now delivered }) }
     ensures err { OnErr result (out.new ≡ out.old) }
 {
     if let Some((id, payload)) = delivered {
@@ -58,7 +59,10 @@ fn append<A: Allocator + Copy>(
 ) -> Result<(), AllocError>
     requires fit { AreFit (option_to_list first ++ others) }
     requires left { framed + length (option_to_list first ++ others) ≤ u64.MAX }
-    ensures ok { OnOk result (out.new ≡ record { sends = out.old.sends ++ numbered me.now framed (option_to_list first ++ others); deliveries = out.old.deliveries ++ delivered_at me.now delivered }) }
+    ensures ok { OnOk result (out.new ≡ record {
+      sends = out.old.sends ++ numbered me.now framed (option_to_list first ++ others);
+      deliveries = out.old.deliveries ++ delivered_at me.now delivered;
+    }) }
     ensures err { OnErr result (out.new ≡ out.old) }
 {
     let kept = out.sends.len();
@@ -83,7 +87,10 @@ pub(crate) fn append_numbered<A: Allocator + Copy>(
 ) -> Result<u64, CoreError>
     requires { AreFit effects.sends }
     ensures last { IfOk result (λ last. last ≡ framed + length effects.sends) }
-    ensures ok { OnOk result (out.new ≡ record { sends = out.old.sends ++ numbered me.now framed effects.sends; deliveries = out.old.deliveries ++ delivered_at me.now effects.delivered }) }
+    ensures ok { OnOk result (out.new ≡ record {
+      sends = out.old.sends ++ numbered me.now framed effects.sends;
+      deliveries = out.old.deliveries ++ delivered_at me.now effects.delivered;
+    }) }
     ensures no_payload { IsErrOf result CoreError.PayloadTooLong → ⊥ }
     ensures spent { IsErrOf result CoreError.SeqSpent → u64.MAX < framed + length effects.sends }
     ensures err { OnErr result (out.new ≡ out.old) }

@@ -44,9 +44,12 @@ fn work_out_event<A: Allocator + Copy>(
     event: &Event<'_>,
     dice: &Dice,
 ) -> Result<Worked<A>, AllocError>
-    ensures takes { IfOk result (λ worked. unboxed worked.moved ≡ Some (moved_by (table (lent_event event.now) dice.now (still membership.now)))) }
-    ensures effects { IfOk result (λ worked. worked.effects ≡ record { sends = (table (lent_event event.now) dice.now (still membership.now)).sends; delivered = None }) }
-    ensures moved { IfOk result (λ worked. (worked.is_moved ≡ false) ↔ SameNames membership.now.views.active (table (lent_event event.now) dice.now (still membership.now)).views.active) }
+    ensures takes { IfOk result (λ worked.
+        unboxed worked.moved ≡ Some (moved_by (table (lent_event event.now) dice.now (still membership.now)))) }
+    ensures effects { IfOk result (λ worked. worked.effects
+        ≡ record { sends = (table (lent_event event.now) dice.now (still membership.now)).sends; delivered = None }) }
+    ensures moved { IfOk result (λ worked. (worked.is_moved ≡ false) ↔ SameNames membership.now.views.active
+        (table (lent_event event.now) dice.now (still membership.now)).views.active) }
 {
     let (next, moves) = membership.prepare(event, dice)?;
     let is_moved = !are_same(membership.views().active(), next.views().active());
@@ -69,7 +72,10 @@ fn work_out_call<A: Allocator + Copy>(
     call: &Call<'_, A>,
 ) -> Result<Worked<A>, CoreError>
     ensures takes { OnOk result (CanTake gossip.now (lent_call call.now)) }
-    ensures effects { IfOk result (λ worked. worked.effects ≡ record { sends = (outcome gossip.now (lent_call call.now)).sends; delivered = (outcome gossip.now (lent_call call.now)).delivered }) }
+    ensures effects { IfOk result (λ worked. worked.effects ≡ record {
+      sends = (outcome gossip.now (lent_call call.now)).sends;
+      delivered = (outcome gossip.now (lent_call call.now)).delivered;
+    }) }
     ensures still { IfOk result (λ worked. worked.is_moved ≡ false) }
     ensures too_long { IsErrOf result CoreError.PayloadTooLong ↔ IsTooLong (lent_call call.now) }
     ensures spent { IsErrOf result CoreError.SeqSpent ↔ IsSpent gossip.now (lent_call call.now) }
@@ -105,8 +111,12 @@ pub(crate) fn work_out<A: Allocator + Copy>(
     part: &Part<'_, A>,
 ) -> Result<Worked<A>, CoreError>
     ensures takes { IfOk result (λ worked. Takes membership.now gossip.now (lent part.now) (unboxed worked.moved)) }
-    ensures effects { IfOk result (λ worked. worked.effects ≡ record { sends = (by_part membership.now gossip.now (lent part.now)).sends; delivered = (by_part membership.now gossip.now (lent part.now)).delivered }) }
-    ensures moved { IfOk result (λ worked. (worked.is_moved ≡ false) ↔ SameNames membership.now.views.active (by_part membership.now gossip.now (lent part.now)).membership.views.active) }
+    ensures effects { IfOk result (λ worked. worked.effects ≡ record {
+      sends = (by_part membership.now gossip.now (lent part.now)).sends;
+      delivered = (by_part membership.now gossip.now (lent part.now)).delivered;
+    }) }
+    ensures moved { IfOk result (λ worked. (worked.is_moved ≡ false) ↔ SameNames membership.now.views.active
+        (by_part membership.now gossip.now (lent part.now)).membership.views.active) }
     ensures too_long { IsErrOf result CoreError.PayloadTooLong ↔ IsTooLongPart (lent part.now) }
     ensures spent { IsErrOf result CoreError.SeqSpent ↔ IsSpentPart gossip.now (lent part.now) }
 {

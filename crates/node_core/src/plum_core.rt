@@ -1,5 +1,6 @@
 //! A node's core: the state machine that joins HyParView's membership and Plumtree's gossip.
-ghost use Rattle.std.specs.Prelude.{◌≡◌, ◌+◌, ◌≤◌, ◌⊎◌, ◌↔◌, ◌++◌, false, None, List, length, IsSome, IsTrue, IfOk, IfErr, OnOk, OnErr, IsErrOf};
+ghost use Rattle.std.specs.Prelude.{◌≡◌, ◌+◌, ◌≤◌, ◌⊎◌, ◌↔◌, ◌++◌, false, None, List, length};
+ghost use Rattle.std.specs.Prelude.{IsSome, IsTrue, IfOk, IfErr, OnOk, OnErr, IsErrOf};
 ghost use Rattle.node_names.specs.NodeName.{Name};
 ghost use Rattle.frames.specs.Frame.{Frame as Plain};
 ghost use Rattle.protocol.specs.IdentityLaw.{IsOutOfNumbers, IsTooLong};
@@ -52,7 +53,8 @@ impl<A: Allocator> Model for PlumCore<A> {
 
     ghost coded = { Prim.hlevel (codes, set.code {R = id_cmp} id.the_row.coded) };
 
-    ghost view = { λ core. record { me = core.me; membership = core.membership; gossip = core.gossip; framed = core.framed } };
+    ghost view = { λ core.
+        record { me = core.me; membership = core.membership; gossip = core.gossip; framed = core.framed } };
 
     ghost invariant = { λ core. FitsFrames core.gossip };
 }
@@ -89,10 +91,15 @@ impl<A: Allocator + Copy> PlumCore<A> {
         out: &mut Out<Frame<A>, A>,
     ) -> Result<PlumCore<A>, CoreError>
         requires { IsTrue (are_peers limits me.name peers.now contact) }
-        ensures started { IfOk result (λ core. (sends : List (Name × Plain)) × PlumStartsCounted seq_spent frames_spent me limits peers.now contact sends core × (out.new ≡ record out.old { sends = out.old.sends ++ sends })) }
-        ensures lawful { IfOk result (λ core. (sends : List (Name × Plain)) × IsStarted seq_spent limits me peers.now sends core × (out.new ≡ record out.old { sends = out.old.sends ++ sends })) }
+        ensures started { IfOk result (λ core. (sends : List (Name × Plain))
+            × PlumStartsCounted seq_spent frames_spent me limits peers.now contact sends core
+            × (out.new ≡ record out.old { sends = out.old.sends ++ sends })) }
+        ensures lawful { IfOk result (λ core. (sends : List (Name × Plain))
+            × IsStarted seq_spent limits me peers.now sends core
+            × (out.new ≡ record out.old { sends = out.old.sends ++ sends })) }
         ensures numbered { OnOk result (frames_spent + length (opening contact) ≤ u64.MAX) }
-        ensures refused { IfErr result (λ e. (e ≡ CoreError.OutOfMemory) ⊎ ((e ≡ CoreError.SeqSpent) × IsSome contact × (frames_spent ≡ u64.MAX))) }
+        ensures refused { IfErr result (λ e.
+            (e ≡ CoreError.OutOfMemory) ⊎ ((e ≡ CoreError.SeqSpent) × IsSome contact × (frames_spent ≡ u64.MAX))) }
         ensures err { OnErr result (out.new ≡ out.old) }
     {
         let _allowed = limits.active();
@@ -122,10 +129,16 @@ impl<A: Allocator + Copy> PlumCore<A> {
         stimulus: &StimulusRef<'_, Frame<A>, A>,
     ) -> Result<Worked<A>, CoreError>
         ensures allowed { OnOk result (IsAllowed (lent stimulus.now)) }
-        ensures takes { IfOk result (λ worked. Takes self.now.membership self.now.gossip (part_of self.now.me self.now.membership (lent stimulus.now)) (unboxed worked.moved)) }
-        ensures effects { IfOk result (λ worked. worked.effects ≡ record { sends = (turned self.now.me self.now.membership self.now.gossip (lent stimulus.now)).sends; delivered = (turned self.now.me self.now.membership self.now.gossip (lent stimulus.now)).delivered }) }
-        ensures fit { OnOk result (AreFit (turned self.now.me self.now.membership self.now.gossip (lent stimulus.now)).sends) }
-        ensures moved { IfOk result (λ worked. (worked.is_moved ≡ false) ↔ SameNames self.now.membership.views.active (turned self.now.me self.now.membership self.now.gossip (lent stimulus.now)).membership.views.active) }
+        ensures takes { IfOk result (λ worked. Takes self.now.membership self.now.gossip
+            (part_of self.now.me self.now.membership (lent stimulus.now)) (unboxed worked.moved)) }
+        ensures effects { IfOk result (λ worked. worked.effects ≡ record {
+          sends = (turned self.now.me self.now.membership self.now.gossip (lent stimulus.now)).sends;
+          delivered = (turned self.now.me self.now.membership self.now.gossip (lent stimulus.now)).delivered;
+        }) }
+        ensures fit { OnOk result
+            (AreFit (turned self.now.me self.now.membership self.now.gossip (lent stimulus.now)).sends) }
+        ensures moved { IfOk result (λ worked. (worked.is_moved ≡ false) ↔ SameNames self.now.membership.views.active
+            (turned self.now.me self.now.membership self.now.gossip (lent stimulus.now)).membership.views.active) }
         ensures too_long { IsErrOf result CoreError.PayloadTooLong ↔ IsTooLong (lent stimulus.now) }
         ensures numbers { IsErrOf result CoreError.SeqSpent ↔ IsOutOfNumbers (plum_state self.now) (lent stimulus.now) }
     {

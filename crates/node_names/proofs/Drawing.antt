@@ -21,7 +21,11 @@ after_more zero stream = refl
 after_more (suc n) stream = after_more n (next_u64 stream).1
 
 -- with the next answer at the next place one more is drawn
-pub draws_more : (first : Stream) (n : ℕ) (drawn : List ℕ) (now next : Stream) (word : ℕ) → n < 16 → AreDrawn first n drawn now → (word, next) ≡ next_u64 now → AreDrawn first (n + 1) (set drawn n word) next
+pub draws_more : (first : Stream) (n : ℕ) (drawn : List ℕ) (now next : Stream) (word : ℕ) →
+    n < 16 →
+    AreDrawn first n drawn now →
+    (word, next) ≡ next_u64 now →
+    AreDrawn first (n + 1) (set drawn n word) next
 draws_more first n drawn now next word within before answer =
     let here : next_u64 now ≡ next_u64 (after_words n first) = ap next_u64 before.left in
     let is : word ≡ (next_u64 (after_words n first)).0 = ap (λ (a : ℕ × Stream). a.0) (answer ∙ here) in

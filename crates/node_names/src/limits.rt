@@ -29,13 +29,40 @@ impl Model for Limits {
     ghost Value = { Sizes };
 
     ghost view = { λ a.
-        record { active = a.active; passive = a.passive; arwl = a.arwl; prwl = a.prwl; ka = a.ka; kp = a.kp; threshold = a.threshold; keep = a.keep } };
+        record {
+          active = a.active;
+          passive = a.passive;
+          arwl = a.arwl;
+          prwl = a.prwl;
+          ka = a.ka;
+          kp = a.kp;
+          threshold = a.threshold;
+          keep = a.keep;
+        } };
 
     ghost invariant = { λ a. IsAllowed (
-        record { active = a.active; passive = a.passive; arwl = a.arwl; prwl = a.prwl; ka = a.ka; kp = a.kp; threshold = a.threshold; keep = a.keep }) };
+        record {
+          active = a.active;
+          passive = a.passive;
+          arwl = a.arwl;
+          prwl = a.prwl;
+          ka = a.ka;
+          kp = a.kp;
+          threshold = a.threshold;
+          keep = a.keep;
+        }) };
 
     ghost inverse = { λ l.
-        record { active = l.active; passive = l.passive; arwl = l.arwl; prwl = l.prwl; ka = l.ka; kp = l.kp; threshold = l.threshold; keep = l.keep } };
+        record {
+          active = l.active;
+          passive = l.passive;
+          arwl = l.arwl;
+          prwl = l.prwl;
+          ka = l.ka;
+          kp = l.kp;
+          threshold = l.threshold;
+          keep = l.keep;
+        } };
 }
 
 /// The reason why numbers are not valid limits.
@@ -71,9 +98,27 @@ impl Limits {
         kp: u8,
     ) -> Result<Limits, LimitsFault>
         ensures ok { IfOk result (λ limits. limits ≡
-            record { active = active; passive = passive; arwl = arwl; prwl = prwl; ka = ka; kp = kp; threshold = 0; keep = 0 }) }
+            record {
+              active = active;
+              passive = passive;
+              arwl = arwl;
+              prwl = prwl;
+              ka = ka;
+              kp = kp;
+              threshold = 0;
+              keep = 0;
+            }) }
         ensures accepted { IsOk result ↔ IsAllowed (
-            record { active = active; passive = passive; arwl = arwl; prwl = prwl; ka = ka; kp = kp; threshold = 0; keep = 0 }) }
+            record {
+              active = active;
+              passive = passive;
+              arwl = arwl;
+              prwl = prwl;
+              ka = ka;
+              kp = kp;
+              threshold = 0;
+              keep = 0;
+            }) }
     {
         let views = 1 <= active && active <= 16 && 1 <= passive && passive <= 64;
         let walks = prwl <= arwl && arwl <= 32;
@@ -176,7 +221,8 @@ impl Limits {
 }
 
 impl Default for Limits {
-    ghost is_default = { λ l. l ≡ record { active = 5; passive = 30; arwl = 6; prwl = 3; ka = 3; kp = 4; threshold = 0; keep = 0 } };
+    ghost is_default = { λ l.
+        l ≡ record { active = 5; passive = 30; arwl = 6; prwl = 3; ka = 3; kp = 4; threshold = 0; keep = 0 } };
 
     fn default() -> Limits {
         Limits::STANDARD

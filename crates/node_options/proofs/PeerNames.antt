@@ -16,8 +16,12 @@ unfolding IsDistinct
 AreApart-nil = tt
 
 -- one more peer, whose name none of the others has
-pub AreApart-push : (peers : List Peer) (peer : Peer) → AreApart peers → list_any (λ other. same_name peer.name other.name) peers ≡ false → AreApart (peers ++ peer ∷ [])
+pub AreApart-push : (peers : List Peer) (peer : Peer) →
+    AreApart peers →
+    list_any (λ other. same_name peer.name other.name) peers ≡ false →
+    AreApart (peers ++ peer ∷ [])
 AreApart-push peers peer apart absent =
-    let absent_name : list_any (same_name peer.name) (names_of peers) ≡ false = rw (list_any-map (same_name peer.name) (λ (other : Peer). other.name) peers) absent in
+    let absent_name : list_any (same_name peer.name) (names_of peers) ≡ false =
+    rw (list_any-map (same_name peer.name) (λ (other : Peer). other.name) peers) absent in
     subst (IsDistinct same_name) (sym (map-append (λ (other : Peer). other.name) peers (peer ∷ [])))
     (IsDistinct-push same_name-laws (names_of peers) peer.name apart absent_name)

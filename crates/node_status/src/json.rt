@@ -5,7 +5,8 @@ use serde_json::{Value, json};
 use std::alloc::{AllocError, Global};
 use std::net::SocketAddr;
 
-/// Appends the status as one JSON object, whose members have the names of the fields. What is not known is `null`. After an error a part may have been appended.
+/// Appends the status as one JSON object, whose members have the names of the fields. What is not known is `null`.
+/// After an error a part may have been appended.
 pub fn write_json(status: &Status, out: &mut String) -> Result<(), AllocError> {
     let alloc = *out.allocator();
     let text = status_value(alloc, status)?.to_string(alloc)?;

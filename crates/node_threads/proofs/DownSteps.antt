@@ -35,10 +35,13 @@ module _
     -- the Downs of these peers from here on are the last of those of all
     abbrev pub DownsOn : Cell C → Learnt → List Name → Cell C → Learnt → List Name → Type 0
     DownsOn first learnt all now more rest =
-        (last : Cell C) (learnt' : Learnt) → TakesDowns state steps is_spent now more rest last learnt' → TakesDowns state steps is_spent first learnt all last learnt'
+        (last : Cell C) (learnt' : Learnt) →
+        TakesDowns state steps is_spent now more rest last learnt' →
+        TakesDowns state steps is_spent first learnt all last learnt'
 
     pub downs_on :
-        (first : Cell C) (learnt : Learnt) (all : List Name) (now : Cell C) (more : Learnt) (rest rest' : List Name) (peer : Name) (next : Cell C) (more' : Learnt)
+        (first : Cell C) (learnt : Learnt) (all : List Name) (now : Cell C) (more : Learnt)
+        (rest rest' : List Name) (peer : Name) (next : Cell C) (more' : Learnt)
         → rest ≡ peer ∷ rest'
         → DownsOn first learnt all now more rest
         → TakesDown state steps is_spent now more peer next more'
@@ -49,7 +52,8 @@ module _
     pub downs_end :
         (first : Cell C) (learnt : Learnt) (all : List Name) (now : Cell C) (more : Learnt) (rest : List Name)
         → rest ≡ [] → DownsOn first learnt all now more rest → TakesDowns state steps is_spent first learnt all now more
-    downs_end first learnt all now more rest is on = on now more (subst (λ names. TakesDowns state steps is_spent now more names now more) (sym is) (refl, refl))
+    downs_end first learnt all now more rest is on =
+        on now more (subst (λ names. TakesDowns state steps is_spent now more names now more) (sym is) (refl, refl))
 
     -- the Downs of these peers from here on, with these dice, are the last of those of all
     abbrev pub DrawnOn : Stream → Cell C → Learnt → List Name → Stream → Cell C → Learnt → List Name → Type 0
@@ -69,12 +73,16 @@ module _
         → DrawnOn first_stream first learnt all stream' next more' rest'
     drawn_on first_stream first learnt all stream now more rest rest' peer next more' dice stream' is drawn after on taken last learnt' left others =
         let its_dice : dice ≡ dice_of stream = λ i. record { 0 = drawn i } in
-        let down : TakesDownBy state steps is_spent (dice_of stream) now more peer next more' = subst (λ d. TakesDownBy state steps is_spent d now more peer next more') its_dice taken in
-        let downs : TakesDrawnDowns state steps is_spent (after_words 16 stream) next more' rest' last learnt' left = subst (λ s. TakesDrawnDowns state steps is_spent s next more' rest' last learnt' left) after others in
+        let down : TakesDownBy state steps is_spent (dice_of stream) now more peer next more' =
+        subst (λ d. TakesDownBy state steps is_spent d now more peer next more') its_dice taken in
+        let downs : TakesDrawnDowns state steps is_spent (after_words 16 stream) next more' rest' last learnt' left =
+        subst (λ s. TakesDrawnDowns state steps is_spent s next more' rest' last learnt' left) after others in
         on last learnt' left (subst (λ names. TakesDrawnDowns state steps is_spent stream now more names last learnt' left) (sym is) (next, more', down, downs))
 
     pub drawn_end :
         (first_stream : Stream) (first : Cell C) (learnt : Learnt) (all : List Name) (stream : Stream) (now : Cell C) (more : Learnt) (rest : List Name)
-        → rest ≡ [] → DrawnOn first_stream first learnt all stream now more rest → TakesDrawnDowns state steps is_spent first_stream first learnt all now more stream
+        → rest ≡ []
+        → DrawnOn first_stream first learnt all stream now more rest
+        → TakesDrawnDowns state steps is_spent first_stream first learnt all now more stream
     drawn_end first_stream first learnt all stream now more rest is on =
         on now more stream (subst (λ names. TakesDrawnDowns state steps is_spent stream now more names now more stream) (sym is) (refl, refl, refl))

@@ -24,7 +24,11 @@ its_mail : (peer : Name) (send : Name × Frame) → same_name send.0 peer ≡ tr
 its_mail peer send its = ap (λ b. map spelling (map (λ (s : Name × Frame). s.1) (if b then send ∷ [] else []))) its
 
 -- one frame more is that of the packet
-pub packet_more : (given : List (List ℕ)) (count : ℕ) (frame : List ℕ) (peer : Name) (send : Name × Frame) → slice_get given count ≡ Some frame → frame ≡ spelling send.1 → same_name send.0 peer ≡ true → take (count + 1) given ≡ take count given ++ mail_for (send ∷ []) peer
+pub packet_more : (given : List (List ℕ)) (count : ℕ) (frame : List ℕ) (peer : Name) (send : Name × Frame) →
+    slice_get given count ≡ Some frame →
+    frame ≡ spelling send.1 →
+    same_name send.0 peer ≡ true →
+    take (count + 1) given ≡ take count given ++ mail_for (send ∷ []) peer
 packet_more given count frame peer send here is its =
     take_more given count frame (slice_get_within given count frame here)
     ∙ ap (λ f. take count given ++ f ∷ []) (get_or_from_slice_get given count frame frame here ∙ is)
@@ -41,7 +45,12 @@ module _ (since : ℕ) (trace : Trace Frame) (peer : Name) (opened : ℕ) (given
     pub ahead : text_since since trace peer opened ≡ gone ++ text_of peer (drop place trace.steps)
     pub behind : opened ≤ since + place
 
-  pub reached_first : (sends : List (Name × Frame)) (frames : ℕ) → sends ≡ (if opened == 0 then trace.opening.sends else []) → since ≤ opened → frames ≤ length given → take frames given ≡ mail_for sends peer → Reached (opened - since) frames
+  pub reached_first : (sends : List (Name × Frame)) (frames : ℕ) →
+      sends ≡ (if opened == 0 then trace.opening.sends else []) →
+      since ≤ opened →
+      frames ≤ length given →
+      take frames given ≡ mail_for sends peer →
+      Reached (opened - since) frames
   reached_first sends frames first past few came = record {
     gone = if opened == 0 then sent_to peer trace.opening.sends else [];
     so_many = few;
@@ -50,10 +59,17 @@ module _ (since : ℕ) (trace : Trace Frame) (peer : Name) (opened : ℕ) (given
     behind = omega (arith, past);
   }
 
-  pub reached_next : (place frames more : ℕ) (step : Step Frame) (sends : List (Name × Frame)) → Reached place frames → Some step ≡ slice_get trace.steps place → sends ≡ step.out.sends → more ≤ length (drop frames given) → take more (drop frames given) ≡ mail_for sends peer → Reached (place + 1) (frames + more)
+  pub reached_next : (place frames more : ℕ) (step : Step Frame) (sends : List (Name × Frame)) →
+      Reached place frames →
+      Some step ≡ slice_get trace.steps place →
+      sends ≡ step.out.sends →
+      more ≤ length (drop frames given) →
+      take more (drop frames given) ≡ mail_for sends peer →
+      Reached (place + 1) (frames + more)
   reached_next place frames more step sends reached here its few came =
       let first : get_or trace.steps place step ≡ step = get_or_from_slice_get trace.steps place step step (sym here) in
-      let steps : drop place trace.steps ≡ step ∷ drop (place + 1) trace.steps = drop_more trace.steps place step (slice_get_within trace.steps place step (sym here)) ∙ ap (λ s. s ∷ drop (place + 1) trace.steps) first in
+      let steps : drop place trace.steps ≡ step ∷ drop (place + 1) trace.steps =
+      drop_more trace.steps place step (slice_get_within trace.steps place step (sym here)) ∙ ap (λ s. s ∷ drop (place + 1) trace.steps) first in
       let sent : List Frame = sent_to peer step.out.sends in
       let some = reached.so_many in
       let past = reached.behind in
@@ -65,7 +81,10 @@ module _ (since : ℕ) (trace : Trace Frame) (peer : Name) (opened : ℕ) (given
             ∙ ap (λ fs. fs ++ take more (drop frames given)) reached.came
             ∙ ap (λ fs. map spelling reached.gone ++ fs) (came ∙ ap (λ ss. mail_for ss peer) its)
             ∙ sym (map-append spelling reached.gone sent);
-        ahead = reached.ahead ∙ ap (λ ss. reached.gone ++ text_of peer ss) steps ∙ sym (append_assoc reached.gone sent (text_of peer (drop (place + 1) trace.steps)));
+        ahead =
+            reached.ahead
+            ∙ ap (λ ss. reached.gone ++ text_of peer ss) steps
+            ∙ sym (append_assoc reached.gone sent (text_of peer (drop (place + 1) trace.steps)));
         behind = omega (arith, past);
       }
 
@@ -73,12 +92,17 @@ module _ (since : ℕ) (trace : Trace Frame) (peer : Name) (opened : ℕ) (given
   not_first place = false_from_ne_true (since + (place + 1) == 0) (λ yes. let z = eqb-true (since + (place + 1)) 0 yes in absurd (omega (arith, z)))
 
   -- up to the next place all frames came out
-  pub reached_whole : (place frames at : ℕ) → Reached (place + 1) frames → place < length trace.steps → at ≡ since + (place + 1) → CameOut since trace peer opened given at frames
+  pub reached_whole : (place frames at : ℕ) →
+      Reached (place + 1) frames →
+      place < length trace.steps →
+      at ≡ since + (place + 1) →
+      CameOut since trace peer opened given at frames
   reached_whole place frames at reached within is =
       let back : since + (place + 1) - since ≡ place + 1 = omega arith in
       let opening : List Frame = sent_to peer trace.opening.sends in
       let text : text_since since trace peer (since + (place + 1)) ≡ text_of peer (drop (place + 1) trace.steps) =
-      ap (λ b. (if b then opening else []) ++ text_of peer (drop (since + (place + 1) - since) trace.steps)) (not_first place) ∙ ap (λ n. text_of peer (drop n trace.steps)) back in
+      ap (λ b. (if b then opening else []) ++ text_of peer (drop (since + (place + 1) - since) trace.steps)) (not_first place)
+      ∙ ap (λ n. text_of peer (drop n trace.steps)) back in
       let past = reached.behind in
       record {
         gone = reached.gone;
@@ -96,7 +120,10 @@ module _ (since : ℕ) (trace : Trace Frame) (peer : Name) (opened : ℕ) (given
 -- ---- an outlet
 
 -- the outlet without what came out
-pub gives_up : (since : ℕ) (trace : Trace Frame) (old new : Outlet) (place frames : ℕ) → CameOut since trace old.peer old.opened old.given place frames → new ≡ record old { opened = place; given = drop frames old.given } → GivesUp since trace old new
+pub gives_up : (since : ℕ) (trace : Trace Frame) (old new : Outlet) (place frames : ℕ) →
+    CameOut since trace old.peer old.opened old.given place frames →
+    new ≡ record old { opened = place; given = drop frames old.given } →
+    GivesUp since trace old new
 gives_up since trace old new place frames came is =
     let given : new.given ≡ drop frames old.given = ap (λ (o : Outlet). o.given) is in
     let opened : new.opened ≡ place = ap (λ (o : Outlet). o.opened) is in
@@ -104,7 +131,8 @@ gives_up since trace old new place frames came is =
     let later = came.later in
     record {
       gone = came.gone;
-      came_out = sym (take-append-drop frames old.given) ∙ ap (λ fs. fs ++ drop frames old.given) came.came_out ∙ ap (λ fs. map spelling came.gone ++ fs) (sym given);
+      came_out =
+          sym (take-append-drop frames old.given) ∙ ap (λ fs. fs ++ drop frames old.given) came.came_out ∙ ap (λ fs. map spelling came.gone ++ fs) (sym given);
       sent = came.sent ∙ ap (λ n. came.gone ++ text_since since trace old.peer n) (sym opened);
       later = omega (arith, later, opened);
       within = λ before. (let inside = came.within before in omega (arith, inside, opened));

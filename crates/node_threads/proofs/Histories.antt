@@ -41,4 +41,8 @@ module _
       where
         go : (since : Option ℕ) → cell.since ≡ since → IsLeft starts steps since cell.trace
         go None is = let all = history_to is in record { limits = all.0; last = cell.core; replays = all.1 }
-        go (Some since) is = record { before = kept.before; lacks = kept.forgotten ∙ ap lost is; history = record { limits = kept.kept.limits; last = cell.core; replays = kept.kept.replays } }
+        go (Some since) is = record {
+          before = kept.before;
+          lacks = kept.forgotten ∙ ap lost is;
+          history = record { limits = kept.kept.limits; last = cell.core; replays = kept.kept.replays };
+        }

@@ -25,7 +25,11 @@ use Rattle.node_threads.specs.LinkText.{link_text, sent_to, spelling, text_of}
 abbrev pub with_step : Trace Frame → Step Frame → Trace Frame
 with_step trace s = record trace { steps = trace.steps ++ s ∷ [] }
 
-pub leads_on : {C : Type 0} (steps : C → Stimulus Frame → List (Name × Frame) → List Delivery → C → Type 0) (first last : C) (ss : List (Step Frame)) (s : Step Frame) (next : C) → Leads steps first ss last → steps last s.stimulus s.out.sends s.out.deliveries next → Leads steps first (ss ++ s ∷ []) next
+pub leads_on : {C : Type 0} (steps : C → Stimulus Frame → List (Name × Frame) → List Delivery → C → Type 0)
+    (first last : C) (ss : List (Step Frame)) (s : Step Frame) (next : C) →
+    Leads steps first ss last →
+    steps last s.stimulus s.out.sends s.out.deliveries next →
+    Leads steps first (ss ++ s ∷ []) next
 leads_on steps first last [] s next there made = (next, subst (λ c. steps c s.stimulus s.out.sends s.out.deliveries next) there made, refl)
 leads_on steps first last (x ∷ ss) s next there made = (there.0, there.1, leads_on steps there.0 last ss s next there.2 made)
 
@@ -34,13 +38,17 @@ delivered_on ss s = flat_map-append (λ (step : Step Frame). step.out.deliveries
 
 -- ---- the links
 
-text_on : (peer : Name) (opened : ℕ) (ss : List (Step Frame)) (s : Step Frame) → opened ≤ length ss → text_of peer (drop opened (ss ++ s ∷ [])) ≡ text_of peer (drop opened ss) ++ sent_to peer s.out.sends
+text_on : (peer : Name) (opened : ℕ) (ss : List (Step Frame)) (s : Step Frame) →
+    opened ≤ length ss →
+    text_of peer (drop opened (ss ++ s ∷ [])) ≡ text_of peer (drop opened ss) ++ sent_to peer s.out.sends
 text_on peer opened ss s before =
     ap (text_of peer) (drop-append-le opened ss (s ∷ []) before)
     ∙ flat_map-append (λ (step : Step Frame). sent_to peer step.out.sends) (drop opened ss) (s ∷ [])
     ∙ ap (λ fs. text_of peer (drop opened ss) ++ fs) (append-nil (sent_to peer s.out.sends))
 
-pub link_text_on : (trace : Trace Frame) (s : Step Frame) (peer : Name) (opened : ℕ) → opened ≤ length trace.steps → link_text (with_step trace s) peer opened ≡ link_text trace peer opened ++ sent_to peer s.out.sends
+pub link_text_on : (trace : Trace Frame) (s : Step Frame) (peer : Name) (opened : ℕ) →
+    opened ≤ length trace.steps →
+    link_text (with_step trace s) peer opened ≡ link_text trace peer opened ++ sent_to peer s.out.sends
 link_text_on trace s peer opened before =
     let first : List Frame = if opened == 0 then sent_to peer trace.opening.sends else [] in
     ap (λ fs. first ++ fs) (text_on peer opened trace.steps s before)
@@ -50,7 +58,9 @@ link_text_on trace s peer opened before =
 abbrev with_mail : Link → List (List ℕ) → Link
 with_mail link mail = record link { pushed = link.pushed ++ mail }
 
-follows_on : (trace : Trace Frame) (s : Step Frame) (link : Link) → FollowsText trace link → FollowsText (with_step trace s) (with_mail link (mail_for s.out.sends link.peer))
+follows_on : (trace : Trace Frame) (s : Step Frame) (link : Link) →
+    FollowsText trace link →
+    FollowsText (with_step trace s) (with_mail link (mail_for s.out.sends link.peer))
 follows_on trace s link follows =
     record {
       opened_before = (let before = follows.opened_before in omega (arith, length-append trace.steps (s ∷ [])));
@@ -60,25 +70,39 @@ follows_on trace s link follows =
           ∙ sym (ap (map spelling) (link_text_on trace s link.peer link.opened follows.opened_before));
     }
 
-pub posts_follow : (trace : Trace Frame) (s : Step Frame) (links live : List Link) (full : List Name) → Each (FollowsText trace) links → Posts s.out.sends links live full → Each (FollowsText (with_step trace s)) live
+pub posts_follow : (trace : Trace Frame) (s : Step Frame) (links live : List Link) (full : List Name) →
+    Each (FollowsText trace) links →
+    Posts s.out.sends links live full →
+    Each (FollowsText (with_step trace s)) live
 posts_follow trace s [] live full follow put = subst (Each (FollowsText (with_step trace s))) (sym put.0) tt
-posts_follow trace s (link ∷ links) live full follow (inl put) = subst (Each (FollowsText (with_step trace s))) (sym put.1) (follows_on trace s link follow.0, posts_follow trace s links put.0 full follow.1 put.2)
+posts_follow trace s (link ∷ links) live full follow (inl put) =
+    subst (Each (FollowsText (with_step trace s))) (sym put.1) (follows_on trace s link follow.0, posts_follow trace s links put.0 full follow.1 put.2)
 posts_follow trace s (link ∷ links) live full follow (inr put) = posts_follow trace s links live put.0 follow.1 put.3
 
 -- what holds of all names holds of those that stay live
-puts_each : (P : Name → Type 0) (mails : List (List (List ℕ))) (links live : List Link) (full : List Name) → Each P (peers_of links) → Puts mails links live full → Each P (peers_of live)
+puts_each : (P : Name → Type 0) (mails : List (List (List ℕ))) (links live : List Link) (full : List Name) →
+    Each P (peers_of links) →
+    Puts mails links live full →
+    Each P (peers_of live)
 puts_each P [] [] live full all put = subst (λ ls. Each P (peers_of ls)) (sym put.0) tt
 puts_each P [] (link ∷ links) live full all put = absurd put
 puts_each P (mail ∷ mails) [] live full all put = absurd put
-puts_each P (mail ∷ mails) (link ∷ links) live full all (inl put) = subst (λ ls. Each P (peers_of ls)) (sym put.1) (all.0, puts_each P mails links put.0 full all.1 put.2)
+puts_each P (mail ∷ mails) (link ∷ links) live full all (inl put) =
+    subst (λ ls. Each P (peers_of ls)) (sym put.1) (all.0, puts_each P mails links put.0 full all.1 put.2)
 puts_each P (mail ∷ mails) (link ∷ links) live full all (inr put) = puts_each P mails links live put.0 all.1 put.3
 
-pub puts_distinct : (mails : List (List (List ℕ))) (links live : List Link) (full : List Name) → IsDistinct same_name (peers_of links) → Puts mails links live full → IsDistinct same_name (peers_of live)
+pub puts_distinct : (mails : List (List (List ℕ))) (links live : List Link) (full : List Name) →
+    IsDistinct same_name (peers_of links) →
+    Puts mails links live full →
+    IsDistinct same_name (peers_of live)
 unfolding IsDistinct
 puts_distinct [] [] live full apart put = subst (λ ls. IsDistinct same_name (peers_of ls)) (sym put.0) tt
 puts_distinct [] (link ∷ links) live full apart put = absurd put
 puts_distinct (mail ∷ mails) [] live full apart put = absurd put
-puts_distinct (mail ∷ mails) (link ∷ links) live full apart (inl put) = subst (λ ls. IsDistinct same_name (peers_of ls)) (sym put.1) (puts_each (λ name. same_name link.peer name ≡ false) mails links put.0 full apart.0 put.2, puts_distinct mails links put.0 full apart.1 put.2)
+puts_distinct (mail ∷ mails) (link ∷ links) live full apart (inl put) = subst (λ ls. IsDistinct same_name (peers_of ls)) (sym put.1) (
+  puts_each (λ name. same_name link.peer name ≡ false) mails links put.0 full apart.0 put.2,
+  puts_distinct mails links put.0 full apart.1 put.2,
+)
 puts_distinct (mail ∷ mails) (link ∷ links) live full apart (inr put) = puts_distinct mails links live put.0 apart.1 put.3
 
 -- ---- the node
@@ -136,7 +160,9 @@ module _
           handed = subst (λ (trace : Trace Frame). new.handed_out ≤ length (delivered trace.steps)) here handed_on;
           waiting = subst (λ (trace : Trace Frame). new.pending ≡ drop new.handed_out (delivered trace.steps)) here waiting_on;
           distinct = puts_distinct (map (mail_to done.out.sends) old.links) old.links new.links full kept.distinct done.posts;
-          texts = subst (λ trace. Each (FollowsText trace) new.links) here (posts_follow (after before old.trace) made old.links new.links full kept.texts done.posts);
+          texts =
+              subst (λ trace. Each (FollowsText trace) new.links) here
+              (posts_follow (after before old.trace) made old.links new.links full kept.texts done.posts);
         }
 
 pub applied_keeps :

@@ -1,5 +1,6 @@
 -- Letters, and the links that take them.
-use Rattle.std.specs.Prelude.{◌≡◌, ◌<◌, ◌+◌, ◌||◌, ℕ, Bool, true, false, not, List, [], ◌∷◌, ◌++◌, Some, None, drop, filter, fold, length, map, slice_get, slice_set, take, refl, if◌then◌else◌}
+use Rattle.std.specs.Prelude.{◌≡◌, ◌<◌, ◌+◌, ◌||◌, ℕ, Bool, true, false, not, List, [], ◌∷◌, ◌++◌, Some, None}
+use Rattle.std.specs.Prelude.{drop, filter, fold, length, map, slice_get, slice_set, take, refl, if◌then◌else◌}
 use Rattle.std.specs.List.{All, AllByRecursion as Each, IsDistinct, position}
 use Rattle.std.proofs.Common.{◌∙◌, ap, arith, append_assoc, get_or, inl, inr, length-append, subst, sym, zero, suc}
 use Rattle.std.specs.Option.{unwrap_or}
@@ -52,10 +53,15 @@ mail_of_one letter peer b is = ap (λ t. map (λ (l : Letter). l.2) (if t then l
     go true = refl
     go false = refl
 
-mail_other : (letters : List Letter) (letter : Letter) (peer : Name) → same_name letter.0 peer ≡ false → mail_in (letters ++ letter ∷ []) peer ≡ mail_in letters peer
-mail_other letters letter peer other = mail_more letters letter peer ∙ ap (λ mail. mail_in letters peer ++ mail) (mail_of_one letter peer false other) ∙ append-nil (mail_in letters peer)
+mail_other : (letters : List Letter) (letter : Letter) (peer : Name) →
+    same_name letter.0 peer ≡ false →
+    mail_in (letters ++ letter ∷ []) peer ≡ mail_in letters peer
+mail_other letters letter peer other =
+    mail_more letters letter peer ∙ ap (λ mail. mail_in letters peer ++ mail) (mail_of_one letter peer false other) ∙ append-nil (mail_in letters peer)
 
-mail_its : (letters : List Letter) (letter : Letter) (peer : Name) → same_name letter.0 peer ≡ true → mail_in (letters ++ letter ∷ []) peer ≡ mail_in letters peer ++ letter.2 ∷ []
+mail_its : (letters : List Letter) (letter : Letter) (peer : Name) →
+    same_name letter.0 peer ≡ true →
+    mail_in (letters ++ letter ∷ []) peer ≡ mail_in letters peer ++ letter.2 ∷ []
 mail_its letters letter peer its = mail_more letters letter peer ∙ ap (λ mail. mail_in letters peer ++ mail) (mail_of_one letter peer true its)
 
 or_false : (b : Bool) → (b || false) ≡ b
@@ -82,12 +88,18 @@ same_more : (b : List Name) (name : Name) → SameFor name b (b ++ name ∷ [])
 same_more b name peer other = blocked_more b name peer false other ∙ or_false (has_name b peer)
 
 module _ (b b' : List Name) (letters : List Letter) (letter : Letter) (same : SameFor letter.0 b b') where
-  passed_one : (old new : Link) → same_name letter.0 old.peer ≡ false → Took (mail_in letters old.peer) (has_name b old.peer) old new → Took (mail_in (letters ++ letter ∷ []) old.peer) (has_name b' old.peer) old new
+  passed_one : (old new : Link) →
+      same_name letter.0 old.peer ≡ false →
+      Took (mail_in letters old.peer) (has_name b old.peer) old new →
+      Took (mail_in (letters ++ letter ∷ []) old.peer) (has_name b' old.peer) old new
   passed_one old new other took =
       subst (λ flag. Took (mail_in (letters ++ letter ∷ []) old.peer) flag old new) (sym (same old.peer other))
       (subst (λ mail. Took mail (has_name b old.peer) old new) (sym (mail_other letters letter old.peer other)) took)
 
-  passed : (olds news : List Link) → Each (λ name. same_name letter.0 name ≡ false) (peers_of olds) → Posted b letters olds news → Posted b' (letters ++ letter ∷ []) olds news
+  passed : (olds news : List Link) →
+      Each (λ name. same_name letter.0 name ≡ false) (peers_of olds) →
+      Posted b letters olds news →
+      Posted b' (letters ++ letter ∷ []) olds news
   passed [] [] away posted = tt
   passed [] (new ∷ news) away posted = posted
   passed (old ∷ olds) [] away posted = posted
@@ -95,8 +107,15 @@ module _ (b b' : List Name) (letters : List Letter) (letter : Letter) (same : Sa
 
   -- the link at the letter's place takes it, and no other
   pub at_place : (after : Link) (olds news : List Link) (place : ℕ)
-      → ((old new : Link) → old.peer ≡ letter.0 → slice_get news place ≡ Some new → Took (mail_in letters old.peer) (has_name b old.peer) old new → Took (mail_in (letters ++ letter ∷ []) old.peer) (has_name b' old.peer) old after)
-      → IsDistinct same_name (peers_of olds) → slice_get (peers_of olds) place ≡ Some letter.0 → Posted b letters olds news → Posted b' (letters ++ letter ∷ []) olds (slice_set news place after)
+      → ((old new : Link)
+      → old.peer ≡ letter.0
+      → slice_get news place ≡ Some new
+      → Took (mail_in letters old.peer) (has_name b old.peer) old new
+      → Took (mail_in (letters ++ letter ∷ []) old.peer) (has_name b' old.peer) old after)
+      → IsDistinct same_name (peers_of olds)
+      → slice_get (peers_of olds) place ≡ Some letter.0
+      → Posted b letters olds news
+      → Posted b' (letters ++ letter ∷ []) olds (slice_set news place after)
   unfolding IsDistinct
   at_place after [] news place one apart here posted = let no : None ≡ Some letter.0 = here in absurd (cc no)
   at_place after (old ∷ olds) [] place one apart here posted = absurd posted
@@ -121,17 +140,26 @@ module _ (b : List Name) (letters : List Letter) (letter : Letter) where
       let before : new ≡ record old { pushed = old.pushed ++ mail_in letters old.peer } = subst (λ t. Took (mail_in letters old.peer) t old new) flag took in
       subst (λ t. Took (mail_in (letters ++ letter ∷ []) old.peer) t old after) (sym flag)
       (is ∙ ap (λ (l : Link). record l { pushed = l.pushed ++ letter.2 ∷ [] }) before
-      ∙ ap (λ pushed. record old { pushed = pushed }) (append_assoc old.pushed (mail_in letters old.peer) (letter.2 ∷ []) ∙ ap (λ mail. old.pushed ++ mail) (sym (mail_its letters letter old.peer (its_name old.peer its)))))
+      ∙ ap (λ pushed. record old { pushed = pushed }) (append_assoc old.pushed (mail_in letters old.peer) (letter.2 ∷ [])
+      ∙ ap (λ mail. old.pushed ++ mail) (sym (mail_its letters letter old.peer (its_name old.peer its)))))
 
   -- its ring has no room
   pub blocks : (old new after : Link) → has_name b letter.0 ≡ false → after ≡ new → old.peer ≡ letter.0
-      → Took (mail_in letters old.peer) (has_name b old.peer) old new → Took (mail_in (letters ++ letter ∷ []) old.peer) (has_name (b ++ letter.0 ∷ []) old.peer) old after
+      → Took (mail_in letters old.peer) (has_name b old.peer) old new
+      → Took (mail_in (letters ++ letter ∷ []) old.peer) (has_name (b ++ letter.0 ∷ []) old.peer) old after
   blocks old new after free is its took =
       let mine = its_name old.peer its in
       let flag : has_name b old.peer ≡ false = ap (has_name b) its ∙ free in
       let before : new ≡ record old { pushed = old.pushed ++ mail_in letters old.peer } = subst (λ t. Took (mail_in letters old.peer) t old new) flag took in
-      subst (λ t. Took (mail_in (letters ++ letter ∷ []) old.peer) t old after) (sym (blocked_more b letter.0 old.peer true mine ∙ or_true (has_name b old.peer)))
-      (record { taken = mail_in letters old.peer; left = letter.2 ∷ []; parts = mail_its letters letter old.peer mine; some_left = omega arith; took = is ∙ before })
+      subst (λ t. Took (mail_in (letters ++ letter ∷ []) old.peer) t old after)
+      (sym (blocked_more b letter.0 old.peer true mine ∙ or_true (has_name b old.peer)))
+      (record {
+        taken = mail_in letters old.peer;
+        left = letter.2 ∷ [];
+        parts = mail_its letters letter old.peer mine;
+        some_left = omega arith;
+        took = is ∙ before;
+      })
 
   -- its link is blocked already
   pub is_late : has_name b letter.0 ≡ true → (olds news : List Link) → Posted b letters olds news → Posted b (letters ++ letter ∷ []) olds news
@@ -148,7 +176,8 @@ module _ (b : List Name) (letters : List Letter) (letter : Letter) where
           subst (λ t. Took (mail_in (letters ++ letter ∷ []) old.peer) t old new) (sym flag) (record {
             taken = before.taken;
             left = before.left ++ letter.2 ∷ [];
-            parts = mail_its letters letter old.peer its ∙ ap (λ mail. mail ++ letter.2 ∷ []) before.parts ∙ append_assoc before.taken before.left (letter.2 ∷ []);
+            parts =
+                mail_its letters letter old.peer its ∙ ap (λ mail. mail ++ letter.2 ∷ []) before.parts ∙ append_assoc before.taken before.left (letter.2 ∷ []);
             some_left = let some = before.some_left in omega (arith, some, length-append before.left (letter.2 ∷ []));
             took = before.took;
           })
@@ -156,13 +185,15 @@ module _ (b : List Name) (letters : List Letter) (letter : Letter) where
 -- ---- one letter, whatever becomes of it
 
 module _ (b : List Name) (letters : List Letter) (letter : Letter) (olds news : List Link) (new after : Link)
-    (apart : IsDistinct same_name (peers_of news)) (here : slice_get (peers_of news) letter.1 ≡ Some letter.0) (free : has_name b letter.0 ≡ false) (is_new : slice_get news letter.1 ≡ Some new)
+    (apart : IsDistinct same_name (peers_of news)) (here : slice_get (peers_of news) letter.1 ≡ Some letter.0)
+    (free : has_name b letter.0 ≡ false) (is_new : slice_get news letter.1 ≡ Some new)
     (peers : peers_of olds ≡ peers_of news) (posted : Posted b letters olds news)
   where
     pub took_it : after ≡ record new { pushed = new.pushed ++ letter.2 ∷ [] } → Posted b (letters ++ letter ∷ []) olds (slice_set news letter.1 after)
     took_it is =
         at_place b b letters letter (λ peer other. refl) after olds news letter.1
-        (λ old found its there took. comes b letters letter old found after free (is ∙ ap (λ (l : Link). record l { pushed = l.pushed ++ letter.2 ∷ [] }) (same_item new found (sym is_new ∙ there))) its took)
+        (λ old found its there took. comes b letters letter old found after free
+        (is ∙ ap (λ (l : Link). record l { pushed = l.pushed ++ letter.2 ∷ [] }) (same_item new found (sym is_new ∙ there))) its took)
         (subst (IsDistinct same_name) (sym peers) apart) (ap (λ ns. slice_get ns letter.1) peers ∙ here) posted
 
     pub had_no_room : after ≡ new → Posted (b ++ letter.0 ∷ []) (letters ++ letter ∷ []) olds (slice_set news letter.1 after)
@@ -183,7 +214,10 @@ posted_peers b letters (old ∷ olds) (new ∷ news) posted = (λ i. head (has_n
     head true took = ap (λ (l : Link). l.peer) (sym took.took)
 
 -- replacing a link by one to the same name leaves the names as they were
-pub peers_set : (links : List Link) (place : ℕ) (new after : Link) → slice_get links place ≡ Some new → after.peer ≡ new.peer → peers_of (slice_set links place after) ≡ peers_of links
+pub peers_set : (links : List Link) (place : ℕ) (new after : Link) →
+    slice_get links place ≡ Some new →
+    after.peer ≡ new.peer →
+    peers_of (slice_set links place after) ≡ peers_of links
 peers_set [] place new after here is = let no : None ≡ Some new = here in absurd (cc no)
 peers_set (link ∷ links) zero new after here is = let its = is ∙ ap (λ (l : Link). l.peer) (sym (same_item link new here)) in (λ i. its i ∷ peers_of links)
 peers_set (link ∷ links) (suc place) new after here is = let rest = peers_set links place new after here is in (λ i. link.peer ∷ rest i)
@@ -197,13 +231,19 @@ mail_parts xs ys peer =
     ∙ ap (map spelling) (map-append (λ (send : Name × Frame). send.1) (filter goes xs) (filter goes ys))
     ∙ map-append spelling (map (λ (send : Name × Frame). send.1) (filter goes xs)) (map (λ (send : Name × Frame). send.1) (filter goes ys))
 
-pub mail_on : (sends : List (Name × Frame)) (i : ℕ) (send : Name × Frame) (peer : Name) → i < length sends → send ≡ get_or sends i send → mail_for (take (i + 1) sends) peer ≡ mail_for (take i sends) peer ++ mail_for (send ∷ []) peer
+pub mail_on : (sends : List (Name × Frame)) (i : ℕ) (send : Name × Frame) (peer : Name) →
+    i < length sends →
+    send ≡ get_or sends i send →
+    mail_for (take (i + 1) sends) peer ≡ mail_for (take i sends) peer ++ mail_for (send ∷ []) peer
 mail_on sends i send peer within is =
     ap (λ ss. mail_for ss peer) (take_more sends i send within) ∙ mail_parts (take i sends) (get_or sends i send ∷ []) peer
     ∙ ap (λ s. mail_for (take i sends) peer ++ mail_for (s ∷ []) peer) (sym is)
 
 -- links, one after the other
-pub blocked_on : (b : List Name) (links : List Link) (i : ℕ) (link : Link) → i < length links → link ≡ get_or links i link → filter (has_name b) (peers_of (take (i + 1) links)) ≡ filter (has_name b) (peers_of (take i links)) ++ filter (has_name b) (link.peer ∷ [])
+pub blocked_on : (b : List Name) (links : List Link) (i : ℕ) (link : Link) →
+    i < length links →
+    link ≡ get_or links i link →
+    filter (has_name b) (peers_of (take (i + 1) links)) ≡ filter (has_name b) (peers_of (take i links)) ++ filter (has_name b) (link.peer ∷ [])
 blocked_on b links i link within is =
     ap (λ ls. filter (has_name b) (peers_of ls)) (take_more links i link within ∙ ap (λ l. take i links ++ l ∷ []) (sym is))
     ∙ ap (filter (has_name b)) (map-append (λ (l : Link). l.peer) (take i links) (link ∷ []))
@@ -226,7 +266,8 @@ seam P before rest all x is holds =
     subst P (get_or-append_seam before x rest x) (subst (λ xs. P (get_or xs (length before) x)) (sym is) (holds (length before) x within))
 
 pub place_within : (links : List Link) (letter : Letter) → IsAddressed (peers_of links) letter → letter.1 < length links
-place_within links letter here = let within = slice_get_within (peers_of links) letter.1 letter.0 here in omega (arith, within, length-map links (λ (l : Link). l.peer))
+place_within links letter here =
+    let within = slice_get_within (peers_of links) letter.1 letter.0 here in omega (arith, within, length-map links (λ (l : Link). l.peer))
 
 pub all_gone : {X : Type 0} (before rest all : List X) → before ++ rest ≡ all → length rest ≡ 0 → before ≡ all
 all_gone before [] all is none = sym (append-nil before) ∙ is
@@ -263,7 +304,10 @@ pub open_names : (b : List Name) (links : List Link) → still_named b (peers_of
 open_names b [] = refl
 open_names b (link ∷ links) = go (has_name b link.peer) (open_names b links)
   where
-    go : (t : Bool) → still_named b (peers_of links) ≡ peers_of (left_open b links) → (if not t then link.peer ∷ still_named b (peers_of links) else still_named b (peers_of links)) ≡ peers_of (if not t then link ∷ left_open b links else left_open b links)
+    go : (t : Bool) →
+        still_named b (peers_of links) ≡ peers_of (left_open b links) →
+        (if not t then link.peer ∷ still_named b (peers_of links) else still_named b (peers_of links))
+        ≡ peers_of (if not t then link ∷ left_open b links else left_open b links)
     go true rest = rest
     go false rest = (λ i. link.peer ∷ rest i)
 
@@ -271,7 +315,10 @@ pub other_names : (name : Name) (links : List Link) → others name (peers_of li
 other_names name [] = refl
 other_names name (link ∷ links) = go (same_name name link.peer) (other_names name links)
   where
-    go : (t : Bool) → others name (peers_of links) ≡ peers_of (without name links) → (if not t then link.peer ∷ others name (peers_of links) else others name (peers_of links)) ≡ peers_of (if not t then link ∷ without name links else without name links)
+    go : (t : Bool) →
+        others name (peers_of links) ≡ peers_of (without name links) →
+        (if not t then link.peer ∷ others name (peers_of links) else others name (peers_of links))
+        ≡ peers_of (if not t then link ∷ without name links else without name links)
     go true rest = rest
     go false rest = (λ i. link.peer ∷ rest i)
 
@@ -280,12 +327,18 @@ pub gone : (name : Name) (names : List Name) → has_name (others name names) na
 gone name [] = refl
 gone name (other ∷ names) = go (same_name name other) refl (gone name names)
   where
-    go : (t : Bool) → same_name name other ≡ t → has_name (others name names) name ≡ false → has_name (if not t then other ∷ others name names else others name names) name ≡ false
+    go : (t : Bool) →
+        same_name name other ≡ t →
+        has_name (others name names) name ≡ false →
+        has_name (if not t then other ∷ others name names else others name names) name ≡ false
     go true is rest = rest
     go false is rest = ap (λ u. u || has_name (others name names) name) is ∙ rest
 
 -- the names of the links after one to this name is opened
-pub named_more : (name : Name) (names : List Name) (links : List Link) (link : Link) → names ≡ peers_of links → link.peer ≡ name → others name names ++ name ∷ [] ≡ peers_of (without name links ++ link ∷ [])
+pub named_more : (name : Name) (names : List Name) (links : List Link) (link : Link) →
+    names ≡ peers_of links →
+    link.peer ≡ name →
+    others name names ++ name ∷ [] ≡ peers_of (without name links ++ link ∷ [])
 named_more name names links link listed its =
     ap (λ ns. others name ns ++ name ∷ []) listed
     ∙ ap (λ ns. ns ++ name ∷ []) (other_names name links)
@@ -300,10 +353,13 @@ linked_named (link ∷ links) name = ap (λ u. same_name name link.peer || u) (l
 
 -- the receivers without a link, by the links and by their names
 pub lacks_by_names : (links : List Link) (sends : List (Name × Frame)) → unlinked links sends ≡ lacking (peers_of links) sends
-lacks_by_names links sends = (λ i. fold (λ (names : List Name) (send : Name × Frame). if linked_named links send.0 i then names else with_name names send.0) [] sends)
+lacks_by_names links sends =
+    (λ i. fold (λ (names : List Name) (send : Name × Frame). if linked_named links send.0 i then names else with_name names send.0) [] sends)
 
 -- each link has a name among these
-each_named : (links all : List Link) → ((name : Name) → has_name (peers_of links) name ≡ true → has_name (peers_of all) name ≡ true) → Each (λ (link : Link). has_name (peers_of all) link.peer ≡ true) links
+each_named : (links all : List Link) →
+    ((name : Name) → has_name (peers_of links) name ≡ true → has_name (peers_of all) name ≡ true) →
+    Each (λ (link : Link). has_name (peers_of all) link.peer ≡ true) links
 each_named [] all among = tt
 each_named (link ∷ links) all among = (
   among link.peer (ap (λ t. t || has_name (peers_of links) link.peer) ((same_name-Decides link.peer link.peer).1 refl)),
@@ -311,7 +367,10 @@ each_named (link ∷ links) all among = (
 )
 
 module _ (b : List Name) (letters : List Letter) (sends : List (Name × Frame)) where
-  puts_each : (olds news : List Link) → Posted b letters olds news → Each (λ (link : Link). mail_in letters link.peer ≡ mail_for sends link.peer) olds → Puts (map (mail_to sends) olds) olds (left_open b news) (filter (has_name b) (peers_of olds))
+  puts_each : (olds news : List Link) →
+      Posted b letters olds news →
+      Each (λ (link : Link). mail_in letters link.peer ≡ mail_for sends link.peer) olds →
+      Puts (map (mail_to sends) olds) olds (left_open b news) (filter (has_name b) (peers_of olds))
   puts_each [] [] posted mail = (refl, refl)
   puts_each [] (new ∷ news) posted mail = absurd posted
   puts_each (old ∷ olds) [] posted mail = absurd posted
@@ -319,9 +378,15 @@ module _ (b : List Name) (letters : List Letter) (sends : List (Name × Frame)) 
     where
       -- what is to be shown, by whether the link is blocked
       Goal : Bool → Bool → Type 0
-      Goal t u = Puts (map (mail_to sends) (old ∷ olds)) (old ∷ olds) (if not t then new ∷ left_open b news else left_open b news) (if u then old.peer ∷ filter (has_name b) (peers_of olds) else filter (has_name b) (peers_of olds))
+      Goal t u =
+          Puts (map (mail_to sends) (old ∷ olds)) (old ∷ olds) (if not t then new ∷ left_open b news else left_open b news)
+          (if u then old.peer ∷ filter (has_name b) (peers_of olds) else filter (has_name b) (peers_of olds))
 
-      go : (t : Bool) → has_name b old.peer ≡ t → Took (mail_in letters old.peer) (has_name b old.peer) old new → Puts (map (mail_to sends) olds) olds (left_open b news) (filter (has_name b) (peers_of olds)) → Goal (has_name b new.peer) (has_name b old.peer)
+      go : (t : Bool) →
+          has_name b old.peer ≡ t →
+          Took (mail_in letters old.peer) (has_name b old.peer) old new →
+          Puts (map (mail_to sends) olds) olds (left_open b news) (filter (has_name b) (peers_of olds)) →
+          Goal (has_name b new.peer) (has_name b old.peer)
       go false is took rest =
           let its : new ≡ record old { pushed = old.pushed ++ mail_in letters old.peer } = subst (λ t. Took (mail_in letters old.peer) t old new) is took in
           let same : has_name b new.peer ≡ false = ap (λ (l : Link). has_name b l.peer) its ∙ is in
@@ -330,21 +395,30 @@ module _ (b : List Name) (letters : List Letter) (sends : List (Name × Frame)) 
       go true is took rest =
           let its : TookPart (mail_in letters old.peer) old new = subst (λ t. Took (mail_in letters old.peer) t old new) is took in
           let same : has_name b new.peer ≡ true = ap (λ (l : Link). has_name b l.peer) its.took ∙ is in
-          let some : 0 < length (mail_in letters old.peer) = let e = ap length its.parts in let left = its.some_left in omega (arith, e, left, length-append its.taken its.left) in
+          let some : 0 < length (mail_in letters old.peer) =
+          let e = ap length its.parts in let left = its.some_left in omega (arith, e, left, length-append its.taken its.left) in
           subst (λ t. Goal t (has_name b old.peer)) (sym same) (subst (Goal true) (sym is)
           (inr (filter (has_name b) (peers_of olds), refl, subst (λ m. 0 < length m) mail.0 some, rest)))
 
 -- what the letters did is what the sends do
-pub posted_puts : (b : List Name) (letters : List Letter) (sends : List (Name × Frame)) (olds news : List Link) → HaveMail (peers_of olds) sends letters → Posted b letters olds news → Puts (map (mail_to sends) olds) olds (left_open b news) (filter (has_name b) (peers_of olds))
-posted_puts b letters sends olds news have posted = puts_each b letters sends olds news posted (each_turned _ _ (λ (link : Link) is. have link.peer is) olds (each_named olds olds (λ name is. is)))
+pub posted_puts : (b : List Name) (letters : List Letter) (sends : List (Name × Frame)) (olds news : List Link) →
+    HaveMail (peers_of olds) sends letters →
+    Posted b letters olds news →
+    Puts (map (mail_to sends) olds) olds (left_open b news) (filter (has_name b) (peers_of olds))
+posted_puts b letters sends olds news have posted =
+    puts_each b letters sends olds news posted (each_turned _ _ (λ (link : Link) is. have link.peer is) olds (each_named olds olds (λ name is. is)))
 
 -- a slice that was written over all of the links
 pub over_links : (len : ℕ) (olds news : List Link) → len ≡ length olds → peers_of olds ≡ peers_of news → take len (news ++ drop (length news) olds) ≡ news
 over_links len olds news is same =
-    take_at news (drop (length news) olds) len (let e = ap length same in omega (arith, is, e, length-map olds (λ (l : Link). l.peer), length-map news (λ (l : Link). l.peer)))
+    take_at news (drop (length news) olds) len (let e = ap length same in
+    omega (arith, is, e, length-map olds (λ (l : Link). l.peer), length-map news (λ (l : Link). l.peer)))
 
 -- outlets, one after the other
-pub outlets_on : (names : List Name) (i : ℕ) (name : Name) → i < length names → name ≡ get_or names i name → map fresh_outlet (take (i + 1) names) ≡ map fresh_outlet (take i names) ++ fresh_outlet name ∷ []
+pub outlets_on : (names : List Name) (i : ℕ) (name : Name) →
+    i < length names →
+    name ≡ get_or names i name →
+    map fresh_outlet (take (i + 1) names) ≡ map fresh_outlet (take i names) ++ fresh_outlet name ∷ []
 outlets_on names i name within is =
     ap (map fresh_outlet) (take_more names i name within)
     ∙ map-append fresh_outlet (take i names) (get_or names i name ∷ [])

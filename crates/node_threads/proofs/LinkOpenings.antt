@@ -48,10 +48,13 @@ module _ {C : Type 0} (since : ℕ) where
   -- opening these names from here on, where those before left some, opens all
   abbrev pub OpensOn : Cell C → Learnt → List Name → Cell C → Learnt → List Name → List Name → Type 0
   OpensOn first kept all now more rest left =
-      (last : Cell C) (learnt : Learnt) (others : List Name) → Opens since now more rest last learnt others → Opens since first kept all last learnt (left ++ others)
+      (last : Cell C) (learnt : Learnt) (others : List Name) →
+      Opens since now more rest last learnt others →
+      Opens since first kept all last learnt (left ++ others)
 
   pub opens_on :
-      (first : Cell C) (kept : Learnt) (all : List Name) (now : Cell C) (more : Learnt) (rest rest' left : List Name) (name : Name) (next : Cell C) (more' : Learnt)
+      (first : Cell C) (kept : Learnt) (all : List Name) (now : Cell C) (more : Learnt)
+      (rest rest' left : List Name) (name : Name) (next : Cell C) (more' : Learnt)
       → rest ≡ name ∷ rest'
       → OpensOn first kept all now more rest left
       → OpensOne since now more name next more'
@@ -78,12 +81,16 @@ module _ {C : Type 0} (since : ℕ) where
       (on now more [] (subst (λ names. Opens since now more names now more []) (sym is) (refl, refl, refl)))
 
   -- the trace is as long after a link was opened
-  pub still_within : (now : Cell C) (more : Learnt) (name : Name) (next : Cell C) (more' : Learnt) → OpensOne since now more name next more' → IsPlace now since → IsPlace next since
+  pub still_within : (now : Cell C) (more : Learnt) (name : Name) (next : Cell C) (more' : Learnt) →
+      OpensOne since now more name next more' →
+      IsPlace now since →
+      IsPlace next since
   still_within now more name next more' opened within = subst (λ cell. IsPlace cell since) (sym opened.linked) within
 
 -- the place of a step is a place of the node after it
 pub its_own_place :
-    {C : Type 0} (state : C → CoreState) (steps : C → Stimulus Frame → List (Name × Frame) → List Delivery → C → Type 0) (old : Cell C) (stimulus : Stimulus Frame) (new : Cell C) (id : Option MsgId) (place : ℕ) (full lacking : List Name)
+    {C : Type 0} (state : C → CoreState) (steps : C → Stimulus Frame → List (Name × Frame) → List Delivery → C → Type 0)
+    (old : Cell C) (stimulus : Stimulus Frame) (new : Cell C) (id : Option MsgId) (place : ℕ) (full lacking : List Name)
     → Applies state steps old stimulus new id place full lacking
     → IsPlace new place
 its_own_place state steps old stimulus new id place full lacking done =

@@ -1,5 +1,6 @@
 -- What a node keeps is kept where it starts, and where links are opened and closed.
-use Rattle.std.specs.Prelude.{◌≡◌, ◌≤◌, ◌+◌, ◌-◌, ◌||◌, ℕ, Bool, true, false, not, List, [], ◌∷◌, ◌++◌, Option, Some, None, map, option_map, drop, take, length, nat_le, if◌then◌else◌, refl, IsTrue}
+use Rattle.std.specs.Prelude.{◌≡◌, ◌≤◌, ◌+◌, ◌-◌, ◌||◌, ℕ, Bool, true, false, not, List, [], ◌∷◌, ◌++◌, Option}
+use Rattle.std.specs.Prelude.{Some, None, map, option_map, drop, take, length, nat_le, if◌then◌else◌, refl, IsTrue}
 use Rattle.std.specs.List.{AllByRecursion as Each, IsDistinct}
 use Rattle.std.proofs.Common.{◌∙◌, ap, append_assoc, arith, length-append, rules, subst, sym, tests, zero-le}
 use Rattle.std.proofs.Math.Seq.{drop-length}
@@ -50,14 +51,18 @@ unfolding IsDistinct
 distinct_without name [] apart = tt
 distinct_without name (link ∷ links) apart =
     let rest = distinct_without name links apart.1 in
-    either_way (λ ls. IsDistinct same_name (peers_of ls)) (not (same_name name link.peer)) (link ∷ without name links) (without name links) (names_without (λ n. same_name link.peer n ≡ false) name links apart.0, rest) rest
+    either_way (λ ls. IsDistinct same_name (peers_of ls)) (not (same_name name link.peer)) (link ∷ without name links)
+    (without name links) (names_without (λ n. same_name link.peer n ≡ false) name links apart.0, rest) rest
 
 -- the links to other names are not to this one
 others : (name : Name) (links : List Link) → Each (λ n. same_name n name ≡ false) (peers_of (without name links))
 others name [] = tt
 others name (link ∷ links) = go (same_name name link.peer) refl (others name links)
   where
-    go : (b : Bool) → same_name name link.peer ≡ b → Each (λ n. same_name n name ≡ false) (peers_of (without name links)) → Each (λ n. same_name n name ≡ false) (peers_of (if not b then link ∷ without name links else without name links))
+    go : (b : Bool) →
+        same_name name link.peer ≡ b →
+        Each (λ n. same_name n name ≡ false) (peers_of (without name links)) →
+        Each (λ n. same_name n name ≡ false) (peers_of (if not b then link ∷ without name links else without name links))
     go true is rest = rest
     go false is rest = (same_name-laws.symm link.peer name ∙ is, rest)
 
@@ -66,10 +71,14 @@ each_name_with Q [] link all it = (it, tt)
 each_name_with Q (l ∷ links) link all it = (all.0, each_name_with Q links link all.1 it)
 
 -- one more link, to a name that the others do not go to
-distinct_with : (links : List Link) (link : Link) → IsDistinct same_name (peers_of links) → Each (λ n. same_name n link.peer ≡ false) (peers_of links) → IsDistinct same_name (peers_of (links ++ link ∷ []))
+distinct_with : (links : List Link) (link : Link) →
+    IsDistinct same_name (peers_of links) →
+    Each (λ n. same_name n link.peer ≡ false) (peers_of links) →
+    IsDistinct same_name (peers_of (links ++ link ∷ []))
 unfolding IsDistinct
 distinct_with [] link apart away = (tt, tt)
-distinct_with (l ∷ links) link apart away = (each_name_with (λ n. same_name l.peer n ≡ false) links link apart.0 away.0, distinct_with links link apart.1 away.1)
+distinct_with (l ∷ links) link apart away =
+    (each_name_with (λ n. same_name l.peer n ≡ false) links link apart.0 away.0, distinct_with links link apart.1 away.1)
 
 no_names : IsDistinct same_name (peers_of [])
 unfolding IsDistinct
@@ -91,7 +100,8 @@ pub fresh_kept :
     (opening : Output Frame)
     (limit : ℕ)
     → IsFresh starts core opening
-    → IsKept starts steps (record { core = core; since = None; trace = fresh_trace (state core) opening; limit = limit; links = []; pending = []; handed_out = 0; is_shut = false })
+    → IsKept starts steps
+    (record { core = core; since = None; trace = fresh_trace (state core) opening; limit = limit; links = []; pending = []; handed_out = 0; is_shut = false })
 fresh_kept state starts steps tells core opening limit fresh =
     let shows = tells fresh.me fresh.limits fresh.peers fresh.contact opening.sends core fresh.started in
     let me = sym shows.is_me in
@@ -99,14 +109,19 @@ fresh_kept state starts steps tells core opening limit fresh =
     let contact = sym shows.to_contact in
     let Allowed : Origin → List Name → Option Name → Type 0 = λ o ps ct. IsTrue (are_peers fresh.limits o.name ps ct) in
     let Started : Origin → List Name → Option Name → Type 0 = λ o ps ct. starts o fresh.limits ps ct opening.sends core in
-    let kept : IsKeptAfter starts steps [] (record { core = core; since = None; trace = fresh_trace (state core) opening; limit = limit; links = []; pending = []; handed_out = 0; is_shut = false }) =
+    let kept : IsKeptAfter starts steps []
+    (record { core = core; since = None; trace = fresh_trace (state core) opening; limit = limit; links = []; pending = []; handed_out = 0; is_shut = false }) =
     record {
       limits = fresh.limits;
       replays =
           record {
             first = core;
-            allowed = subst (λ o. Allowed o (state core).active (first_receiver opening.sends)) me (subst (λ ps. Allowed fresh.me ps (first_receiver opening.sends)) peers (subst (λ ct. Allowed fresh.me fresh.peers ct) contact fresh.allowed));
-            started = subst (λ o. Started o (state core).active (first_receiver opening.sends)) me (subst (λ ps. Started fresh.me ps (first_receiver opening.sends)) peers (subst (λ ct. Started fresh.me fresh.peers ct) contact fresh.started));
+            allowed =
+                subst (λ o. Allowed o (state core).active (first_receiver opening.sends)) me
+                (subst (λ ps. Allowed fresh.me ps (first_receiver opening.sends)) peers (subst (λ ct. Allowed fresh.me fresh.peers ct) contact fresh.allowed));
+            started =
+                subst (λ o. Started o (state core).active (first_receiver opening.sends)) me
+                (subst (λ ps. Started fresh.me ps (first_receiver opening.sends)) peers (subst (λ ct. Started fresh.me fresh.peers ct) contact fresh.started));
             silent = fresh.silent;
             leads = refl;
           };
@@ -119,7 +134,11 @@ fresh_kept state starts steps tells core opening limit fresh =
 
 -- ---- deliveries
 
-pub delivered_few : {C : Type 0} (state : C → CoreState) (steps : C → Stimulus Frame → List (Name × Frame) → List Delivery → C → Type 0) → OneDelivery state steps → (first last : C) (ss : List (Step Frame)) → Leads steps first ss last → length (delivered ss) ≤ length ss
+pub delivered_few : {C : Type 0} (state : C → CoreState) (steps : C → Stimulus Frame → List (Name × Frame) → List Delivery → C → Type 0) →
+    OneDelivery state steps →
+    (first last : C) (ss : List (Step Frame)) →
+    Leads steps first ss last →
+    length (delivered ss) ≤ length ss
 delivered_few state steps one first last [] leads = zero-le
 delivered_few state steps one first last (s ∷ ss) leads =
     let few = one.at_most_one first s.stimulus s.out.sends s.out.deliveries leads.0 leads.1 in
@@ -179,7 +198,9 @@ module _
           pushed_text = ap (map spelling) (whole_text kept.before cell.trace name (lost cell.since) since kept.forgotten within.0);
         }
 
-    linked_after : (since : ℕ) → IsPlace cell since → IsKeptAfter starts steps kept.before (record cell { links = without name cell.links ++ link_since cell name since ∷ [] })
+    linked_after : (since : ℕ) →
+        IsPlace cell since →
+        IsKeptAfter starts steps kept.before (record cell { links = without name cell.links ++ link_since cell name since ∷ [] })
     linked_after since within =
         record {
           limits = all.limits;
@@ -187,7 +208,9 @@ module _
           handed = all.handed;
           waiting = all.waiting;
           distinct = distinct_with (without name cell.links) (link_since cell name since) closed_after.distinct (others name cell.links);
-          texts = each_with (FollowsText (after kept.before cell.trace)) (without name cell.links) (link_since cell name since) closed_after.texts (follows since within);
+          texts =
+              each_with (FollowsText (after kept.before cell.trace)) (without name cell.links)
+              (link_since cell name since) closed_after.texts (follows since within);
         }
 
     linked_kept : (since : ℕ) → IsPlace cell since → IsKept starts steps (record cell { links = without name cell.links ++ link_since cell name since ∷ [] })
@@ -195,7 +218,8 @@ module _
 
     pub opened_kept : (ring since : ℕ) → IsPlace cell since → IsKept starts steps (record cell { links = linked_since cell name ring since })
     opened_kept ring since within =
-        either_way (λ last. IsKept starts steps (record cell { links = without name cell.links ++ last })) (nat_le (length (mail_since cell name since)) ring) (link_since cell name since ∷ []) [] (linked_kept since within)
+        either_way (λ last. IsKept starts steps (record cell { links = without name cell.links ++ last }))
+        (nat_le (length (mail_since cell name since)) ring) (link_since cell name since ∷ []) [] (linked_kept since within)
         (subst (λ ls. IsKept starts steps (record cell { links = ls })) (sym (append-nil (without name cell.links))) closed_kept)
 
 -- ---- handing out
@@ -247,10 +271,15 @@ module _
     -- what is left after the first steps of the trace are forgotten is still kept
     pub forgetting_kept : (since count : ℕ) → cell.since ≡ Some since → count ≤ length cell.trace.steps → IsKept starts steps (forgetting count cell)
     forgetting_kept since count is within =
-        let whole : (kept.before ++ take count cell.trace.steps) ++ drop count cell.trace.steps ≡ steps_of = append_assoc kept.before (take count cell.trace.steps) (drop count cell.trace.steps) ∙ ap (λ ss. kept.before ++ ss) (take-append-drop count cell.trace.steps) in
-        let same : after (kept.before ++ take count cell.trace.steps) (forgetting count cell).trace ≡ after kept.before cell.trace = ap (λ ss. record cell.trace { steps = ss }) whole in
+        let whole : (kept.before ++ take count cell.trace.steps) ++ drop count cell.trace.steps ≡ steps_of =
+        append_assoc kept.before (take count cell.trace.steps) (drop count cell.trace.steps)
+        ∙ ap (λ ss. kept.before ++ ss) (take-append-drop count cell.trace.steps) in
+        let same : after (kept.before ++ take count cell.trace.steps) (forgetting count cell).trace ≡ after kept.before cell.trace =
+        ap (λ ss. record cell.trace { steps = ss }) whole in
         let long : length (kept.before ++ take count cell.trace.steps) ≡ since + count =
-        length-append kept.before (take count cell.trace.steps) ∙ ap (λ n. n + length (take count cell.trace.steps)) (kept.forgotten ∙ ap lost is) ∙ ap (λ n. since + n) (length-take-le count cell.trace.steps within) in
+        length-append kept.before (take count cell.trace.steps)
+        ∙ ap (λ n. n + length (take count cell.trace.steps)) (kept.forgotten ∙ ap lost is)
+        ∙ ap (λ n. since + n) (length-take-le count cell.trace.steps within) in
         record {
           before = kept.before ++ take count cell.trace.steps;
           forgotten = long ∙ sym (ap (λ s. lost (option_map (λ n. n + count) s)) is);

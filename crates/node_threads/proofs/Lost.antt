@@ -14,7 +14,10 @@ drop_past (x ∷ a) b zero past = absurd (omega (arith, past))
 drop_past (x ∷ a) b (suc n) past = let e : n - length a ≡ suc n - suc (length a) = omega arith in drop_past a b n (omega (arith, past)) ∙ ap (λ m. drop m b) e
 
 -- it is the text of the link by the whole trace
-pub whole_text : (before : List (Step Frame)) (trace : Trace Frame) (peer : Name) (since opened : ℕ) → length before ≡ since → since ≤ opened → text_since since trace peer opened ≡ link_text (after before trace) peer opened
+pub whole_text : (before : List (Step Frame)) (trace : Trace Frame) (peer : Name) (since opened : ℕ) →
+    length before ≡ since →
+    since ≤ opened →
+    text_since since trace peer opened ≡ link_text (after before trace) peer opened
 whole_text before trace peer since opened lacks behind =
     let past : length before ≤ opened = omega (arith, lacks, behind) in
     ap (λ ss. (if opened == 0 then sent_to peer trace.opening.sends else []) ++ text_of peer ss)

@@ -1,5 +1,6 @@
 -- A step that was made does what a node's step does.
-use Rattle.std.specs.Prelude.{◌≡◌, ℕ, false, List, [], ◌∷◌, ◌++◌, Option, Some, None, Result, Ok, Err, IfErr, OnErr, OnSome, IsErrAnd, length, map, option_map, slice_get, refl}
+use Rattle.std.specs.Prelude.{◌≡◌, ℕ, false, List, [], ◌∷◌, ◌++◌, Option, Some, None, Result, Ok, Err}
+use Rattle.std.specs.Prelude.{IfErr, OnErr, OnSome, IsErrAnd, length, map, option_map, slice_get, refl}
 use Rattle.std.proofs.Common.{◌∙◌, ap, sym, subst}
 use Rattle.node_names.specs.NodeName.{Name}
 use Rattle.node_names.specs.declared.ids.MsgId.{MsgId}
@@ -20,8 +21,13 @@ first_id : (given : List Delivery) → option_map (λ d. d.id) (slice_get given 
 first_id [] = refl
 first_id (d ∷ given) = refl
 
-id_is : {C : Type 0} (state : C → CoreState) (steps : C → Stimulus Frame → List (Name × Frame) → List Delivery → C → Type 0) → OneDelivery state steps → (old : C) (stimulus : Stimulus Frame) (sends : List (Name × Frame)) (given : List Delivery) (new : C) → steps old stimulus sends given new → id_given stimulus given ≡ broadcast_id (state old) stimulus
-id_is state steps one old (Broadcast payload) sends given new made = first_id given ∙ ap (λ is. slice_get is 0) (one.of_broadcast old payload sends given new made)
+id_is : {C : Type 0} (state : C → CoreState) (steps : C → Stimulus Frame → List (Name × Frame) → List Delivery → C → Type 0) →
+    OneDelivery state steps →
+    (old : C) (stimulus : Stimulus Frame) (sends : List (Name × Frame)) (given : List Delivery) (new : C) →
+    steps old stimulus sends given new →
+    id_given stimulus given ≡ broadcast_id (state old) stimulus
+id_is state steps one old (Broadcast payload) sends given new made =
+    first_id given ∙ ap (λ is. slice_get is 0) (one.of_broadcast old payload sends given new made)
 id_is state steps one old (Arrive sender frame dice) sends given new made = refl
 id_is state steps one old (Fire id) sends given new made = refl
 id_is state steps one old Flush sends given new made = refl
@@ -48,7 +54,16 @@ module _
   where
     -- the node after the step
     abbrev pub after_step : Cell C
-    after_step = record { core = core; since = old.since; trace = trace; limit = old.limit; links = live; pending = pending; handed_out = old.handed_out; is_shut = old.is_shut }
+    after_step = record {
+      core = core;
+      since = old.since;
+      trace = trace;
+      limit = old.limit;
+      links = live;
+      pending = pending;
+      handed_out = old.handed_out;
+      is_shut = old.is_shut;
+    }
 
     pub made_applies :
         steps old.core stimulus out.sends out.deliveries after

@@ -3,14 +3,16 @@ use Rattle.std.specs.Prelude.{◌≡◌, ◌≤◌, ◌<◌, ◌+◌, ◌==◌, 
 use Rattle.std.proofs.Common.{◌∙◌, ap, arith, get_or, inl, inr, set, subst, sym, zero-le}
 use Rattle.std.proofs.lemmas.Bool.{cases_eq, cases_lt, eq-eqb, ne_eqb}
 use Rattle.std.proofs.lemmas.Grind.{flat_map-append}
-use Rattle.std.proofs.lemmas.List.{append-nil, drop_at, get_or-replicate, get_or-set_other, get_or-set_same, get_or_past, length-replicate, take-append-drop, take_all, take_at, take_more}
+use Rattle.std.proofs.lemmas.List.{append-nil, drop_at, get_or-replicate, get_or-set_other, get_or-set_same}
+use Rattle.std.proofs.lemmas.List.{get_or_past, length-replicate, take-append-drop, take_all, take_at, take_more}
 use Rattle.std.proofs.lemmas.List.Elements.{All-append, All-cons, All-contains, All-drop, All-head, All-nil, All-push, All-take, All-tail, Contains-push}
 use Rattle.std.proofs.lemmas.List.Sums.{sum_by-append, sum_by-cons}
 use Rattle.std.proofs.lemmas.Option.{slice_get_within}
 use Rattle.protocol.specs.Trace.{Step}
 use Rattle.frames.specs.Frame.{Frame}
 use Rattle.node_threads.specs.Marks.{Fits, FitsAt, HasMarks, LacksMark, Marks, marks_at}
-use Rattle.node_threads.specs.Receipts.{AllAlike, Call, IsFirstUnlike, IsRight, PortsFit, Rises, all_calls, broadcasts_at, broadcasts_in, broadcasts_of, calls_at}
+use Rattle.node_threads.specs.Receipts.{AllAlike, Call, IsFirstUnlike, IsRight, PortsFit, Rises}
+use Rattle.node_threads.specs.Receipts.{all_calls, broadcasts_at, broadcasts_in, broadcasts_of, calls_at}
 
 -- ---- counts
 
@@ -35,17 +37,23 @@ pub marks_at_most_one : (place : ℕ) (marks : List Bool) → marks_at place mar
 marks_at_most_one place marks = at_most_one (get_or marks place false)
 
 -- a place that is marked has one mark more, and no other place has
-pub marks_at-set : (place : ℕ) (marks : List Bool) (call : Call) → call.receipt.place < length marks → marks_at call.receipt.place marks ≡ 0 → marks_at place (set marks call.receipt.place true) ≡ marks_at place marks + own_at place call
+pub marks_at-set : (place : ℕ) (marks : List Bool) (call : Call) →
+    call.receipt.place < length marks →
+    marks_at call.receipt.place marks ≡ 0 →
+    marks_at place (set marks call.receipt.place true) ≡ marks_at place marks + own_at place call
 marks_at-set place marks call within free = go (cases_eq place call.receipt.place)
   where
-    go : (place ≡ call.receipt.place) ⊎ (place ≡ call.receipt.place → ⊥) → marks_at place (set marks call.receipt.place true) ≡ marks_at place marks + own_at place call
+    go : (place ≡ call.receipt.place) ⊎ (place ≡ call.receipt.place → ⊥) →
+        marks_at place (set marks call.receipt.place true) ≡ marks_at place marks + own_at place call
     go (inl e) =
-        let marked : marks_at call.receipt.place (set marks call.receipt.place true) ≡ 1 = ap (λ b. cond b 1 0) (get_or-set_same marks call.receipt.place true false within) in
+        let marked : marks_at call.receipt.place (set marks call.receipt.place true) ≡ 1 =
+        ap (λ b. cond b 1 0) (get_or-set_same marks call.receipt.place true false within) in
         let own = own_here call in
         let P : ℕ → Type 0 = λ p. marks_at p (set marks call.receipt.place true) ≡ marks_at p marks + own_at p call in
         subst P (sym e) (omega arith)
     go (inr ne) =
-        let same : marks_at place (set marks call.receipt.place true) ≡ marks_at place marks = ap (λ b. cond b 1 0) (get_or-set_other marks call.receipt.place place true false ne) in
+        let same : marks_at place (set marks call.receipt.place true) ≡ marks_at place marks =
+        ap (λ b. cond b 1 0) (get_or-set_other marks call.receipt.place place true false ne) in
         let none : own_at place call ≡ 0 = ap (λ b. cond b 1 0) (ne_eqb call.receipt.place place (λ e. ne (sym e))) in
         omega arith
 
@@ -98,25 +106,32 @@ pub record MarksOn (steps : List (Step Frame)) (first : List Bool) (whole : List
   pub fits : Fits steps marks low rest ↔ Fits steps first 0 whole
   pub left : (place : ℕ) → marks_at place marks + calls_at place rest ≡ marks_at place first + calls_at place whole
 
-module _ (steps : List (Step Frame)) (first : List Bool) (whole : List Call) (marks : List Bool) (each : length marks ≡ length steps) (low : ℕ) (left rest : List Call) (call : Call) (is_next : left ≡ call ∷ rest) (on : MarksOn steps first whole marks low left) where
+module _ (steps : List (Step Frame)) (first : List Bool) (whole : List Call) (marks : List Bool) (each : length marks ≡ length steps)
+    (low : ℕ) (left rest : List Call) (call : Call) (is_next : left ≡ call ∷ rest) (on : MarksOn steps first whole marks low left) where
   next : MarksOn steps first whole marks low (call ∷ rest)
   next = subst (MarksOn steps first whole marks low) is_next on
 
   -- one receipt more is marked
-  pub marks_on : (marks' : List Bool) (low' : ℕ) → FitsAt steps marks low call → marks' ≡ set marks call.receipt.place true → low' ≡ call.receipt.place + 1 → MarksOn steps first whole marks' low' rest
+  pub marks_on : (marks' : List Bool) (low' : ℕ) →
+      FitsAt steps marks low call →
+      marks' ≡ set marks call.receipt.place true →
+      low' ≡ call.receipt.place + 1 →
+      MarksOn steps first whole marks' low' rest
   marks_on marks' low' at marked from =
       let fits = fits_rest steps marks each low call rest at in
       let with : MarksOn steps first whole (set marks call.receipt.place true) (call.receipt.place + 1) rest = record {
         fits = (λ f. next.fits.0 (fits.0 f), λ f. fits.1 (next.fits.1 f));
         left = λ place. one_more steps marks each low call rest at place ∙ next.left place;
       } in
-      subst (λ ms. MarksOn steps first whole ms low' rest) (sym marked) (subst (λ l. MarksOn steps first whole (set marks call.receipt.place true) l rest) (sym from) with)
+      subst (λ ms. MarksOn steps first whole ms low' rest) (sym marked)
+      (subst (λ l. MarksOn steps first whole (set marks call.receipt.place true) l rest) (sym from) with)
 
   -- where one receipt does not fit, the port does not
   pub marks_break : (FitsAt steps marks low call → ⊥) → Fits steps first 0 whole → ⊥
   marks_break not_at fit = not_at (fits_first steps marks each low call rest (next.fits.1 fit))
 
-module _ (steps : List (Step Frame)) (first : List Bool) (whole : List Call) (marks : List Bool) (low : ℕ) (left : List Call) (none : left ≡ []) (on : MarksOn steps first whole marks low left) where
+module _ (steps : List (Step Frame)) (first : List Bool) (whole : List Call) (marks : List Bool)
+    (low : ℕ) (left : List Call) (none : left ≡ []) (on : MarksOn steps first whole marks low left) where
   last : MarksOn steps first whole marks low []
   last = subst (MarksOn steps first whole marks low) none on
 
@@ -131,7 +146,8 @@ module _ (steps : List (Step Frame)) (first : List Bool) (whole : List Call) (ma
 all_calls-push : (ports : List (List Call)) (port : List Call) → all_calls (ports ++ port ∷ []) ≡ all_calls ports ++ port
 all_calls-push ports port = flat_map-append (λ (calls : List Call). calls) ports (port ∷ []) ∙ ap (λ calls. all_calls ports ++ calls) (append-nil port)
 
-calls_at-push : (place : ℕ) (ports : List (List Call)) (port : List Call) → calls_at place (all_calls (ports ++ port ∷ [])) ≡ calls_at place (all_calls ports) + calls_at place port
+calls_at-push : (place : ℕ) (ports : List (List Call)) (port : List Call) →
+    calls_at place (all_calls (ports ++ port ∷ [])) ≡ calls_at place (all_calls ports) + calls_at place port
 calls_at-push place ports port = ap (calls_at place) (all_calls-push ports port) ∙ calls_at-append place (all_calls ports) port
 
 -- what holds of each item of a joined list holds of those of its parts
@@ -168,7 +184,8 @@ module _ (steps : List (Step Frame)) (ports : List (List Call)) (port : List Cal
         fit =
             record {
               in_order = All-push (Rises 0) ports port so_far.fit.in_order fits.in_order;
-              right = subst (All (IsRight steps)) (sym (all_calls-push ports port)) (All-append (IsRight steps) (all_calls ports) port so_far.fit.right fits.right);
+              right =
+                  subst (All (IsRight steps)) (sym (all_calls-push ports port)) (All-append (IsRight steps) (all_calls ports) port so_far.fit.right fits.right);
               once = λ place. (let all = calls_at-push place ports port in let before = so_far.marked place in let once = fits.once place in omega arith);
             };
         marked = λ place. (let all = calls_at-push place ports port in let before = so_far.marked place in let now = marked place in omega arith);
@@ -188,13 +205,20 @@ right_broadcasts : (steps : List (Step Frame)) (call : Call) → IsRight steps c
 right_broadcasts steps call right = ap broadcasts_in right.is_there ∙ ap broadcasts_of right.broadcasts.its_payload
 
 -- right receipts, of which there is at most one for a place, are no more than the broadcasts
-few_right : (steps : List (Step Frame)) (place : ℕ) (calls : List Call) → All (IsRight steps) calls → calls_at place calls ≤ 1 → calls_at place calls ≤ broadcasts_at place steps
+few_right : (steps : List (Step Frame)) (place : ℕ) (calls : List Call) →
+    All (IsRight steps) calls →
+    calls_at place calls ≤ 1 →
+    calls_at place calls ≤ broadcasts_at place steps
 few_right steps place [] right once = zero-le
-few_right steps place (call ∷ calls) right once = go (cases_eq call.receipt.place place) (few_right steps place calls (All-tail (IsRight steps) call calls right))
+few_right steps place (call ∷ calls) right once =
+    go (cases_eq call.receipt.place place) (few_right steps place calls (All-tail (IsRight steps) call calls right))
   where
-    go : (call.receipt.place ≡ place) ⊎ (call.receipt.place ≡ place → ⊥) → (calls_at place calls ≤ 1 → calls_at place calls ≤ broadcasts_at place steps) → calls_at place (call ∷ calls) ≤ broadcasts_at place steps
+    go : (call.receipt.place ≡ place) ⊎ (call.receipt.place ≡ place → ⊥) →
+        (calls_at place calls ≤ 1 → calls_at place calls ≤ broadcasts_at place steps) →
+        calls_at place (call ∷ calls) ≤ broadcasts_at place steps
     go (inl here) few =
-        let one : broadcasts_at place steps ≡ 1 = subst (λ p. broadcasts_at p steps ≡ 1) here (right_broadcasts steps call (All-head (IsRight steps) call calls right)) in
+        let one : broadcasts_at place steps ≡ 1 =
+        subst (λ p. broadcasts_at p steps ≡ 1) here (right_broadcasts steps call (All-head (IsRight steps) call calls right)) in
         omega arith
     go (inr elsewhere) few =
         let more = calls_at-cons place call calls in
@@ -207,17 +231,22 @@ module _ (steps : List (Step Frame)) (ports : List (List Call)) (marks : List Bo
   all_alike has =
       record {
         fit = all.fit;
-        all = λ place. (let marked = all.marked place in let few = few_right steps place (all_calls ports) all.fit.right (all.fit.once place) in let many = has place in omega arith);
+        all =
+            λ place. (let marked = all.marked place in
+            let few = few_right steps place (all_calls ports) all.fit.right (all.fit.once place) in let many = has place in omega arith);
       }
 
 -- the first ports of some that fit do
 fewer_fit : (steps : List (Step Frame)) (ports : List (List Call)) (n : ℕ) → PortsFit steps ports → PortsFit steps (take n ports)
 fewer_fit steps ports n fit =
-    let parts : all_calls ports ≡ all_calls (take n ports) ++ all_calls (drop n ports) = sym (ap all_calls (take-append-drop n ports)) ∙ flat_map-append (λ (calls : List Call). calls) (take n ports) (drop n ports) in
+    let parts : all_calls ports ≡ all_calls (take n ports) ++ all_calls (drop n ports) =
+    sym (ap all_calls (take-append-drop n ports)) ∙ flat_map-append (λ (calls : List Call). calls) (take n ports) (drop n ports) in
     record {
       in_order = All-take (Rises 0) n ports fit.in_order;
       right = all_first (IsRight steps) (all_calls (take n ports)) (all_calls (drop n ports)) (subst (All (IsRight steps)) parts fit.right);
-      once = λ place. (let all = ap (calls_at place) parts ∙ calls_at-append place (all_calls (take n ports)) (all_calls (drop n ports)) in let once = fit.once place in omega arith);
+      once =
+          λ place. (let all = ap (calls_at place) parts ∙ calls_at-append place (all_calls (take n ports)) (all_calls (drop n ports)) in
+          let once = fit.once place in omega arith);
     }
 
 -- ---- the answer
@@ -237,13 +266,23 @@ unlike_not_alike steps ports n unlike alike = go (cases_lt n (length ports))
         absurd (omega arith)
 
 -- the ports up to one and that one
-with_next : (ports : List (List Call)) (n : ℕ) (port other : List Call) → n < length ports → port ≡ get_or ports n other → take (n + 1) ports ≡ take n ports ++ port ∷ []
+with_next : (ports : List (List Call)) (n : ℕ) (port other : List Call) →
+    n < length ports →
+    port ≡ get_or ports n other →
+    take (n + 1) ports ≡ take n ports ++ port ∷ []
 with_next ports n port other within is = take_more ports n other within ∙ ap (λ it. take n ports ++ it ∷ []) (sym is)
 
 module _ (steps : List (Step Frame)) (ports : List (List Call)) (n : ℕ) (marks : List Bool) (so_far : PortsMarked steps (take n ports) marks) where
   -- the port at this place fits
-  pub next_marked : (port other : List Call) (marks' : List Bool) → n < length ports → port ≡ get_or ports n other → Fits steps marks 0 port → Marks marks port marks' → PortsMarked steps (take (n + 1) ports) marks'
-  next_marked port other marks' within is fits marked = subst (λ ps. PortsMarked steps ps marks') (sym (with_next ports n port other within is)) (ports_more steps (take n ports) port marks so_far marks' fits marked)
+  pub next_marked : (port other : List Call) (marks' : List Bool) →
+      n < length ports →
+      port ≡ get_or ports n other →
+      Fits steps marks 0 port →
+      Marks marks port marks' →
+      PortsMarked steps (take (n + 1) ports) marks'
+  next_marked port other marks' within is fits marked =
+      subst (λ ps. PortsMarked steps ps marks') (sym (with_next ports n port other within is))
+      (ports_more steps (take n ports) port marks so_far marks' fits marked)
 
   -- the port at this place does not fit
   pub next_unlike : (port other : List Call) → n < length ports → port ≡ get_or ports n other → (Fits steps marks 0 port → ⊥) → IsFirstUnlike steps ports n

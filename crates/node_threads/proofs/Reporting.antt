@@ -34,7 +34,10 @@ flat_push f xs x = flat_map-append f xs (x ∷ []) ∙ ap (λ last. flat_map f x
 pub adds_none : (since : ℕ) (trace : Trace Frame) (links : List LinkReport) → AddsReports since trace [] links links
 adds_none since trace links = record { reports = sym (append-nil links); begun = All-nil (BeginsText since trace) }
 
-pub adds_more : (since : ℕ) (trace : Trace Frame) (xs ys : List Outlet) (a b c : List LinkReport) → AddsReports since trace xs a b → AddsReports since trace ys b c → AddsReports since trace (xs ++ ys) a c
+pub adds_more : (since : ℕ) (trace : Trace Frame) (xs ys : List Outlet) (a b c : List LinkReport) →
+    AddsReports since trace xs a b →
+    AddsReports since trace ys b c →
+    AddsReports since trace (xs ++ ys) a c
 adds_more since trace xs ys a b c first next = record {
   reports =
       next.reports
@@ -47,26 +50,40 @@ adds_more since trace xs ys a b c first next = record {
 -- one outlet more
 pub adds_one : (since : ℕ) (trace : Trace Frame) (xs : List Outlet) (i : ℕ) (x : Outlet) (a b c : List LinkReport) → i < length xs → x ≡ get_or xs i x
     → AddsReports since trace (take i xs) a b → AddsReports since trace (x ∷ []) b c → AddsReports since trace (take (i + 1) xs) a c
-adds_one since trace xs i x a b c inside is first next = subst (λ outlets. AddsReports since trace outlets a c) (sym (one_more xs i x inside is)) (adds_more since trace (take i xs) (x ∷ []) a b c first next)
+adds_one since trace xs i x a b c inside is first next =
+    subst (λ outlets. AddsReports since trace outlets a c) (sym (one_more xs i x inside is)) (adds_more since trace (take i xs) (x ∷ []) a b c first next)
 
 -- the outlets of one worker more
-pub adds_each : {X : Type 0} (f : X → List Outlet) (since : ℕ) (trace : Trace Frame) (xs : List X) (i : ℕ) (x : X) (a b c : List LinkReport) → i < length xs → x ≡ get_or xs i x
+pub adds_each : {X : Type 0} (f : X → List Outlet) (since : ℕ) (trace : Trace Frame) (xs : List X) (i : ℕ) (x : X) (a b c : List LinkReport) →
+    i < length xs →
+    x ≡ get_or xs i x
     → AddsReports since trace (flat_map f (take i xs)) a b → AddsReports since trace (f x) b c → AddsReports since trace (flat_map f (take (i + 1) xs)) a c
 adds_each f since trace xs i x a b c inside is first next =
-    subst (λ outlets. AddsReports since trace outlets a c) (sym (ap (flat_map f) (one_more xs i x inside is) ∙ flat_push f (take i xs) x)) (adds_more since trace (flat_map f (take i xs)) (f x) a b c first next)
+    subst (λ outlets. AddsReports since trace outlets a c)
+    (sym (ap (flat_map f) (one_more xs i x inside is) ∙ flat_push f (take i xs) x))
+    (adds_more since trace (flat_map f (take i xs)) (f x) a b c first next)
 
 -- none is left
-pub adds_all : (since : ℕ) (trace : Trace Frame) (xs : List Outlet) (i : ℕ) (a b : List LinkReport) → length xs ≤ i → AddsReports since trace (take i xs) a b → AddsReports since trace xs a b
+pub adds_all : (since : ℕ) (trace : Trace Frame) (xs : List Outlet) (i : ℕ) (a b : List LinkReport) →
+    length xs ≤ i →
+    AddsReports since trace (take i xs) a b →
+    AddsReports since trace xs a b
 adds_all since trace xs i a b past adds = subst (λ outlets. AddsReports since trace outlets a b) (take_all i xs past) adds
 
 -- what is put behind what was put
-pub adds_both : {X E : Type 0} (since : ℕ) (trace : Trace Frame) (xs ys : List Outlet) (a b c : List LinkReport) (r : Result X E) → AddsReports since trace xs a b → OnOk r (AddsReports since trace ys b c) → OnOk r (AddsReports since trace (xs ++ ys) a c)
+pub adds_both : {X E : Type 0} (since : ℕ) (trace : Trace Frame) (xs ys : List Outlet) (a b c : List LinkReport) (r : Result X E) →
+    AddsReports since trace xs a b →
+    OnOk r (AddsReports since trace ys b c) →
+    OnOk r (AddsReports since trace (xs ++ ys) a c)
 adds_both since trace xs ys a b c (Ok x) first next = adds_more since trace xs ys a b c first next
 adds_both since trace xs ys a b c (Err e) first next = tt
 
 -- ---- what is torn
 
-pub tears_within : (since : ℕ) (trace : Trace Frame) (before inner after : List Outlet) (m : Mismatch) → All (BeginsText since trace) before → Tears since trace inner m → Tears since trace (before ++ (inner ++ after)) m
+pub tears_within : (since : ℕ) (trace : Trace Frame) (before inner after : List Outlet) (m : Mismatch) →
+    All (BeginsText since trace) before →
+    Tears since trace inner m →
+    Tears since trace (before ++ (inner ++ after)) m
 tears_within since trace before inner after (Port n) begun tears = tears
 tears_within since trace before inner after (Link peer) begun tears = record {
   before = before ++ tears.before;
@@ -82,33 +99,63 @@ tears_within since trace before inner after (Link peer) begun tears = record {
 }
 tears_within since trace before inner after OutOfMemory begun tears = tt
 
-pub tears_at : (since : ℕ) (trace : Trace Frame) (xs : List Outlet) (i : ℕ) (x : Outlet) (m : Mismatch) → i < length xs → x ≡ get_or xs i x → All (BeginsText since trace) (take i xs) → Tears since trace (x ∷ []) m → Tears since trace xs m
-tears_at since trace xs i x m inside is begun tears = subst (λ outlets. Tears since trace outlets m) (sym (split xs i x inside is)) (tears_within since trace (take i xs) (x ∷ []) (drop (i + 1) xs) m begun tears)
+pub tears_at : (since : ℕ) (trace : Trace Frame) (xs : List Outlet) (i : ℕ) (x : Outlet) (m : Mismatch) →
+    i < length xs →
+    x ≡ get_or xs i x →
+    All (BeginsText since trace) (take i xs) →
+    Tears since trace (x ∷ []) m →
+    Tears since trace xs m
+tears_at since trace xs i x m inside is begun tears =
+    subst (λ outlets. Tears since trace outlets m) (sym (split xs i x inside is))
+    (tears_within since trace (take i xs) (x ∷ []) (drop (i + 1) xs) m begun tears)
 
-pub tears_in_one : {X : Type 0} (f : X → List Outlet) (since : ℕ) (trace : Trace Frame) (xs : List X) (i : ℕ) (x : X) (m : Mismatch) → i < length xs → x ≡ get_or xs i x → All (BeginsText since trace) (flat_map f (take i xs)) → Tears since trace (f x) m → Tears since trace (flat_map f xs) m
+pub tears_in_one : {X : Type 0} (f : X → List Outlet) (since : ℕ) (trace : Trace Frame) (xs : List X) (i : ℕ) (x : X) (m : Mismatch) →
+    i < length xs →
+    x ≡ get_or xs i x →
+    All (BeginsText since trace) (flat_map f (take i xs)) →
+    Tears since trace (f x) m →
+    Tears since trace (flat_map f xs) m
 tears_in_one f since trace xs i x m inside is begun tears =
-    subst (λ outlets. Tears since trace outlets m) (sym (ap (flat_map f) (split xs i x inside is) ∙ flat_map-append f (take i xs) (x ∷ drop (i + 1) xs))) (tears_within since trace (flat_map f (take i xs)) (f x) (flat_map f (drop (i + 1) xs)) m begun tears)
+    subst (λ outlets. Tears since trace outlets m)
+    (sym (ap (flat_map f) (split xs i x inside is) ∙ flat_map-append f (take i xs) (x ∷ drop (i + 1) xs)))
+    (tears_within since trace (flat_map f (take i xs)) (f x) (flat_map f (drop (i + 1) xs)) m begun tears)
 
-pub tears_last : {X : Type 0} (since : ℕ) (trace : Trace Frame) (xs ys : List Outlet) (r : Result X Mismatch) → All (BeginsText since trace) xs → IfErr r (Tears since trace ys) → IfErr r (Tears since trace (xs ++ ys))
+pub tears_last : {X : Type 0} (since : ℕ) (trace : Trace Frame) (xs ys : List Outlet) (r : Result X Mismatch) →
+    All (BeginsText since trace) xs →
+    IfErr r (Tears since trace ys) →
+    IfErr r (Tears since trace (xs ++ ys))
 tears_last since trace xs ys (Ok x) begun tears = tt
-tears_last since trace xs ys (Err m) begun tears = subst (λ outlets. Tears since trace (xs ++ outlets) m) (append-nil ys) (tears_within since trace xs ys [] m begun tears)
+tears_last since trace xs ys (Err m) begun tears =
+    subst (λ outlets. Tears since trace (xs ++ outlets) m) (append-nil ys) (tears_within since trace xs ys [] m begun tears)
 
 -- ---- what is not as in the trace
 
-mismatch_of : (since : Option ℕ) (trace : Trace Frame) (ports : List (List Call)) (outlets : List Outlet) (m : Mismatch) → AreAlike since trace.steps ports → Tears (lost since) trace outlets m → Mismatches since trace ports outlets m
+mismatch_of : (since : Option ℕ) (trace : Trace Frame) (ports : List (List Call)) (outlets : List Outlet) (m : Mismatch) →
+    AreAlike since trace.steps ports →
+    Tears (lost since) trace outlets m →
+    Mismatches since trace ports outlets m
 mismatch_of since trace ports outlets (Port n) alike tears = absurd tears
 mismatch_of since trace ports outlets (Link peer) alike tears = (alike, tears)
 mismatch_of since trace ports outlets OutOfMemory alike tears = tt
 
-pub mismatch_in : {X : Type 0} (since : Option ℕ) (trace : Trace Frame) (ports : List (List Call)) (outlets : List Outlet) (r : Result X Mismatch) → AreAlike since trace.steps ports → IfErr r (Tears (lost since) trace outlets) → IfErr r (Mismatches since trace ports outlets)
+pub mismatch_in : {X : Type 0} (since : Option ℕ) (trace : Trace Frame) (ports : List (List Call)) (outlets : List Outlet) (r : Result X Mismatch) →
+    AreAlike since trace.steps ports →
+    IfErr r (Tears (lost since) trace outlets) →
+    IfErr r (Mismatches since trace ports outlets)
 mismatch_in since trace ports outlets (Ok x) alike tears = tt
 mismatch_in since trace ports outlets (Err m) alike tears = mismatch_of since trace ports outlets m alike tears
 
-pub all_within : (since : ℕ) (trace : Trace Frame) (outlets : List Outlet) (links : List LinkReport) → AddsReports since trace outlets [] links → All (IsWithin since trace) links
+pub all_within : (since : ℕ) (trace : Trace Frame) (outlets : List Outlet) (links : List LinkReport) →
+    AddsReports since trace outlets [] links →
+    All (IsWithin since trace) links
 all_within since trace outlets links adds =
-    subst (All (IsWithin since trace)) (sym adds.reports) (All-map (IsWithin since trace) report_of outlets (All-weaker (BeginsText since trace) (λ (o : Outlet). IsWithin since trace (report_of o)) (λ o begins. within since trace o begins) outlets adds.begun))
+    subst (All (IsWithin since trace)) (sym adds.reports) (All-map (IsWithin since trace) report_of outlets
+    (All-weaker (BeginsText since trace) (λ (o : Outlet). IsWithin since trace (report_of o)) (λ o begins. within since trace o begins) outlets adds.begun))
 
-pub matches_of : (since : Option ℕ) (trace : Trace Frame) (ports : List (List Call)) (outlets : List Outlet) (links : List LinkReport) → AreAlike since trace.steps ports → AddsReports (lost since) trace outlets [] links → Matches since trace ports outlets links
+pub matches_of : (since : Option ℕ) (trace : Trace Frame) (ports : List (List Call)) (outlets : List Outlet) (links : List LinkReport) →
+    AreAlike since trace.steps ports →
+    AddsReports (lost since) trace outlets [] links →
+    Matches since trace ports outlets links
 matches_of since trace ports outlets links alike adds = record { alike = alike; reported = adds; within = all_within (lost since) trace outlets links adds }
 
 -- what holds of an answer, where more holds of it

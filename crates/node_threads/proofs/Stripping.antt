@@ -1,5 +1,6 @@
 -- What is left of a list after a text, part by part.
-use Rattle.std.specs.Prelude.{◌≡◌, ◌⊎◌, ◌+◌, ◌-◌, ◌<◌, ◌≤◌, ◌==◌, ℕ, Bool, true, false, List, [], ◌∷◌, ◌++◌, Option, Some, None, drop, filter, length, map, not, refl, if◌then◌else◌}
+use Rattle.std.specs.Prelude.{◌≡◌, ◌⊎◌, ◌+◌, ◌-◌, ◌<◌, ◌≤◌, ◌==◌, ℕ, Bool, true, false, List, [], ◌∷◌, ◌++◌}
+use Rattle.std.specs.Prelude.{Option, Some, None, drop, filter, length, map, not, refl, if◌then◌else◌}
 use Rattle.std.specs.List.{slice_get}
 use Rattle.std.specs.Prelude.{nat_eq}
 use Rattle.std.specs.Cmp.Lexicographic.{pointwise}
@@ -91,12 +92,18 @@ bytes_of sends = map spelling (map (λ send. send.1) sends)
 mail_next : (peer : Name) (send : Name × Frame) (sends : List (Name × Frame)) → mail_for (send ∷ sends) peer ≡ mail_for (send ∷ []) peer ++ mail_for sends peer
 mail_next peer send sends = go (same_name send.0 peer)
   where
-    go : (b : Bool) → bytes_of (if b then send ∷ filter (λ s. same_name s.0 peer) sends else filter (λ s. same_name s.0 peer) sends) ≡ bytes_of (if b then send ∷ [] else []) ++ mail_for sends peer
+    go : (b : Bool) →
+        bytes_of (if b then send ∷ filter (λ s. same_name s.0 peer) sends else filter (λ s. same_name s.0 peer) sends)
+        ≡ bytes_of (if b then send ∷ [] else []) ++ mail_for sends peer
     go true = refl
     go false = refl
 
-pub mail_at : (peer : Name) (sends : List (Name × Frame)) (i : ℕ) (send : Name × Frame) → i < length sends → send ≡ get_or sends i send → mail_for (drop i sends) peer ≡ mail_for (send ∷ []) peer ++ mail_for (drop (i + 1) sends) peer
-mail_at peer sends i send within here = ap (λ ss. mail_for ss peer) (drop_more sends i send within ∙ ap (λ s. s ∷ drop (i + 1) sends) (sym here)) ∙ mail_next peer send (drop (i + 1) sends)
+pub mail_at : (peer : Name) (sends : List (Name × Frame)) (i : ℕ) (send : Name × Frame) →
+    i < length sends →
+    send ≡ get_or sends i send →
+    mail_for (drop i sends) peer ≡ mail_for (send ∷ []) peer ++ mail_for (drop (i + 1) sends) peer
+mail_at peer sends i send within here =
+    ap (λ ss. mail_for ss peer) (drop_more sends i send within ∙ ap (λ s. s ∷ drop (i + 1) sends) (sym here)) ∙ mail_next peer send (drop (i + 1) sends)
 
 pub no_mail : (peer : Name) (sends : List (Name × Frame)) (i : ℕ) → length sends ≤ i → mail_for (drop i sends) peer ≡ []
 no_mail peer sends i past = ap (λ ss. mail_for ss peer) (drop_all i sends past)
@@ -106,7 +113,10 @@ abbrev pub mail_since : Name → List (Step Frame) → Texts
 mail_since peer steps = map spelling (text_of peer steps)
 
 -- one step, and then others
-pub mail_since_at : (peer : Name) (steps : List (Step Frame)) (i : ℕ) (step : Step Frame) (sends : List (Name × Frame)) → Some step ≡ slice_get steps i → sends ≡ step.out.sends → mail_since peer (drop i steps) ≡ mail_for sends peer ++ mail_since peer (drop (i + 1) steps)
+pub mail_since_at : (peer : Name) (steps : List (Step Frame)) (i : ℕ) (step : Step Frame) (sends : List (Name × Frame)) →
+    Some step ≡ slice_get steps i →
+    sends ≡ step.out.sends →
+    mail_since peer (drop i steps) ≡ mail_for sends peer ++ mail_since peer (drop (i + 1) steps)
 mail_since_at peer steps i step sends here its =
     let first : get_or steps i step ≡ step = get_or_from_slice_get steps i step step (sym here) in
     ap (mail_since peer) (drop_more steps i step (slice_get_within steps i step (sym here)) ∙ ap (λ s. s ∷ drop (i + 1) steps) first)
@@ -127,12 +137,15 @@ is_there {X = X} xs i within none = go (slice_get_cases xs i).1
 -- ---- the text of a link
 
 -- the packets of the opening, where they count, as their bytes
-pub opening_mail : (peer : Name) (is_first : Bool) (sends : List (Name × Frame)) → mail_for (if is_first then sends else []) peer ≡ map spelling (if is_first then sent_to peer sends else [])
+pub opening_mail : (peer : Name) (is_first : Bool) (sends : List (Name × Frame)) →
+    mail_for (if is_first then sends else []) peer ≡ map spelling (if is_first then sent_to peer sends else [])
 opening_mail peer true sends = refl
 opening_mail peer false sends = refl
 
 -- the text of a link is the packets of the opening, where they count, and then those of the steps
-pub text_parts : (since : ℕ) (trace : Trace Frame) (peer : Name) (opened : ℕ) → map spelling (text_since since trace peer opened) ≡ (if opened == 0 then mail_for trace.opening.sends peer else []) ++ mail_since peer (drop (opened - since) trace.steps)
+pub text_parts : (since : ℕ) (trace : Trace Frame) (peer : Name) (opened : ℕ) →
+    map spelling (text_since since trace peer opened)
+    ≡ (if opened == 0 then mail_for trace.opening.sends peer else []) ++ mail_since peer (drop (opened - since) trace.steps)
 text_parts since trace peer opened =
     map-append spelling (if opened == 0 then sent_to peer trace.opening.sends else []) (text_of peer (drop (opened - since) trace.steps))
     ∙ ap (λ mail. mail ++ mail_since peer (drop (opened - since) trace.steps)) (opening_counts (opened == 0) (sent_to peer trace.opening.sends))
@@ -141,18 +154,27 @@ text_parts since trace peer opened =
     opening_counts true frames = refl
     opening_counts false frames = refl
 
-module _ (given : Texts) (since : ℕ) (trace : Trace Frame) (peer : Name) (opened : ℕ) (sends : List (Name × Frame)) (first : sends ≡ (if opened == 0 then trace.opening.sends else [])) where
+module _ (given : Texts) (since : ℕ) (trace : Trace Frame) (peer : Name) (opened : ℕ)
+    (sends : List (Name × Frame)) (first : sends ≡ (if opened == 0 then trace.opening.sends else [])) where
   -- the text is the packets of the opening and then those of the steps
   link_parts : map spelling (text_since since trace peer opened) ≡ mail_for sends peer ++ mail_since peer (drop (opened - since) trace.steps)
   link_parts =
       map-append spelling (if opened == 0 then sent_to peer trace.opening.sends else []) (text_of peer (drop (opened - since) trace.steps))
-      ∙ ap (λ mail. mail ++ mail_since peer (drop (opened - since) trace.steps)) (sym (ap (λ ss. mail_for ss peer) first ∙ opening_mail peer (opened == 0) trace.opening.sends))
+      ∙ ap (λ mail. mail ++ mail_since peer (drop (opened - since) trace.steps))
+      (sym (ap (λ ss. mail_for ss peer) first ∙ opening_mail peer (opened == 0) trace.opening.sends))
 
-  pub after_link : (rest : Texts) (left : Option Texts) → Leaves given (mail_for sends peer) (Some rest) → Leaves rest (mail_since peer (drop (opened - since) trace.steps)) left → Leaves given (map spelling (text_since since trace peer opened)) left
-  after_link rest left one two = subst (λ t. Leaves given t left) (sym link_parts) (after_both given (mail_for sends peer) (mail_since peer (drop (opened - since) trace.steps)) rest left one two)
+  pub after_link : (rest : Texts) (left : Option Texts) →
+      Leaves given (mail_for sends peer) (Some rest) →
+      Leaves rest (mail_since peer (drop (opened - since) trace.steps)) left →
+      Leaves given (map spelling (text_since since trace peer opened)) left
+  after_link rest left one two =
+      subst (λ t. Leaves given t left) (sym link_parts)
+      (after_both given (mail_for sends peer) (mail_since peer (drop (opened - since) trace.steps)) rest left one two)
 
   pub after_link_differing : Leaves given (mail_for sends peer) None → Leaves given (map spelling (text_since since trace peer opened)) None
-  after_link_differing differ = subst (λ t. Leaves given t None) (sym link_parts) (after_differing given (mail_for sends peer) (mail_since peer (drop (opened - since) trace.steps)) differ)
+  after_link_differing differ =
+      subst (λ t. Leaves given t None) (sym link_parts)
+      (after_differing given (mail_for sends peer) (mail_since peer (drop (opened - since) trace.steps)) differ)
 
 -- ---- an outlet
 
@@ -161,7 +183,12 @@ module _ (since : ℕ) (trace : Trace Frame) (outlet : Outlet) where
   abbrev pub its_text : Texts
   its_text = map spelling (text_since since trace outlet.peer outlet.opened)
 
-  pub is_begun : (rest : Texts) → since ≤ outlet.opened → outlet.opened ≤ since + length trace.steps → Leaves outlet.given its_text (Some rest) → length rest ≡ 0 → BeginsText since trace outlet
+  pub is_begun : (rest : Texts) →
+      since ≤ outlet.opened →
+      outlet.opened ≤ since + length trace.steps →
+      Leaves outlet.given its_text (Some rest) →
+      length rest ≡ 0 →
+      BeginsText since trace outlet
   is_begun rest behind before left none = record { opened_since = behind; opened_before = before; begins = begins outlet.given its_text rest left none }
 
   pub is_not_begun : Leaves outlet.given its_text None → BeginsText since trace outlet → ⊥
@@ -182,7 +209,8 @@ module _ (given rest : Texts) (first : List ℕ) (peer : Name) (send : Name × F
 
   -- what came out first is the packet
   pub after_it : pointwise nat_eq first (spelling send.1) ≡ true → Leaves given (mail_for (send ∷ []) peer) (Some rest)
-  after_it same = subst (λ g. Leaves g (mail_for (send ∷ []) peer) (Some rest)) (sym parts) (subst (λ mail. Leaves (first ∷ rest) mail (Some rest)) (sym its_mail) both)
+  after_it same =
+      subst (λ g. Leaves g (mail_for (send ∷ []) peer) (Some rest)) (sym parts) (subst (λ mail. Leaves (first ∷ rest) mail (Some rest)) (sym its_mail) both)
     where
       equal : first ≡ spelling send.1
       equal = (same_name-Decides first (spelling send.1)).0 same
@@ -192,7 +220,8 @@ module _ (given rest : Texts) (first : List ℕ) (peer : Name) (send : Name × F
 
   -- it is another frame
   pub after_another : pointwise nat_eq first (spelling send.1) ≡ false → Leaves given (mail_for (send ∷ []) peer) None
-  after_another differs = subst (λ g. Leaves g (mail_for (send ∷ []) peer) None) (sym parts) (subst (λ mail. Leaves (first ∷ rest) mail None) (sym its_mail) none)
+  after_another differs =
+      subst (λ g. Leaves g (mail_for (send ∷ []) peer) None) (sym parts) (subst (λ mail. Leaves (first ∷ rest) mail None) (sym its_mail) none)
     where
       none : Leaves (first ∷ rest) (spelling send.1 ∷ []) None
       none more p =

@@ -41,14 +41,16 @@ module _
           full = full;
           left = left;
           applies =
-              subst (λ s. AppliesDrawing state steps is_spent s old learnt (Arrive frame.sender frame (dice_of stream)) new learnt' rest id place full left) after
+              subst
+              (λ s. AppliesDrawing state steps is_spent s old learnt (Arrive frame.sender frame (dice_of stream)) new learnt' rest id place full left) after
               (subst (λ d. AppliesDrawing state steps is_spent stream' old learnt (Arrive frame.sender frame d) new learnt' rest id place full left) its_dice
               (subst (λ o. AppliesDrawing state steps is_spent stream' old learnt (Arrive o frame dice) new learnt' rest id place full left) from made));
         }
 
     -- and one more after others
     pub frames_taken :
-        (stream : Stream) (old : Cell C) (learnt : Learnt) (frames : List Frame) (mid : Cell C) (more : Learnt) (next : Stream) (frame : Frame) (new : Cell C) (learnt' : Learnt) (rest : Stream)
+        (stream : Stream) (old : Cell C) (learnt : Learnt) (frames : List Frame) (mid : Cell C)
+        (more : Learnt) (next : Stream) (frame : Frame) (new : Cell C) (learnt' : Learnt) (rest : Stream)
         → TakesFrames state steps is_spent stream old learnt frames mid more next
         → TakesFrame state steps is_spent next mid more frame new learnt' rest
         → TakesFrames state steps is_spent stream old learnt (frames ++ frame ∷ []) new learnt' rest

@@ -68,7 +68,8 @@ abbrev pub unlinked : List Link → List (Name × Frame) → List Name
 unlinked links sends = fold (with_receiver links) [] sends
 
 -- The step is made and recorded, and its frames are put into the rings of the open links.
-pub record Applies {C : Type 0} (state : C → CoreState) (steps : C → Stimulus Frame → List (Name × Frame) → List Delivery → C → Type 0) (old : Cell C) (stimulus : Stimulus Frame) (new : Cell C) (id : Option MsgId) (place : ℕ) (full lacking : List Name) : Type 0 where
+pub record Applies {C : Type 0} (state : C → CoreState) (steps : C → Stimulus Frame → List (Name × Frame) → List Delivery → C → Type 0)
+    (old : Cell C) (stimulus : Stimulus Frame) (new : Cell C) (id : Option MsgId) (place : ℕ) (full lacking : List Name) : Type 0 where
   pub out : Output Frame
   pub stepped : steps old.core stimulus out.sends out.deliveries new.core
   pub its_id : id ≡ broadcast_id (state old.core) stimulus

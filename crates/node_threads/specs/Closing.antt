@@ -70,7 +70,8 @@ abbrev pub Finds : {C K A : Type 0}
     → List (List Call) → List Outlet → CloseError K A → Type 0
 Finds starts steps ports outlets (of.PortMissing host given workers) = ⊥
 Finds starts steps ports outlets (of.Unlike port since trace) = IsLeft starts steps since trace × AreUnlike since trace.steps ports port
-Finds starts steps ports outlets (of.Torn peer since trace) = IsLeft starts steps since trace × AreAlike since trace.steps ports × IsFirstTorn (lost since) trace outlets peer
+Finds starts steps ports outlets (of.Torn peer since trace) =
+    IsLeft starts steps since trace × AreAlike since trace.steps ports × IsFirstTorn (lost since) trace outlets peer
 Finds starts steps ports outlets (of.OutOfMemory since trace) = IsLeft starts steps since trace
 
 -- The outlets that the workers of a node had are those of workers that were joined before, and then those that these
@@ -97,6 +98,8 @@ abbrev pub Fails : {C K A : Type 0}
     → (C → Stimulus Frame → List (Name × Frame) → List Delivery → C → Type 0)
     → ℕ → List (List Call) → List (Option Name) → CloseError K A → Type 0
 Fails starts steps made ports workers (of.PortMissing host given given_workers) = (host ≡ made) × (given.items ≡ ports) × (given_workers.items ≡ workers)
-Fails starts steps made ports workers (of.Unlike port since trace) = (length ports ≡ made) × IsLeft starts steps since trace × AreUnlike since trace.steps ports port
-Fails starts steps made ports workers (of.Torn peer since trace) = (length ports ≡ made) × IsLeft starts steps since trace × IsTorn since trace ports workers peer
+Fails starts steps made ports workers (of.Unlike port since trace) =
+    (length ports ≡ made) × IsLeft starts steps since trace × AreUnlike since trace.steps ports port
+Fails starts steps made ports workers (of.Torn peer since trace) =
+    (length ports ≡ made) × IsLeft starts steps since trace × IsTorn since trace ports workers peer
 Fails starts steps made ports workers (of.OutOfMemory since trace) = (length ports ≡ made) × IsLeft starts steps since trace

@@ -26,7 +26,9 @@ dice_of stream = record { 0 = words 16 stream }
 
 -- The node makes a step, and opens links to receivers of the step that have none, each from that step on. Those in
 -- `left` got none.
-pub record AppliesOpening {C : Type 0} (state : C → CoreState) (steps : C → Stimulus Frame → List (Name × Frame) → List Delivery → C → Type 0) (old : Cell C) (learnt : Learnt) (stimulus : Stimulus Frame) (new : Cell C) (learnt' : Learnt) (id : Option MsgId) (place : ℕ) (full left : List Name) : Type 0 where
+pub record AppliesOpening {C : Type 0} (state : C → CoreState) (steps : C → Stimulus Frame → List (Name × Frame) → List Delivery → C → Type 0)
+    (old : Cell C) (learnt : Learnt) (stimulus : Stimulus Frame) (new : Cell C) (learnt' : Learnt) (id : Option MsgId) (place : ℕ) (full left : List Name) :
+    Type 0 where
   pub stepped : Cell C
   pub lacking : List Name
   pub applies : Applies state steps old stimulus stepped id place full lacking
@@ -42,7 +44,11 @@ module _
     -- have none; or it refuses the step and stays as it was.
     abbrev pub TakesDownBy : Dice → Cell C → Learnt → Name → Cell C → Learnt → Type 0
     TakesDownBy dice old learnt peer new learnt' =
-        ((id : Option MsgId) × (place : ℕ) × (full : List Name) × (left : List Name) × AppliesOpening state steps old learnt (Down peer dice) new learnt' id place full left)
+        ((id : Option MsgId)
+        × (place : ℕ)
+        × (full : List Name)
+        × (left : List Name)
+        × AppliesOpening state steps old learnt (Down peer dice) new learnt' id place full left)
         ⊎ ((error : HostError) × Refuses is_spent old (Down peer dice) error × (new ≡ old) × (learnt' ≡ learnt))
 
     -- the same with dice of zeros
@@ -57,7 +63,8 @@ module _
 
     -- The node makes a step and opens links to receivers of the step that have none, and then takes the Downs of the
     -- peers whose links were full, and then of those that got no link.
-    pub record AppliesWithDowns (old : Cell C) (learnt : Learnt) (stimulus : Stimulus Frame) (new : Cell C) (learnt' : Learnt) (id : Option MsgId) (place : ℕ) (full left : List Name) : Type 0 where
+    pub record AppliesWithDowns (old : Cell C) (learnt : Learnt) (stimulus : Stimulus Frame)
+        (new : Cell C) (learnt' : Learnt) (id : Option MsgId) (place : ℕ) (full left : List Name) : Type 0 where
       pub answered : Cell C
       pub learnt_answered : Learnt
       pub told_full : Cell C
@@ -71,11 +78,15 @@ module _
     abbrev pub TakesDrawnDowns : Stream → Cell C → Learnt → List Name → Cell C → Learnt → Stream → Type 0
     TakesDrawnDowns stream old learnt [] new learnt' rest = (new ≡ old) × (learnt' ≡ learnt) × (rest ≡ stream)
     TakesDrawnDowns stream old learnt (peer ∷ peers) new learnt' rest =
-        (mid : Cell C) × (more : Learnt) × TakesDownBy (dice_of stream) old learnt peer mid more × TakesDrawnDowns (after_words 16 stream) mid more peers new learnt' rest
+        (mid : Cell C)
+        × (more : Learnt)
+        × TakesDownBy (dice_of stream) old learnt peer mid more
+        × TakesDrawnDowns (after_words 16 stream) mid more peers new learnt' rest
 
     -- The node makes a step and opens links to receivers of the step that have none, and then takes the Downs of the
     -- peers whose links were full, and then of those that got no link, with the next dice of a generator.
-    pub record AppliesDrawing (stream : Stream) (old : Cell C) (learnt : Learnt) (stimulus : Stimulus Frame) (new : Cell C) (learnt' : Learnt) (rest : Stream) (id : Option MsgId) (place : ℕ) (full left : List Name) : Type 0 where
+    pub record AppliesDrawing (stream : Stream) (old : Cell C) (learnt : Learnt) (stimulus : Stimulus Frame)
+        (new : Cell C) (learnt' : Learnt) (rest : Stream) (id : Option MsgId) (place : ℕ) (full left : List Name) : Type 0 where
       pub answered : Cell C
       pub learnt_answered : Learnt
       pub told_full : Cell C

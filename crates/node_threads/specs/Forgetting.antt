@@ -9,7 +9,8 @@ use Rattle.node_threads.specs.Outlet.{Outlet}
 
 -- the node after it forgot the first `count` steps of its trace
 abbrev pub forgetting : {C : Type 0} → ℕ → Cell C → Cell C
-forgetting count cell = record cell { since = option_map (λ since. since + count) cell.since; trace = record cell.trace { steps = drop count cell.trace.steps } }
+forgetting count cell =
+    record cell { since = option_map (λ since. since + count) cell.since; trace = record cell.trace { steps = drop count cell.trace.steps } }
 
 -- The first frames that came out of the link are what the node sent to its peer up to a later step. The outlet gives them
 -- up: it is now as if the link had been opened at that step. The trace lacks the first `since` steps.

@@ -11,7 +11,12 @@ use Rattle.frames.specs.Frame.{Frame}
 use Rattle.node_threads.specs.Cell.{after}
 
 -- The trace replays, and this core is the state at its end, within some limits.
-abbrev pub IsHistoryTo : {C : Type 0} → (Origin → Limits → List Name → Option Name → List (Name × Frame) → C → Type 0) → (C → Stimulus Frame → List (Name × Frame) → List Delivery → C → Type 0) → Trace Frame → C → Type 0
+abbrev pub IsHistoryTo : {C : Type 0} →
+    (Origin → Limits → List Name → Option Name → List (Name × Frame) → C → Type 0) →
+    (C → Stimulus Frame → List (Name × Frame) → List Delivery → C → Type 0) →
+    Trace Frame →
+    C →
+    Type 0
 IsHistoryTo starts steps trace last = (limits : Limits) × Replays starts steps limits trace last
 
 -- The trace replays: it is the history of a core, within some limits.

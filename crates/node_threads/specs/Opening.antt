@@ -27,7 +27,8 @@ TellsItsStart {C} state starts =
     → ShowsStart me peers contact sends (state core)
 
 -- The core has just started, within some limits, and this is what its start gave.
-pub record IsFresh {C : Type 0} (starts : Origin → Limits → List Name → Option Name → List (Name × Frame) → C → Type 0) (core : C) (opening : Output Frame) : Type 0 where
+pub record IsFresh {C : Type 0} (starts : Origin → Limits → List Name → Option Name → List (Name × Frame) → C → Type 0) (core : C) (opening : Output Frame) :
+    Type 0 where
   pub me : Origin
   pub limits : Limits
   pub peers : List Name

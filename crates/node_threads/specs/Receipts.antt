@@ -50,7 +50,8 @@ pub record PortsFit (steps : List (Step Frame)) (ports : List (List Call)) : Typ
   pub once : (place : ℕ) → calls_at place (all_calls ports) ≤ 1
 
 -- A node made a step that broadcast this payload, and the receipt has the id and the place of that step.
-pub record IsMade {C : Type 0} (state : C → CoreState) (steps : C → Stimulus Frame → List (Name × Frame) → List Delivery → C → Type 0) (payload : List ℕ) (receipt : Receipt) : Type 0 where
+pub record IsMade {C : Type 0} (state : C → CoreState)
+    (steps : C → Stimulus Frame → List (Name × Frame) → List Delivery → C → Type 0) (payload : List ℕ) (receipt : Receipt) : Type 0 where
   pub old : Cell C
   pub new : Cell C
   pub full : List Name

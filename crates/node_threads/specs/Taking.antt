@@ -26,10 +26,15 @@ module _
       pub place : ℕ
       pub full : List Name
       pub left : List Name
-      pub applies : AppliesDrawing state steps is_spent (after_words 16 stream) old learnt (Arrive frame.sender frame (dice_of stream)) new learnt' rest id place full left
+      pub applies : AppliesDrawing state steps is_spent (after_words 16 stream) old learnt
+          (Arrive frame.sender frame (dice_of stream)) new learnt' rest id place full left
 
     -- The node takes these frames, one after the other.
     abbrev pub TakesFrames : Stream → Cell C → Learnt → List Frame → Cell C → Learnt → Stream → Type 0
     TakesFrames stream old learnt [] new learnt' rest = (new ≡ old) × (learnt' ≡ learnt) × (rest ≡ stream)
     TakesFrames stream old learnt (frame ∷ frames) new learnt' rest =
-        (mid : Cell C) × (more : Learnt) × (next : Stream) × TakesFrame stream old learnt frame mid more next × TakesFrames next mid more frames new learnt' rest
+        (mid : Cell C)
+        × (more : Learnt)
+        × (next : Stream)
+        × TakesFrame stream old learnt frame mid more next
+        × TakesFrames next mid more frames new learnt' rest

@@ -12,7 +12,7 @@ pub struct Applied<A: Allocator = Global> {
     /// The names of the links whose rings had no room for all frames of the step. These links are closed, and the
     /// frames that did not fit are only in the trace.
     pub full: Listed<NodeName, A>,
-    /// The receivers of the step's frames that had no open link, each once. From `apply_with_downs` and `apply_drawing`,
-    /// only those of them that got no link.
+    /// The receivers of the step's frames that had no open link, each once. From `apply_with_downs` and
+    /// `apply_drawing`, only those of them that got no link.
     pub unlinked: Listed<NodeName, A>,
 }

@@ -1,5 +1,6 @@
 //! The state that a running node keeps under its lock.
-ghost use Rattle.std.specs.Prelude.{◌≡◌, ◌⊎◌, ◌<◌, ◌≤◌, ◌+◌, ◌^◌, [], true, false, IfOk, IfErr, OnOk, OnErr, None, Some, length};
+ghost use Rattle.std.specs.Prelude.{◌≡◌, ◌⊎◌, ◌<◌, ◌≤◌, ◌+◌, ◌^◌, [], true, false};
+ghost use Rattle.std.specs.Prelude.{IfOk, IfErr, OnOk, OnErr, None, Some, length};
 ghost use Rattle.protocol.specs.IdentityLaw.{IsTooLong};
 ghost use Rattle.node_threads.specs.Applying.{Applies, id_given};
 ghost use Rattle.node_threads.specs.Cell.{lost, steps_made};
@@ -52,9 +53,27 @@ impl<C: NodeCore<A> + Drop, A: Allocator> Model for NodeCell<C, A> {
 
     ghost Value = { Cell C };
 
-    ghost view = { λ c. record { core = c.core; since = c.since; trace = c.trace; limit = c.limit; links = c.links.items; pending = c.pending; handed_out = c.handed_out; is_shut = c.is_shut } };
+    ghost view = { λ c. record {
+      core = c.core;
+      since = c.since;
+      trace = c.trace;
+      limit = c.limit;
+      links = c.links.items;
+      pending = c.pending;
+      handed_out = c.handed_out;
+      is_shut = c.is_shut;
+    } };
 
-    ghost invariant = { λ c. IsKept C.starts C.steps (record { core = c.core; since = c.since; trace = c.trace; limit = c.limit; links = c.links.items; pending = c.pending; handed_out = c.handed_out; is_shut = c.is_shut }) × IsListed c.links.items c.names.keys × (c.room.items ≡ []) × (lost c.since + length c.trace.steps < 2 ^ 64) };
+    ghost invariant = { λ c. IsKept C.starts C.steps (record {
+      core = c.core;
+      since = c.since;
+      trace = c.trace;
+      limit = c.limit;
+      links = c.links.items;
+      pending = c.pending;
+      handed_out = c.handed_out;
+      is_shut = c.is_shut;
+    }) × IsListed c.links.items c.names.keys × (c.room.items ≡ []) × (lost c.since + length c.trace.steps < 2 ^ 64) };
 }
 
 /// The id of the message that was broadcast, if the step was a broadcast.
@@ -77,7 +96,8 @@ fn prepare<C: NodeCore<A>, A: Allocator + Copy>(
     stimulus: &Stimulus<Frame<A>, A>,
 ) -> Result<(PreparedStep<A>, Out<Frame<A>, A>), HostError>
     ensures turn { IfOk result (λ r. C.is_turn core.now stimulus.now r.0) }
-    ensures stepped { IfOk result (λ r. C.steps core.now stimulus.now r.1.sends r.1.deliveries (C.after core.now stimulus.now)) }
+    ensures stepped { IfOk result
+        (λ r. C.steps core.now stimulus.now r.1.sends r.1.deliveries (C.after core.now stimulus.now)) }
     ensures accepted { OnOk result (IsTooLong stimulus.now → ⊥) }
     ensures refused { IfErr result (CoreRefuses C.is_spent core.now stimulus.now) }
 {
@@ -106,7 +126,13 @@ fn fresh_trace<C: NodeCore<A>, A: Allocator + Copy>(
     core: &C,
     opening: Out<Frame<A>, A>,
 ) -> Result<Trace<Frame<A>, A>, AllocError>
-    ensures { IfOk result (λ trace. trace ≡ record { origin = (C.state core.now).me; peers = (C.state core.now).active; contact = first_receiver opening.sends; opening = opening; steps = [] }) }
+    ensures { IfOk result (λ trace. trace ≡ record {
+      origin = (C.state core.now).me;
+      peers = (C.state core.now).active;
+      contact = first_receiver opening.sends;
+      opening = opening;
+      steps = [];
+    }) }
 {
     let contact = first_receiver(opening.sends.as_slice());
     let peers = Vec::from_slice(alloc, core.active().as_slice())?;
@@ -126,7 +152,14 @@ impl<C: NodeCore<A> + Drop, A: Allocator + Copy> NodeCell<C, A> {
         ensures ok { IfOk result (λ cell. cell ≡ record {
           core = core;
           since = None;
-          trace = record { origin = (C.state core).me; peers = (C.state core).active; contact = first_receiver opening.sends; opening = opening; steps = [] };
+          trace =
+              record {
+                origin = (C.state core).me;
+                peers = (C.state core).active;
+                contact = first_receiver opening.sends;
+                opening = opening;
+                steps = [];
+              };
           limit = trace_limit;
           links = [];
           pending = [];
@@ -155,10 +188,12 @@ impl<C: NodeCore<A> + Drop, A: Allocator + Copy> NodeCell<C, A> {
     /// Lets the core take one stimulus, records the step, and puts its frames into the rings of the open links.
     ///
     /// `Closed`: the node was shut. `TraceFull`: the trace has as many steps as it may have, or the node has made
-    /// `usize::MAX` of them. `Refused`: the core refused the step. `OutOfMemory` comes last. A link whose ring has no room is closed and listed in
+    /// `usize::MAX` of them. `Refused`: the core refused the step. `OutOfMemory` comes last. A link whose ring has no
+    /// room is closed and listed in
     /// `Applied::full`, and the step stands.
     pub fn apply(&mut self, stimulus: Stimulus<Frame<A>, A>) -> Result<Applied<A>, HostError>
-        ensures applied { IfOk result (λ applied. Applies C.state C.steps self.old stimulus self.new applied.id applied.place applied.full applied.unlinked) }
+        ensures applied { IfOk result (λ applied.
+            Applies C.state C.steps self.old stimulus self.new applied.id applied.place applied.full applied.unlinked) }
         ensures accepted { OnOk result (HasRoom self.old × (IsTooLong stimulus → ⊥)) }
         ensures refused { IfErr result (Refuses C.is_spent self.old stimulus) }
         ensures err { OnErr result (self.new ≡ self.old) }
@@ -202,7 +237,8 @@ impl<C: NodeCore<A> + Drop, A: Allocator + Copy> NodeCell<C, A> {
     /// Returns the deliveries that were not handed out yet, in order. This call hands them out.
     pub fn take_deliveries(&mut self) -> Vec<Delivery<A>, A>
         ensures given { result.items ≡ self.old.pending }
-        ensures handed_out { self.new ≡ record self.old { pending = []; handed_out = self.old.handed_out + length self.old.pending } }
+        ensures handed_out { self.new
+            ≡ record self.old { pending = []; handed_out = self.old.handed_out + length self.old.pending } }
     {
         let _bound = self.steps_made();
         let alloc = *self.links.allocator();
@@ -279,8 +315,10 @@ impl<C: NodeCore<A> + Drop, A: Allocator + Copy> NodeCell<C, A> {
 
     /// Whether no step more may be made.
     fn is_full(&self) -> bool
-        ensures full { result ≡ true → (self.now.limit ≤ length self.now.trace.steps) ⊎ (2 ^ 64 ≤ steps_made self.now + 1) }
-        ensures room { result ≡ false → (length self.now.trace.steps < self.now.limit) × (steps_made self.now + 1 < 2 ^ 64) }
+        ensures full { result ≡ true
+            → (self.now.limit ≤ length self.now.trace.steps) ⊎ (2 ^ 64 ≤ steps_made self.now + 1) }
+        ensures room { result ≡ false
+            → (length self.now.trace.steps < self.now.limit) × (steps_made self.now + 1 < 2 ^ 64) }
     {
         self.trace.len() >= self.limit || self.steps_made() == usize::MAX
     }

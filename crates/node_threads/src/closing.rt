@@ -69,7 +69,8 @@ fn compare_records<C: NodeCore<A> + Drop, A: Allocator + Copy>(
     ports: Vec<Port<C, A>, A>,
     workers: &[Outlets<A>],
 ) -> Result<Vec<LinkReport, A>, Mismatch>
-    ensures ok { IfOk result (λ links. Matches cell.now.since cell.now.trace ports.items (outlets_of workers.now) links.items) }
+    ensures ok { IfOk result
+        (λ links. Matches cell.now.since cell.now.trace ports.items (outlets_of workers.now) links.items) }
     ensures err { IfErr result (Mismatches cell.now.since cell.now.trace ports.items (outlets_of workers.now)) }
 {
     let alloc = cell.alloc();
@@ -83,7 +84,10 @@ fn close_error<C: NodeCore<A> + Drop, A: Allocator + Copy>(
     since: Option<usize>,
     trace: Trace<Frame<A>, A>,
 ) -> CloseError<C, A>
-    ensures { (ports : List (List Made)) (outlets : List Outlet) → IsLeft C.starts C.steps since trace → Mismatches since trace ports outlets mismatch → Finds C.starts C.steps ports outlets result }
+    ensures { (ports : List (List Made)) (outlets : List Outlet)
+        → IsLeft C.starts C.steps since trace
+        → Mismatches since trace ports outlets mismatch
+        → Finds C.starts C.steps ports outlets result }
 {
     match mismatch {
         Mismatch::Port(port) => CloseError::Unlike { port, since, trace },
@@ -113,8 +117,10 @@ fn hand_back<C: NodeCore<A> + Drop, A: Allocator + Copy>(
     ensures trace { IfOk result (λ closed. closed.trace ≡ cell.trace) }
     ensures history { IfOk result (λ closed. IsLeft C.starts C.steps closed.since closed.trace) }
     ensures handed { IfOk result (λ closed. closed.handed_out ≡ cell.handed_out) }
-    ensures handed_within { IfOk result (λ closed. closed.since ≡ None → closed.handed_out ≤ length (delivered closed.trace.steps)) }
-    ensures matches { IfOk result (λ closed. Matches closed.since closed.trace ports.items (outlets_of workers.items) closed.links.items) }
+    ensures handed_within { IfOk result
+        (λ closed. closed.since ≡ None → closed.handed_out ≤ length (delivered closed.trace.steps)) }
+    ensures matches { IfOk result
+        (λ closed. Matches closed.since closed.trace ports.items (outlets_of workers.items) closed.links.items) }
     ensures err { IfErr result (Finds C.starts C.steps ports.items (outlets_of workers.items)) }
 {
     let verdict = compare_records(&cell, ports, workers.as_slice());
@@ -150,8 +156,10 @@ impl<C: NodeCore<A> + Drop, A: Allocator + Copy> Host<C, A> {
     ) -> Result<Closed<A>, CloseError<C, A>>
         ensures counted { IfOk result (λ closed. length ports.items ≡ self) }
         ensures history { IfOk result (λ closed. IsLeft C.starts C.steps closed.since closed.trace) }
-        ensures handed { IfOk result (λ closed. closed.since ≡ None → closed.handed_out ≤ length (delivered closed.trace.steps)) }
-        ensures matches { IfOk result (λ closed. IsClosed closed.since closed.trace ports.items workers.items closed.links.items) }
+        ensures handed { IfOk result
+            (λ closed. closed.since ≡ None → closed.handed_out ≤ length (delivered closed.trace.steps)) }
+        ensures matches { IfOk result
+            (λ closed. IsClosed closed.since closed.trace ports.items workers.items closed.links.items) }
         ensures err { IfErr result (Fails C.starts C.steps self ports.items workers.items) }
     {
         if ports.len() != self.ports || workers.len() != self.shared.workers() {

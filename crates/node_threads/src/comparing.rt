@@ -91,7 +91,8 @@ fn report_one<C: NodeCore<A> + Drop, A: Allocator + Copy>(
     outlet: &Outlet<A>,
     links: &mut Vec<LinkReport, A>,
 ) -> Result<(), Mismatch>
-    ensures ok { OnOk result (AddsReports (lost cell.now.since) cell.now.trace (outlet.now ∷ []) links.old.items links.new.items) }
+    ensures ok { OnOk result
+        (AddsReports (lost cell.now.since) cell.now.trace (outlet.now ∷ []) links.old.items links.new.items) }
     ensures err { IfErr result (Tears (lost cell.now.since) cell.now.trace (outlet.now ∷ [])) }
 {
     match cell.report(outlet) {
@@ -107,7 +108,8 @@ fn report_each<C: NodeCore<A> + Drop, A: Allocator + Copy>(
     outlets: &[Outlet<A>],
     links: &mut Vec<LinkReport, A>,
 ) -> Result<(), Mismatch>
-    ensures ok { OnOk result (AddsReports (lost cell.now.since) cell.now.trace outlets.now links.old.items links.new.items) }
+    ensures ok { OnOk result
+        (AddsReports (lost cell.now.since) cell.now.trace outlets.now links.old.items links.new.items) }
     ensures err { IfErr result (Tears (lost cell.now.since) cell.now.trace outlets.now) }
 {
     for outlet in outlets {
@@ -122,7 +124,8 @@ fn report_last<C: NodeCore<A> + Drop, A: Allocator + Copy>(
     outlet: &Option<Outlet<A>>,
     links: &mut Vec<LinkReport, A>,
 ) -> Result<(), Mismatch>
-    ensures ok { OnOk result (AddsReports (lost cell.now.since) cell.now.trace (option_to_list outlet.now) links.old.items links.new.items) }
+    ensures ok { OnOk result
+        (AddsReports (lost cell.now.since) cell.now.trace (option_to_list outlet.now) links.old.items links.new.items) }
     ensures err { IfErr result (Tears (lost cell.now.since) cell.now.trace (option_to_list outlet.now)) }
 {
     match outlet {
@@ -137,7 +140,8 @@ fn report_worker<C: NodeCore<A> + Drop, A: Allocator + Copy>(
     outlets: &Outlets<A>,
     links: &mut Vec<LinkReport, A>,
 ) -> Result<(), Mismatch>
-    ensures ok { OnOk result (AddsReports (lost cell.now.since) cell.now.trace (outlets_in outlets.now) links.old.items links.new.items) }
+    ensures ok { OnOk result
+        (AddsReports (lost cell.now.since) cell.now.trace (outlets_in outlets.now) links.old.items links.new.items) }
     ensures err { IfErr result (Tears (lost cell.now.since) cell.now.trace (outlets_in outlets.now)) }
 {
     report_each(cell, outlets.spent.as_slice(), links)?;
@@ -150,7 +154,8 @@ fn compare_links<C: NodeCore<A> + Drop, A: Allocator + Copy>(
     cell: &NodeCell<C, A>,
     workers: &[Outlets<A>],
 ) -> Result<Vec<LinkReport, A>, Mismatch>
-    ensures ok { IfOk result (λ links. AddsReports (lost cell.now.since) cell.now.trace (outlets_of workers.now) [] links.items) }
+    ensures ok { IfOk result
+        (λ links. AddsReports (lost cell.now.since) cell.now.trace (outlets_of workers.now) [] links.items) }
     ensures err { IfErr result (Tears (lost cell.now.since) cell.now.trace (outlets_of workers.now)) }
 {
     let mut links = Vec::new(alloc);
@@ -167,7 +172,8 @@ pub(crate) fn compare<C: NodeCore<A> + Drop, A: Allocator + Copy>(
     ports: &[Listed<Call<A>, A>],
     workers: &[Outlets<A>],
 ) -> Result<Vec<LinkReport, A>, Mismatch>
-    ensures ok { IfOk result (λ links. Matches cell.now.since cell.now.trace ports.now (outlets_of workers.now) links.items) }
+    ensures ok { IfOk result
+        (λ links. Matches cell.now.since cell.now.trace ports.now (outlets_of workers.now) links.items) }
     ensures err { IfErr result (Mismatches cell.now.since cell.now.trace ports.now (outlets_of workers.now)) }
 {
     compare_calls(alloc, cell, ports)?;

@@ -51,7 +51,8 @@ pub trait NodeCore<A: Allocator>: Sized {
         out: &mut Out<Frame<A>, A>,
     ) -> Result<Prepared<PreparedStep<A>>, CoreError>
         ensures turn { IfOk result (λ prepared. is_turn self.now (lent stimulus.now) prepared.turn) }
-        ensures stepped { OnOk result (Stepped steps self.now (lent stimulus.now) out.old (after self.now (lent stimulus.now)) out.new) }
+        ensures stepped { OnOk result
+            (Stepped steps self.now (lent stimulus.now) out.old (after self.now (lent stimulus.now)) out.new) }
         ensures too_long { IsErrOf result CoreError.PayloadTooLong ↔ IsTooLong (lent stimulus.now) }
         ensures spent { IsErrOf result CoreError.SeqSpent → is_spent self.now (lent stimulus.now) };
 

@@ -1,6 +1,7 @@
 //! A step, and the links that it opens and those that it finds to be down.
 ghost use Rattle.std.specs.Prelude.{◌≡◌, IfOk, IfErr, OnErr};
-ghost use Rattle.node_threads.specs.Downs.{AppliesDrawing, AppliesOpening, AppliesWithDowns, TakesDownBy, TakesDowns, TakesDrawnDowns};
+ghost use Rattle.node_threads.specs.Downs.{AppliesDrawing, AppliesOpening, AppliesWithDowns};
+ghost use Rattle.node_threads.specs.Downs.{TakesDownBy, TakesDowns, TakesDrawnDowns};
 ghost use Rattle.node_threads.specs.Refusal.{Refuses};
 
 use crate::applied::Applied;
@@ -23,7 +24,8 @@ fn apply_opening<C: NodeCore<A> + Drop, A: Allocator + Copy>(
     stimulus: Stimulus<Frame<A>, A>,
     learnt: &mut Learnt<A>,
 ) -> Result<Applied<A>, HostError>
-    ensures applied { IfOk result (λ applied. AppliesOpening C.state C.steps cell.old learnt.old stimulus cell.new learnt.new applied.id applied.place applied.full applied.unlinked) }
+    ensures applied { IfOk result (λ applied. AppliesOpening C.state C.steps cell.old learnt.old
+        stimulus cell.new learnt.new applied.id applied.place applied.full applied.unlinked) }
     ensures refused { IfErr result (Refuses C.is_spent cell.old stimulus) }
     ensures err { OnErr result ((cell.new ≡ cell.old) × (learnt.new ≡ learnt.old)) }
 {
@@ -80,7 +82,8 @@ fn take_drawn_downs<C: NodeCore<A> + Drop, A: Allocator + Copy, R: Rng>(
     generator: &mut R,
     learnt: &mut Learnt<A>,
 )
-    ensures { TakesDrawnDowns C.state C.steps C.is_spent (R.stream generator.old) cell.old learnt.old peers.now cell.new learnt.new (R.stream generator.new) }
+    ensures { TakesDrawnDowns C.state C.steps C.is_spent
+        (R.stream generator.old) cell.old learnt.old peers.now cell.new learnt.new (R.stream generator.new) }
 {
     for peer in peers {
         let dice = Dice::draw(generator);
@@ -89,20 +92,21 @@ fn take_drawn_downs<C: NodeCore<A> + Drop, A: Allocator + Copy, R: Rng>(
 }
 
 impl<C: NodeCore<A> + Drop, A: Allocator + Copy> NodeCell<C, A> {
-    /// Applies the stimulus, and opens links to receivers of the step that have none, as far as `learnt` allows. Then it
-    /// tells the core that the links are down that this step found full, and then those to the receivers that got no
-    /// link. So a core that sends to a peer that it can't reach drops the peer from its active view. The Downs have dice
-    /// of zeros.
+    /// Applies the stimulus, and opens links to receivers of the step that have none, as far as `learnt` allows. Then
+    /// it tells the core that the links are down that this step found full, and then those to the receivers that got no
+    /// link. So a core that sends to a peer that it can't reach drops the peer from its active view. The Downs have
+    /// dice of zeros.
     ///
-    /// `Applied::unlinked` are the receivers that got no link. It is refused as `apply` is. The receivers of a Down that
-    /// have no link get one likewise. If a Down in turn finds links full, or receivers that get no link, they are not
-    /// followed up, and a Down that is refused is dropped.
+    /// `Applied::unlinked` are the receivers that got no link. It is refused as `apply` is. The receivers of a Down
+    /// that have no link get one likewise. If a Down in turn finds links full, or receivers that get no link, they are
+    /// not followed up, and a Down that is refused is dropped.
     pub fn apply_with_downs(
         &mut self,
         stimulus: Stimulus<Frame<A>, A>,
         learnt: &mut Learnt<A>,
     ) -> Result<Applied<A>, HostError>
-        ensures applied { IfOk result (λ applied. AppliesWithDowns C.state C.steps C.is_spent self.old learnt.old stimulus self.new learnt.new applied.id applied.place applied.full applied.unlinked) }
+        ensures applied { IfOk result (λ applied. AppliesWithDowns C.state C.steps C.is_spent self.old
+            learnt.old stimulus self.new learnt.new applied.id applied.place applied.full applied.unlinked) }
         ensures refused { IfErr result (Refuses C.is_spent self.old stimulus) }
         ensures err { OnErr result ((self.new ≡ self.old) × (learnt.new ≡ learnt.old)) }
     {
@@ -119,9 +123,14 @@ impl<C: NodeCore<A> + Drop, A: Allocator + Copy> NodeCell<C, A> {
         generator: &mut R,
         learnt: &mut Learnt<A>,
     ) -> Result<Applied<A>, HostError>
-        ensures applied { IfOk result (λ applied. AppliesDrawing C.state C.steps C.is_spent (R.stream generator.old) self.old learnt.old stimulus self.new learnt.new (R.stream generator.new) applied.id applied.place applied.full applied.unlinked) }
+        ensures applied { IfOk result (λ applied. AppliesDrawing C.state C.steps C.is_spent
+            (R.stream generator.old)
+            self.old learnt.old stimulus self.new learnt.new
+            (R.stream generator.new)
+            applied.id applied.place applied.full applied.unlinked) }
         ensures refused { IfErr result (Refuses C.is_spent self.old stimulus) }
-        ensures err { OnErr result ((self.new ≡ self.old) × (learnt.new ≡ learnt.old) × (R.stream generator.new ≡ R.stream generator.old)) }
+        ensures err { OnErr result
+            ((self.new ≡ self.old) × (learnt.new ≡ learnt.old) × (R.stream generator.new ≡ R.stream generator.old)) }
     {
         let applied = apply_opening(self, stimulus, learnt)?;
         take_drawn_downs(self, applied.full.as_slice(), generator, learnt);

@@ -50,7 +50,8 @@ fn frames_of<A: Allocator + Copy>(
     Some(count)
 }
 
-/// Up to which step all that the node sent to the peer came out, and how many frames that were. The trace lacks the first
+/// Up to which step all that the node sent to the peer came out, and how many frames that were. The trace lacks the
+/// first
 /// `lost` steps.
 fn came_out<A: Allocator + Copy>(
     trace: &Trace<Frame<A>, A>,
@@ -84,7 +85,8 @@ fn came_out<A: Allocator + Copy>(
 impl<C: NodeCore<A> + Drop, A: Allocator + Copy> NodeCell<C, A> {
     /// Up to which step all that the node sent over an outlet's link came out, and how many frames that were.
     pub(crate) fn came_out(&self, outlet: &Outlet<A>) -> (usize, usize)
-        ensures { CameOut (lost self.now.since) self.now.trace outlet.now.peer outlet.now.opened outlet.now.given result.0 result.1 }
+        ensures { CameOut (lost self.now.since) self.now.trace outlet.now.peer
+            outlet.now.opened outlet.now.given result.0 result.1 }
     {
         let (peer, opened, lost) = (outlet.peer(), outlet.opened(), self.lost());
         let _bound = self.steps_made();

@@ -13,7 +13,8 @@ use std::alloc::Allocator;
 use std::sync::Wait;
 use std::sync::atomic::Ordering;
 
-/// Hands out the steps since the last call, and the place up to which outlets are to be compared, if the node may forget.
+/// Hands out the steps since the last call, and the place up to which outlets are to be compared, if the node may
+/// forget.
 fn seal<C: NodeCore<A> + Drop, A: Allocator + Copy>(
     cell: &mut NodeCell<C, A>,
 ) -> Result<(Sealed<C, A>, usize), HostError> {
@@ -32,8 +33,8 @@ fn forget<C: NodeCore<A> + Drop, A: Allocator + Copy>(cell: &mut NodeCell<C, A>)
     (count, cell.sealed)
 }
 
-/// Forgets what was handed out or sealed off, and then seals the other steps off. As long as outlets are behind, what they
-/// are to reach stays: otherwise a link that is always busy would never reach it.
+/// Forgets what was handed out or sealed off, and then seals the other steps off. As long as outlets are behind, what
+/// they are to reach stays: otherwise a link that is always busy would never reach it.
 fn forget_made<C: NodeCore<A> + Drop, A: Allocator + Copy>(
     cell: &mut NodeCell<C, A>,
 ) -> Result<(usize, usize), HostError> {
@@ -122,24 +123,24 @@ impl<C: NodeCore<A> + Drop, A: Allocator + Copy> Host<C, A> {
     /// Lets the node forget steps from now on. Its ports may then forget their calls (`Port::forget`), an outlet whose
     /// link was closed goes once it was compared, and `close` speaks of what is left.
     ///
-    /// Call it after the start, before a link ends: an outlet that was given up before holds its steps until the close. A
-    /// trace that becomes full nevertheless ends the workers whose steps are refused, also if the node forgets later.
+    /// Call it after the start, before a link ends: an outlet that was given up before holds its steps until the close.
+    /// A trace that becomes full nevertheless ends the workers whose steps are refused, also if the node forgets later.
     pub fn forget_from_now<R: Wait>(&self, rt: &R) {
         self.shared.forget_from_now(rt);
     }
 
-    /// Forgets the steps that `seal` handed out, if it may, and if all outlets were compared with them. Returns how many
-    /// it forgot. Writers compare theirs within a moment after `seal`; the program has `compare` do so for an outlet
-    /// that has no writer, those of `take_opened` among them. So call this before the next `seal`: after that the steps
-    /// since are to be compared too.
+    /// Forgets the steps that `seal` handed out, if it may, and if all outlets were compared with them. Returns how
+    /// many it forgot. Writers compare theirs within a moment after `seal`; the program has `compare` do so for an
+    /// outlet that has no writer, those of `take_opened` among them. So call this before the next `seal`: after that
+    /// the steps since are to be compared too.
     ///
     /// `Closed`: the node is closed.
     pub fn forget_sealed<R: Wait>(&self, rt: &R) -> Result<usize, HostError> {
         self.shared.forget_sealed(rt)
     }
 
-    /// Like `forget_sealed`, for a node whose steps nobody takes by `seal`: it forgets the steps that were there when an
-    /// earlier call last forgot some. Call it now and then.
+    /// Like `forget_sealed`, for a node whose steps nobody takes by `seal`: it forgets the steps that were there when
+    /// an earlier call last forgot some. Call it now and then.
     ///
     /// `OutOfMemory`: it may have forgotten some. `Closed`: the node is closed.
     pub fn forget_made<R: Wait>(&self, rt: &R) -> Result<usize, HostError> {

@@ -162,7 +162,8 @@ pub(crate) fn open_unlinked<C: NodeCore<A> + Drop, A: Allocator + Copy>(
 ) -> Vec<NodeName, A>
     requires { IsPlace cell.old place }
     ensures opens { Opens place cell.old learnt.old unlinked.items cell.new learnt.new result.items }
-    ensures none { learnt.old.most ≡ 0 → (cell.new ≡ cell.old) × (learnt.new ≡ learnt.old) × (result.items ≡ unlinked.items) }
+    ensures none { learnt.old.most ≡ 0
+        → (cell.new ≡ cell.old) × (learnt.new ≡ learnt.old) × (result.items ≡ unlinked.items) }
 {
     let mut left = 0;
     for at in 0..unlinked.len() {

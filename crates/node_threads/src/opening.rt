@@ -1,5 +1,7 @@
 //! Opening and closing links.
-ghost use Rattle.std.specs.Prelude.{◌≡◌, ◌≤◌, ◌<◌, ◌==◌, ◌+◌, ◌++◌, [], ◌∷◌, false, true, map, not, nat_le, if◌then◌else◌, IfOk, IfErr, IfSome, IfNone, OnOk, OnErr, OnSome, length, vec_len, vec_capacity};
+ghost use Rattle.std.specs.Prelude.{◌≡◌, ◌≤◌, ◌<◌, ◌==◌, ◌+◌, ◌++◌, [], ◌∷◌, false, true, map};
+ghost use Rattle.std.specs.Prelude.{not, nat_le, if◌then◌else◌, IfOk, IfErr, IfSome, IfNone};
+ghost use Rattle.std.specs.Prelude.{OnOk, OnErr, OnSome, length, vec_len, vec_capacity};
 ghost use Rattle.node_names.specs.Same.{has_name, same_name};
 ghost use Rattle.rtrb.specs.Ring.{sent, known_free};
 ghost use Rattle.node_threads.specs.Applying.{mail_for};
@@ -76,7 +78,9 @@ fn link<A: Allocator>(
     requires listed { IsListed links.old.items names.old.keys }
     requires empty { sent ring ≡ [] }
     requires free { known_free ring ≡ room }
-    ensures links { links.new.items ≡ without peer links.old.items ++ (if nat_le (length mail) room then record { peer = peer; opened = opened; pushed = mail } ∷ [] else []) }
+    ensures links { links.new.items
+        ≡ without peer links.old.items
+        ++ (if nat_le (length mail) room then record { peer = peer; opened = opened; pushed = mail } ∷ [] else []) }
     ensures names { IsListed links.new.items names.new.keys }
 {
     close(links, names, &peer);
@@ -149,7 +153,8 @@ impl<C: NodeCore<A> + Drop, A: Allocator + Copy> NodeCell<C, A> {
     ) -> Result<Outlet<A>, AllocError>
         requires within { IsPlace self.old since }
         requires text { mail ≡ mail_since self.old name since }
-        ensures outlet { IfOk result (λ outlet. outlet ≡ record { peer = name; opened = since; given = []; seen = [] }) }
+        ensures outlet { IfOk result
+            (λ outlet. outlet ≡ record { peer = name; opened = since; given = []; seen = [] }) }
         ensures linked { OnOk result (self.new ≡ record self.old { links = linked_since self.old name ring since }) }
         ensures err { OnErr result (self.new ≡ self.old) }
     {
@@ -175,7 +180,8 @@ impl<C: NodeCore<A> + Drop, A: Allocator + Copy> NodeCell<C, A> {
     /// If what the opening sent to the name does not fit the ring, the link is closed at once. The only error is
     /// `OutOfMemory`.
     pub fn open_link(&mut self, name: NodeName, ring: usize) -> Result<Outlet<A>, HostError>
-        ensures outlet { IfOk result (λ outlet. outlet ≡ record { peer = name; opened = steps_made self.old; given = []; seen = [] }) }
+        ensures outlet { IfOk result
+            (λ outlet. outlet ≡ record { peer = name; opened = steps_made self.old; given = []; seen = [] }) }
         ensures linked { OnOk result (self.new ≡ record self.old { links = linked_to self.old name ring }) }
         ensures refused { IfErr result (λ e. e ≡ HostError.OutOfMemory) }
         ensures err { OnErr result (self.new ≡ self.old) }
@@ -195,8 +201,8 @@ impl<C: NodeCore<A> + Drop, A: Allocator + Copy> NodeCell<C, A> {
         mail_since(self.alloc(), self.trace(), self.lost(), name, since)
     }
 
-    /// Opens a link to the name whose text begins when the node had made `since` steps, and closes the one that was open.
-    /// Its ring has room for `ring` frames.
+    /// Opens a link to the name whose text begins when the node had made `since` steps, and closes the one that was
+    /// open. Its ring has room for `ring` frames.
     ///
     /// What the node has sent to the name since is put into the ring at once. If it does not fit, the link is closed at
     /// once. The only error is `OutOfMemory`.
@@ -207,7 +213,8 @@ impl<C: NodeCore<A> + Drop, A: Allocator + Copy> NodeCell<C, A> {
         since: usize,
     ) -> Result<Outlet<A>, HostError>
         requires { IsPlace self.old since }
-        ensures outlet { IfOk result (λ outlet. outlet ≡ record { peer = name; opened = since; given = []; seen = [] }) }
+        ensures outlet { IfOk result
+            (λ outlet. outlet ≡ record { peer = name; opened = since; given = []; seen = [] }) }
         ensures linked { OnOk result (self.new ≡ record self.old { links = linked_since self.old name ring since }) }
         ensures refused { IfErr result (λ e. e ≡ HostError.OutOfMemory) }
         ensures err { OnErr result (self.new ≡ self.old) }
@@ -226,7 +233,8 @@ impl<C: NodeCore<A> + Drop, A: Allocator + Copy> NodeCell<C, A> {
         since: usize,
     ) -> Option<Outlet<A>>
         requires { IsPlace self.old since }
-        ensures outlet { IfSome result (λ outlet. outlet ≡ record { peer = name; opened = since; given = []; seen = [] }) }
+        ensures outlet { IfSome result
+            (λ outlet. outlet ≡ record { peer = name; opened = since; given = []; seen = [] }) }
         ensures linked { OnSome result (self.new ≡ record self.old { links = linked_since self.old name ring since }) }
         ensures open { OnSome result (is_linked (linked_since self.old name ring since) name ≡ true) }
         ensures none { IfNone result (self.new ≡ self.old) }

@@ -39,9 +39,12 @@ impl<A: Allocator> Model for Tap<A> {
 impl<A: Allocator + Copy> Tap<A> {
     /// Returns the bytes of the next frame, or `None` while the ring is empty. A refusal takes nothing.
     fn pop(&mut self) -> Result<Option<Bytes<A>>, AllocError>
-        ensures some { (item : List ℕ) → result ≡ Ok (Some item) → (self.new.given ≡ self.old.given ++ item ∷ []) × (length item ≤ 32880) }
+        ensures some { (item : List ℕ)
+            → result ≡ Ok (Some item)
+            → (self.new.given ≡ self.old.given ++ item ∷ []) × (length item ≤ 32880) }
         ensures seen { (item : List ℕ) → result ≡ Ok (Some item) → IsPrefix self.old.seen (item ∷ self.new.seen) }
-        ensures none { result ≡ Ok None → (self.new.given ≡ self.old.given) × (self.new.seen ≡ []) × (self.old.seen ≡ []) }
+        ensures none { result ≡ Ok None
+            → (self.new.given ≡ self.old.given) × (self.new.seen ≡ []) × (self.old.seen ≡ []) }
         ensures err { OnErr result ((self.new.given ≡ self.old.given) × IsPrefix self.old.seen self.new.seen) }
     {
         self.given.reserve(1)?;
@@ -177,7 +180,10 @@ impl<A: Allocator + Copy> Outlet<A> {
     /// Returns the bytes of the next frame, or `None` while the ring is empty. It does not wait, and a refusal takes
     /// nothing.
     pub fn pop(&mut self) -> Result<Option<Bytes<A>>, AllocError>
-        ensures some { (item : List ℕ) → result ≡ Ok (Some item) → (self.new ≡ record self.old { given = self.old.given ++ item ∷ []; seen = self.new.seen }) × (length item ≤ 32880) }
+        ensures some { (item : List ℕ)
+            → result ≡ Ok (Some item)
+            → (self.new ≡ record self.old { given = self.old.given ++ item ∷ []; seen = self.new.seen })
+            × (length item ≤ 32880) }
         ensures seen { (item : List ℕ) → result ≡ Ok (Some item) → IsPrefix self.old.seen (item ∷ self.new.seen) }
         ensures none { result ≡ Ok None → (self.new ≡ self.old) × (self.new.seen ≡ []) }
         ensures err { OnErr result (Looks self.old self.new) }

@@ -49,7 +49,8 @@ fn broadcast<R: Wait, C: NodeCore<A> + Drop, A: Allocator + Copy>(
     payload: Bytes<A>,
 ) -> Result<Receipt, HostError>
     ensures made { IfOk result (λ receipt. IsMade C.state C.steps payload receipt) }
-    ensures ok { IfOk result (λ receipt. calls.new.items ≡ calls.old.items ++ record { payload = payload; receipt = receipt } ∷ []) }
+    ensures ok { IfOk result
+        (λ receipt. calls.new.items ≡ calls.old.items ++ record { payload = payload; receipt = receipt } ∷ []) }
     ensures err { OnErr result (calls.new.items ≡ calls.old.items) }
     ensures refused { IfErr result (RefusesPayload payload) }
 {
@@ -77,7 +78,8 @@ impl<C: NodeCore<A> + Drop, A: Allocator + Copy> Port<C, A> {
     /// others, since the port makes room to keep the call.
     pub fn broadcast<R: Wait>(&mut self, rt: &R, payload: Bytes<A>) -> Result<Receipt, HostError>
         ensures made { IfOk result (λ receipt. IsMade C.state C.steps payload receipt) }
-        ensures ok { IfOk result (λ receipt. self.new ≡ self.old ++ record { payload = payload; receipt = receipt } ∷ []) }
+        ensures ok { IfOk result
+            (λ receipt. self.new ≡ self.old ++ record { payload = payload; receipt = receipt } ∷ []) }
         ensures err { OnErr result (self.new ≡ self.old) }
         ensures refused { IfErr result (RefusesPayload payload) }
     {

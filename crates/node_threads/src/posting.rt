@@ -1,11 +1,13 @@
 //! From the packets of a step to the rings of the open links.
-ghost use Rattle.std.specs.Prelude.{◌≡◌, ◌≤◌, ◌<◌, ◌+◌, ◌∷◌, ◌++◌, [], true, not, filter, IfOk, OnOk, All, List, length, vec_len, vec_capacity};
+ghost use Rattle.std.specs.Prelude.{◌≡◌, ◌≤◌, ◌<◌, ◌+◌, ◌∷◌, ◌++◌, [], true, not, filter};
+ghost use Rattle.std.specs.Prelude.{IfOk, OnOk, All, List, length, vec_len, vec_capacity};
 ghost use Rattle.std.specs.List.{IsDistinct};
 ghost use Rattle.node_names.specs.NodeName.{Name};
 ghost use Rattle.node_names.specs.Same.{has_name, same_name};
 ghost use Rattle.node_threads.specs.Applying.{mail_for, with_name};
 ghost use Rattle.node_threads.specs.Cell.{is_linked, peers_of, Link as Seen};
-ghost use Rattle.node_threads.specs.Letters.{HaveMail, IsAddressed, Letter as Sent, Posted, lacking, left_open, mail_in, still_named, with_lacking};
+ghost use Rattle.node_threads.specs.Letters.{HaveMail, IsAddressed, Letter as Sent, Posted, lacking};
+ghost use Rattle.node_threads.specs.Letters.{left_open, mail_in, still_named, with_lacking};
 ghost use Rattle.node_threads.specs.LinkText.{spelling};
 
 use crate::link::{Link, Mail};
@@ -87,8 +89,11 @@ fn address<A: Allocator + Copy>(
     letters: &mut Vec<Letter<A>, A>,
     lacking: &mut Vec<NodeName, A>,
 ) -> Result<(), AllocError>
-    ensures mail { OnOk result ((peer : Name) → has_name names.now.keys peer ≡ true → mail_in letters.new.items peer ≡ mail_in letters.old.items peer ++ mail_for (send.now ∷ []) peer) }
-    ensures addressed { OnOk result (All (IsAddressed names.now.keys) letters.old.items → All (IsAddressed names.now.keys) letters.new.items) }
+    ensures mail { OnOk result ((peer : Name)
+        → has_name names.now.keys peer ≡ true
+        → mail_in letters.new.items peer ≡ mail_in letters.old.items peer ++ mail_for (send.now ∷ []) peer) }
+    ensures addressed { OnOk result
+        (All (IsAddressed names.now.keys) letters.old.items → All (IsAddressed names.now.keys) letters.new.items) }
     ensures lacking { OnOk result (lacking.new.items ≡ with_lacking names.now.keys lacking.old.items send.now) }
 {
     match names.get_index_of(&send.0) {
@@ -125,9 +130,12 @@ fn post_one<A: Allocator>(links: &mut [Link<A>], letter: Letter<A>, blocked: &mu
     requires within { letter.1 < length links.old }
     requires distinct { IsDistinct same_name (peers_of links.old) }
     requires room { vec_len blocked.old < vec_capacity blocked.old }
-    ensures posted { (before : List Sent) (first : List Seen) → Posted blocked.old.items before first links.old → Posted blocked.new.items (before ++ letter ∷ []) first links.new }
+    ensures posted { (before : List Sent) (first : List Seen)
+        → Posted blocked.old.items before first links.old
+        → Posted blocked.new.items (before ++ letter ∷ []) first links.new }
     ensures peers { peers_of links.new ≡ peers_of links.old }
-    ensures room { (vec_len blocked.new ≤ vec_len blocked.old + 1) × (vec_capacity blocked.old ≤ vec_capacity blocked.new) }
+    ensures room { (vec_len blocked.new ≤ vec_len blocked.old + 1)
+        × (vec_capacity blocked.old ≤ vec_capacity blocked.new) }
 {
     let (peer, place, frame) = letter;
     if has_name(blocked.as_slice(), &peer) {
@@ -252,7 +260,8 @@ pub(crate) fn posting_for<A: Allocator + Copy>(
 ) -> Result<Posting<A>, AllocError>
     ensures mail { IfOk result (λ p. HaveMail names.now.keys out.now.sends p.letters.items) }
     ensures addressed { IfOk result (λ p. All (IsAddressed names.now.keys) p.letters.items) }
-    ensures blocked { IfOk result (λ p. (p.blocked.items ≡ []) × (vec_len p.blocked + vec_len p.letters ≤ vec_capacity p.blocked)) }
+    ensures blocked { IfOk result
+        (λ p. (p.blocked.items ≡ []) × (vec_len p.blocked + vec_len p.letters ≤ vec_capacity p.blocked)) }
     ensures unlinked { IfOk result (λ p. p.unlinked.items ≡ lacking names.now.keys out.now.sends) }
     ensures copies { IfOk result (λ p. p.copies.items ≡ out.now.deliveries) }
 {

@@ -1,5 +1,6 @@
 //! Compares what came out of a link with what the node sent, one packet at a time.
-ghost use Rattle.std.specs.Prelude.{◌≡◌, ◌≤◌, ◌-◌, ◌==◌, ◌∷◌, [], IfOk, drop, map, nat_eq, option_copied, if◌then◌else◌};
+ghost use Rattle.std.specs.Prelude.{◌≡◌, ◌≤◌, ◌-◌, ◌==◌, ◌∷◌, [], IfOk, drop};
+ghost use Rattle.std.specs.Prelude.{map, nat_eq, option_copied, if◌then◌else◌};
 ghost use Rattle.std.specs.Cmp.Lexicographic.{pointwise};
 ghost use Rattle.node_threads.specs.Applying.{mail_for};
 ghost use Rattle.node_threads.specs.LinkText.{spelling, text_of, text_since};
@@ -79,7 +80,8 @@ fn strip_steps<'a, A: Allocator + Copy>(
     opened: usize,
     mut given: &'a [LinkFrame<A>],
 ) -> Result<Option<&'a [LinkFrame<A>]>, AllocError>
-    ensures { IfOk result (λ left. Leaves given.now (map spelling (text_of peer.now (drop opened trace.now.steps))) (option_copied left)) }
+    ensures { IfOk result (λ left.
+        Leaves given.now (map spelling (text_of peer.now (drop opened trace.now.steps))) (option_copied left)) }
 {
     for place in opened..trace.len() {
         if given.is_empty() {
@@ -121,7 +123,8 @@ pub(crate) fn strip_text<'a, A: Allocator + Copy>(
     given: &'a [LinkFrame<A>],
 ) -> Result<Option<&'a [LinkFrame<A>]>, AllocError>
     requires { lost ≤ opened }
-    ensures { IfOk result (λ left. Leaves given.now (map spelling (text_since lost trace.now peer.now opened)) (option_copied left)) }
+    ensures { IfOk result
+        (λ left. Leaves given.now (map spelling (text_since lost trace.now peer.now opened)) (option_copied left)) }
 {
     let Some(rest) = strip(alloc, peer, opening_of(trace, opened), given)? else {
         return Ok(None);

@@ -30,7 +30,8 @@ impl<C: NodeCore<A> + Drop, A: Allocator + Copy> NodeCell<C, A> {
     /// It goes over the steps since the link was opened until the frames that came out are used up, and encodes a frame
     /// only if it finds one that differs. The only error is `OutOfMemory`, and only this encoding causes it.
     pub fn report(&self, outlet: &Outlet<A>) -> Result<Option<LinkReport>, HostError>
-        ensures begins { IfOk result (λ r. IfSome r (λ report. BeginsText (lost self.now.since) self.now.trace outlet.now)) }
+        ensures begins { IfOk result
+            (λ r. IfSome r (λ report. BeginsText (lost self.now.since) self.now.trace outlet.now)) }
         ensures report { IfOk result (λ r. IfSome r (λ report. report ≡ report_of outlet.now)) }
         ensures none { result ≡ Ok None → BeginsText (lost self.now.since) self.now.trace outlet.now → ⊥ }
         ensures refused { IfErr result (λ e. e ≡ HostError.OutOfMemory) }

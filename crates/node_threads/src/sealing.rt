@@ -34,7 +34,8 @@ impl<C: NodeCore<A> + Drop, A: Allocator + Copy> NodeCell<C, A> {
         ensures ends { IfOk result (λ sealed. Ends self.old.trace.steps (arc_value sealed.segment)) }
         ensures state { IfOk result (λ sealed. sealed.state ≡ self.old.core) }
         ensures since { IfOk result (λ sealed. sealed.since ≡ lost self.old.since) }
-        ensures replays { IfOk result (λ sealed. self.new.since ≡ None → IsHistoryTo C.starts C.steps self.new.trace sealed.state) }
+        ensures replays { IfOk result
+            (λ sealed. self.new.since ≡ None → IsHistoryTo C.starts C.steps self.new.trace sealed.state) }
         ensures end { IfOk result (λ sealed. IsEndTo C.starts C.steps sealed.since self.new.trace sealed.state) }
         ensures err { IfErr result (λ e. e ≡ HostError.OutOfMemory) }
     {

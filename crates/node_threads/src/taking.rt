@@ -20,7 +20,8 @@ fn take_frame<C: NodeCore<A> + Drop, A: Allocator + Copy, R: Rng>(
     generator: &mut R,
     learnt: &mut Learnt<A>,
 ) -> Result<(), HostError>
-    ensures taken { OnOk result (TakesFrame C.state C.steps C.is_spent (R.stream generator.old) cell.old learnt.old note cell.new learnt.new (R.stream generator.new)) }
+    ensures taken { OnOk result (TakesFrame C.state C.steps C.is_spent
+        (R.stream generator.old) cell.old learnt.old note cell.new learnt.new (R.stream generator.new)) }
     ensures err { OnErr result ((cell.new ≡ cell.old) × (learnt.new ≡ learnt.old)) }
 {
     let sender = note.sender();
@@ -37,7 +38,8 @@ pub(crate) fn take_frames<C: NodeCore<A> + Drop, A: Allocator + Copy, R: Rng>(
     generator: &mut R,
     learnt: &mut Learnt<A>,
 ) -> (usize, Result<(), HostError>)
-    ensures taken { (left : Stream) × TakesFrames C.state C.steps C.is_spent (R.stream generator.old) cell.old learnt.old (take result.0 frames.items) cell.new learnt.new left }
+    ensures taken { (left : Stream) × TakesFrames C.state C.steps C.is_spent
+        (R.stream generator.old) cell.old learnt.old (take result.0 frames.items) cell.new learnt.new left }
     ensures within { result.0 ≤ length frames.items }
     ensures all { OnOk result.1 (result.0 ≡ length frames.items) }
 {

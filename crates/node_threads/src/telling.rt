@@ -76,8 +76,8 @@ impl<A: Allocator + Copy> Teller<A> {
         Ok(())
     }
 
-    /// Notes how the view changed since the last call. The trace lacks the first `lost` steps. If memory is refused, the
-    /// next call makes up for it.
+    /// Notes how the view changed since the last call. The trace lacks the first `lost` steps. If memory is refused,
+    /// the next call makes up for it.
     pub(crate) fn note(&mut self, active: &NameSet<A>, lost: usize, trace: &Trace<Frame<A>, A>) {
         if !self.tells {
             return;

@@ -81,10 +81,10 @@ where
     unreachable!()
 }
 
-/// Starts the worker that keeps the node's time. At each tick it applies Join, where the node has no neighbour and one of
-/// its contacts is due (`Host::set_contacts`), then Flush, then Fire for each id whose timer is armed, and at every tenth
-/// tick Shuffle. The dice of Shuffles, and of the Downs that follow any of these steps, are
-/// drawn from a generator with this seed.
+/// Starts the worker that keeps the node's time. At each tick it applies Join, where the node has no neighbour and one
+/// of its contacts is due (`Host::set_contacts`), then Flush, then Fire for each id whose timer is armed, and at every
+/// tenth tick Shuffle. The dice of Shuffles, and of the Downs that follow any of these steps, are drawn from a
+/// generator with this seed.
 ///
 /// It ends when the ticker does, or at the first refusal; `Host::lacks_memory` tells whether memory was refused.
 /// `Closed`: the node was stopped. `OutOfMemory`: an allocation is refused, or no thread can be made.

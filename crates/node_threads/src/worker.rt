@@ -57,7 +57,8 @@ enum Work<A: Allocator> {
     Ended(Outlets<A>),
 }
 
-/// A thread that works for a running node, or one that has ended. Closing the node joins it; dropping it lets it run on.
+/// A thread that works for a running node, or one that has ended. Closing the node joins it; dropping it lets it run
+/// on.
 ///
 /// Contracts see it as the name whose links it writes, if it writes any.
 #[derive(Drop)]

@@ -1,7 +1,8 @@
 //! Lists of members.
 ghost use Rattle.std.specs.Prelude.{◌≡◌, OnOk, OnErr, IfOk, if◌then◌else◌};
 ghost use Rattle.node_names.specs.Same.{same_name};
-ghost use Rattle.peer_sets.specs.Members.{is_member, is_eager, all_eager, with_member, with_members, without_member, without_members, with_kind};
+ghost use Rattle.peer_sets.specs.Members.{is_member, is_eager, all_eager, with_member};
+ghost use Rattle.peer_sets.specs.Members.{with_members, without_member, without_members, with_kind};
 
 use crate::kind::PeerKind;
 use node_names::NodeName;

@@ -2,7 +2,8 @@
 ghost use Rattle.std.specs.Prelude.{◌≡◌, ◌↔◌, [], false, IsTrue, IfOk, OnOk, OnErr};
 ghost use Rattle.std.specs.List.{IsDistinct};
 ghost use Rattle.node_names.specs.Same.{same_name};
-ghost use Rattle.peer_sets.specs.Members.{is_member, is_eager, IsSplit, all_eager, with_member, without_member, with_kind, lazy_but};
+ghost use Rattle.peer_sets.specs.Members.{is_member, is_eager, IsSplit, all_eager};
+ghost use Rattle.peer_sets.specs.Members.{with_member, without_member, with_kind, lazy_but};
 ghost use Rattle.peer_sets.specs.Queue.{has_entry_of, with_entry, with_entries, without_entries, batches};
 ghost use Rattle.peer_sets.specs.PeerSets.{IsSound, relinked};
 ghost use Rattle.peer_sets.specs.declared.kind.PeerKind.TheVariants.{Eager, Lazy};
@@ -57,7 +58,10 @@ impl<A: Allocator + Copy> PeerSets<A> {
     /// Removes a member together with the announcements that wait for it. Does nothing if `name` is no member. Takes
     /// time linear in the members and the queue.
     pub fn down(&mut self, name: &NodeName)
-        ensures { self.new ≡ record { members = without_member name.now self.old.members; queued = without_entries name.now self.old.queued } }
+        ensures { self.new ≡ record {
+          members = without_member name.now self.old.members;
+          queued = without_entries name.now self.old.queued;
+        } }
     {
         members::remove(&mut self.members, name);
         queue::remove(&mut self.queued, name);
@@ -102,7 +106,8 @@ impl<A: Allocator + Copy> PeerSets<A> {
     /// Searches the whole queue, which `queue_lazy` does not.
     pub fn queue(&mut self, peer: &NodeName, id: &MsgId, round: u32) -> Result<(), AllocError>
         requires { IsTrue (is_member self.old.members peer.now) }
-        ensures ok { OnOk result (self.new ≡ record self.old { queued = with_entry peer.now id.now round self.old.queued }) }
+        ensures ok { OnOk result
+            (self.new ≡ record self.old { queued = with_entry peer.now id.now round self.old.queued }) }
         ensures err { OnErr result (self.new ≡ self.old) }
     {
         queue::queue(&mut self.queued, &(*peer, *id, round))
@@ -119,7 +124,9 @@ impl<A: Allocator + Copy> PeerSets<A> {
         round: u32,
     ) -> Result<(), AllocError>
         requires { has_entry_of id.now self.old.queued ≡ false }
-        ensures ok { OnOk result (self.new ≡ record self.old { queued = with_entries (lazy_but left_out.now self.old.members) id.now round self.old.queued }) }
+        ensures ok { OnOk result (self.new ≡ record self.old {
+          queued = with_entries (lazy_but left_out.now self.old.members) id.now round self.old.queued;
+        }) }
         ensures err { OnErr result (self.new ≡ self.old) }
     {
         queue::queue_lazy(&mut self.queued, &self.members, left_out, id, round)

@@ -1,10 +1,12 @@
 //! The queue of announcements, oldest first.
-ghost use Rattle.std.specs.Prelude.{◌≡◌, ◌+◌, ◌++◌, ◌<◌, ◌≤◌, false, map, length, vec_len, vec_capacity, OnOk, OnErr, IfOk};
+ghost use Rattle.std.specs.Prelude.{◌≡◌, ◌+◌, ◌++◌, ◌<◌, ◌≤◌, false, map, length};
+ghost use Rattle.std.specs.Prelude.{vec_len, vec_capacity, OnOk, OnErr, IfOk};
 ghost use Rattle.std.specs.List.{list_any, position_or_len};
 ghost use Rattle.indexmap.specs.IndexSet.{insert_key};
 ghost use Rattle.node_names.specs.Same.{same_name, is_left_out};
 ghost use Rattle.peer_sets.specs.Members.{lazy_but};
-ghost use Rattle.peer_sets.specs.Queue.{place_of, same_place, has_entry_of, with_entry, with_entries, without_entries, without_all_entries, with_more, with_empty, with_batch, batches};
+ghost use Rattle.peer_sets.specs.Queue.{place_of, same_place, has_entry_of, with_entry, with_entries, without_entries};
+ghost use Rattle.peer_sets.specs.Queue.{without_all_entries, with_more, with_empty, with_batch, batches};
 
 use crate::members::Member;
 use indexmap::IndexSet;
@@ -50,7 +52,8 @@ fn push_lazy<A: Allocator>(
     round: u32,
 )
     requires { vec_len queued.old + length members.now ≤ vec_capacity queued.old }
-    ensures { queued.new.items ≡ queued.old.items ++ map (λ peer. (peer, id.now, round)) (lazy_but left_out.now members.now) }
+    ensures { queued.new.items
+        ≡ queued.old.items ++ map (λ peer. (peer, id.now, round)) (lazy_but left_out.now members.now) }
 {
     for member in members {
         if !member.1.is_eager() && !is_left_out(left_out, &member.0) {
@@ -68,7 +71,8 @@ pub(crate) fn queue_lazy<A: Allocator>(
     round: u32,
 ) -> Result<(), AllocError>
     requires { has_entry_of id.now queued.old.items ≡ false }
-    ensures ok { OnOk result (queued.new.items ≡ with_entries (lazy_but left_out.now members.now) id.now round queued.old.items) }
+    ensures ok { OnOk result
+        (queued.new.items ≡ with_entries (lazy_but left_out.now members.now) id.now round queued.old.items) }
     ensures err { OnErr result (queued.new.items ≡ queued.old.items) }
 {
     queued.reserve(members.len())?;

@@ -48,7 +48,8 @@ pub(crate) fn push_frame(said: &mut String, bytes: &[u8]) -> Result<(), AllocErr
     }
 }
 
-/// Appends how many steps a node made, and how many of them it forgot, the deliveries that wait, and its core's active view and queue.
+/// Appends how many steps a node made, and how many of them it forgot, the deliveries that wait, and its core's active
+/// view and queue.
 pub(crate) fn push_cell<A: Allocator + Copy>(
     text: &mut String,
     cell: &Cell<A>,

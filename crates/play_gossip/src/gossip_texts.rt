@@ -72,7 +72,8 @@ pub(crate) fn push_missing<A: Allocator>(
     push_armed(text, missing.timers())
 }
 
-/// Appends the messages that are held, in order of delivery, each with its payload. Of many it appends how many they are.
+/// Appends the messages that are held, in order of delivery, each with its payload. Of many it appends how many they
+/// are.
 fn push_held<A: Allocator>(text: &mut String, node: &Gossip<A>) -> Result<(), AllocError> {
     let held = node.held();
     if held.is_empty() {

@@ -71,4 +71,5 @@ pub load_row : (ka kb kc : set.FinSet id_cmp) →
     set.contains kb (message 1) ≡ true → set.contains kb (message 2) ≡ true →
     set.contains kc (message 1) ≡ true → set.contains kc (message 2) ≡ false →
     load (message 1 ∷ message 2 ∷ []) (group ka kb kc) ≡ 17
-load_row ka kb kc a1 a2 b1 b2 c1 c2 = λ i. (((0 + (9 * (1 * lacked (a1 i) (a2 i)) + 0)) + (9 * (2 * lacked (b1 i) (b2 i)) + 8)) + (9 * (1 * lacked (c1 i) (c2 i)) + 0)) + 0
+load_row ka kb kc a1 a2 b1 b2 c1 c2 =
+    λ i. (((0 + (9 * (1 * lacked (a1 i) (a2 i)) + 0)) + (9 * (2 * lacked (b1 i) (b2 i)) + 8)) + (9 * (1 * lacked (c1 i) (c2 i)) + 0)) + 0

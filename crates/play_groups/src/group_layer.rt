@@ -144,8 +144,8 @@ impl<C: Played<A>, A: Allocator + Copy> GroupLayer<C, A> {
         Ok(Outcome::Done)
     }
 
-    /// Plays events as one run: `run flush a then stop b`. A run that was refused memory goes on, the next time, where it
-    /// stopped.
+    /// Plays events as one run: `run flush a then stop b`. A run that was refused memory goes on, the next time, where
+    /// it stopped.
     fn run(
         &mut self,
         words: &[&str],

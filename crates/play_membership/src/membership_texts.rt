@@ -38,8 +38,8 @@ pub(crate) fn push_membership<A: Allocator>(
     }
 }
 
-/// Appends what events gave: each message with its receiver, and then the names that are no longer active and those that
-/// have become so.
+/// Appends what events gave: each message with its receiver, and then the names that are no longer active and those
+/// that have become so.
 pub(crate) fn push_moves<A: Allocator>(
     text: &mut String,
     moves: &Moves<A>,

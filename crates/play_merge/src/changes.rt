@@ -221,8 +221,8 @@ fn remake<A: Allocator + Copy>(
     }
 }
 
-/// Alters a step of a run: `delivers nothing`, `sends 1`, that is the first of its packets alone, `sends-also b 2 PRUNE`,
-/// or what it is made by, as `arrive b/1 1 PRUNE`.
+/// Alters a step of a run: `delivers nothing`, `sends 1`, that is the first of its packets alone, `sends-also b 2
+/// PRUNE`, or what it is made by, as `arrive b/1 1 PRUNE`.
 fn alter<A: Allocator + Copy>(
     alloc: A,
     run: Origin,

@@ -1,7 +1,7 @@
 //! Traces of the nodes of a group, which are read off the group, altered, and merged into one run.
 //!
-//! The events of the group are commands, and so are the changes of the traces. What a block leaves is not shown: `trace`
-//! tells of it.
+//! The events of the group are commands, and so are the changes of the traces. What a block leaves is not shown:
+//! `trace` tells of it.
 use crate::changes::{alter_step, cut, divide, restart, select};
 use crate::texts::{Group, PlumTrace, push_trace, say_merged};
 use node_names::{Limits, Origin};
@@ -140,7 +140,8 @@ impl<A: Allocator + Copy> MergeLayer<A> {
         Ok(Outcome::Done)
     }
 
-    /// Merges the traces, and says the events of the run, or why there is none. Limits that are not the group's are given:
+    /// Merges the traces, and says the events of the run, or why there is none. Limits that are not the group's are
+    /// given:
     /// `merge active 1`.
     fn merge(
         &mut self,

@@ -134,8 +134,8 @@ fn replay<A: Allocator + Copy>(
     push_flight(said, group)
 }
 
-/// Says the events into which traces are merged and what is in flight after them, or why they are not merged. The events
-/// are played in a group without nodes, which has to have the same traces then: any other is told.
+/// Says the events into which traces are merged and what is in flight after them, or why they are not merged. The
+/// events are played in a group without nodes, which has to have the same traces then: any other is told.
 pub(crate) fn say_merged<A: Allocator + Copy>(
     alloc: A,
     own: Global,

@@ -7,9 +7,9 @@
 //! `fresh` begins anew. `quiet` in front of a command leaves out what it answers, and `times N` makes it N times.
 //! `sweep` in front of a command makes it once for each of its allocations, with that one refused: that has to be
 //! answered as want of memory and to leave the state as it was, and the command made again has to give what it gives
-//! where nothing is refused. `sweep-again` does the same with a command that may stop midway and goes on when it is made
-//! again. Each try is made on a state of its own, by all commands since the last `fresh`. Commands behind a `;` are made
-//! after each try, and have to answer the same each time.
+//! where nothing is refused. `sweep-again` does the same with a command that may stop midway and goes on when it is
+//! made again. Each try is made on a state of its own, by all commands since the last `fresh`. Commands behind a `;`
+//! are made after each try, and have to answer the same each time.
 use crate::layer::{Layer, Outcome, Turn};
 use refusing_allocator::RefusingAllocator;
 use std::alloc::{AllocError, Global};
@@ -97,8 +97,8 @@ impl<'h, 't, L: Layer + Drop> Player<'h, 't, L> {
         Ok(Outcome::Done)
     }
 
-    /// Makes the first call of a line with allocation `n` refused. Returns its answer, or `None` if the call has no such
-    /// allocation.
+    /// Makes the first call of a line with allocation `n` refused. Returns its answer, or `None` if the call has no
+    /// such allocation.
     fn refused(&mut self, words: &[&str], n: u64) -> Result<Option<Answer>, AllocError> {
         let mut turn = Turn::new(self.heap, n);
         let mut said = String::new(self.alloc);

@@ -122,8 +122,8 @@ pub(crate) fn cut_piece<A: Allocator + Copy>(
     Ok(())
 }
 
-/// Cuts a stream, fed in pieces of `size` bytes, and appends its frames, its fault and how many bytes are left. Each call
-/// that is refused memory is made again.
+/// Cuts a stream, fed in pieces of `size` bytes, and appends its frames, its fault and how many bytes are left. Each
+/// call that is refused memory is made again.
 pub(crate) fn push_cut<A: Allocator + Copy>(
     alloc: A,
     said: &mut String,

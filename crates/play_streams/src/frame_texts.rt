@@ -79,7 +79,8 @@ pub(crate) fn push_told<A: Allocator + Copy>(
     push_announced(text, frame)
 }
 
-/// Returns where the bytes of a frame end that begin at a place of a stream, or nothing if its bytes do not stand there.
+/// Returns where the bytes of a frame end that begin at a place of a stream, or nothing if its bytes do not stand
+/// there.
 pub(crate) fn end_of_frame<A: Allocator + Copy>(
     alloc: A,
     stream: &[u8],

@@ -196,8 +196,8 @@ fn replay_writes<A: Allocator + Copy>(
     Ok(true)
 }
 
-/// Drains an item with each write in turn failing, and then with each write in turn taking no byte. Appends what came of
-/// it.
+/// Drains an item with each write in turn failing, and then with each write in turn taking no byte. Appends what came
+/// of it.
 pub(crate) fn replay_drain<A: Allocator + Copy>(
     own: Global,
     alloc: A,

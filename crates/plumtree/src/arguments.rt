@@ -132,12 +132,20 @@ fn task_of(name: &str, is_looped: bool) -> Task
 /// What the arguments after a subcommand ask for.
 fn requested<'a>(alloc: Global, task: Task, words: &ArgMatches<'a>) -> Result<Request<'a>, Error>
     ensures task { IfOk result (λ request. request.task ≡ task) }
-    ensures file { IfOk result (λ request. option_map (λ file. file.now) request.file ≡ first_value (found_of words.now) (codes "FILE")) }
-    ensures traced { one_text (found_of words.now) (codes "trace") ≡ Some (codes "true") → IfOk result (λ request. request.form ≡ Form.Trace) }
-    ensures drawn { one_text (found_of words.now) (codes "trace") ≡ Some (codes "false") → one_text (found_of words.now) (codes "dot") ≡ Some (codes "true") → IfOk result (λ request. (only : Option MsgId) × (request.form ≡ Form.Graph only)) }
-    ensures plain { one_text (found_of words.now) (codes "trace") ≡ Some (codes "false") → one_text (found_of words.now) (codes "dot") ≡ Some (codes "false") → IfOk result (λ request. request.form ≡ Form.Lines) }
-    ensures strict { one_text (found_of words.now) (codes "strict") ≡ Some (codes "true") → IfOk result (λ request. request.is_strict ≡ true) }
-    ensures lenient { one_text (found_of words.now) (codes "strict") ≡ Some (codes "false") → IfOk result (λ request. request.is_strict ≡ false) }
+    ensures file { IfOk result
+        (λ request. option_map (λ file. file.now) request.file ≡ first_value (found_of words.now) (codes "FILE")) }
+    ensures traced { one_text (found_of words.now) (codes "trace") ≡ Some (codes "true")
+        → IfOk result (λ request. request.form ≡ Form.Trace) }
+    ensures drawn { one_text (found_of words.now) (codes "trace") ≡ Some (codes "false")
+        → one_text (found_of words.now) (codes "dot") ≡ Some (codes "true")
+        → IfOk result (λ request. (only : Option MsgId) × (request.form ≡ Form.Graph only)) }
+    ensures plain { one_text (found_of words.now) (codes "trace") ≡ Some (codes "false")
+        → one_text (found_of words.now) (codes "dot") ≡ Some (codes "false")
+        → IfOk result (λ request. request.form ≡ Form.Lines) }
+    ensures strict { one_text (found_of words.now) (codes "strict") ≡ Some (codes "true")
+        → IfOk result (λ request. request.is_strict ≡ true) }
+    ensures lenient { one_text (found_of words.now) (codes "strict") ≡ Some (codes "false")
+        → IfOk result (λ request. request.is_strict ≡ false) }
 {
     match asked_message(words) {
         Ok(only) => Ok(request_of(task, words, only)),
@@ -150,8 +158,12 @@ fn request_of<'a>(task: Task, words: &ArgMatches<'a>, only: Option<MsgId>) -> Re
     ensures task { result.task ≡ task }
     ensures file { option_map (λ file. file.now) result.file ≡ first_value (found_of words.now) (codes "FILE") }
     ensures traced { one_text (found_of words.now) (codes "trace") ≡ Some (codes "true") → result.form ≡ Form.Trace }
-    ensures drawn { one_text (found_of words.now) (codes "trace") ≡ Some (codes "false") → one_text (found_of words.now) (codes "dot") ≡ Some (codes "true") → result.form ≡ Form.Graph only }
-    ensures plain { one_text (found_of words.now) (codes "trace") ≡ Some (codes "false") → one_text (found_of words.now) (codes "dot") ≡ Some (codes "false") → result.form ≡ Form.Lines }
+    ensures drawn { one_text (found_of words.now) (codes "trace") ≡ Some (codes "false")
+        → one_text (found_of words.now) (codes "dot") ≡ Some (codes "true")
+        → result.form ≡ Form.Graph only }
+    ensures plain { one_text (found_of words.now) (codes "trace") ≡ Some (codes "false")
+        → one_text (found_of words.now) (codes "dot") ≡ Some (codes "false")
+        → result.form ≡ Form.Lines }
     ensures strict { one_text (found_of words.now) (codes "strict") ≡ Some (codes "true") → result.is_strict ≡ true }
     ensures lenient { one_text (found_of words.now) (codes "strict") ≡ Some (codes "false") → result.is_strict ≡ false }
 {

@@ -161,7 +161,8 @@ where
 }
 
 /// Plays or runs the scenario of a text. What a strict reader rejects ends it before; otherwise what the scenario lacks
-/// for the task is reported once that is done, and only if it ended well: a fault stays the only line on standard error.
+/// for the task is reported once that is done, and only if it ended well: a fault stays the only line on standard
+/// error.
 fn perform_text<R, W, F>(
     rt: &R,
     task: Task,
@@ -189,8 +190,8 @@ where
     }
 }
 
-/// Reports an unknown key of a scenario, or that it is for the other command. Returns the exit status if there is such a
-/// fault.
+/// Reports an unknown key of a scenario, or that it is for the other command. Returns the exit status if there is such
+/// a fault.
 fn reject<F: Write>(alloc: Global, text: &[u8], unfit: Option<Unfit>, faults: &mut F) -> Option<u8>
     ensures { IfSome result (λ status. status ≤ 2) }
 {

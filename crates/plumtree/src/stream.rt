@@ -119,8 +119,8 @@ where
     Ok(followed?)
 }
 
-/// Follows the records of the folders that the words name in little memory, and writes what they deliver, in the order of
-/// their run, and whether they are those of one run.
+/// Follows the records of the folders that the words name in little memory, and writes what they deliver, in the order
+/// of their run, and whether they are those of one run.
 pub fn write_stream<R, W, F>(
     rt: &R,
     words: &ArgMatches<'_>,

@@ -22,5 +22,6 @@ pub fires_on : (old : NodeState) (ids : List MsgId) (i : ℕ) (id : MsgId) (mid 
     → Runs old (map Fire (take (i + 1) ids)) new
 fires_on old ids i id mid new within at run step =
     subst (λ stimuli. Runs old stimuli new)
-    (sym (ap (λ (some : List MsgId). map fire some) (take_more ids i id within ∙ ap (λ x. take i ids ++ x ∷ []) (sym at)) ∙ map-append fire (take i ids) (id ∷ [])))
+    (sym
+    (ap (λ (some : List MsgId). map fire some) (take_more ids i id within ∙ ap (λ x. take i ids ++ x ∷ []) (sym at)) ∙ map-append fire (take i ids) (id ∷ [])))
     (runs_on old (map fire (take i ids)) mid (fire id) new run step)

@@ -21,11 +21,19 @@ use Rattle.plumtree_c.specs.contracts.held.Held as Held
 
 -- a box of a state machine
 abbrev pub N : Bx
-N = record { row = Node.the_row; laws = node.the_row_laws; al = record { row = Heap.the_row; laws = heap.the_row_laws; g = ghosts; d = dict; drops = impl [] tnil dnil } }
+N = record {
+  row = Node.the_row;
+  laws = node.the_row_laws;
+  al = record { row = Heap.the_row; laws = heap.the_row_laws; g = ghosts; d = dict; drops = impl [] tnil dnil };
+}
 
 -- a box of a node of bytes
 abbrev pub W : Bx
-W = record { row = Wire.the_row; laws = wire.the_row_laws; al = record { row = Heap.the_row; laws = heap.the_row_laws; g = ghosts; d = dict; drops = impl [] tnil dnil } }
+W = record {
+  row = Wire.the_row;
+  laws = wire.the_row_laws;
+  al = record { row = Heap.the_row; laws = heap.the_row_laws; g = ghosts; d = dict; drops = impl [] tnil dnil };
+}
 
 abbrev pub FromMachine : Slot 0
 FromMachine = plain (λ _. Parts.the_row Node.the_row Heap.the_row ghosts)

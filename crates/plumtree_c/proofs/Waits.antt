@@ -32,7 +32,11 @@ pub stays_refilled : (old : WireState) (node : NodeState) (taken : List Delivery
     → node ≡ record old.node { engine = record old.node.engine { machine = record old.node.engine.machine { pending = [] } } }
     → Stays old (record { node = node; deliveries = taken; lost = old.lost; news = old.news })
 stays_refilled old node taken none its is = record {
-  deliveries = ap (λ (n : NodeState). taken ++ n.engine.machine.pending) is ∙ append-nil taken ∙ its ∙ sym (ap (λ (ds : List Delivery). ds ++ old.node.engine.machine.pending) none);
+  deliveries =
+      ap (λ (n : NodeState). taken ++ n.engine.machine.pending) is
+      ∙ append-nil taken
+      ∙ its
+      ∙ sym (ap (λ (ds : List Delivery). ds ++ old.node.engine.machine.pending) none);
   lost = ap (λ (n : NodeState). old.lost ++ n.engine.lost) is;
   news = ap (λ (n : NodeState). old.news ++ n.engine.machine.news) is;
   beside = subst (λ (n : NodeState). IsSameBeside old.node n) (sym is) refl;
@@ -58,12 +62,18 @@ pub stays_informed : (old : WireState) (node : NodeState) (taken : List News)
 stays_informed old node taken none its is = record {
   deliveries = ap (λ (n : NodeState). old.deliveries ++ n.engine.machine.pending) is;
   lost = ap (λ (n : NodeState). old.lost ++ n.engine.lost) is;
-  news = ap (λ (n : NodeState). taken ++ n.engine.machine.news) is ∙ append-nil taken ∙ its ∙ sym (ap (λ (news : List News). news ++ old.node.engine.machine.news) none);
+  news =
+      ap (λ (n : NodeState). taken ++ n.engine.machine.news) is
+      ∙ append-nil taken
+      ∙ its
+      ∙ sym (ap (λ (news : List News). news ++ old.node.engine.machine.news) none);
   beside = subst (λ (n : NodeState). IsSameBeside old.node n) (sym is) refl;
 }
 
 -- More waits behind those of which the first was taken.
-pub gives_on : (old : List Delivery) (id : MsgId) (payload : List ℕ) (new more : List Delivery) → Gives old id payload new → Gives (old ++ more) id payload (new ++ more)
+pub gives_on : (old : List Delivery) (id : MsgId) (payload : List ℕ) (new more : List Delivery) →
+    Gives old id payload new →
+    Gives (old ++ more) id payload (new ++ more)
 gives_on old id payload new more gives = record {
   delivery = gives.delivery;
   first = ap (λ (ds : List Delivery). ds ++ more) gives.first;
@@ -86,7 +96,12 @@ brings_on old plain new more brings = record {
 }
 
 beside_on : (a b c : NodeState) → IsSameBeside a b → IsSameBeside b c → IsSameBeside a c
-beside_on a b c one two = two ∙ ap (λ (n : NodeState). record n { engine = record { machine = record n.engine.machine { pending = c.engine.machine.pending; news = c.engine.machine.news }; lost = c.engine.lost } }) one
+beside_on a b c one two =
+    two
+    ∙ ap (λ (n : NodeState). record n {
+      engine = record { machine = record n.engine.machine { pending = c.engine.machine.pending; news = c.engine.machine.news }; lost = c.engine.lost };
+    })
+    one
 
 -- What is taken after nothing has changed that the caller can see is the first that waited before.
 pub delivers_on : (a b c : WireState) (id : MsgId) (payload : List ℕ) → Stays a b → Delivers id payload b c → Delivers id payload a c

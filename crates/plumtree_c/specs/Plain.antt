@@ -28,7 +28,16 @@ id_of id = record { origin = origin_of (name_of id.name) id.incarnation; seq = i
 
 -- the limits
 abbrev pub limits_of : Sizes → Limits
-limits_of sizes = record { active = sizes.active; passive = sizes.passive; arwl = sizes.arwl; prwl = sizes.prwl; ka = sizes.ka; kp = sizes.kp; threshold = sizes.threshold; keep = sizes.keep }
+limits_of sizes = record {
+  active = sizes.active;
+  passive = sizes.passive;
+  arwl = sizes.arwl;
+  prwl = sizes.prwl;
+  ka = sizes.ka;
+  kp = sizes.kp;
+  threshold = sizes.threshold;
+  keep = sizes.keep;
+}
 
 -- the dice of these words
 abbrev pub dice_of : List ℕ → Dice

@@ -94,7 +94,9 @@ pub record Joins (contact : Name) (dice : Dice) (old new : NodeState) : Type 0 w
 
 -- The first `count` of the bytes that waited for the name went out, or all, if they were fewer. No others did.
 pub record Went (name : Name) (count : ℕ) (old new : NodeState) : Type 0 where
-  pub gone : (other : Name) → settled_for new.engine.machine.waiting other ≡ (if same_name other name then drop count (settled_for old.engine.machine.waiting other) else settled_for old.engine.machine.waiting other)
+  pub gone : (other : Name) →
+      settled_for new.engine.machine.waiting other
+      ≡ (if same_name other name then drop count (settled_for old.engine.machine.waiting other) else settled_for old.engine.machine.waiting other)
   pub rest : new ≡ record old { engine = record old.engine { machine = record old.engine.machine { waiting = new.engine.machine.waiting } } }
 
 -- The pieces are as long as these texts, which are the first of the bytes that wait for the name.
@@ -106,7 +108,9 @@ pub record Offers (name : Name) (pieces : List Piece) (wire : WireState) : Type 
 
 -- Of the node, only what waits for the caller may have changed.
 abbrev pub IsSameBeside : NodeState → NodeState → Type 0
-IsSameBeside old new = new ≡ record old { engine = record { machine = record old.engine.machine { pending = new.engine.machine.pending; news = new.engine.machine.news }; lost = new.engine.lost } }
+IsSameBeside old new = new ≡ record old {
+  engine = record { machine = record old.engine.machine { pending = new.engine.machine.pending; news = new.engine.machine.news }; lost = new.engine.lost };
+}
 
 -- Nothing that the caller can see has changed.
 pub record Stays (old new : WireState) : Type 0 where

@@ -24,7 +24,8 @@ pub extern "C" fn plumtree_broadcast(
     payload: &[u8],
     number: &mut u64,
 ) -> i32
-    ensures done { IsDone result → Both slot.old.held.value slot.new.held.value (λ old new. Broadcasts old payload.now number.new new) }
+    ensures done { IsDone result
+        → Both slot.old.held.value slot.new.held.value (λ old new. Broadcasts old payload.now number.new new) }
     ensures kept { (IsDone result → ⊥) → slot.new.held.value ≡ slot.old.held.value }
     ensures number { (IsDone result → ⊥) → number.new ≡ number.old }
 {
@@ -52,7 +53,9 @@ pub extern "C" fn plumtree_receive(
     dice: &[u64; 16],
     taken: &mut usize,
 ) -> i32
-    ensures done { IsDone result → Both slot.old.held.value slot.new.held.value (λ old new. Hears old bytes.now taken.new (dice_of dice.now) new) }
+    ensures done { IsDone result
+        → Both slot.old.held.value slot.new.held.value
+        (λ old new. Hears old bytes.now taken.new (dice_of dice.now) new) }
     ensures kept { (IsDone result → ⊥) → slot.new.held.value ≡ slot.old.held.value }
     ensures none_taken { (IsDone result → ⊥) → taken.new ≡ 0 }
 {
@@ -77,7 +80,8 @@ pub extern "C" fn plumtree_receive(
 /// Sends all queued announcements.
 #[unsafe(no_mangle)]
 pub extern "C" fn plumtree_flush(slot: &mut Slot, alloc: Global) -> i32
-    ensures done { IsDone result → Both slot.old.held.value slot.new.held.value (λ old new. Steps old stimulus.Flush new) }
+    ensures done { IsDone result
+        → Both slot.old.held.value slot.new.held.value (λ old new. Steps old stimulus.Flush new) }
     ensures kept { (IsDone result → ⊥) → slot.new.held.value ≡ slot.old.held.value }
 {
     let mut node = match slot.take::<Node>(alloc) {
@@ -95,7 +99,8 @@ pub extern "C" fn plumtree_flush(slot: &mut Slot, alloc: Global) -> i32
 /// Lets the timer of the id fire. 0: it is not armed.
 #[unsafe(no_mangle)]
 pub extern "C" fn plumtree_fire(slot: &mut Slot, alloc: Global, id: &Id) -> i32
-    ensures done { IsDone result → Both slot.old.held.value slot.new.held.value (λ old new. Steps old (stimulus.Fire (id_of id.now)) new) }
+    ensures done { IsDone result
+        → Both slot.old.held.value slot.new.held.value (λ old new. Steps old (stimulus.Fire (id_of id.now)) new) }
     ensures kept { (IsDone result → ⊥) → slot.new.held.value ≡ slot.old.held.value }
 {
     let id = match id.read() {
@@ -143,7 +148,9 @@ pub extern "C" fn plumtree_fire_at(slot: &mut Slot, alloc: Global, place: usize)
 /// Shuffles the passive view.
 #[unsafe(no_mangle)]
 pub extern "C" fn plumtree_shuffle(slot: &mut Slot, alloc: Global, dice: &[u64; 16]) -> i32
-    ensures done { IsDone result → Both slot.old.held.value slot.new.held.value (λ old new. Steps old (stimulus.Shuffle (dice_of dice.now)) new) }
+    ensures done { IsDone result
+        → Both slot.old.held.value slot.new.held.value
+        (λ old new. Steps old (stimulus.Shuffle (dice_of dice.now)) new) }
     ensures kept { (IsDone result → ⊥) → slot.new.held.value ≡ slot.old.held.value }
 {
     let mut node = match slot.take::<Node>(alloc) {
@@ -163,7 +170,8 @@ pub extern "C" fn plumtree_shuffle(slot: &mut Slot, alloc: Global, dice: &[u64; 
 /// If a step is refused, those before it are made, and the tick does not count: call again.
 #[unsafe(no_mangle)]
 pub extern "C" fn plumtree_tick(slot: &mut Slot, alloc: Global, dice: &[u64; 16]) -> i32
-    ensures { IsDone result → Both slot.old.held.value slot.new.held.value (λ old new. Ticks old (dice_of dice.now) new) }
+    ensures { IsDone result
+        → Both slot.old.held.value slot.new.held.value (λ old new. Ticks old (dice_of dice.now) new) }
 {
     let mut node = match slot.take::<Node>(alloc) {
         Ok(node) => node,
@@ -185,7 +193,9 @@ pub extern "C" fn plumtree_link_down(
     peer: &[u8],
     dice: &[u64; 16],
 ) -> i32
-    ensures done { IsDone result → Both slot.old.held.value slot.new.held.value (λ old new. Steps old (stimulus.Down peer.now (dice_of dice.now)) new) }
+    ensures done { IsDone result
+        → Both slot.old.held.value slot.new.held.value
+        (λ old new. Steps old (stimulus.Down peer.now (dice_of dice.now)) new) }
     ensures kept { (IsDone result → ⊥) → slot.new.held.value ≡ slot.old.held.value }
 {
     let peer = match NodeName::parse(peer) {
@@ -207,7 +217,8 @@ pub extern "C" fn plumtree_link_down(
 /// Has the node join by the contact, as at its start: JOIN goes there, unless the contact is the node itself or active.
 #[unsafe(no_mangle)]
 pub extern "C" fn plumtree_join(slot: &mut Slot, alloc: Global, contact: &[u8]) -> i32
-    ensures done { IsDone result → Both slot.old.held.value slot.new.held.value (λ old new. Steps old (stimulus.Join contact.now) new) }
+    ensures done { IsDone result
+        → Both slot.old.held.value slot.new.held.value (λ old new. Steps old (stimulus.Join contact.now) new) }
     ensures kept { (IsDone result → ⊥) → slot.new.held.value ≡ slot.old.held.value }
 {
     let contact = match NodeName::parse(contact) {

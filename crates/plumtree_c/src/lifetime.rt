@@ -57,7 +57,8 @@ fn boxed_node(
     peers: &[Name],
     contact: &[u8],
 ) -> Result<Box<Node>, Refusal>
-    ensures { IfOk result (λ node. Starts me (limits_of limits.now) (map name_of peers.now) (contact_of contact.now) node.value) }
+    ensures { IfOk result
+        (λ node. Starts me (limits_of limits.now) (map name_of peers.now) (contact_of contact.now) node.value) }
 {
     let limits = limits.read()?;
     let peers = read_names(alloc, peers)?;
@@ -78,7 +79,8 @@ fn start(
     peers: &[Name],
     contact: &[u8],
 ) -> Result<(), Refusal>
-    ensures ok { OnOk result (Has slot.new.held.value (Starts me (limits_of limits.now) (map name_of peers.now) (contact_of contact.now))) }
+    ensures ok { OnOk result
+        (Has slot.new.held.value (Starts me (limits_of limits.now) (map name_of peers.now) (contact_of contact.now))) }
     ensures free { OnOk result (slot.old.live ≡ 0) }
     ensures err { OnErr result (slot.new ≡ slot.old) }
 {
@@ -91,7 +93,8 @@ fn start(
 /// Starts a node in the slot, which was zeroed or whose node was freed: with this name and incarnation, these limits,
 /// the peers as its active view, and a contact, to whom it sends JOIN; a contact without bytes is none.
 ///
-/// Refused, in this order: -9 for its name, -2 and -3 for the slot, -10, -9 for a peer's name or the contact's, -11, -5.
+/// Refused, in this order: -9 for its name, -2 and -3 for the slot, -10, -9 for a peer's name or the contact's, -11,
+/// -5.
 #[unsafe(no_mangle)]
 pub extern "C" fn plumtree_start(
     slot: &mut Slot,
@@ -102,7 +105,9 @@ pub extern "C" fn plumtree_start(
     peers: &[Name],
     contact: &[u8],
 ) -> i32
-    ensures done { IsDone result → Has slot.new.held.value (Starts (origin_of name.now incarnation) (limits_of limits.now) (map name_of peers.now) (contact_of contact.now)) }
+    ensures done { IsDone result
+        → Has slot.new.held.value (Starts (origin_of name.now incarnation)
+        (limits_of limits.now) (map name_of peers.now) (contact_of contact.now)) }
     ensures free { IsDone result → slot.old.live ≡ 0 }
     ensures kept { (IsDone result → ⊥) → slot.new ≡ slot.old }
 {
@@ -129,7 +134,8 @@ fn boxed_wire(
     peers: &[Name],
     contact: &[u8],
 ) -> Result<Box<Wire>, Refusal>
-    ensures { IfOk result (λ wire. WireStarts me limits.core (map name_of peers.now) (contact_of contact.now) wire.value) }
+    ensures { IfOk result
+        (λ wire. WireStarts me limits.core (map name_of peers.now) (contact_of contact.now) wire.value) }
 {
     let peers = read_names(alloc, peers)?;
     let contact = read_contact(contact)?;
@@ -147,7 +153,8 @@ fn start_wire(
     peers: &[Name],
     contact: &[u8],
 ) -> Result<(), Refusal>
-    ensures ok { OnOk result (HasBytes slot.new.held.value (WireStarts me (limits_of limits.now) (map name_of peers.now) (contact_of contact.now))) }
+    ensures ok { OnOk result (HasBytes slot.new.held.value
+        (WireStarts me (limits_of limits.now) (map name_of peers.now) (contact_of contact.now))) }
     ensures free { OnOk result (slot.old.live ≡ 0) }
     ensures err { OnErr result (slot.new ≡ slot.old) }
 {
@@ -171,7 +178,9 @@ pub extern "C" fn plumtree_wire_start(
     peers: &[Name],
     contact: &[u8],
 ) -> i32
-    ensures done { IsDone result → HasBytes slot.new.held.value (WireStarts (origin_of name.now incarnation) (limits_of limits.now) (map name_of peers.now) (contact_of contact.now)) }
+    ensures done { IsDone result
+        → HasBytes slot.new.held.value (WireStarts (origin_of name.now incarnation)
+        (limits_of limits.now) (map name_of peers.now) (contact_of contact.now)) }
     ensures free { IsDone result → slot.old.live ≡ 0 }
     ensures kept { (IsDone result → ⊥) → slot.new ≡ slot.old }
 {

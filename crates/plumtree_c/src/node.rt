@@ -1,5 +1,6 @@
 //! A node: its core, and what it sends and delivers, until the caller takes that.
-ghost use Rattle.std.specs.Prelude.{◌≡◌, ◌≢◌, ◌+◌, ◌++◌, ◌%◌, List, [], ◌∷◌, length, map, slice_get, take, IfOk, IfSome, IfNone, IsTrue, OnOk, OnErr};
+ghost use Rattle.std.specs.Prelude.{◌≡◌, ◌≢◌, ◌+◌, ◌++◌, ◌%◌, List, [], ◌∷◌, length, map};
+ghost use Rattle.std.specs.Prelude.{slice_get, take, IfOk, IfSome, IfNone, IsTrue, OnOk, OnErr};
 ghost use Rattle.node_core.specs.Plum.{plum_state};
 ghost use Rattle.protocol.specs.Delivery.{Delivery};
 ghost use Rattle.protocol.specs.Peers.{are_peers};
@@ -114,7 +115,9 @@ impl Node {
     /// The number of the last delivery that waits.
     #[tactic(auto, using(crate::proofs::Lasts::last_of))]
     fn last_number(&self) -> u64
-        ensures { (before : List Delivery) (last : Delivery) → self.now.out.deliveries ≡ before ++ last ∷ [] → result ≡ last.id.seq }
+        ensures { (before : List Delivery) (last : Delivery)
+            → self.now.out.deliveries ≡ before ++ last ∷ []
+            → result ≡ last.id.seq }
     {
         match self.out.deliveries.as_slice()[self.given..].last() {
             Some(delivery) => delivery.id.seq,
@@ -231,7 +234,8 @@ impl Node {
 
     /// Counts a tick, and at every tenth one shuffles.
     fn end_tick(&mut self, dice: &Dice) -> Result<(), Refusal>
-        ensures shuffles { OnOk result (self.new.ticks % 10 ≡ 0 → Steps self.old (stimulus.Shuffle dice.now) (record self.new { ticks = self.old.ticks })) }
+        ensures shuffles { OnOk result (self.new.ticks % 10 ≡ 0
+            → Steps self.old (stimulus.Shuffle dice.now) (record self.new { ticks = self.old.ticks })) }
         ensures stays { OnOk result (self.new.ticks % 10 ≢ 0 → self.new ≡ record self.old { ticks = self.new.ticks }) }
     {
         let ticks = self.ticks().wrapping_add(1);
@@ -261,7 +265,8 @@ impl Node {
         room: &mut [u8],
         length: &mut usize,
     ) -> Result<Option<Name>, Refusal>
-        ensures some { IfOk result (λ to. IfSome to (λ to. Sent self.old (name_of to) (take length.new room.new) self.new)) }
+        ensures some { IfOk result
+            (λ to. IfSome to (λ to. Sent self.old (name_of to) (take length.new room.new) self.new)) }
         ensures none { IfOk result (λ to. IfNone to (self.new ≡ self.old)) }
         ensures err { OnErr result (self.new ≡ self.old) }
     {
@@ -286,7 +291,8 @@ impl Node {
         room: &mut [u8],
         length: &mut usize,
     ) -> Result<Option<Id>, Refusal>
-        ensures some { IfOk result (λ id. IfSome id (λ id. Given self.old (id_of id) (take length.new room.new) self.new)) }
+        ensures some { IfOk result
+            (λ id. IfSome id (λ id. Given self.old (id_of id) (take length.new room.new) self.new)) }
         ensures none { IfOk result (λ id. IfNone id (self.new ≡ self.old)) }
         ensures err { OnErr result (self.new ≡ self.old) }
     {

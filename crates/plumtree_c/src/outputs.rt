@@ -22,7 +22,9 @@ pub extern "C" fn plumtree_next_send(
     room: &mut [u8],
     length: &mut usize,
 ) -> i32
-    ensures done { IsDone result → Both slot.old.held.value slot.new.held.value (λ old new. Sent old (name_of to.new) (take length.new room.new) new) }
+    ensures done { IsDone result
+        → Both slot.old.held.value slot.new.held.value
+        (λ old new. Sent old (name_of to.new) (take length.new room.new) new) }
     ensures kept { (IsDone result → ⊥) → slot.new.held.value ≡ slot.old.held.value }
 {
     *length = 0;
@@ -55,7 +57,9 @@ pub extern "C" fn plumtree_next_delivery(
     room: &mut [u8],
     length: &mut usize,
 ) -> i32
-    ensures done { IsDone result → Both slot.old.held.value slot.new.held.value (λ old new. Given old (id_of id.new) (take length.new room.new) new) }
+    ensures done { IsDone result
+        → Both slot.old.held.value slot.new.held.value
+        (λ old new. Given old (id_of id.new) (take length.new room.new) new) }
     ensures kept { (IsDone result → ⊥) → slot.new.held.value ≡ slot.old.held.value }
 {
     *length = 0;

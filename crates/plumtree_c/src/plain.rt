@@ -27,8 +27,8 @@ pub struct Id {
 
 const _: () = prove!(size_of::<Id>() == 56);
 
-/// What changed in the active view of a node: numbers of `plumtree_news_kind` and `plumtree_parting` of plumtree.h. What
-/// the kind does not have is 0, and a name without bytes.
+/// What changed in the active view of a node: numbers of `plumtree_news_kind` and `plumtree_parting` of plumtree.h.
+/// What the kind does not have is 0, and a name without bytes.
 #[repr(C)]
 #[derive(Clone, Copy)]
 pub struct PlainNews {

@@ -35,7 +35,8 @@ fn active_of<T: Lodger>(
     length: &mut usize,
 ) -> i32
     ensures kept { slot.new.held.value ≡ slot.old.held.value }
-    ensures done { IsDone result → HasCore slot.old.held.value (λ core. map name_of (take length.new room.new) ≡ (plum_state core).active) }
+    ensures done { IsDone result
+        → HasCore slot.old.held.value (λ core. map name_of (take length.new room.new) ≡ (plum_state core).active) }
 {
     *length = 0;
     let node = match slot.take::<T>(alloc) {
@@ -62,7 +63,8 @@ pub extern "C" fn plumtree_active(
     length: &mut usize,
 ) -> i32
     ensures kept { slot.new.held.value ≡ slot.old.held.value }
-    ensures done { IsDone result → HasCore slot.old.held.value (λ core. map name_of (take length.new room.new) ≡ (plum_state core).active) }
+    ensures done { IsDone result
+        → HasCore slot.old.held.value (λ core. map name_of (take length.new room.new) ≡ (plum_state core).active) }
 {
     if slot.has_bytes() {
         return active_of::<Wire>(slot, alloc, room, length);
@@ -78,7 +80,8 @@ fn passive_of<T: Lodger>(
     length: &mut usize,
 ) -> i32
     ensures kept { slot.new.held.value ≡ slot.old.held.value }
-    ensures done { IsDone result → HasCore slot.old.held.value (λ core. map name_of (take length.new room.new) ≡ (plum_state core).passive) }
+    ensures done { IsDone result
+        → HasCore slot.old.held.value (λ core. map name_of (take length.new room.new) ≡ (plum_state core).passive) }
 {
     *length = 0;
     let node = match slot.take::<T>(alloc) {
@@ -104,7 +107,8 @@ pub extern "C" fn plumtree_passive(
     length: &mut usize,
 ) -> i32
     ensures kept { slot.new.held.value ≡ slot.old.held.value }
-    ensures done { IsDone result → HasCore slot.old.held.value (λ core. map name_of (take length.new room.new) ≡ (plum_state core).passive) }
+    ensures done { IsDone result
+        → HasCore slot.old.held.value (λ core. map name_of (take length.new room.new) ≡ (plum_state core).passive) }
 {
     if slot.has_bytes() {
         return passive_of::<Wire>(slot, alloc, room, length);
@@ -167,7 +171,8 @@ pub extern "C" fn plumtree_lazy(
 /// `plumtree_me`, where the slot has a node of this type.
 fn me_of<T: Lodger>(slot: &mut Slot, alloc: Global, name: &mut Name, incarnation: &mut u64) -> i32
     ensures kept { slot.new.held.value ≡ slot.old.held.value }
-    ensures done { IsDone result → HasCore slot.old.held.value (λ core. origin_of (name_of name.new) incarnation.new ≡ (plum_state core).me) }
+    ensures done { IsDone result
+        → HasCore slot.old.held.value (λ core. origin_of (name_of name.new) incarnation.new ≡ (plum_state core).me) }
 {
     let node = match slot.take::<T>(alloc) {
         Ok(node) => node,
@@ -189,7 +194,8 @@ pub extern "C" fn plumtree_me(
     incarnation: &mut u64,
 ) -> i32
     ensures kept { slot.new.held.value ≡ slot.old.held.value }
-    ensures done { IsDone result → HasCore slot.old.held.value (λ core. origin_of (name_of name.new) incarnation.new ≡ (plum_state core).me) }
+    ensures done { IsDone result
+        → HasCore slot.old.held.value (λ core. origin_of (name_of name.new) incarnation.new ≡ (plum_state core).me) }
 {
     if slot.has_bytes() {
         return me_of::<Wire>(slot, alloc, name, incarnation);
@@ -248,7 +254,8 @@ pub extern "C" fn plumtree_knows(slot: &mut Slot, alloc: Global, id: &Id) -> i32
 /// `plumtree_timer`, where the slot has a node of this type.
 fn timer_of<T: Lodger>(slot: &mut Slot, alloc: Global, place: usize, id: &mut Id) -> i32
     ensures kept { slot.new.held.value ≡ slot.old.held.value }
-    ensures done { IsDone result → HasCore slot.old.held.value (λ core. slice_get core.gossip.missing.timers place ≡ Some (id_of id.new)) }
+    ensures done { IsDone result
+        → HasCore slot.old.held.value (λ core. slice_get core.gossip.missing.timers place ≡ Some (id_of id.new)) }
 {
     let node = match slot.take::<T>(alloc) {
         Ok(node) => node,
@@ -269,7 +276,8 @@ fn timer_of<T: Lodger>(slot: &mut Slot, alloc: Global, place: usize, id: &mut Id
 #[unsafe(no_mangle)]
 pub extern "C" fn plumtree_timer(slot: &mut Slot, alloc: Global, place: usize, id: &mut Id) -> i32
     ensures kept { slot.new.held.value ≡ slot.old.held.value }
-    ensures done { IsDone result → HasCore slot.old.held.value (λ core. slice_get core.gossip.missing.timers place ≡ Some (id_of id.new)) }
+    ensures done { IsDone result
+        → HasCore slot.old.held.value (λ core. slice_get core.gossip.missing.timers place ≡ Some (id_of id.new)) }
 {
     if slot.has_bytes() {
         return timer_of::<Wire>(slot, alloc, place, id);

@@ -69,7 +69,8 @@ pub(crate) fn give(
     count: &mut usize,
 ) -> Result<Option<Id>, Refusal>
     requires { given.old + given.old ≤ length deliveries.old }
-    ensures some { IfOk result (λ id. IfSome id (λ id. Gives (drop given.old deliveries.old) (id_of id) (take count.new room.new) (drop given.new deliveries.new))) }
+    ensures some { IfOk result (λ id. IfSome id (λ id.
+        Gives (drop given.old deliveries.old) (id_of id) (take count.new room.new) (drop given.new deliveries.new))) }
     ensures none { IfOk result (λ id. IfNone id ((deliveries.new ≡ deliveries.old) × (given.new ≡ given.old))) }
     ensures err { OnErr result ((deliveries.new ≡ deliveries.old) × (given.new ≡ given.old)) }
     ensures few { given.new + given.new ≤ length deliveries.new }

@@ -1,7 +1,9 @@
 //! A node of bytes, with what it gave and its caller has not got yet.
 ghost use Rattle.std.specs.Prelude.{◌≡◌, ◌⊎◌, ◌++◌, [], length, map, take, IfErr, IfNone, IfOk, IfSome, OnErr, OnOk};
 ghost use Rattle.plumtree_c.specs.Plain.{id_of, name_of};
-ghost use Rattle.plumtree_c.specs.Wire.{bytes_for, Accepts, AreWireCounts, Delivers, Does, HasNoNews, HearsAll, HearsSome, Informs, Joins, Leaves, Loses, Offers, Sends, Stays, TellsNews, Went, WireStarts};
+ghost use Rattle.plumtree_c.specs.Wire.{bytes_for, Accepts, AreWireCounts, Delivers, Does};
+ghost use Rattle.plumtree_c.specs.Wire.{HasNoNews, HearsAll, HearsSome, Informs, Joins, Leaves};
+ghost use Rattle.plumtree_c.specs.Wire.{Loses, Offers, Sends, Stays, TellsNews, Went, WireStarts};
 ghost use Rattle.wire_node.specs.Node.{Closes, Ticks};
 ghost use Rattle.wire_node.specs.Waiting.{receivers_of};
 
@@ -58,7 +60,9 @@ impl Model for Wire {
     } };
 
     // At most half of each list went to the caller.
-    ghost invariant = { λ w. (w.given + w.given ≤ length w.deliveries) × (w.told + w.told ≤ length w.lost) × (w.heard + w.heard ≤ length w.news) };
+    ghost invariant = { λ w. (w.given + w.given ≤ length w.deliveries)
+        × (w.told + w.told ≤ length w.lost)
+        × (w.heard + w.heard ≤ length w.news) };
 }
 
 /// Ends the connection, unless the step of that is refused. Returns whether it has ended.
@@ -135,7 +139,8 @@ impl Wire {
     /// Takes all the bytes that came over the connection. Where that is refused, the connection ends.
     pub(crate) fn receive(&mut self, number: u64, bytes: &[u8], dice: &Dice) -> Result<(), Refusal>
         ensures ok { OnOk result (Does (HearsAll number bytes.now) self.old self.new) }
-        ensures err { OnErr result (Does (HearsSome number bytes.now dice.now) self.old self.new ⊎ (self.new ≡ self.old)) }
+        ensures err { OnErr result
+            (Does (HearsSome number bytes.now dice.now) self.old self.new ⊎ (self.new ≡ self.old)) }
     {
         receive_all(&mut self.node, number, bytes, dice)
     }
@@ -218,7 +223,8 @@ impl Wire {
 
     /// Takes the first delivery that waits and was taken from the node, as `next_delivery` does.
     fn give_first(&mut self, room: &mut [u8], length: &mut usize) -> Result<Option<Id>, Refusal>
-        ensures some { IfOk result (λ id. IfSome id (λ id. Delivers (id_of id) (take length.new room.new) self.old self.new)) }
+        ensures some { IfOk result
+            (λ id. IfSome id (λ id. Delivers (id_of id) (take length.new room.new) self.old self.new)) }
         ensures none { IfOk result (λ id. IfNone id (self.new ≡ self.old)) }
         ensures err { OnErr result (self.new ≡ self.old) }
     {
@@ -232,7 +238,8 @@ impl Wire {
         room: &mut [u8],
         length: &mut usize,
     ) -> Result<Option<Id>, Refusal>
-        ensures some { IfOk result (λ id. IfSome id (λ id. Delivers (id_of id) (take length.new room.new) self.old self.new)) }
+        ensures some { IfOk result
+            (λ id. IfSome id (λ id. Delivers (id_of id) (take length.new room.new) self.old self.new)) }
         ensures none { IfOk result (λ id. IfNone id (Stays self.old self.new)) }
         ensures err { OnErr result (Stays self.old self.new) }
     {

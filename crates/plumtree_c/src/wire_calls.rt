@@ -21,7 +21,8 @@ pub extern "C" fn plumtree_wire_broadcast(
     payload: &[u8],
     number: &mut u64,
 ) -> i32
-    ensures done { IsDone result → BothBytes slot.old.held.value slot.new.held.value (Does (Sends payload.now number.new)) }
+    ensures done { IsDone result
+        → BothBytes slot.old.held.value slot.new.held.value (Does (Sends payload.now number.new)) }
     ensures kept { (IsDone result → ⊥) → slot.new.held.value ≡ slot.old.held.value }
     ensures number { (IsDone result → ⊥) → number.new ≡ number.old }
 {
@@ -48,7 +49,8 @@ pub extern "C" fn plumtree_wire_unreachable(
     name: &[u8],
     dice: &[u64; 16],
 ) -> i32
-    ensures done { IsDone result → BothBytes slot.old.held.value slot.new.held.value (Does (Leaves name.now (dice_of dice.now))) }
+    ensures done { IsDone result
+        → BothBytes slot.old.held.value slot.new.held.value (Does (Leaves name.now (dice_of dice.now))) }
     ensures kept { (IsDone result → ⊥) → slot.new.held.value ≡ slot.old.held.value }
 {
     let name = match NodeName::parse(name) {
@@ -76,7 +78,8 @@ pub extern "C" fn plumtree_wire_join(
     contact: &[u8],
     dice: &[u64; 16],
 ) -> i32
-    ensures done { IsDone result → BothBytes slot.old.held.value slot.new.held.value (Does (Joins contact.now (dice_of dice.now))) }
+    ensures done { IsDone result
+        → BothBytes slot.old.held.value slot.new.held.value (Does (Joins contact.now (dice_of dice.now))) }
     ensures kept { (IsDone result → ⊥) → slot.new.held.value ≡ slot.old.held.value }
 {
     let contact = match NodeName::parse(contact) {
@@ -101,7 +104,8 @@ pub extern "C" fn plumtree_wire_join(
 /// If a step is refused, those before it are made, and the tick does not count: call again.
 #[unsafe(no_mangle)]
 pub extern "C" fn plumtree_wire_tick(slot: &mut Slot, alloc: Global, dice: &[u64; 16]) -> i32
-    ensures { IsDone result → BothBytes slot.old.held.value slot.new.held.value (Does (λ old new. Ticks old (dice_of dice.now) new)) }
+    ensures { IsDone result
+        → BothBytes slot.old.held.value slot.new.held.value (Does (λ old new. Ticks old (dice_of dice.now) new)) }
 {
     let mut wire = match slot.take::<Wire>(alloc) {
         Ok(wire) => wire,

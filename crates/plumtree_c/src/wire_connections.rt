@@ -36,8 +36,8 @@ pub extern "C" fn plumtree_wire_accept(slot: &mut Slot, alloc: Global, number: &
 
 /// Takes all the bytes that came over a connection: each whole frame makes a step, and what is no whole frame is kept.
 ///
-/// Where that is refused, the connection has ended, as `plumtree_wire_ended` ends it, unless the step of that was refused
-/// too. -19: there is no such connection, and nothing has changed.
+/// Where that is refused, the connection has ended, as `plumtree_wire_ended` ends it, unless the step of that was
+/// refused too. -19: there is no such connection, and nothing has changed.
 #[unsafe(no_mangle)]
 pub extern "C" fn plumtree_wire_receive(
     slot: &mut Slot,
@@ -46,8 +46,11 @@ pub extern "C" fn plumtree_wire_receive(
     bytes: &[u8],
     dice: &[u64; 16],
 ) -> i32
-    ensures done { IsDone result → BothBytes slot.old.held.value slot.new.held.value (Does (HearsAll number bytes.now)) }
-    ensures over { (IsDone result → ⊥) → BothBytes slot.old.held.value slot.new.held.value (Does (HearsSome number bytes.now (dice_of dice.now))) ⊎ (slot.new.held.value ≡ slot.old.held.value) }
+    ensures done { IsDone result
+        → BothBytes slot.old.held.value slot.new.held.value (Does (HearsAll number bytes.now)) }
+    ensures over { (IsDone result → ⊥)
+        → BothBytes slot.old.held.value slot.new.held.value (Does (HearsSome number bytes.now (dice_of dice.now)))
+        ⊎ (slot.new.held.value ≡ slot.old.held.value) }
 {
     let mut wire = match slot.take::<Wire>(alloc) {
         Ok(wire) => wire,
@@ -61,8 +64,8 @@ pub extern "C" fn plumtree_wire_receive(
     }
 }
 
-/// Ends a connection, with what came over it and is no whole frame. Its peer goes down, unless it is down already or has
-/// another connection. -19: there is no such connection.
+/// Ends a connection, with what came over it and is no whole frame. Its peer goes down, unless it is down already or
+/// has another connection. -19: there is no such connection.
 #[unsafe(no_mangle)]
 pub extern "C" fn plumtree_wire_ended(
     slot: &mut Slot,
@@ -70,7 +73,9 @@ pub extern "C" fn plumtree_wire_ended(
     number: u64,
     dice: &[u64; 16],
 ) -> i32
-    ensures done { IsDone result → BothBytes slot.old.held.value slot.new.held.value (Does (λ old new. Closes old number (dice_of dice.now) new)) }
+    ensures done { IsDone result
+        → BothBytes slot.old.held.value slot.new.held.value
+        (Does (λ old new. Closes old number (dice_of dice.now) new)) }
     ensures kept { (IsDone result → ⊥) → slot.new.held.value ≡ slot.old.held.value }
 {
     let mut wire = match slot.take::<Wire>(alloc) {

@@ -25,7 +25,9 @@ pub extern "C" fn plumtree_wire_receivers(
     length: &mut usize,
 ) -> i32
     ensures kept { slot.new.held.value ≡ slot.old.held.value }
-    ensures done { IsDone result → HasBytes slot.old.held.value (λ wire. map name_of (take length.new room.new) ≡ receivers_of wire.node.engine.machine.waiting) }
+    ensures done { IsDone result
+        → HasBytes slot.old.held.value
+        (λ wire. map name_of (take length.new room.new) ≡ receivers_of wire.node.engine.machine.waiting) }
 {
     *length = 0;
     let wire = match slot.take::<Wire>(alloc) {
@@ -48,8 +50,8 @@ pub extern "C" fn plumtree_wire_receivers(
 
 /// Counts the bytes that wait for the name.
 ///
-/// `count` is their number, and is unchanged where this is not answered with 1. Who broadcasts only while little waits for
-/// the fullest name is held up by a slow peer, where its link would fail at the limit.
+/// `count` is their number, and is unchanged where this is not answered with 1. Who broadcasts only while little waits
+/// for the fullest name is held up by a slow peer, where its link would fail at the limit.
 #[unsafe(no_mangle)]
 pub extern "C" fn plumtree_wire_waiting(
     slot: &mut Slot,
@@ -73,8 +75,8 @@ pub extern "C" fn plumtree_wire_waiting(
     DONE
 }
 
-/// Lends the first of the bytes that wait for the name, in four pieces, some of which may be empty: they stay where they
-/// are until the next call that changes the node. 0: none wait. What of them went out is told by
+/// Lends the first of the bytes that wait for the name, in four pieces, some of which may be empty: they stay where
+/// they are until the next call that changes the node. 0: none wait. What of them went out is told by
 /// `plumtree_wire_transmitted`.
 #[unsafe(no_mangle)]
 pub extern "C" fn plumtree_wire_transmit(
@@ -138,8 +140,10 @@ pub extern "C" fn plumtree_wire_next_delivery(
     room: &mut [u8],
     length: &mut usize,
 ) -> i32
-    ensures done { IsDone result → BothBytes slot.old.held.value slot.new.held.value (Delivers (id_of id.new) (take length.new room.new)) }
-    ensures stays { (IsDone result → ⊥) → BothBytes slot.old.held.value slot.new.held.value Stays ⊎ (slot.new.held.value ≡ slot.old.held.value) }
+    ensures done { IsDone result
+        → BothBytes slot.old.held.value slot.new.held.value (Delivers (id_of id.new) (take length.new room.new)) }
+    ensures stays { (IsDone result → ⊥)
+        → BothBytes slot.old.held.value slot.new.held.value Stays ⊎ (slot.new.held.value ≡ slot.old.held.value) }
 {
     *length = 0;
     let mut wire = match slot.take::<Wire>(alloc) {
@@ -166,7 +170,8 @@ pub extern "C" fn plumtree_wire_next_delivery(
 #[unsafe(no_mangle)]
 pub extern "C" fn plumtree_wire_next_lost(slot: &mut Slot, alloc: Global, name: &mut Name) -> i32
     ensures done { IsDone result → BothBytes slot.old.held.value slot.new.held.value (Loses (name_of name.new)) }
-    ensures stays { (IsDone result → ⊥) → BothBytes slot.old.held.value slot.new.held.value Stays ⊎ (slot.new.held.value ≡ slot.old.held.value) }
+    ensures stays { (IsDone result → ⊥)
+        → BothBytes slot.old.held.value slot.new.held.value Stays ⊎ (slot.new.held.value ≡ slot.old.held.value) }
 {
     let mut wire = match slot.take::<Wire>(alloc) {
         Ok(wire) => wire,

@@ -98,7 +98,8 @@ impl<'a> Failures<'a> {
         }
     }
 
-    /// Counts a call that had too few descriptors. Returns whether there were fewer than `MAX_FAILURES` of these in a row.
+    /// Counts a call that had too few descriptors. Returns whether there were fewer than `MAX_FAILURES` of these in a
+    /// row.
     fn count(&mut self) -> bool {
         if self.count == 0 {
             self.shortages.waiting.fetch_add(1, Ordering::SeqCst);

@@ -11,7 +11,11 @@ use Rattle.protocol.specs.Segments.{Abut, BeginBefore, Ends, Segment, joined}
 use Rattle.protocol.specs.Trace.{Step}
 
 behind : {N : Type 0} (t : ℕ) (x : Segment N) (xs : List (Segment N)) (k : ℕ) → BeginBefore t (x ∷ xs) (suc k) → BeginBefore t xs k
-behind t x xs k c = record { bound = omega (arith, c.bound); before = λ i d l. c.before (suc i) d (omega arith); behind = λ i d l m. c.behind (suc i) d (omega arith) (omega arith) }
+behind t x xs k c = record {
+  bound = omega (arith, c.bound);
+  before = λ i d l. c.before (suc i) d (omega arith);
+  behind = λ i d l m. c.behind (suc i) d (omega arith) (omega arith);
+}
 
 -- ---- the places of segments rise
 
@@ -27,8 +31,12 @@ rises f (x ∷ xs) abut (suc i) zero d le l = absurd (omega arith)
 rises f (x ∷ xs) abut (suc i) (suc j) d le l = rises (f + length x.steps) xs abut.1 i j d (omega arith) (omega arith)
 
 -- what a test whether a segment begins before a place parts
-pub cut_below : {N : Type 0} (xs : List (Segment N)) (t k : ℕ) → k ≤ length xs → IsPartitionPoint (λ s. ltb s.first t ≡ true) (λ s. ltb s.first t ≡ false) xs k → BeginBefore t xs k
-cut_below xs t k bound parted = record { bound = bound; before = λ i d l. ltb-true _ _ (parted.0 i d (omega arith) l); behind = λ i d l m. ltb-false _ _ (parted.1 i d l m) }
+pub cut_below : {N : Type 0} (xs : List (Segment N)) (t k : ℕ) →
+    k ≤ length xs →
+    IsPartitionPoint (λ s. ltb s.first t ≡ true) (λ s. ltb s.first t ≡ false) xs k →
+    BeginBefore t xs k
+cut_below xs t k bound parted =
+    record { bound = bound; before = λ i d l. ltb-true _ _ (parted.0 i d (omega arith) l); behind = λ i d l m. ltb-false _ _ (parted.1 i d l m) }
 
 -- ---- lists
 
@@ -44,11 +52,15 @@ get_right (x ∷ a) b i = let e : suc (length a) + i ≡ suc (length a + i) = om
 -- ---- the segment that a place lies in
 
 -- the first steps of a segment, and what comes after it, where no more segments begin before the place
-within : {N : Type 0} (f : ℕ) (x : Segment N) (xs : List (Segment N)) (t : ℕ) → Abut f (x ∷ xs) → BeginBefore t (x ∷ xs) 1 → (xs ≡ []) ⊎ (t ≤ f + length x.steps)
+within : {N : Type 0} (f : ℕ) (x : Segment N) (xs : List (Segment N)) (t : ℕ) →
+    Abut f (x ∷ xs) →
+    BeginBefore t (x ∷ xs) 1 →
+    (xs ≡ []) ⊎ (t ≤ f + length x.steps)
 within f x [] t abut cut = inl refl
 within f x (y ∷ ys) t abut cut = inr (omega (arith, cut.behind 1 y, abut.1.0))
 
-pub some_before : {N : Type 0} (f : ℕ) (xs : List (Segment N)) (place k : ℕ) → Abut f xs → f ≤ place → place < f + length (joined xs) → BeginBefore (place + 1) xs k → 1 ≤ k
+pub some_before :
+    {N : Type 0} (f : ℕ) (xs : List (Segment N)) (place k : ℕ) → Abut f xs → f ≤ place → place < f + length (joined xs) → BeginBefore (place + 1) xs k → 1 ≤ k
 some_before f [] place k abut le lt cut = absurd (omega arith)
 some_before f (x ∷ xs) place zero abut le lt cut = absurd (omega (arith, cut.behind 0 x, abut.0))
 some_before f (x ∷ xs) place (suc k) abut le lt cut = omega arith
@@ -58,9 +70,17 @@ pub record Found {N : Type 0} (f : ℕ) (xs : List (Segment N)) (place : ℕ) (p
   pub step : slice_get (joined xs) (place - f) ≡ slice_get part.steps (place - part.first)
 
 -- the place lies in the last of the segments that begin at it or before
-pub found : {N : Type 0} (f : ℕ) (xs : List (Segment N)) (place k : ℕ) (d : Segment N) → Abut f xs → f ≤ place → place < f + length (joined xs) → BeginBefore (place + 1) xs (suc k) → Found f xs place (get_or xs k d)
+pub found : {N : Type 0} (f : ℕ) (xs : List (Segment N)) (place k : ℕ) (d : Segment N) →
+    Abut f xs →
+    f ≤ place →
+    place < f + length (joined xs) →
+    BeginBefore (place + 1) xs (suc k) →
+    Found f xs place (get_or xs k d)
 found f [] place k d abut le lt cut = absurd (omega (arith, cut.bound))
-found {N} f (x ∷ xs) place zero d abut le lt cut = record { begun = omega (arith, abut.0); step = get_left x.steps (joined xs) (place - f) (inside (within f x xs (place + 1) abut cut)) ∙ ap (λ n. slice_get x.steps (place - n)) (sym abut.0) }
+found {N} f (x ∷ xs) place zero d abut le lt cut = record {
+  begun = omega (arith, abut.0);
+  step = get_left x.steps (joined xs) (place - f) (inside (within f x xs (place + 1) abut cut)) ∙ ap (λ n. slice_get x.steps (place - n)) (sym abut.0);
+}
   where
     inside : (xs ≡ []) ⊎ (place + 1 ≤ f + length x.steps) → place - f < length x.steps
     inside (inl none) = let l : place < f + length (x.steps ++ joined xs) = lt in
@@ -72,20 +92,31 @@ found f (x ∷ []) place (suc k) d abut le lt cut = absurd (omega (arith, cut.bo
 found f (x ∷ y ∷ ys) place (suc k) d abut le lt cut =
     let past : f + length x.steps ≤ place = omega (arith, cut.before 1 y (omega arith), abut.1.0) in
     let at : place - f ≡ length x.steps + (place - (f + length x.steps)) = omega (arith, past) in
-    let rest = found (f + length x.steps) (y ∷ ys) place k d abut.1 past (omega (arith, lt, length-append x.steps (joined (y ∷ ys)))) (behind (place + 1) x (y ∷ ys) (suc k) cut) in
-    record { begun = rest.begun; step = ap (slice_get (x.steps ++ joined (y ∷ ys))) at ∙ get_right x.steps (joined (y ∷ ys)) (place - (f + length x.steps)) ∙ rest.step }
+    let rest =
+    found (f + length x.steps) (y ∷ ys) place k d abut.1 past
+    (omega (arith, lt, length-append x.steps (joined (y ∷ ys)))) (behind (place + 1) x (y ∷ ys) (suc k) cut) in
+    record {
+      begun = rest.begun;
+      step = ap (slice_get (x.steps ++ joined (y ∷ ys))) at ∙ get_right x.steps (joined (y ∷ ys)) (place - (f + length x.steps)) ∙ rest.step;
+    }
 
 pub record FoundIn {N : Type 0} (xs : List (Segment N)) (place : ℕ) (part : Segment N) : Type 0 where
   pub begun : part.first ≤ place
   pub step : slice_get (joined xs) place ≡ slice_get part.steps (place - part.first)
 
 -- among all segments of a trace
-pub found_in : {N : Type 0} (xs : List (Segment N)) (place k : ℕ) (part : Segment N) → Abut 0 xs → place < length (joined xs) → BeginBefore (place + 1) xs k → part ≡ get_or xs (k - 1) part → FoundIn xs place part
+pub found_in : {N : Type 0} (xs : List (Segment N)) (place k : ℕ) (part : Segment N) →
+    Abut 0 xs →
+    place < length (joined xs) →
+    BeginBefore (place + 1) xs k →
+    part ≡ get_or xs (k - 1) part →
+    FoundIn xs place part
 found_in xs place k part abut lt cut is =
     let some = some_before 0 xs place k abut (omega arith) (omega (arith, lt)) cut in
     let e : k ≡ suc (k - 1) = omega (arith, some) in
     let at : place - 0 ≡ place = omega arith in
-    let f : Found 0 xs place part = subst (Found 0 xs place) (sym is) (found 0 xs place (k - 1) part abut (omega arith) (omega (arith, lt)) (subst (BeginBefore (place + 1) xs) e cut)) in
+    let f : Found 0 xs place part =
+    subst (Found 0 xs place) (sym is) (found 0 xs place (k - 1) part abut (omega arith) (omega (arith, lt)) (subst (BeginBefore (place + 1) xs) e cut)) in
     record { begun = f.begun; step = sym (ap (slice_get (joined xs)) at) ∙ f.step }
 
 -- ---- what a cut leaves
@@ -102,19 +133,31 @@ pub nothing_left : {N : Type 0} (f : ℕ) (xs : List (Segment N)) (t : ℕ) → 
 nothing_left f [] t abut cut = sym (take-nil (t - f))
 nothing_left f (x ∷ xs) t abut cut = let e : t - f ≡ 0 = omega (arith, cut.behind 0 x, abut.0) in rw e refl
 
-pub left : {N : Type 0} (f : ℕ) (xs : List (Segment N)) (t k : ℕ) (d : Segment N) → Abut f xs → f ≤ t → BeginBefore t xs (suc k) → Left f xs (set (take (suc k) xs) k (shortened t (get_or xs k d))) t
+pub left : {N : Type 0} (f : ℕ) (xs : List (Segment N)) (t k : ℕ) (d : Segment N) →
+    Abut f xs →
+    f ≤ t →
+    BeginBefore t xs (suc k) →
+    Left f xs (set (take (suc k) xs) k (shortened t (get_or xs k d))) t
 left f [] t k d abut le cut = absurd (omega (arith, cut.bound))
-left {N} f (x ∷ xs) t zero d abut le cut = record { abut = (abut.0, tt); steps = append-nil (take (t - x.first) x.steps) ∙ ap (λ n. take (t - n) x.steps) abut.0 ∙ only (within f x xs t abut cut) }
+left {N} f (x ∷ xs) t zero d abut le cut =
+    record { abut = (abut.0, tt); steps = append-nil (take (t - x.first) x.steps) ∙ ap (λ n. take (t - n) x.steps) abut.0 ∙ only (within f x xs t abut cut) }
   where
     only : (xs ≡ []) ⊎ (t ≤ f + length x.steps) → take (t - f) x.steps ≡ take (t - f) (x.steps ++ joined xs)
-    only (inl none) = subst (λ (ys : List (Segment N)). take (t - f) x.steps ≡ take (t - f) (x.steps ++ joined ys)) (sym none) (ap (take (t - f)) (sym (append-nil x.steps)))
+    only (inl none) =
+        subst (λ (ys : List (Segment N)). take (t - f) x.steps ≡ take (t - f) (x.steps ++ joined ys)) (sym none) (ap (take (t - f)) (sym (append-nil x.steps)))
     only (inr l) = sym (take-append-le (t - f) x.steps (joined xs) (omega arith))
 left f (x ∷ []) t (suc k) d abut le cut = absurd (omega (arith, cut.bound))
 left f (x ∷ y ∷ ys) t (suc k) d abut le cut =
     let past : f + length x.steps ≤ t = omega (arith, cut.before 1 y (omega arith), abut.1.0) in
     let at : t - f ≡ length x.steps + (t - (f + length x.steps)) = omega (arith, past) in
     let rest = left (f + length x.steps) (y ∷ ys) t k d abut.1 past (behind t x (y ∷ ys) (suc k) cut) in
-    record { abut = (abut.0, rest.abut); steps = ap (λ zs. x.steps ++ zs) rest.steps ∙ sym (take-append-add x.steps (joined (y ∷ ys)) (t - (f + length x.steps))) ∙ ap (λ n. take n (x.steps ++ joined (y ∷ ys))) (sym at) }
+    record {
+      abut = (abut.0, rest.abut);
+      steps =
+          ap (λ zs. x.steps ++ zs) rest.steps
+          ∙ sym (take-append-add x.steps (joined (y ∷ ys)) (t - (f + length x.steps)))
+          ∙ ap (λ n. take n (x.steps ++ joined (y ∷ ys))) (sym at);
+    }
 
 pub record LeftOf {N : Type 0} (xs left : List (Segment N)) (place : ℕ) : Type 0 where
   pub abut : Abut 0 left
@@ -128,32 +171,52 @@ none_left xs [] place k abut cut is none =
 none_left xs (y ∷ ys) place k abut cut is none = absurd (omega arith)
 
 -- the last of those that begin before the place, and where it begins
-pub left_of : {N : Type 0} (xs ys : List (Segment N)) (place k n : ℕ) (last : Segment N) → Abut 0 xs → BeginBefore place xs k → ys ≡ take k xs → n ≡ length ys → 0 < n → last ≡ get_or ys (n - 1) last →
+pub left_of : {N : Type 0} (xs ys : List (Segment N)) (place k n : ℕ) (last : Segment N) →
+    Abut 0 xs →
+    BeginBefore place xs k →
+    ys ≡ take k xs →
+    n ≡ length ys →
+    0 < n →
+    last ≡ get_or ys (n - 1) last →
     (last.first ≤ place) × LeftOf xs (set ys (n - 1) (shortened place last)) place
 left_of {N} xs ys place k n last abut cut is count any got =
     let all : n ≡ k = count ∙ ap length is ∙ length-take-le k xs cut.bound in
     let some : k - 1 < k = omega (arith, all, any) in
     let e : k ≡ suc (k - 1) = omega (arith, some) in
-    let its : last ≡ get_or xs (k - 1) last = got ∙ ap (λ m. get_or ys (m - 1) last) all ∙ ap (λ zs. get_or zs (k - 1) last) is ∙ get_or-take k xs (k - 1) last some in
-    let l : Left 0 xs (set (take (suc (k - 1)) xs) (k - 1) (shortened place (get_or xs (k - 1) last))) place = left 0 xs place (k - 1) last abut (omega arith) (subst (BeginBefore place xs) e cut) in
+    let its : last ≡ get_or xs (k - 1) last =
+    got ∙ ap (λ m. get_or ys (m - 1) last) all ∙ ap (λ zs. get_or zs (k - 1) last) is ∙ get_or-take k xs (k - 1) last some in
+    let l : Left 0 xs (set (take (suc (k - 1)) xs) (k - 1) (shortened place (get_or xs (k - 1) last))) place =
+    left 0 xs place (k - 1) last abut (omega arith) (subst (BeginBefore place xs) e cut) in
     let same : set ys (n - 1) (shortened place last) ≡ set (take (suc (k - 1)) xs) (k - 1) (shortened place (get_or xs (k - 1) last)) =
-    ap (λ m. set ys (m - 1) (shortened place last)) all ∙ ap (λ zs. set zs (k - 1) (shortened place last)) (is ∙ ap (λ m. take m xs) e) ∙ ap (λ (s : Segment N). set (take (suc (k - 1)) xs) (k - 1) (shortened place s)) its in
+    ap (λ m. set ys (m - 1) (shortened place last)) all
+    ∙ ap (λ zs. set zs (k - 1) (shortened place last)) (is ∙ ap (λ m. take m xs) e)
+    ∙ ap (λ (s : Segment N). set (take (suc (k - 1)) xs) (k - 1) (shortened place s)) its in
     let at : place - 0 ≡ place = omega arith in
     let begins : last.first < place = subst (λ (s : Segment N). s.first < place) (sym its) (cut.before (k - 1) last some) in
     (omega (arith, begins), record { abut = subst (Abut 0) (sym same) l.abut; steps = ap joined same ∙ l.steps ∙ ap (λ m. take m (joined xs)) at })
 
 -- ---- the end of the last segment
 
-pub end_of : {N : Type 0} (f : ℕ) (xs : List (Segment N)) (last : Segment N) (k : ℕ) → Abut f xs → length xs ≡ suc k → slice_get xs k ≡ Some last → last.first + length last.steps ≡ f + length (joined xs)
+pub end_of : {N : Type 0} (f : ℕ) (xs : List (Segment N)) (last : Segment N) (k : ℕ) →
+    Abut f xs →
+    length xs ≡ suc k →
+    slice_get xs k ≡ Some last →
+    last.first + length last.steps ≡ f + length (joined xs)
 end_of f [] last k abut l is = absurd (omega arith)
-end_of f (x ∷ []) last zero abut l is = let e : x ≡ last = cc is in omega (arith, ap (λ (s : Segment _). s.first + length s.steps) e, abut.0, ap length (append-nil x.steps))
+end_of f (x ∷ []) last zero abut l is =
+    let e : x ≡ last = cc is in omega (arith, ap (λ (s : Segment _). s.first + length s.steps) e, abut.0, ap length (append-nil x.steps))
 end_of f (x ∷ []) last (suc k) abut l is = absurd (omega arith)
 end_of f (x ∷ y ∷ ys) last zero abut l is = absurd (omega arith)
-end_of f (x ∷ y ∷ ys) last (suc k) abut l is = omega (arith, end_of (f + length x.steps) (y ∷ ys) last k abut.1 (omega arith) is, length-append x.steps (joined (y ∷ ys)))
+end_of f (x ∷ y ∷ ys) last (suc k) abut l is =
+    omega (arith, end_of (f + length x.steps) (y ∷ ys) last k abut.1 (omega arith) is, length-append x.steps (joined (y ∷ ys)))
 
-pub ends_at : {N : Type 0} (xs : List (Segment N)) (last : Segment N) → Abut 0 xs → slice_get xs (length xs - 1) ≡ Some last → last.first + length last.steps ≡ length (joined xs)
+pub ends_at : {N : Type 0} (xs : List (Segment N)) (last : Segment N) →
+    Abut 0 xs →
+    slice_get xs (length xs - 1) ≡ Some last →
+    last.first + length last.steps ≡ length (joined xs)
 ends_at [] last abut is = absurd (cc is)
-ends_at (x ∷ xs) last abut is = let e : suc (length xs) - 1 ≡ length xs = omega arith in end_of 0 (x ∷ xs) last (length xs) abut refl (sym (ap (slice_get (x ∷ xs)) e) ∙ is) ∙ omega arith
+ends_at (x ∷ xs) last abut is =
+    let e : suc (length xs) - 1 ≡ length xs = omega arith in end_of 0 (x ∷ xs) last (length xs) abut refl (sym (ap (slice_get (x ∷ xs)) e) ∙ is) ∙ omega arith
 
 -- one more segment, which begins where they end
 pub abut_more : {N : Type 0} (f : ℕ) (xs : List (Segment N)) (x : Segment N) → Abut f xs → x.first ≡ f + length (joined xs) → Abut f (xs ++ x ∷ [])
@@ -167,11 +230,16 @@ joined_more [] x = append-nil x.steps
 joined_more (y ∷ ys) x = ap (λ zs. y.steps ++ zs) (joined_more ys x) ∙ sym (append_assoc y.steps (joined ys) x.steps)
 
 -- the new segment has all steps from its place on
-pub ends : {N : Type 0} (xs : List (Segment N)) (x : Segment N) (tail all : List (Step N)) → x ≡ record { first = length (joined xs); steps = tail } → joined xs ++ tail ≡ all → Ends all x
+pub ends : {N : Type 0} (xs : List (Segment N)) (x : Segment N) (tail all : List (Step N)) →
+    x ≡ record { first = length (joined xs); steps = tail } →
+    joined xs ++ tail ≡ all →
+    Ends all x
 ends {N} xs x tail all its is =
     let first : x.first ≡ length (joined xs) = ap (λ (s : Segment N). s.first) its in
-    let steps : x.steps ≡ tail = ap (λ (s : Segment N). s.steps) its in
-    (omega (arith, first, length-append (joined xs) tail, ap length is), steps ∙ sym (drop-append_seam (joined xs) tail) ∙ ap (drop (length (joined xs))) is ∙ ap (λ n. drop n all) (sym first))
+    let steps : x.steps ≡ tail = ap (λ (s : Segment N). s.steps) its in (
+      omega (arith, first, length-append (joined xs) tail, ap length is),
+      steps ∙ sym (drop-append_seam (joined xs) tail) ∙ ap (drop (length (joined xs))) is ∙ ap (λ n. drop n all) (sym first),
+    )
 
 -- ---- the first steps of two lists
 

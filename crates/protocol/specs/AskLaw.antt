@@ -52,7 +52,8 @@ pub record FiresNothing {N : Type 0} (before : CoreState) (id : MsgId) (sends : 
 
 -- A firing does one of the three, and nothing but a firing asks.
 abbrev pub Fires : {N : Type 0} → (N → Content) → CoreState → Stimulus N → List (Name × N) → CoreState → Type 0
-Fires content before (Fire id) sends after = FiresNothing before id sends after ⊎ DropsTimer before id sends after ⊎ (IsOneOf id before.timers × AsksFirst content before id sends after)
+Fires content before (Fire id) sends after =
+    FiresNothing before id sends after ⊎ DropsTimer before id sends after ⊎ (IsOneOf id before.timers × AsksFirst content before id sends after)
 Fires content before (Broadcast payload) sends after = AsksNothing content sends
 Fires content before (Arrive sender note dice) sends after = AsksNothing content sends
 Fires content before Flush sends after = AsksNothing content sends
@@ -76,7 +77,10 @@ AsksFor {N} content stimulus sends id name = IsFiringOf id stimulus × ((note : 
 
 -- An entry leaves only when its message is delivered, when its peer is asked, or when its peer is active no longer. A
 -- timer goes only when its message is delivered or when it fires without an entry.
-pub record AskLaw {N : Type 0} (content : N → Content) (before : CoreState) (stimulus : Stimulus N) (sends : List (Name × N)) (given : List Delivery) (after : CoreState) : Type 0 where
+pub record AskLaw {N : Type 0} (content : N → Content) (before : CoreState)
+    (stimulus : Stimulus N) (sends : List (Name × N)) (given : List Delivery) (after : CoreState) : Type 0 where
   pub fires : Fires content before stimulus sends after
-  pub entry_stays : Each (λ entry. IsOneOf entry after.wants ⊎ IsOneOf entry.0 (ids given) ⊎ AsksFor content stimulus sends entry.0 entry.1 ⊎ (has_name after.active entry.1 ≡ false)) before.wants
+  pub entry_stays : Each (λ entry.
+      IsOneOf entry after.wants ⊎ IsOneOf entry.0 (ids given) ⊎ AsksFor content stimulus sends entry.0 entry.1 ⊎ (has_name after.active entry.1 ≡ false))
+      before.wants
   pub timer_stays : Each (λ id. IsOneOf id after.timers ⊎ IsOneOf id (ids given) ⊎ (IsFiringOf id stimulus × HasNoEntry id before.wants)) before.timers

@@ -46,7 +46,8 @@ count_after count (Join contact) = count
 
 -- The deliveries are those that the stimulus demands, at this node, of what it had not; what it has grows by them
 -- alone, and the count by a broadcast alone.
-pub record DeliveryLaw {N : Type 0} (content : N → Content) (before : CoreState) (stimulus : Stimulus N) (given : List Delivery) (after : CoreState) : Type 0 where
+pub record DeliveryLaw {N : Type 0} (content : N → Content) (before : CoreState) (stimulus : Stimulus N) (given : List Delivery) (after : CoreState) :
+    Type 0 where
   pub exact : Delivers content before stimulus (ids given)
   pub here : Each (λ d. d.node ≡ before.me) given
   pub fresh : Each (λ d. before.has d.id ≡ false) given

@@ -49,6 +49,13 @@ packets_with content id sends = count_by (λ send. is_carried id (content send.1
 
 -- Who asks for a held message gets exactly one packet that carries it, and no one else does. Payloads are sent only so,
 -- and to spread what the step delivers.
-pub record HoldLaw {N : Type 0} (content : N → Content) (before : CoreState) (stimulus : Stimulus N) (sends : List (Name × N)) (given : List Delivery) : Type 0 where
-  pub answers : (id : MsgId) (name : Name) → IsAskedBy content stimulus id name → IsSome (before.payload id) → (packets_carrying content id name sends ≡ 1) × (packets_with content id sends ≡ 1)
-  pub only : Each (λ send. (id : MsgId) (p : List ℕ) → (content send.1).carried ≡ Some (id, p) → IsOneOf id (ids given) ⊎ (IsAskedBy content stimulus id send.0 × IsSome (before.payload id))) sends
+pub record HoldLaw {N : Type 0} (content : N → Content) (before : CoreState) (stimulus : Stimulus N) (sends : List (Name × N)) (given : List Delivery) :
+    Type 0 where
+  pub answers : (id : MsgId) (name : Name) →
+      IsAskedBy content stimulus id name →
+      IsSome (before.payload id) →
+      (packets_carrying content id name sends ≡ 1) × (packets_with content id sends ≡ 1)
+  pub only : Each (λ send. (id : MsgId) (p : List ℕ) →
+      (content send.1).carried ≡ Some (id, p) →
+      IsOneOf id (ids given) ⊎ (IsAskedBy content stimulus id send.0 × IsSome (before.payload id)))
+      sends

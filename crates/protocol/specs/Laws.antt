@@ -53,7 +53,8 @@ pub record StateLaws (limits : Limits) (core : CoreState) : Type 0 where
   pub wants : SoundWants core
 
 -- What each step does.
-pub record StepLaws {N : Type 0} (content : N → Content) (before : CoreState) (stimulus : Stimulus N) (sends : List (Name × N)) (given : List Delivery) (after : CoreState) : Type 0 where
+pub record StepLaws {N : Type 0} (content : N → Content) (before : CoreState)
+    (stimulus : Stimulus N) (sends : List (Name × N)) (given : List Delivery) (after : CoreState) : Type 0 where
   pub identity : IdentityLaw before after
   pub payloads : PayloadLaw content before stimulus sends given after
   pub deliveries : DeliveryLaw content before stimulus given after
@@ -75,9 +76,27 @@ pub record Laws
     (starts : Origin → Limits → List Name → Option Name → List (Name × N) → C → Type 0)
     (steps : C → Stimulus N → List (Name × N) → List Delivery → C → Type 0)
     : Type 0 where
-  pub start : (me : Origin) (limits : Limits) (peers : List Name) (contact : Option Name) (sends : List (Name × N)) (core : C) → IsTrue (are_peers limits me.name peers contact) → starts me limits peers contact sends core → StartLaws content me peers sends (state core)
-  pub start_sound : (me : Origin) (limits : Limits) (peers : List Name) (contact : Option Name) (sends : List (Name × N)) (core : C) → IsTrue (are_peers limits me.name peers contact) → starts me limits peers contact sends core → is_sound limits core
+  pub start : (me : Origin) (limits : Limits) (peers : List Name) (contact : Option Name) (sends : List (Name × N)) (core : C) →
+      IsTrue (are_peers limits me.name peers contact) →
+      starts me limits peers contact sends core →
+      StartLaws content me peers sends (state core)
+  pub start_sound : (me : Origin) (limits : Limits) (peers : List Name) (contact : Option Name) (sends : List (Name × N)) (core : C) →
+      IsTrue (are_peers limits me.name peers contact) →
+      starts me limits peers contact sends core →
+      is_sound limits core
   pub always : (limits : Limits) (core : C) → is_sound limits core → StateLaws limits (state core)
-  pub step : (limits : Limits) (old : C) (stimulus : Stimulus N) (sends : List (Name × N)) (given : List Delivery) (new : C) → is_sound limits old → IsNotFrom (state old).me.name stimulus → steps old stimulus sends given new → StepLaws content (state old) stimulus sends given (state new)
-  pub keeps : (limits : Limits) (old : C) (stimulus : Stimulus N) (sends : List (Name × N)) (given : List Delivery) (new : C) → is_sound limits old → IsNotFrom (state old).me.name stimulus → steps old stimulus sends given new → KeepsLast limits.keep (state old).held (ids given) (state new).held
-  pub step_sound : (limits : Limits) (old : C) (stimulus : Stimulus N) (sends : List (Name × N)) (given : List Delivery) (new : C) → is_sound limits old → IsNotFrom (state old).me.name stimulus → steps old stimulus sends given new → is_sound limits new
+  pub step : (limits : Limits) (old : C) (stimulus : Stimulus N) (sends : List (Name × N)) (given : List Delivery) (new : C) →
+      is_sound limits old →
+      IsNotFrom (state old).me.name stimulus →
+      steps old stimulus sends given new →
+      StepLaws content (state old) stimulus sends given (state new)
+  pub keeps : (limits : Limits) (old : C) (stimulus : Stimulus N) (sends : List (Name × N)) (given : List Delivery) (new : C) →
+      is_sound limits old →
+      IsNotFrom (state old).me.name stimulus →
+      steps old stimulus sends given new →
+      KeepsLast limits.keep (state old).held (ids given) (state new).held
+  pub step_sound : (limits : Limits) (old : C) (stimulus : Stimulus N) (sends : List (Name × N)) (given : List Delivery) (new : C) →
+      is_sound limits old →
+      IsNotFrom (state old).me.name stimulus →
+      steps old stimulus sends given new →
+      is_sound limits new

@@ -9,7 +9,8 @@ pub record Output (N : Type 0) : Type 0 where
   pub deliveries : List Delivery
 
 -- The step appends packets and deliveries to the output, by which it leads from the old core to the new one.
-pub record Stepped {C N S : Type 0} (steps : C → S → List (Name × N) → List Delivery → C → Type 0) (old : C) (stimulus : S) (before : Output N) (new : C) (after : Output N) : Type 0 where
+pub record Stepped {C N S : Type 0} (steps : C → S → List (Name × N) → List Delivery → C → Type 0)
+    (old : C) (stimulus : S) (before : Output N) (new : C) (after : Output N) : Type 0 where
   pub sends : List (Name × N)
   pub given : List Delivery
   pub stepped : steps old stimulus sends given new

@@ -29,7 +29,8 @@ IsKnownPayload content before stimulus id p = (before.payload id ≡ Some p) ⊎
 
 -- What is sent, delivered or held after a step was held before it or came with it, and whoever sends a message
 -- has it.
-pub record PayloadLaw {N : Type 0} (content : N → Content) (before : CoreState) (stimulus : Stimulus N) (sends : List (Name × N)) (given : List Delivery) (after : CoreState) : Type 0 where
+pub record PayloadLaw {N : Type 0} (content : N → Content) (before : CoreState)
+    (stimulus : Stimulus N) (sends : List (Name × N)) (given : List Delivery) (after : CoreState) : Type 0 where
   pub sent : Each (λ send. (id : MsgId) (p : List ℕ) → (content send.1).carried ≡ Some (id, p) → IsKnownPayload content before stimulus id p) sends
   pub delivered : Each (λ d. IsKnownPayload content before stimulus d.id d.payload) given
   pub held : (id : MsgId) (p : List ℕ) → after.payload id ≡ Some p → IsKnownPayload content before stimulus id p

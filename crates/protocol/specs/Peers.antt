@@ -17,4 +17,5 @@ is_contact (Some contact) name = same_name contact name
 -- whether a node of this name may start with these peers and this contact: the peers fit its active view, are distinct
 -- and do not include its own name, and the contact is not its own name either
 abbrev pub are_peers : Limits → Name → List Name → Option Name → Bool
-are_peers limits owner peers contact = nat_le (length peers) limits.active && (are_distinct peers && (not (has_name peers owner) && not (is_contact contact owner)))
+are_peers limits owner peers contact =
+    nat_le (length peers) limits.active && (are_distinct peers && (not (has_name peers owner) && not (is_contact contact owner)))

@@ -26,7 +26,8 @@ times_announced id round entries = count_by (λ entry. same_id id entry.0 && (ro
 -- how often the packets to the name announce the id at the round
 abbrev pub announcements : {N : Type 0} → (N → Content) → Name → MsgId → ℕ → List (Name × N) → ℕ
 announcements content name id round [] = 0
-announcements content name id round (send ∷ sends) = (if same_name name send.0 then times_announced id round (content send.1).announced else 0) + announcements content name id round sends
+announcements content name id round (send ∷ sends) =
+    (if same_name name send.0 then times_announced id round (content send.1).announced else 0) + announcements content name id round sends
 
 -- how often the id is queued for the name at the round
 abbrev pub times_queued : Name → MsgId → ℕ → List (Name × MsgId × ℕ) → ℕ
@@ -44,7 +45,8 @@ KeepsQueue before after = Each (λ entry. IsOneOf entry after.queued ⊎ (has_na
 -- A flush announces each queued entry to its member, once and nothing more, and leaves the queue empty. No other
 -- stimulus announces anything or takes an entry of an active member off the queue.
 abbrev pub FlushesQueue : {N : Type 0} → (N → Content) → CoreState → Stimulus N → List (Name × N) → CoreState → Type 0
-FlushesQueue content before Flush sends after = ((name : Name) (id : MsgId) (round : ℕ) → announcements content name id round sends ≡ times_queued name id round before.queued) × (after.queued ≡ [])
+FlushesQueue content before Flush sends after =
+    ((name : Name) (id : MsgId) (round : ℕ) → announcements content name id round sends ≡ times_queued name id round before.queued) × (after.queued ≡ [])
 FlushesQueue content before (Broadcast payload) sends after = AnnouncesNothing content sends × KeepsQueue before after
 FlushesQueue content before (Arrive sender note dice) sends after = AnnouncesNothing content sends × KeepsQueue before after
 FlushesQueue content before (Fire id) sends after = AnnouncesNothing content sends × KeepsQueue before after
@@ -54,6 +56,7 @@ FlushesQueue content before (Join contact) sends after = AnnouncesNothing conten
 
 -- An entry appears only for a message that the step delivers, and it leaves only by a flush that announces it or with
 -- its member.
-pub record QueueLaw {N : Type 0} (content : N → Content) (before : CoreState) (stimulus : Stimulus N) (sends : List (Name × N)) (given : List Delivery) (after : CoreState) : Type 0 where
+pub record QueueLaw {N : Type 0} (content : N → Content) (before : CoreState)
+    (stimulus : Stimulus N) (sends : List (Name × N)) (given : List Delivery) (after : CoreState) : Type 0 where
   pub appears : Each (λ entry. IsOneOf entry before.queued ⊎ IsOneOf entry.1 (ids given)) after.queued
   pub leaves : FlushesQueue content before stimulus sends after

@@ -35,7 +35,8 @@ is_from name (Join contact) = false
 
 -- A name gets one packet that carries the message or one queued announcement of it, and not both, where it is an
 -- active member and not the sender of the packet that came; every other name gets neither.
-pub record GetsShare {N : Type 0} (content : N → Content) (stimulus : Stimulus N) (sends : List (Name × N)) (after : CoreState) (id : MsgId) (name : Name) : Type 0 where
+pub record GetsShare {N : Type 0} (content : N → Content) (stimulus : Stimulus N) (sends : List (Name × N)) (after : CoreState) (id : MsgId) (name : Name) :
+    Type 0 where
   pub one : has_name after.active name ≡ true → is_from name stimulus ≡ false → packets_carrying content id name sends + entries_queued id name after.queued ≡ 1
   pub none_to_strangers : has_name after.active name ≡ false → packets_carrying content id name sends + entries_queued id name after.queued ≡ 0
   pub none_back : is_from name stimulus ≡ true → packets_carrying content id name sends + entries_queued id name after.queued ≡ 0

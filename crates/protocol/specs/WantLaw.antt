@@ -41,6 +41,11 @@ Announces content (Join contact) name id round = ⊥
 -- in no other way and only for ids of other runs, and a timer only for a wanted id. The member is to be active after
 -- the step, since one that the step drops may have no entry.
 pub record WantLaw {N : Type 0} (content : N → Content) (before : CoreState) (stimulus : Stimulus N) (after : CoreState) : Type 0 where
-  pub taken : (name : Name) (id : MsgId) (round : ℕ) → Announces content stimulus name id round → has_name after.active name ≡ true → id.origin ≢ before.me → after.has id ≡ false → IsWanted after id name
+  pub taken : (name : Name) (id : MsgId) (round : ℕ) →
+      Announces content stimulus name id round →
+      has_name after.active name ≡ true →
+      id.origin ≢ before.me →
+      after.has id ≡ false →
+      IsWanted after id name
   pub appears : Each (λ entry. IsOneOf entry before.wants ⊎ (Announces content stimulus entry.1 entry.0 entry.2 × (entry.0.origin ≢ before.me))) after.wants
   pub arms : Each (λ id. IsOneOf id before.timers ⊎ ((name : Name) × IsWanted after id name)) after.timers

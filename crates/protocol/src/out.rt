@@ -46,7 +46,8 @@ impl<N: Drop, A: Allocator + Copy> Out<N, A> {
         sends: Vec<(NodeName, N), A>,
         delivery: Delivery<A>,
     ) -> Result<(), AllocError>
-        ensures ok { OnOk result (self.new ≡ record { sends = self.old.sends ++ sends.items; deliveries = self.old.deliveries ++ delivery ∷ [] }) }
+        ensures ok { OnOk result (self.new
+            ≡ record { sends = self.old.sends ++ sends.items; deliveries = self.old.deliveries ++ delivery ∷ [] }) }
         ensures err { OnErr result (self.new ≡ self.old) }
     {
         let kept = self.sends.len();

@@ -1,5 +1,6 @@
 //! One node's protocol as a state machine, and the laws that every such machine keeps.
-ghost use Rattle.std.specs.Prelude.{◌≡◌, ◌↔◌, ◌++◌, ℕ, false, List, Option, IsTrue, IfOk, IfErr, OnOk, OnErr, IsErrOf, option_copied};
+ghost use Rattle.std.specs.Prelude.{◌≡◌, ◌↔◌, ◌++◌, ℕ, false, List, Option, IsTrue};
+ghost use Rattle.std.specs.Prelude.{IfOk, IfErr, OnOk, OnErr, IsErrOf, option_copied};
 ghost use Rattle.node_names.specs.NodeName.{Name};
 ghost use Rattle.node_names.specs.Limits.{Limits};
 ghost use Rattle.node_names.specs.Same.{has_id};
@@ -112,7 +113,9 @@ pub trait Core<A: Allocator>: Sized + Drop {
         out: &mut Out<Self::Note, A>,
     ) -> Result<Self, CoreError>
         requires { IsTrue (are_peers limits me.name peers.now contact) }
-        ensures started { IfOk result (λ core. (sends : List (Name × Self.Note)) × starts me limits peers.now contact sends core × (out.new ≡ record out.old { sends = out.old.sends ++ sends })) }
+        ensures started { IfOk result (λ core. (sends : List (Name × Self.Note))
+            × starts me limits peers.now contact sends core
+            × (out.new ≡ record out.old { sends = out.old.sends ++ sends })) }
         ensures refused { IfErr result (λ e. e ≡ CoreError.OutOfMemory) }
         ensures err { OnErr result (out.new ≡ out.old) };
 
@@ -124,8 +127,10 @@ pub trait Core<A: Allocator>: Sized + Drop {
         out: &mut Out<Self::Note, A>,
     ) -> Result<Prepared<Self::Turn>, CoreError>
         ensures turn { IfOk result (λ prepared. is_turn self.now (lent stimulus.now) prepared.turn) }
-        ensures stepped { OnOk result (Stepped steps self.now (lent stimulus.now) out.old (after self.now (lent stimulus.now)) out.new) }
-        ensures moved { IfOk result (λ prepared. (prepared.moved ≡ false) ↔ SameNames (state self.now).active (state (after self.now (lent stimulus.now))).active) }
+        ensures stepped { OnOk result
+            (Stepped steps self.now (lent stimulus.now) out.old (after self.now (lent stimulus.now)) out.new) }
+        ensures moved { IfOk result (λ prepared. (prepared.moved ≡ false)
+            ↔ SameNames (state self.now).active (state (after self.now (lent stimulus.now))).active) }
         ensures too_long { IsErrOf result CoreError.PayloadTooLong ↔ IsTooLong (lent stimulus.now) }
         ensures spent { IsErrOf result CoreError.SeqSpent → is_spent self.now (lent stimulus.now) }
         ensures numbers { IsOutOfNumbers (state self.now) (lent stimulus.now) → IsErrOf result CoreError.SeqSpent }

@@ -46,7 +46,10 @@ impl<N: Drop, A: Allocator> Model for Part<N, A> {
 
     ghost Value = { Segment N };
 
-    ghost view = { λ p. record { first = (arc_value p.segment).first; steps = take p.len (arc_value p.segment).steps } };
+    ghost view = { λ p. record {
+      first = (arc_value p.segment).first;
+      steps = take p.len (arc_value p.segment).steps;
+    } };
 
     ghost invariant = { λ p. p.len ≤ length (arc_value p.segment).steps };
 }

@@ -1,5 +1,6 @@
 //! The history of one run of a node.
-ghost use Rattle.std.specs.Prelude.{◌≡◌, ◌≤◌, [], ◌∷◌, ◌++◌, ◌↔◌, length, drop, take, IfOk, IsTrue, OnOk, OnErr, option_copied};
+ghost use Rattle.std.specs.Prelude.{◌≡◌, ◌≤◌, [], ◌∷◌, ◌++◌, ◌↔◌, length, drop};
+ghost use Rattle.std.specs.Prelude.{take, IfOk, IsTrue, OnOk, OnErr, option_copied};
 ghost use Rattle.std.specs.List.{slice_get};
 ghost use Rattle.std.specs.Arc.{arc_value};
 ghost use Rattle.protocol.specs.Segments.{Ends};
@@ -52,7 +53,8 @@ impl<N: Drop, A: Allocator> Model for Trace<N, A> {
 
     ghost Value = { Trace N };
 
-    ghost view = { λ t. record { origin = t.origin; peers = t.peers; contact = t.contact; opening = t.opening; steps = t.steps } };
+    ghost view = { λ t.
+        record { origin = t.origin; peers = t.peers; contact = t.contact; opening = t.opening; steps = t.steps } };
 }
 
 impl<N: Drop, A: Allocator + Copy> Trace<N, A> {

@@ -28,7 +28,9 @@ fn take<C: Core<Global, Note = Frame>>(
     trace: &mut Trace<Frame>,
     stimulus: Stimulus<Frame>,
 ) -> Result<(), CoreError>
-    ensures { (limits : Sizes) → Replays C.starts C.steps limits trace.old core.old → OnOk result (Replays C.starts C.steps limits trace.new core.new) }
+    ensures { (limits : Sizes)
+        → Replays C.starts C.steps limits trace.old core.old
+        → OnOk result (Replays C.starts C.steps limits trace.new core.new) }
 {
     let mut out = Out::new(alloc);
     core.step(&stimulus, &mut out)?;
@@ -43,7 +45,9 @@ fn take_all<C: Core<Global, Note = Frame>>(
     trace: &mut Trace<Frame>,
     entries: &mut Entries<'_>,
 ) -> Result<(), ReplayError>
-    ensures { (limits : Sizes) → Replays C.starts C.steps limits trace.old core.old → OnOk result (Replays C.starts C.steps limits trace.new core.new) }
+    ensures { (limits : Sizes)
+        → Replays C.starts C.steps limits trace.old core.old
+        → OnOk result (Replays C.starts C.steps limits trace.new core.new) }
 {
     for _ in 0..u64::MAX {
         let place = entries.count();

@@ -51,7 +51,9 @@ has_place from (suc n) (suc k) h =
     inr (subst (λ m. IsOneOf m (places (suc from) n)) same (has_place (suc from) n k less))
 
 -- a packet that is sent is in flight under its number
-pub new_flies : {N : Type 0} (sent : List (Packet N)) (staying : List ℕ) (sender : Origin) (sends : List (Name × N)) (packet : Packet N) → IsOneOf packet (packets sender sends) → (number : ℕ) × IsOneOf number (staying ++ places (length sent) (length sends)) × (slice_get (sent ++ packets sender sends) number ≡ Some packet)
+pub new_flies : {N : Type 0} (sent : List (Packet N)) (staying : List ℕ) (sender : Origin) (sends : List (Name × N)) (packet : Packet N) →
+    IsOneOf packet (packets sender sends) →
+    (number : ℕ) × IsOneOf number (staying ++ places (length sent) (length sends)) × (slice_get (sent ++ packets sender sends) number ≡ Some packet)
 new_flies {N} sent staying sender sends packet one =
     let at : (k : ℕ) × (slice_get (packets sender sends) k ≡ Some packet) = place_of (packets sender sends) packet one in
     let count : length (packets sender sends) ≡ length sends = length-map sends (λ (send : Name × N). record { sender = sender; to = send.0; note = send.1 }) in

@@ -36,7 +36,11 @@ ok_then (Ok x) P Q f p = f p
 ok_then (Err e) P Q f p = p
 
 -- a node that is put among the nodes of a group is put among those that are kept
-puts_node : {C : Type 0} (group : Group C Frame) (old new : List (Name × NodeState C)) (node : NodeState C) → AreNodes group old → Puts old node new → (name : Name) → lookup (same_name name) new ≡ node_of name (put_node node group.nodes)
+puts_node : {C : Type 0} (group : Group C Frame) (old new : List (Name × NodeState C)) (node : NodeState C) →
+    AreNodes group old →
+    Puts old node new →
+    (name : Name) →
+    lookup (same_name name) new ≡ node_of name (put_node node group.nodes)
 puts_node {C} group old new node are puts name = go (same_name node.name name) refl
   where
     back : (b : Bool) → same_name node.name name ≡ b → same_name name node.name ≡ b
@@ -49,18 +53,25 @@ puts_node {C} group old new node are puts name = go (same_name node.name name) r
 
     go : (b : Bool) → same_name node.name name ≡ b → lookup (same_name name) new ≡ node_of name (put_node node group.nodes)
     go true is = puts name ∙ ap (λ b. if b then Some node else lookup (same_name name) old) is ∙ sym (put_same name node group.nodes (back true is))
-    go false is = puts name ∙ ap (λ b. if b then Some node else lookup (same_name name) old) is ∙ are name ∙ sym (put_other name node group.nodes (back false is))
+    go false is =
+        puts name ∙ ap (λ b. if b then Some node else lookup (same_name name) old) is ∙ are name ∙ sym (put_other name node group.nodes (back false is))
 
 -- what is in flight besides the packets that are posted
 pub record StaysAloft {C : Type 0} (group : Group C Frame) (flown : List (FrameId × Packet Frame)) (staying : List ℕ) : Type 0 where
-  pub flies : (id : FrameId) (packet : Packet Frame) → lookup (same_frame_id id) flown ≡ Some packet → (number : ℕ) × IsOneOf number staying × (slice_get group.sent number ≡ Some packet) × (id_of packet ≡ id)
+  pub flies : (id : FrameId) (packet : Packet Frame) →
+      lookup (same_frame_id id) flown ≡ Some packet →
+      (number : ℕ) × IsOneOf number staying × (slice_get group.sent number ≡ Some packet) × (id_of packet ≡ id)
 
 -- where no packet arrives, all stay
-none_arrives : {C : Type 0} (group : Group C Frame) (old flown : List (FrameId × Packet Frame)) → AreFlying group old → flown ≡ old → StaysAloft group flown group.flight
+none_arrives : {C : Type 0} (group : Group C Frame) (old flown : List (FrameId × Packet Frame)) →
+    AreFlying group old →
+    flown ≡ old →
+    StaysAloft group flown group.flight
 none_arrives group old flown are is =
     record {
       flies = λ id packet found.
-          let there : Flies group packet × (id_of packet ≡ id) = are id packet (ap (λ (es : List (FrameId × Packet Frame)). lookup (same_frame_id id) es) (sym is) ∙ found) in
+          let there : Flies group packet × (id_of packet ≡ id) =
+          are id packet (ap (λ (es : List (FrameId × Packet Frame)). lookup (same_frame_id id) es) (sym is) ∙ found) in
           (there.0.number, there.0.flying, there.0.sent, there.1);
     }
 
@@ -72,16 +83,24 @@ one_arrives :
     slice_get group.flight place ≡ Some number →
     slice_get group.sent number ≡ Some gone →
     StaysAloft group flown (remove group.flight place)
-one_arrives {C} group old flown gone number place are out in_flight sent = record { flies = λ id packet found. go id packet (same_frame_id (id_of gone) id) refl (sym (out.others id) ∙ found) }
+one_arrives {C} group old flown gone number place are out in_flight sent =
+    record { flies = λ id packet found. go id packet (same_frame_id (id_of gone) id) refl (sym (out.others id) ∙ found) }
   where
-    go : (id : FrameId) (packet : Packet Frame) (b : Bool) → same_frame_id (id_of gone) id ≡ b → (if b then None else lookup (same_frame_id id) old) ≡ Some packet → (n : ℕ) × IsOneOf n (remove group.flight place) × (slice_get group.sent n ≡ Some packet) × (id_of packet ≡ id)
+    go : (id : FrameId) (packet : Packet Frame) (b : Bool) →
+        same_frame_id (id_of gone) id ≡ b →
+        (if b then None else lookup (same_frame_id id) old) ≡ Some packet →
+        (n : ℕ) × IsOneOf n (remove group.flight place) × (slice_get group.sent n ≡ Some packet) × (id_of packet ≡ id)
     go id packet true same e = let no : None ≡ Some packet = e in cc
     go id packet false same e =
         let there : Flies group packet × (id_of packet ≡ id) = are id packet e in
         let apart : there.0.number ≡ number → ⊥ = λ equal. clash id packet same there equal in
         (there.0.number, stays group.flight place number there.0.number in_flight apart there.0.flying, there.0.sent, there.1)
       where
-        clash : (id : FrameId) (packet : Packet Frame) → same_frame_id (id_of gone) id ≡ false → (there : Flies group packet × (id_of packet ≡ id)) → there.0.number ≡ number → ⊥
+        clash : (id : FrameId) (packet : Packet Frame) →
+            same_frame_id (id_of gone) id ≡ false →
+            (there : Flies group packet × (id_of packet ≡ id)) →
+            there.0.number ≡ number →
+            ⊥
         clash id packet same there equal =
             let both : Some packet ≡ Some gone = sym there.0.sent ∙ ap (λ n. slice_get group.sent n) equal ∙ sent in
             let is : packet ≡ gone = cc in
@@ -89,18 +108,28 @@ one_arrives {C} group old flown gone number place are out in_flight sent = recor
 
 -- what stays, and what is posted, is in flight afterwards
 aloft :
-    {C : Type 0} (group : Group C Frame) (nodes : List (NodeState C)) (flown new : List (FrameId × Packet Frame)) (staying : List ℕ) (sender : Origin) (sends : List (Name × Frame)) →
+    {C : Type 0} (group : Group C Frame) (nodes : List (NodeState C)) (flown new : List (FrameId × Packet Frame))
+    (staying : List ℕ) (sender : Origin) (sends : List (Name × Frame)) →
     StaysAloft group flown staying →
     Posts flown (packets sender sends) new →
     AreFlying {C = C} (record { nodes = nodes; sent = group.sent ++ packets sender sends; flight = staying ++ places (length group.sent) (length sends) }) new
 aloft group nodes flown new staying sender sends stay posts id packet found =
     elim (posts id packet found) [
       | inl before ↦ (
-          let there : (n : ℕ) × IsOneOf n staying × (slice_get group.sent n ≡ Some packet) × (id_of packet ≡ id) = stay.flies id packet before in
-          (record { number = there.0; flying = one-left staying (places (length group.sent) (length sends)) there.0 there.1; sent = still group.sent (packets sender sends) there.0 packet there.2 }, there.3)
+          let there : (n : ℕ) × IsOneOf n staying × (slice_get group.sent n ≡ Some packet) × (id_of packet ≡ id) = stay.flies id packet before in (
+            record {
+              number = there.0;
+              flying = one-left staying (places (length group.sent) (length sends)) there.0 there.1;
+              sent = still group.sent (packets sender sends) there.0 packet there.2;
+            },
+            there.3,
+          )
           )
       | inr one ↦ (
-          let there : (n : ℕ) × IsOneOf n (staying ++ places (length group.sent) (length sends)) × (slice_get (group.sent ++ packets sender sends) n ≡ Some packet) = new_flies group.sent staying sender sends packet one.0 in
+          let there : (n : ℕ)
+          × IsOneOf n (staying ++ places (length group.sent) (length sends))
+          × (slice_get (group.sent ++ packets sender sends) n ≡ Some packet) =
+          new_flies group.sent staying sender sends packet one.0 in
           (record { number = there.0; flying = there.1; sent = there.2 }, one.1)
           )
     ]
@@ -112,7 +141,8 @@ module _
     (steps : C → Stimulus Frame → List (Name × Frame) → List Delivery → C → Type 0)
   where
     -- a group in which nothing has happened
-    pub begun : (limits : Limits) → Follows state starts steps (record { limits = limits; nodes = []; packets = [] }) [] (record { nodes = []; sent = []; flight = [] })
+    pub begun : (limits : Limits) →
+        Follows state starts steps (record { limits = limits; nodes = []; packets = [] }) [] (record { nodes = []; sent = []; flight = [] })
     begun limits =
         record {
           ran = record { no_nodes = refl; nothing_sent = refl; nothing_in_flight = refl };
@@ -133,7 +163,8 @@ module _
 
     -- a start
     pub started :
-        (old : Kept C) (past : List Entry) (group : Group C Frame) (run : Origin) (peers : List Name) (contact : Option Name) (core : C) (sends : List (Name × Frame))
+        (old : Kept C) (past : List Entry) (group : Group C Frame) (run : Origin)
+        (peers : List Name) (contact : Option Name) (core : C) (sends : List (Name × Frame))
         (nodes : List (Name × NodeState C)) (new : List (FrameId × Packet Frame)) →
         Follows state starts steps old past group →
         IfSome (lookup (same_name run.name) old.nodes) (λ node. node.highest.0 < run.incarnation.0) →
@@ -141,13 +172,32 @@ module _
         starts run old.limits peers contact sends core →
         Puts old.nodes (record { name = run.name; highest = run.incarnation; core = Some core }) nodes →
         Posts old.packets (packets run sends) new →
-        (entry : Entry) × (entry.event ≡ Start run.name run.incarnation peers contact) × GoesOn state starts steps group past entry (record { limits = old.limits; nodes = nodes; packets = new })
+        (entry : Entry)
+        × (entry.event ≡ Start run.name run.incarnation peers contact)
+        × GoesOn state starts steps group past entry (record { limits = old.limits; nodes = nodes; packets = new })
     started old past group run peers contact core sends nodes new follows fresh fit made puts posts =
         let node : NodeState C = record { name = run.name; highest = run.incarnation; core = Some core } in
         let event : Event = Start run.name run.incarnation peers contact in
         let entry : Entry = record { event = event; packet = None; first_sent = length group.sent; moved = false; given = [] } in
-        let after : Group C Frame = record { nodes = put_node node group.nodes; sent = group.sent ++ packets run sends; flight = group.flight ++ places (length group.sent) (length sends) } in
-        let effect : Effect state starts steps old.limits group entry after event = (refl, record { core = core; sends = sends; fresh = subst (λ (o : Option (NodeState C)). IfSome o (λ node. node.highest.0 < run.incarnation.0)) (follows.nodes run.name) fresh; fit = fit; started = made; nodes = refl; sending = record { sent = refl; flight = refl }; nothing_given = refl; nothing_moved = refl }) in
+        let after : Group C Frame = record {
+          nodes = put_node node group.nodes;
+          sent = group.sent ++ packets run sends;
+          flight = group.flight ++ places (length group.sent) (length sends);
+        } in
+        let effect : Effect state starts steps old.limits group entry after event = (
+          refl,
+          record {
+            core = core;
+            sends = sends;
+            fresh = subst (λ (o : Option (NodeState C)). IfSome o (λ node. node.highest.0 < run.incarnation.0)) (follows.nodes run.name) fresh;
+            fit = fit;
+            started = made;
+            nodes = refl;
+            sending = record { sent = refl; flight = refl };
+            nothing_given = refl;
+            nothing_moved = refl;
+          },
+        ) in
         let happened : Happens state starts steps old.limits group entry after = (refl, effect) in (
           entry,
           refl,
@@ -157,14 +207,17 @@ module _
             follows = record {
               ran = (group, follows.ran, happened);
               nodes = puts_node group old.nodes nodes node follows.nodes puts;
-              flying = aloft group (put_node node group.nodes) old.packets new group.flight run sends (none_arrives group old.packets old.packets follows.flying refl) posts;
+              flying =
+                  aloft group (put_node node group.nodes) old.packets new group.flight run sends
+                  (none_arrives group old.packets old.packets follows.flying refl) posts;
             };
           },
         )
 
     -- what a step leaves of a group
     abbrev after_step : (group : Group C Frame) (staying : List ℕ) (node : NodeState C) (run : Origin) (sends : List (Name × Frame)) → Group C Frame
-    after_step group staying node run sends = record { nodes = put_node node group.nodes; sent = group.sent ++ packets run sends; flight = staying ++ places (length group.sent) (length sends) }
+    after_step group staying node run sends =
+        record { nodes = put_node node group.nodes; sent = group.sent ++ packets run sends; flight = staying ++ places (length group.sent) (length sends) }
 
     -- a step of a node in a group that is followed
     acted :
@@ -191,7 +244,8 @@ module _
 
     -- what is kept after a step is of the group that the step leaves
     stepped_on :
-        (old : Kept C) (past : List Entry) (group : Group C Frame) (run : Origin) (told : Stimulus Frame) (flown new : List (FrameId × Packet Frame)) (staying : List ℕ)
+        (old : Kept C) (past : List Entry) (group : Group C Frame) (run : Origin)
+        (told : Stimulus Frame) (flown new : List (FrameId × Packet Frame)) (staying : List ℕ)
         (sends : List (Name × Frame)) (given : List Delivery) (moved : Bool) (nodes : List (Name × NodeState C)) (entry : Entry) →
         Follows state starts steps old past group →
         (s : Steps state starts steps old.nodes run told sends given moved nodes) →
@@ -208,7 +262,9 @@ module _
           happened = happened;
           follows = record {
             ran = (group, follows.ran, happened);
-            nodes = puts_node group old.nodes nodes node follows.nodes (λ name. s.puts name ∙ ap (λ (n : Name). if same_name n name then Some node else lookup (same_name name) old.nodes) named);
+            nodes =
+                puts_node group old.nodes nodes node follows.nodes
+                (λ name. s.puts name ∙ ap (λ (n : Name). if same_name n name then Some node else lookup (same_name name) old.nodes) named);
             flying = aloft group (put_node node group.nodes) flown new staying run sends stay posts;
           };
         }
@@ -222,25 +278,32 @@ module _
         Steps state starts steps old.nodes run told sends given moved nodes →
         Posts flown (packets run sends) new →
         event ≡ event_of run.name 0 told →
-        ((entry : Entry) (after : Group C Frame) → entry.packet ≡ None → Acts state steps group group.flight run.name told entry after → Effect state starts steps old.limits group entry after event) →
+        ((entry : Entry) (after : Group C Frame) →
+        entry.packet ≡ None →
+        Acts state steps group group.flight run.name told entry after →
+        Effect state starts steps old.limits group entry after event) →
         stimulus_by group.sent event None ≡ Some told →
         TakesOn state starts steps group past run.name told given (record { limits = old.limits; nodes = nodes; packets = new })
     told_on old past group run told flown new sends given moved nodes event follows none s posts is effect tells =
         let entry : Entry = record { event = event; packet = None; first_sent = length group.sent; moved = moved; given = given } in
         let acts = acted old past group run told group.flight sends nodes entry follows s in
-        let happened : Happens state starts steps old.limits group entry (after_step group group.flight (record s.node { core = Some s.after }) run sends) = (refl, effect entry (after_step group group.flight (record s.node { core = Some s.after }) run sends) refl acts) in
+        let happened : Happens state starts steps old.limits group entry (after_step group group.flight (record s.node { core = Some s.after }) run sends) =
+        (refl, effect entry (after_step group group.flight (record s.node { core = Some s.after }) run sends) refl acts) in
         record {
           entry = entry;
           place = 0;
           is_event = is;
           tells = tells;
           gave = refl;
-          goes_on = stepped_on old past group run told flown new group.flight sends given moved nodes entry follows s (none_arrives group old.packets flown follows.flying none) posts happened;
+          goes_on =
+              stepped_on old past group run told flown new group.flight sends given moved nodes entry follows s
+              (none_arrives group old.packets flown follows.flying none) posts happened;
         }
 
     -- the arrival of a packet
     arrived_on :
-        (old : Kept C) (past : List Entry) (group : Group C Frame) (run sender : Origin) (note : Frame) (dice : Dice) (flown new : List (FrameId × Packet Frame))
+        (old : Kept C) (past : List Entry) (group : Group C Frame) (run sender : Origin)
+        (note : Frame) (dice : Dice) (flown new : List (FrameId × Packet Frame))
         (sends : List (Name × Frame)) (given : List Delivery) (moved : Bool) (nodes : List (Name × NodeState C)) →
         Follows state starts steps old past group →
         TakesOut old.packets (record { sender = sender; to = run.name; note = note }) flown →
@@ -254,15 +317,20 @@ module _
         let staying : List ℕ = remove group.flight at.0 in
         let entry : Entry = record { event = Arrive at.0 dice; packet = Some there.0.number; first_sent = length group.sent; moved = moved; given = given } in
         let acts = acted old past group run (stimulus.Arrive sender note dice) staying sends nodes entry follows s in
-        let effect : Effect state starts steps old.limits group entry (after_step group staying (record s.node { core = Some s.after }) run sends) (Arrive at.0 dice) = record { number = there.0.number; packet = packet; in_flight = at.1; sent = there.0.sent; named = refl; acts = acts } in
-        let happened : Happens state starts steps old.limits group entry (after_step group staying (record s.node { core = Some s.after }) run sends) = (refl, effect) in
+        let effect : Effect state starts steps old.limits group entry
+        (after_step group staying (record s.node { core = Some s.after }) run sends) (Arrive at.0 dice) =
+        record { number = there.0.number; packet = packet; in_flight = at.1; sent = there.0.sent; named = refl; acts = acts } in
+        let happened : Happens state starts steps old.limits group entry (after_step group staying (record s.node { core = Some s.after }) run sends) =
+        (refl, effect) in
         record {
           entry = entry;
           place = at.0;
           is_event = refl;
           tells = ap (λ (o : Option (Packet Frame)). arrival o dice) there.0.sent;
           gave = refl;
-          goes_on = stepped_on old past group run (stimulus.Arrive sender note dice) flown new staying sends given moved nodes entry follows s (one_arrives group old.packets flown packet there.0.number at.0 follows.flying out at.1 there.0.sent) posts happened;
+          goes_on =
+              stepped_on old past group run (stimulus.Arrive sender note dice) flown new staying sends given moved nodes entry follows s
+              (one_arrives group old.packets flown packet there.0.number at.0 follows.flying out at.1 there.0.sent) posts happened;
         }
 
     -- any stimulus
@@ -274,10 +342,23 @@ module _
         Steps state starts steps old.nodes run told sends given moved nodes →
         Posts flown (packets run sends) new →
         TakesOn state starts steps group past run.name told given (record { limits = old.limits; nodes = nodes; packets = new })
-    taken old past group run (stimulus.Arrive sender note dice) flown new sends given moved nodes follows out s posts = arrived_on old past group run sender note dice flown new sends given moved nodes follows out s posts
-    taken old past group run (stimulus.Broadcast payload) flown new sends given moved nodes follows none s posts = told_on old past group run (stimulus.Broadcast payload) flown new sends given moved nodes (Broadcast run.name payload) follows none s posts refl (λ entry after is acts. (is, acts)) refl
-    taken old past group run (stimulus.Fire id) flown new sends given moved nodes follows none s posts = told_on old past group run (stimulus.Fire id) flown new sends given moved nodes (Fire run.name id) follows none s posts refl (λ entry after is acts. (is, acts)) refl
-    taken old past group run stimulus.Flush flown new sends given moved nodes follows none s posts = told_on old past group run stimulus.Flush flown new sends given moved nodes (Flush run.name) follows none s posts refl (λ entry after is acts. (is, acts)) refl
-    taken old past group run (stimulus.Down peer dice) flown new sends given moved nodes follows none s posts = told_on old past group run (stimulus.Down peer dice) flown new sends given moved nodes (Down run.name peer dice) follows none s posts refl (λ entry after is acts. (is, acts)) refl
-    taken old past group run (stimulus.Shuffle dice) flown new sends given moved nodes follows none s posts = told_on old past group run (stimulus.Shuffle dice) flown new sends given moved nodes (Shuffle run.name dice) follows none s posts refl (λ entry after is acts. (is, acts)) refl
-    taken old past group run (stimulus.Join contact) flown new sends given moved nodes follows none s posts = told_on old past group run (stimulus.Join contact) flown new sends given moved nodes (Join run.name contact) follows none s posts refl (λ entry after is acts. (is, acts)) refl
+    taken old past group run (stimulus.Arrive sender note dice) flown new sends given moved nodes follows out s posts =
+        arrived_on old past group run sender note dice flown new sends given moved nodes follows out s posts
+    taken old past group run (stimulus.Broadcast payload) flown new sends given moved nodes follows none s posts =
+        told_on old past group run (stimulus.Broadcast payload) flown new sends given moved nodes
+        (Broadcast run.name payload) follows none s posts refl (λ entry after is acts. (is, acts)) refl
+    taken old past group run (stimulus.Fire id) flown new sends given moved nodes follows none s posts =
+        told_on old past group run (stimulus.Fire id) flown new sends given moved nodes
+        (Fire run.name id) follows none s posts refl (λ entry after is acts. (is, acts)) refl
+    taken old past group run stimulus.Flush flown new sends given moved nodes follows none s posts =
+        told_on old past group run stimulus.Flush flown new sends given moved nodes
+        (Flush run.name) follows none s posts refl (λ entry after is acts. (is, acts)) refl
+    taken old past group run (stimulus.Down peer dice) flown new sends given moved nodes follows none s posts =
+        told_on old past group run (stimulus.Down peer dice) flown new sends given moved nodes
+        (Down run.name peer dice) follows none s posts refl (λ entry after is acts. (is, acts)) refl
+    taken old past group run (stimulus.Shuffle dice) flown new sends given moved nodes follows none s posts =
+        told_on old past group run (stimulus.Shuffle dice) flown new sends given moved nodes
+        (Shuffle run.name dice) follows none s posts refl (λ entry after is acts. (is, acts)) refl
+    taken old past group run (stimulus.Join contact) flown new sends given moved nodes follows none s posts =
+        told_on old past group run (stimulus.Join contact) flown new sends given moved nodes
+        (Join run.name contact) follows none s posts refl (λ entry after is acts. (is, acts)) refl

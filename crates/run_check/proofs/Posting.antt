@@ -14,10 +14,17 @@ use Rattle.run_check.specs.declared.frame_id.FrameId.{FrameId}
 use Rattle.run_check.proofs.Flights.{one-left, one-right}
 
 -- what is found is the packet that was put there, or was found before
-pub posted : (key id : FrameId) (put packet : Packet Frame) (new old : Option (Packet Frame)) → key ≡ id_of put → new ≡ (if same_frame_id key id then Some put else old) → new ≡ Some packet → (old ≡ Some packet) ⊎ (IsOneOf packet (put ∷ []) × (id_of packet ≡ id))
+pub posted : (key id : FrameId) (put packet : Packet Frame) (new old : Option (Packet Frame)) →
+    key ≡ id_of put →
+    new ≡ (if same_frame_id key id then Some put else old) →
+    new ≡ Some packet →
+    (old ≡ Some packet) ⊎ (IsOneOf packet (put ∷ []) × (id_of packet ≡ id))
 posted key id put packet new old its is found = go (same_frame_id key id) refl (sym is ∙ found)
   where
-    go : (b : Bool) → same_frame_id key id ≡ b → (if b then Some put else old) ≡ Some packet → (old ≡ Some packet) ⊎ (IsOneOf packet (put ∷ []) × (id_of packet ≡ id))
+    go : (b : Bool) →
+        same_frame_id key id ≡ b →
+        (if b then Some put else old) ≡ Some packet →
+        (old ≡ Some packet) ⊎ (IsOneOf packet (put ∷ []) × (id_of packet ≡ id))
     go true same e =
         let this : put ≡ packet = cc in
         inr (inl (sym this), sym (ap id_of this) ∙ sym its ∙ (same_frame_id-Decides key id).0 same)
@@ -36,7 +43,11 @@ posts_more old mid new ps qs before behind id packet found =
     ]
 
 -- one send more is posted
-pub posts_push : (sender : Origin) (sends : List (Name × Frame)) (to : Name) (note : Frame) (old mid new : List (FrameId × Packet Frame)) → Posts old (packets sender sends) mid → Posts mid (record { sender = sender; to = to; note = note } ∷ []) new → Posts old (packets sender (sends ++ (to, note) ∷ [])) new
+pub posts_push : (sender : Origin) (sends : List (Name × Frame)) (to : Name) (note : Frame) (old mid new : List (FrameId × Packet Frame)) →
+    Posts old (packets sender sends) mid →
+    Posts mid (record { sender = sender; to = to; note = note } ∷ []) new →
+    Posts old (packets sender (sends ++ (to, note) ∷ [])) new
 posts_push sender sends to note old mid new before behind =
-    subst (λ (ps : List (Packet Frame)). Posts old ps new) (sym (map-append (λ (send : Name × Frame). record { sender = sender; to = send.0; note = send.1 }) sends ((to, note) ∷ [])))
+    subst (λ (ps : List (Packet Frame)). Posts old ps new)
+    (sym (map-append (λ (send : Name × Frame). record { sender = sender; to = send.0; note = send.1 }) sends ((to, note) ∷ [])))
     (posts_more old mid new (packets sender sends) (record { sender = sender; to = to; note = note } ∷ []) before behind)

@@ -14,5 +14,7 @@ refused_so (Ok x) P e same p = tt
 refused_so (Err found) P e same p = subst P (sym same) p
 
 -- a step that is refused refuses the stimulus
-pub no_step : {C : Type 0} (is_spent : C → Stimulus Frame → Type 0) (kept : Kept C) (run : Origin) (told : Stimulus Frame) (e : CheckError) → IsNoStep is_spent kept.nodes run told e → IsRefused is_spent kept run told e
+pub no_step : {C : Type 0} (is_spent : C → Stimulus Frame → Type 0) (kept : Kept C) (run : Origin) (told : Stimulus Frame) (e : CheckError) →
+    IsNoStep is_spent kept.nodes run told e →
+    IsRefused is_spent kept run told e
 no_step is_spent kept run told e why = inr (inl why)

@@ -49,7 +49,10 @@ Puts old node new = (name : Name) → lookup (same_name name) new ≡ (if same_n
 
 -- What is kept later was kept before, or is one of these packets under its frame's id.
 abbrev pub Posts : List (FrameId × Packet Frame) → List (Packet Frame) → List (FrameId × Packet Frame) → Type 0
-Posts old more new = (id : FrameId) (packet : Packet Frame) → lookup (same_frame_id id) new ≡ Some packet → (lookup (same_frame_id id) old ≡ Some packet) ⊎ (IsOneOf packet more × (id_of packet ≡ id))
+Posts old more new =
+    (id : FrameId) (packet : Packet Frame) →
+    lookup (same_frame_id id) new ≡ Some packet →
+    (lookup (same_frame_id id) old ≡ Some packet) ⊎ (IsOneOf packet more × (id_of packet ≡ id))
 
 -- The packet under this id is taken out.
 pub record TakesOut (old : List (FrameId × Packet Frame)) (packet : Packet Frame) (new : List (FrameId × Packet Frame)) : Type 0 where
@@ -83,7 +86,8 @@ module _
     (steps : C → Stimulus Frame → List (Name × Frame) → List Delivery → C → Type 0)
   where
     -- The core of the run takes the stimulus, sends and delivers this, and is put in its node's place.
-    pub record Steps (old : List (Name × NodeState C)) (run : Origin) (told : Stimulus Frame) (sends : List (Name × Frame)) (given : List Delivery) (moved : Bool) (new : List (Name × NodeState C)) : Type 0 where
+    pub record Steps (old : List (Name × NodeState C)) (run : Origin) (told : Stimulus Frame)
+        (sends : List (Name × Frame)) (given : List Delivery) (moved : Bool) (new : List (Name × NodeState C)) : Type 0 where
       pub node : NodeState C
       pub before : C
       pub after : C
@@ -92,7 +96,8 @@ module _
       pub running : node.core ≡ Some before
       pub stepped : steps before told sends given after
       pub moves : (moved ≡ false) ↔ SameNames (state before).active (state after).active
-      pub puts : (name : Name) → lookup (same_name name) new ≡ (if same_name run.name name then Some (record node { core = Some after }) else lookup (same_name name) old)
+      pub puts : (name : Name) →
+          lookup (same_name name) new ≡ (if same_name run.name name then Some (record node { core = Some after }) else lookup (same_name name) old)
 
     -- The history, newest first, is a run of a group whose nodes are kept, with packets that are in flight in it.
     pub record Follows (kept : Kept C) (past : List Entry) (group : Group C Frame) : Type 0 where

@@ -43,7 +43,8 @@ pub record RunsAs {C : Type 0} (nodes : List (Name × NodeState C)) (run : Origi
 -- The packet cannot be taken out: none is kept for its frame, or another one is.
 abbrev pub IsNotThere : List (FrameId × Packet Frame) → Packet Frame → CheckError → Type 0
 IsNotThere packets packet (Unsent sender number) = (sender ≡ packet.sender) × (number ≡ packet.note.number) × (packet_of packets sender number ≡ None)
-IsNotThere packets packet (Unlike sender number) = (sender ≡ packet.sender) × (number ≡ packet.note.number) × ((kept : Packet Frame) × (packet_of packets sender number ≡ Some kept) × (kept ≢ packet))
+IsNotThere packets packet (Unlike sender number) =
+    (sender ≡ packet.sender) × (number ≡ packet.note.number) × ((kept : Packet Frame) × (packet_of packets sender number ≡ Some kept) × (kept ≢ packet))
 IsNotThere packets packet (Stale highest) = ⊥
 IsNotThere packets packet BadPeers = ⊥
 IsNotThere packets packet NotRunning = ⊥
@@ -80,11 +81,13 @@ IsCoreRefusal is_spent running told OutOfMemory = Unit {0}
 
 -- The run does not run, or its core refuses the stimulus.
 abbrev pub IsNoStep : {C : Type 0} → (C → Stimulus Frame → Type 0) → List (Name × NodeState C) → Origin → Stimulus Frame → CheckError → Type 0
-IsNoStep {C} is_spent nodes run told e = ((e ≡ NotRunning) × ((running : C) → RunsAs nodes run running → ⊥)) ⊎ ((running : C) × RunsAs nodes run running × IsCoreRefusal is_spent running told e)
+IsNoStep {C} is_spent nodes run told e =
+    ((e ≡ NotRunning) × ((running : C) → RunsAs nodes run running → ⊥)) ⊎ ((running : C) × RunsAs nodes run running × IsCoreRefusal is_spent running told e)
 
 -- The run was started before, or a later one of its name.
 abbrev pub IsStale : {C : Type 0} → List (Name × NodeState C) → Origin → CheckError → Type 0
-IsStale {C} nodes run e = (node : NodeState C) × (lookup (same_name run.name) nodes ≡ Some node) × (run.incarnation.0 ≤ node.highest.0) × (e ≡ Stale node.highest)
+IsStale {C} nodes run e =
+    (node : NodeState C) × (lookup (same_name run.name) nodes ≡ Some node) × (run.incarnation.0 ≤ node.highest.0) × (e ≡ Stale node.highest)
 
 -- The start of this run is refused so.
 abbrev pub IsNoStart : {C : Type 0} → Kept C → Origin → List Name → Option Name → CheckError → Type 0

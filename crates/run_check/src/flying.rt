@@ -24,7 +24,8 @@ pub(crate) struct Flying {
 
 /// Whether a packet carries this frame of the sender, and goes to this name.
 fn is_its(packet: &Packet<Frame>, sender: &Origin, to: &NodeName, note: &Frame) -> bool
-    ensures { Decides result ((packet.now.sender ≡ sender.now) × (packet.now.to ≡ to.now) × (packet.now.note ≡ note.now)) }
+    ensures { Decides result
+        ((packet.now.sender ≡ sender.now) × (packet.now.to ≡ to.now) × (packet.now.note ≡ note.now)) }
 {
     packet.sender == *sender && packet.to == *to && same_frame(&packet.note, note)
 }
@@ -55,8 +56,10 @@ impl Flying {
 
     /// Takes out the packet of this frame, which goes to this name.
     fn take_out(&mut self, sender: Origin, to: &NodeName, note: &Frame) -> Result<(), CheckError>
-        ensures refused { IfErr result (IsNotThere self.old.map.entries (record { sender = sender; to = to.now; note = note.now })) }
-        ensures ok { OnOk result (TakesOut self.old.map.entries (record { sender = sender; to = to.now; note = note.now }) self.new.map.entries) }
+        ensures refused { IfErr result
+            (IsNotThere self.old.map.entries (record { sender = sender; to = to.now; note = note.now })) }
+        ensures ok { OnOk result (TakesOut self.old.map.entries
+            (record { sender = sender; to = to.now; note = note.now }) self.new.map.entries) }
     {
         let id = FrameId::of(sender, note);
         let number = id.number;

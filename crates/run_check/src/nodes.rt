@@ -53,7 +53,8 @@ impl<C: Drop> Nodes<C> {
     /// Rejects a run whose incarnation does not exceed that of its name's last start.
     pub(crate) fn judge(&self, run: &Origin) -> Result<(), CheckError>
         ensures stale { IfErr result (IsStale self.now.map.entries run.now) }
-        ensures fresh { OnOk result (IfSome (lookup (same_name run.now.name) self.now.map.entries) (λ node. node.highest.0 < run.now.incarnation.0)) }
+        ensures fresh { OnOk result (IfSome (lookup (same_name run.now.name) self.now.map.entries)
+            (λ node. node.highest.0 < run.now.incarnation.0)) }
     {
         match self.map.get(&run.name) {
             Some(node) if node.highest >= run.incarnation => Err(CheckError::Stale(node.highest)),
@@ -80,7 +81,8 @@ impl<C: Core<Global, Note = Frame>> Nodes<C> {
         stimulus: &StimulusRef<'_, Frame>,
     ) -> Result<Outcome, CheckError>
         ensures refused { IfErr result (IsNoStep C.is_spent self.old.map.entries run.now (lent stimulus.now)) }
-        ensures steps { IfOk result (λ did. Steps C.state C.starts C.steps self.old.map.entries run.now (lent stimulus.now) did.sends.items did.given.items did.moved self.new.map.entries) }
+        ensures steps { IfOk result (λ did. Steps C.state C.starts C.steps self.old.map.entries run.now
+            (lent stimulus.now) did.sends.items did.given.items did.moved self.new.map.entries) }
     {
         let Some(node) = self.map.get_mut(&run.name) else {
             return Err(CheckError::NotRunning);
@@ -102,8 +104,10 @@ fn step_core<C: Core<Global, Note = Frame>>(
     stimulus: &StimulusRef<'_, Frame>,
 ) -> Result<Outcome, CheckError>
     ensures refused { IfErr result (IsCoreRefusal C.is_spent core.old (lent stimulus.now)) }
-    ensures stepped { IfOk result (λ did. C.steps core.old (lent stimulus.now) did.sends.items did.given.items core.new) }
-    ensures moves { IfOk result (λ did. (did.moved ≡ false) ↔ SameNames (C.state core.old).active (C.state core.new).active) }
+    ensures stepped { IfOk result
+        (λ did. C.steps core.old (lent stimulus.now) did.sends.items did.given.items core.new) }
+    ensures moves { IfOk result
+        (λ did. (did.moved ≡ false) ↔ SameNames (C.state core.old).active (C.state core.new).active) }
 {
     let mut out = Out::new(alloc);
     let moved = match core.prepare(stimulus, &mut out) {

@@ -33,7 +33,11 @@ impl<C> Model for RunCheck<C> {
 
     ghost Value = { Kept C };
 
-    ghost view = { λ check. record { limits = check.limits; nodes = check.nodes.map.entries; packets = check.flying.map.entries } };
+    ghost view = { λ check. record {
+      limits = check.limits;
+      nodes = check.nodes.map.entries;
+      packets = check.flying.map.entries;
+    } };
 }
 
 impl<C: Core<Global, Note = Frame>> RunCheck<C> {
@@ -76,7 +80,11 @@ impl<C: Core<Global, Note = Frame>> RunCheck<C> {
     ) -> Result<(), CheckError>
         ensures limits { self.new.limits ≡ self.old.limits }
         ensures refused { IfErr result (IsNoStart self.old run peers.now contact) }
-        ensures goes_on { (past : List Entry) (group : Group C Said) → Follows C.state C.starts C.steps self.old past group → OnOk result ((entry : Entry) × (entry.event ≡ Start run.name run.incarnation peers.now contact) × GoesOn C.state C.starts C.steps group past entry self.new) }
+        ensures goes_on { (past : List Entry) (group : Group C Said)
+            → Follows C.state C.starts C.steps self.old past group
+            → OnOk result ((entry : Entry)
+            × (entry.event ≡ Start run.name run.incarnation peers.now contact)
+            × GoesOn C.state C.starts C.steps group past entry self.new) }
     {
         self.nodes.judge(&run)?;
         if !are_peers(&self.limits, &run.name, peers, &contact) {
@@ -95,7 +103,8 @@ impl<C: Core<Global, Note = Frame>> RunCheck<C> {
         self.flying.post(&run, sends.into_vec())
     }
 
-    /// Has a run take a stimulus, and returns what it delivers by that. A frame arrives once, and only once it was sent.
+    /// Has a run take a stimulus, and returns what it delivers by that. A frame arrives once, and only once it was
+    /// sent.
     pub fn take(
         &mut self,
         run: &Origin,
@@ -103,7 +112,10 @@ impl<C: Core<Global, Note = Frame>> RunCheck<C> {
     ) -> Result<Vec<Delivery>, CheckError>
         ensures limits { self.new.limits ≡ self.old.limits }
         ensures refused { IfErr result (IsRefused C.is_spent self.old run.now stimulus.now) }
-        ensures goes_on { (past : List Entry) (group : Group C Said) → Follows C.state C.starts C.steps self.old past group → IfOk result (λ given. TakesOn C.state C.starts C.steps group past run.now.name stimulus.now given.items self.new) }
+        ensures goes_on { (past : List Entry) (group : Group C Said)
+            → Follows C.state C.starts C.steps self.old past group
+            → IfOk result
+            (λ given. TakesOn C.state C.starts C.steps group past run.now.name stimulus.now given.items self.new) }
     {
         let lent = stimulus.as_ref();
         self.flying.receive(&run.name, &lent)?;
@@ -115,7 +127,9 @@ impl<C: Core<Global, Note = Frame>> RunCheck<C> {
 
     /// Tells a caller's proof what holds of the run so far. At run time it does nothing.
     pub fn headline(&self)
-        ensures { (past : List Entry) (group : Group C Said) → Follows C.state C.starts C.steps self.now past group → Headline C.state frame_content (record { limits = self.now.limits; group = group; log = reverse past }) }
+        ensures { (past : List Entry) (group : Group C Said)
+            → Follows C.state C.starts C.steps self.now past group
+            → Headline C.state frame_content (record { limits = self.now.limits; group = group; log = reverse past }) }
     {
         let _limits = self.limits;
     }

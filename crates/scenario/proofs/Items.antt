@@ -22,7 +22,9 @@ both : {d e : Data} {ds es : Items} → d ≡ e → ds ≡ es → item d ds ≡ 
 both p q = cc
 
 -- values that are all tables are the items of a list of tables, as many of them
-pub tables_of_values : (vs : List Value) → All (λ v. IsSome (as_table (view v))) vs → (ms : List Members) × (items_view vs ≡ tables ms) × (length ms ≡ length vs)
+pub tables_of_values : (vs : List Value) →
+    All (λ v. IsSome (as_table (view v))) vs →
+    (ms : List Members) × (items_view vs ≡ tables ms) × (length ms ≡ length vs)
 tables_of_values [] h = ([], refl, refl)
 tables_of_values (v ∷ vs) h =
     let first = members_of_table (view v) (All-head (λ w. IsSome (as_table (view w))) v vs h) in
@@ -48,7 +50,10 @@ texts-push [] t = refl
 texts-push (u ∷ ts) t = ap (item (string u)) (texts-push ts t)
 
 -- each value among texts is one of them
-pub text_at : (vs : List Value) (ts : List (List ℕ)) (i : ℕ) (d : Value) → items_view vs ≡ texts ts → i < length vs → (i < length ts) × (view (get_or vs i d) ≡ string (get_or ts i []))
+pub text_at : (vs : List Value) (ts : List (List ℕ)) (i : ℕ) (d : Value) →
+    items_view vs ≡ texts ts →
+    i < length vs →
+    (i < length ts) × (view (get_or vs i d) ≡ string (get_or ts i []))
 text_at [] ts i d e h = absurd (omega arith)
 text_at (v ∷ vs) [] i d e h = absurd (cc e)
 text_at (v ∷ vs) (t ∷ ts) zero d e h = (omega arith, cc e)
@@ -58,15 +63,26 @@ text_at (v ∷ vs) (t ∷ ts) (suc i) d e h =
     (let below : i < length ts = rest.0 in omega arith, rest.1)
 
 -- one more value, and one more text
-items_view-more : (vs : List Value) (i : ℕ) (v : Value) → i < length vs → v ≡ get_or vs i v → items_view (take (i + 1) vs) ≡ push_item (items_view (take i vs)) (view v)
+items_view-more : (vs : List Value) (i : ℕ) (v : Value) →
+    i < length vs →
+    v ≡ get_or vs i v →
+    items_view (take (i + 1) vs) ≡ push_item (items_view (take i vs)) (view v)
 items_view-more vs i v h e = ap items_view (take_more vs i v h) ∙ ap (λ (w : Value). items_view (take i vs ++ w ∷ [])) (sym e) ∙ items_view-push (take i vs) v
 
-pub texts-more : (vs : List Value) (ts : List (List ℕ)) (i : ℕ) (v : Value) (t : List ℕ) → i < length vs → v ≡ get_or vs i v → items_view (take i vs) ≡ texts ts → view v ≡ string t → items_view (take (i + 1) vs) ≡ texts (ts ++ t ∷ [])
+pub texts-more : (vs : List Value) (ts : List (List ℕ)) (i : ℕ) (v : Value) (t : List ℕ) →
+    i < length vs →
+    v ≡ get_or vs i v →
+    items_view (take i vs) ≡ texts ts →
+    view v ≡ string t →
+    items_view (take (i + 1) vs) ≡ texts (ts ++ t ∷ [])
 texts-more vs ts i v t h e before here =
     items_view-more vs i v h e ∙ ap (λ (ds : Items). push_item ds (view v)) before ∙ ap (push_item (texts ts)) here ∙ sym (texts-push ts t)
 
 -- each value among tables is one of them
-pub table_at : (vs : List Value) (ms : List Members) (i : ℕ) (d : Value) → items_view vs ≡ tables ms → i < length vs → (i < length ms) × (view (get_or vs i d) ≡ table (get_or ms i no_members))
+pub table_at : (vs : List Value) (ms : List Members) (i : ℕ) (d : Value) →
+    items_view vs ≡ tables ms →
+    i < length vs →
+    (i < length ms) × (view (get_or vs i d) ≡ table (get_or ms i no_members))
 table_at [] ms i d e h = absurd (omega arith)
 table_at (v ∷ vs) [] i d e h = absurd (cc e)
 table_at (v ∷ vs) (m ∷ ms) zero d e h = (omega arith, cc e)

@@ -3,7 +3,11 @@ use Rattle.std.proofs.Common.{ℕ, ◌<◌, zero, suc, List, [], ◌∷◌, ◌+
 use Rattle.std.specs.List.{AllZip}
 
 -- one more place of the first list, and one more item of the second
-pub AllZip-more : {A B : Type 0} (R : A → B → Type 0) (xs : List A) (bs : List B) (i : ℕ) (d : A) (b : B) → i < length xs → AllZip R (take i xs) bs → R (get_or xs i d) b → AllZip R (take (suc i) xs) (bs ++ b ∷ [])
+pub AllZip-more : {A B : Type 0} (R : A → B → Type 0) (xs : List A) (bs : List B) (i : ℕ) (d : A) (b : B) →
+    i < length xs →
+    AllZip R (take i xs) bs →
+    R (get_or xs i d) b →
+    AllZip R (take (suc i) xs) (bs ++ b ∷ [])
 AllZip-more R [] bs i d b h zip here = absurd (omega arith)
 AllZip-more R (a ∷ xs) [] zero d b h zip here = (here, tt)
 AllZip-more R (a ∷ xs) (c ∷ bs) zero d b h zip here = absurd zip

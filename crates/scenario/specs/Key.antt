@@ -1,7 +1,8 @@
 -- How the keys of a scenario are written.
 use Rattle.std.specs.Prelude.{ℕ, List, codes}
 use Rattle.scenario.specs.declared.error.Key.{Key}
-use Rattle.scenario.specs.declared.error.Key.TheVariants.{Seed, Limits, Event, Active, Passive, Arwl, Prwl, Ka, Kp, Threshold, Keep, LimitsTogether, Do, Node, Incarnation, Peers, Contact, Text, Place, Number, Origin, Seq, Peer, Ticks, Name, Port, Say}
+use Rattle.scenario.specs.declared.error.Key.TheVariants.{Seed, Limits, Event, Active, Passive, Arwl, Prwl, Ka, Kp, Threshold, Keep, LimitsTogether, Do}
+use Rattle.scenario.specs.declared.error.Key.TheVariants.{Node, Incarnation, Peers, Contact, Text, Place, Number, Origin, Seq, Peer, Ticks, Name, Port, Say}
 
 -- the word for each key; limits that are inconsistent with each other have the code of that error
 abbrev pub word_of : Key → List ℕ

@@ -74,7 +74,8 @@ impl Action {
     /// Reads the table of one event.
     pub fn from_section(alloc: Global, section: &Section<'_>) -> Result<Action, ScenarioError>
         ensures ok { IfOk result (IsAction (table_view section.now.table.now)) }
-        ensures refused { IfErr result (λ e. e ≢ ScenarioError.OutOfMemory → (action : Action) → ¬ IsAction (table_view section.now.table.now) action) }
+        ensures refused { IfErr result (λ e.
+            e ≢ ScenarioError.OutOfMemory → (action : Action) → ¬ IsAction (table_view section.now.table.now) action) }
     {
         match section.text(Key::Do)? {
             "start" => start(alloc, section),
@@ -98,7 +99,8 @@ impl Action {
 fn start(alloc: Global, section: &Section<'_>) -> Result<Action, ScenarioError>
     requires { IsText (at_key Key.Do (table_view section.now.table.now)) (codes "start") }
     ensures ok { IfOk result (IsAction (table_view section.now.table.now)) }
-    ensures refused { IfErr result (λ e. e ≢ ScenarioError.OutOfMemory → (action : Action) → ¬ IsAction (table_view section.now.table.now) action) }
+    ensures refused { IfErr result (λ e.
+        e ≢ ScenarioError.OutOfMemory → (action : Action) → ¬ IsAction (table_view section.now.table.now) action) }
 {
     let node = section.name(Key::Node)?;
     let incarnation = Incarnation(section.number(Key::Incarnation)?);
@@ -115,7 +117,8 @@ fn start(alloc: Global, section: &Section<'_>) -> Result<Action, ScenarioError>
 fn broadcast(alloc: Global, section: &Section<'_>) -> Result<Action, ScenarioError>
     requires { IsText (at_key Key.Do (table_view section.now.table.now)) (codes "broadcast") }
     ensures ok { IfOk result (IsAction (table_view section.now.table.now)) }
-    ensures refused { IfErr result (λ e. e ≢ ScenarioError.OutOfMemory → (action : Action) → ¬ IsAction (table_view section.now.table.now) action) }
+    ensures refused { IfErr result (λ e.
+        e ≢ ScenarioError.OutOfMemory → (action : Action) → ¬ IsAction (table_view section.now.table.now) action) }
 {
     let node = section.name(Key::Node)?;
     let text = section.text(Key::Text)?;

@@ -14,7 +14,8 @@ use toml::Table;
 /// Reads the limits of a table, or returns the standard limits if there is no table.
 pub fn limits_of(table: Option<&Table>) -> Result<Limits, ScenarioError>
     ensures ok { IfOk result (HasLimits (option_map (λ found. as_data (table_view found.now)) table.entry)) }
-    ensures refused { IfErr result (λ _. (sizes : Sizes) → ¬ HasLimits (option_map (λ found. as_data (table_view found.now)) table.entry) sizes) }
+    ensures refused { IfErr result
+        (λ _. (sizes : Sizes) → ¬ HasLimits (option_map (λ found. as_data (table_view found.now)) table.entry) sizes) }
 {
     match table {
         Some(table) => limits(&Section {
@@ -46,7 +47,8 @@ pub fn limits(section: &Section<'_>) -> Result<Limits, ScenarioError>
 }
 
 fn limit(section: &Section<'_>, key: Key, standard: u8) -> Result<u8, ScenarioError>
-    ensures { ReadsRequired (IsLimit 255 standard) (at_key key (table_view section.now.table.now)) (ScenarioError.Refused section.now.place key) result }
+    ensures { ReadsRequired (IsLimit 255 standard) (at_key key (table_view section.now.table.now))
+        (ScenarioError.Refused section.now.place key) result }
 {
     match section.optional_number(key, 255)? {
         Some(number) => Ok(number as u8),
@@ -56,7 +58,8 @@ fn limit(section: &Section<'_>, key: Key, standard: u8) -> Result<u8, ScenarioEr
 
 /// Reads a number that is 0 if it is left out.
 fn number(section: &Section<'_>, key: Key) -> Result<u32, ScenarioError>
-    ensures { ReadsRequired (IsLimit (2 ^ 32 - 1) 0) (at_key key (table_view section.now.table.now)) (ScenarioError.Refused section.now.place key) result }
+    ensures { ReadsRequired (IsLimit (2 ^ 32 - 1) 0) (at_key key (table_view section.now.table.now))
+        (ScenarioError.Refused section.now.place key) result }
 {
     match section.optional_number(key, u64::from(u32::MAX))? {
         Some(number) => Ok(number as u32),

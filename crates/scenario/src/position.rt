@@ -10,7 +10,8 @@ pub fn event_line(source: &[u8], events: usize, number: usize) -> Option<usize> 
 }
 
 /// The line, counted from 1, of a key in the table of a place, in a scenario with this number of events, or of nodes if
-/// the place is a node. If the key of an event, a node or the limits is not found, this is the line on which these begin.
+/// the place is a node. If the key of an event, a node or the limits is not found, this is the line on which these
+/// begin.
 /// `None` if no line is found.
 ///
 /// The library for TOML tells no lines, so they are searched for here, and a text of several lines can mislead that.

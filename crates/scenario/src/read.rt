@@ -16,7 +16,8 @@ pub const MAX_SCENARIO_BYTES: usize = 1_048_576;
 
 /// Reads the whole input, but at most one byte more than a scenario may have. A read that is interrupted is retried.
 pub fn read_text<R: Read>(alloc: Global, input: &mut R) -> io::Result<Vec<u8>>
-    ensures text { IfOk result (λ text. IfSome (R.remaining input.old) (λ rest. text.items ≡ take (MAX_SCENARIO_BYTES + 1) rest)) }
+    ensures text { IfOk result
+        (λ text. IfSome (R.remaining input.old) (λ rest. text.items ≡ take (MAX_SCENARIO_BYTES + 1) rest)) }
     ensures retried { IfErr result (λ error. error_kind error ≢ ErrorKind.Interrupted) }
 {
     let mut text = Vec::new(alloc);
@@ -32,7 +33,10 @@ pub fn read_document(alloc: Global, text: &[u8]) -> Result<Table, ScenarioError>
     ensures ok { IfOk result (λ table. IsUtf8 text.now × (parse_document text.now ≡ Some (table_view table))) }
     ensures too_long { IsErrOf result ScenarioError.TooLong → MAX_SCENARIO_BYTES < length text.now }
     ensures not_toml { IsErrOf result ScenarioError.NotToml → IsUtf8 text.now → parse_document text.now ≡ None }
-    ensures refused { IfErr result (λ fault. fault ≢ ScenarioError.OutOfMemory → length text.now ≤ MAX_SCENARIO_BYTES → IsUtf8 text.now → parse_document text.now ≡ None) }
+    ensures refused { IfErr result (λ fault. fault ≢ ScenarioError.OutOfMemory
+        → length text.now ≤ MAX_SCENARIO_BYTES
+        → IsUtf8 text.now
+        → parse_document text.now ≡ None) }
 {
     if text.len() > MAX_SCENARIO_BYTES {
         return Err(ScenarioError::TooLong);

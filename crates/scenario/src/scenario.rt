@@ -32,8 +32,11 @@ pub struct Scenario {
 impl Scenario {
     /// Reads a document as a scenario: first the keys at its top, then the limits, then each event.
     pub fn from_document(alloc: Global, document: &Table) -> Result<Scenario, ScenarioError>
-        ensures ok { IfOk result (λ scenario. Describes MAX_EVENTS (table_view document.now) scenario.seed scenario.limits scenario.actions.items) }
-        ensures refused { IfErr result (λ e. e ≢ ScenarioError.OutOfMemory → (seed : Option ℕ) (sizes : Sizes) (actions : List Action) → ¬ Describes MAX_EVENTS (table_view document.now) seed sizes actions) }
+        ensures ok { IfOk result (λ scenario.
+            Describes MAX_EVENTS (table_view document.now) scenario.seed scenario.limits scenario.actions.items) }
+        ensures refused { IfErr result (λ e. e ≢ ScenarioError.OutOfMemory
+            → (seed : Option ℕ) (sizes : Sizes) (actions : List Action)
+            → ¬ Describes MAX_EVENTS (table_view document.now) seed sizes actions) }
     {
         let top = Section {
             place: Place::Top,
@@ -60,8 +63,10 @@ impl Scenario {
 
 /// Reads a text as a scenario.
 pub fn read_scenario(alloc: Global, text: &[u8]) -> Result<Scenario, ScenarioError>
-    ensures ok { IfOk result (λ scenario. IsScenario MAX_SCENARIO_BYTES MAX_EVENTS text.now scenario.seed scenario.limits scenario.actions.items) }
-    ensures refused { IfErr result (λ fault. fault ≢ ScenarioError.OutOfMemory → (seed : Option ℕ) (sizes : Sizes) (actions : List Action)
+    ensures ok { IfOk result (λ scenario.
+        IsScenario MAX_SCENARIO_BYTES MAX_EVENTS text.now scenario.seed scenario.limits scenario.actions.items) }
+    ensures refused { IfErr result
+        (λ fault. fault ≢ ScenarioError.OutOfMemory → (seed : Option ℕ) (sizes : Sizes) (actions : List Action)
         → ¬ IsScenario MAX_SCENARIO_BYTES MAX_EVENTS text.now seed sizes actions) }
 {
     let document = read_document(alloc, text)?;
@@ -70,8 +75,13 @@ pub fn read_scenario(alloc: Global, text: &[u8]) -> Result<Scenario, ScenarioErr
 
 /// The actions of a list of tables.
 fn actions(alloc: Global, events: &[Value]) -> Result<Vec<Action>, ScenarioError>
-    ensures ok { IfOk result (λ actions. (members : List Members) → items_view events.now ≡ tables members → AreActions members actions.items) }
-    ensures refused { IfErr result (λ e. e ≢ ScenarioError.OutOfMemory → (members : List Members) → items_view events.now ≡ tables members → (actions : List Action) → ¬ AreActions members actions) }
+    ensures ok { IfOk result (λ actions.
+        (members : List Members) → items_view events.now ≡ tables members → AreActions members actions.items) }
+    ensures refused { IfErr result (λ e. e ≢ ScenarioError.OutOfMemory
+        → (members : List Members)
+        → items_view events.now ≡ tables members
+        → (actions : List Action)
+        → ¬ AreActions members actions) }
 {
     let mut actions = Vec::new(alloc);
     for (number, event) in events.iter().enumerate() {
@@ -82,8 +92,13 @@ fn actions(alloc: Global, events: &[Value]) -> Result<Vec<Action>, ScenarioError
 
 /// The action of the table with this number.
 fn numbered_action(alloc: Global, number: usize, event: &Value) -> Result<Action, ScenarioError>
-    ensures ok { IfOk result (λ action. (members : Members) → view event.now ≡ table members → IsAction members action) }
-    ensures refused { IfErr result (λ e. e ≢ ScenarioError.OutOfMemory → (members : Members) → view event.now ≡ table members → (action : Action) → ¬ IsAction members action) }
+    ensures ok { IfOk result
+        (λ action. (members : Members) → view event.now ≡ table members → IsAction members action) }
+    ensures refused { IfErr result (λ e. e ≢ ScenarioError.OutOfMemory
+        → (members : Members)
+        → view event.now ≡ table members
+        → (action : Action)
+        → ¬ IsAction members action) }
 {
     match event.as_table() {
         Some(table) => {

@@ -1,9 +1,12 @@
 //! One table of a scenario, and how the values of its keys are read.
-ghost use Rattle.std.specs.Prelude.{◌≡◌, ◌≢◌, ℕ, List, Some, option_map, MatchOption, IfOk, IfErr, IsTrue, IsSome, All, ◌↔◌, ◌≤◌, length};
+ghost use Rattle.std.specs.Prelude.{◌≡◌, ◌≢◌, ℕ, List, Some, option_map, MatchOption};
+ghost use Rattle.std.specs.Prelude.{IfOk, IfErr, IsTrue, IsSome, All, ◌↔◌, ◌≤◌, length};
 ghost use Rattle.node_names.specs.NodeName.{IsNodeName, Name};
 ghost use Rattle.toml.specs.View.{view, table_view, items_view};
 ghost use Rattle.toml.specs.Data.{Members, as_table};
-ghost use Rattle.scenario.specs.Reading.{at_key, ReadsOptional, ReadsOptionalAs, ReadsRequired, ReadsRequiredAs, IsNumber, IsNumberFromOne, IsText, IsName, IsTable, IsNames, IsList, IsTables, tables, texts};
+ghost use Rattle.scenario.specs.Reading.{at_key, ReadsOptional, ReadsOptionalAs, ReadsRequired};
+ghost use Rattle.scenario.specs.Reading.{ReadsRequiredAs, IsNumber, IsNumberFromOne, IsText};
+ghost use Rattle.scenario.specs.Reading.{IsName, IsTable, IsNames, IsList, IsTables, tables, texts};
 
 use crate::error::{Key, Place, ScenarioError};
 use bytes::Bytes;
@@ -38,7 +41,8 @@ impl<'a> Section<'a> {
 
     /// Reads the whole number at a key, from 0 to `most`, or `None` if the key is left out.
     pub fn optional_number(&self, key: Key, most: u64) -> Result<Option<u64>, ScenarioError>
-        ensures { ReadsOptional (IsNumber most) (at_key key (table_view self.now.table.now)) (ScenarioError.Refused self.now.place key) result }
+        ensures { ReadsOptional (IsNumber most) (at_key key (table_view self.now.table.now))
+            (ScenarioError.Refused self.now.place key) result }
     {
         match self.get(key) {
             None => Ok(None),
@@ -64,7 +68,8 @@ impl<'a> Section<'a> {
 
     /// Reads the whole number at a key, which may be up to `u64::MAX`.
     pub fn number(&self, key: Key) -> Result<u64, ScenarioError>
-        ensures { ReadsRequired (IsNumber u64.MAX) (at_key key (table_view self.now.table.now)) (ScenarioError.Refused self.now.place key) result }
+        ensures { ReadsRequired (IsNumber u64.MAX) (at_key key (table_view self.now.table.now))
+            (ScenarioError.Refused self.now.place key) result }
     {
         match self.optional_number(key, u64::MAX)? {
             Some(number) => Ok(number),
@@ -74,7 +79,8 @@ impl<'a> Section<'a> {
 
     /// Reads the whole number at a key, which is at least 1.
     pub fn number_from_one(&self, key: Key) -> Result<u64, ScenarioError>
-        ensures { ReadsRequired (IsNumberFromOne u64.MAX) (at_key key (table_view self.now.table.now)) (ScenarioError.Refused self.now.place key) result }
+        ensures { ReadsRequired (IsNumberFromOne u64.MAX) (at_key key (table_view self.now.table.now))
+            (ScenarioError.Refused self.now.place key) result }
     {
         match self.number(key)? {
             0 => Err(self.refused(key)),
@@ -84,7 +90,8 @@ impl<'a> Section<'a> {
 
     /// Reads the text at a key.
     pub fn text(&self, key: Key) -> Result<&'a str, ScenarioError>
-        ensures { ReadsRequiredAs (λ text. text.now) IsText (at_key key (table_view self.now.table.now)) (ScenarioError.Refused self.now.place key) result }
+        ensures { ReadsRequiredAs (λ text. text.now) IsText (at_key key (table_view self.now.table.now))
+            (ScenarioError.Refused self.now.place key) result }
     {
         match self.get(key).and_then(Value::as_str) {
             Some(text) => Ok(text),
@@ -94,7 +101,8 @@ impl<'a> Section<'a> {
 
     /// Reads the name at a key, or `None` if the key is left out.
     pub fn optional_name(&self, key: Key) -> Result<Option<NodeName>, ScenarioError>
-        ensures { ReadsOptional IsName (at_key key (table_view self.now.table.now)) (ScenarioError.Refused self.now.place key) result }
+        ensures { ReadsOptional IsName (at_key key (table_view self.now.table.now))
+            (ScenarioError.Refused self.now.place key) result }
     {
         match self.get(key) {
             None => Ok(None),
@@ -107,7 +115,8 @@ impl<'a> Section<'a> {
 
     /// Reads the name at a key.
     pub fn name(&self, key: Key) -> Result<NodeName, ScenarioError>
-        ensures { ReadsRequired IsName (at_key key (table_view self.now.table.now)) (ScenarioError.Refused self.now.place key) result }
+        ensures { ReadsRequired IsName (at_key key (table_view self.now.table.now))
+            (ScenarioError.Refused self.now.place key) result }
     {
         match self.optional_name(key)? {
             Some(name) => Ok(name),
@@ -117,7 +126,8 @@ impl<'a> Section<'a> {
 
     /// Reads the table at a key, or `None` if the key is left out.
     pub fn optional_table(&self, key: Key) -> Result<Option<&'a Table>, ScenarioError>
-        ensures { ReadsOptionalAs (λ table. table_view table.now) IsTable (at_key key (table_view self.now.table.now)) (ScenarioError.Refused self.now.place key) result }
+        ensures { ReadsOptionalAs (λ table. table_view table.now) IsTable
+            (at_key key (table_view self.now.table.now)) (ScenarioError.Refused self.now.place key) result }
     {
         match self.get(key) {
             None => Ok(None),
@@ -130,7 +140,8 @@ impl<'a> Section<'a> {
 
     /// Reads the list at a key, or `None` if the key is left out.
     fn optional_list(&self, key: Key) -> Result<Option<&'a [Value]>, ScenarioError>
-        ensures { ReadsOptionalAs (λ values. items_view values.now) IsList (at_key key (table_view self.now.table.now)) (ScenarioError.Refused self.now.place key) result }
+        ensures { ReadsOptionalAs (λ values. items_view values.now) IsList
+            (at_key key (table_view self.now.table.now)) (ScenarioError.Refused self.now.place key) result }
     {
         match self.get(key) {
             None => Ok(None),
@@ -143,8 +154,11 @@ impl<'a> Section<'a> {
 
     /// Reads the list at a key, of at most `most` items, all of them tables. The list is empty if the key is left out.
     pub fn tables(&self, key: Key, most: usize) -> Result<&'a [Value], ScenarioError>
-        ensures ok { IfOk result (λ values. (members : List Members) × IsTables most (at_key key (table_view self.now.table.now)) members × (items_view values.now ≡ tables members)) }
-        ensures refused { IfErr result (λ e. (e ≡ ScenarioError.Refused self.now.place key) × ((members : List Members) → ¬ IsTables most (at_key key (table_view self.now.table.now)) members)) }
+        ensures ok { IfOk result (λ values. (members : List Members)
+            × IsTables most (at_key key (table_view self.now.table.now)) members
+            × (items_view values.now ≡ tables members)) }
+        ensures refused { IfErr result (λ e. (e ≡ ScenarioError.Refused self.now.place key)
+            × ((members : List Members) → ¬ IsTables most (at_key key (table_view self.now.table.now)) members)) }
     {
         match self.optional_list(key)? {
             None => Ok(&[]),
@@ -161,7 +175,9 @@ impl<'a> Section<'a> {
     /// Reads the names at a key, in order, or no names if the key is left out.
     pub fn names(&self, alloc: Global, key: Key) -> Result<Listed<NodeName>, ScenarioError>
         ensures ok { IfOk result (IsNames (at_key key (table_view self.now.table.now))) }
-        ensures refused { IfErr result (λ e. e ≢ ScenarioError.OutOfMemory → (e ≡ ScenarioError.Refused self.now.place key) × ((names : List Name) → ¬ IsNames (at_key key (table_view self.now.table.now)) names)) }
+        ensures refused { IfErr result
+            (λ e. e ≢ ScenarioError.OutOfMemory → (e ≡ ScenarioError.Refused self.now.place key)
+            × ((names : List Name) → ¬ IsNames (at_key key (table_view self.now.table.now)) names)) }
     {
         let Some(values) = self.optional_list(key)? else {
             return Ok(Listed::new(alloc));
@@ -187,7 +203,8 @@ impl<'a> Section<'a> {
 
 /// Whether there are at most `most` values, all of them tables.
 fn are_few_tables(values: &[Value], most: usize) -> bool
-    ensures { IsTrue result ↔ ((members : List Members) × (items_view values.now ≡ tables members) × (length members ≤ most)) }
+    ensures { IsTrue result
+        ↔ ((members : List Members) × (items_view values.now ≡ tables members) × (length members ≤ most)) }
 {
     values.len() <= most && are_tables(values)
 }
@@ -201,7 +218,9 @@ fn are_tables(values: &[Value]) -> bool
 
 /// The values as names, or `None` if one of them is not a name.
 fn names_of(alloc: Global, values: &[Value]) -> Result<Option<Listed<NodeName>>, AllocError>
-    ensures { IfOk result (λ found. MatchOption found ((names : List Name) → items_view values.now ≡ texts names → ¬ All IsNodeName names) (λ names. (items_view values.now ≡ texts names) × All IsNodeName names)) }
+    ensures { IfOk result (λ found. MatchOption found
+        ((names : List Name) → items_view values.now ≡ texts names → ¬ All IsNodeName names)
+        (λ names. (items_view values.now ≡ texts names) × All IsNodeName names)) }
 {
     let mut names = Listed::new(alloc);
     for value in values {
@@ -215,7 +234,8 @@ fn names_of(alloc: Global, values: &[Value]) -> Result<Option<Listed<NodeName>>,
 
 /// The value as a whole number from 0 to `most`, if it is one.
 fn number_of(value: &Value, most: u64) -> Option<u64>
-    ensures { MatchOption result ((n : ℕ) → ¬ IsNumber most (Some (view value.now)) n) (IsNumber most (Some (view value.now))) }
+    ensures { MatchOption result ((n : ℕ) → ¬ IsNumber most (Some (view value.now)) n)
+        (IsNumber most (Some (view value.now))) }
 {
     match value.as_integer() {
         Some(number) => {
@@ -231,7 +251,8 @@ fn number_of(value: &Value, most: u64) -> Option<u64>
 
 /// The value as a name, if it is a text that is one.
 fn name_of(value: &Value) -> Option<NodeName>
-    ensures { MatchOption result ((name : List ℕ) → ¬ IsName (Some (view value.now)) name) (IsName (Some (view value.now))) }
+    ensures { MatchOption result ((name : List ℕ) → ¬ IsName (Some (view value.now)) name)
+        (IsName (Some (view value.now))) }
 {
     match value.as_str() {
         Some(text) => NodeName::parse(text.as_bytes()).ok(),

@@ -7,7 +7,12 @@ use Rattle.world.specs.Entry.{Entry}
 use Rattle.world.specs.History.{deliveries}
 
 -- one item more
-pub mapped-more : {X Y : Type 0} (f : X → Y) (old : List Y) (now new : List X) (ys : List Y) (i : ℕ) (x : X) → i < length ys → new ≡ now ++ x ∷ [] → f x ≡ get_or ys i (f x) → map f now ≡ old ++ take i ys → map f new ≡ old ++ take (i + 1) ys
+pub mapped-more : {X Y : Type 0} (f : X → Y) (old : List Y) (now new : List X) (ys : List Y) (i : ℕ) (x : X) →
+    i < length ys →
+    new ≡ now ++ x ∷ [] →
+    f x ≡ get_or ys i (f x) →
+    map f now ≡ old ++ take i ys →
+    map f new ≡ old ++ take (i + 1) ys
 mapped-more {X} {Y} f old now new ys i x within pushed at before =
     ap (map f) pushed
     ∙ map-append f now (x ∷ [])
@@ -34,7 +39,10 @@ mapped-sorted {X} {Y} f lt xs sorted k d low within =
     ∙ sorted k e low here
 
 -- the deliveries of a log, one entry longer
-pub deliveries-more : (log : List Entry) (i : ℕ) (entry : Entry) → i < length log → entry ≡ get_or log i entry → deliveries (reverse (take (i + 1) log)) ≡ deliveries (reverse (take i log)) ++ entry.given
+pub deliveries-more : (log : List Entry) (i : ℕ) (entry : Entry) →
+    i < length log →
+    entry ≡ get_or log i entry →
+    deliveries (reverse (take (i + 1) log)) ≡ deliveries (reverse (take i log)) ++ entry.given
 deliveries-more log i entry within at =
     ap (λ (es : List Entry). deliveries (reverse es)) (take_more log i entry within ∙ ap (λ (e : Entry). take i log ++ e ∷ []) (sym at))
     ∙ ap deliveries (reverse-append (take i log) (entry ∷ []))

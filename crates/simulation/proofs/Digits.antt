@@ -16,7 +16,9 @@ take-two_writes xs o x y fits =
     rw (two, second, first) (append_assoc (take o xs) (x ∷ []) (y ∷ []))
 
 -- the digits of what is left, from one byte on
-hexadecimal-drop : (bs : List ℕ) (i : ℕ) → i < length bs → hexadecimal (drop i bs) ≡ hex_digit (slice_index bs i / 16) ∷ hex_digit (slice_index bs i % 16) ∷ hexadecimal (drop (i + 1) bs)
+hexadecimal-drop : (bs : List ℕ) (i : ℕ) →
+    i < length bs →
+    hexadecimal (drop i bs) ≡ hex_digit (slice_index bs i / 16) ∷ hex_digit (slice_index bs i % 16) ∷ hexadecimal (drop (i + 1) bs)
 hexadecimal-drop bs i h = rw (drop_more bs i 0 h) refl
 
 -- the digits of one byte more are written
@@ -49,5 +51,9 @@ hexadecimal-append [] cs = refl
 hexadecimal-append (b ∷ bs) cs = rw (hexadecimal-append bs cs) refl
 
 -- the digits of one chunk more are appended
-pub chunk_step : (old new whole left chunk rest : List ℕ) → new ≡ old ++ hexadecimal chunk → left ≡ chunk ++ rest → old ++ hexadecimal left ≡ whole → new ++ hexadecimal rest ≡ whole
+pub chunk_step : (old new whole left chunk rest : List ℕ) →
+    new ≡ old ++ hexadecimal chunk →
+    left ≡ chunk ++ rest →
+    old ++ hexadecimal left ≡ whole →
+    new ++ hexadecimal rest ≡ whole
 chunk_step old new whole left chunk rest appended parts inv = rw (appended, append_assoc) (rw (parts, hexadecimal-append) at inv)

@@ -16,13 +16,21 @@ pub drawn : (id : MsgId) (group : Group Plum Frame) (numbers : List ℕ) → fly
 drawn id group [] = refl
 drawn id group (number ∷ numbers) = go (drawn id group numbers) (slice_get group.sent number) refl
   where
-    go : flying_lines id group (about id group.sent numbers) ≡ flying_lines id group numbers → (found : Option (Packet Frame)) → slice_get group.sent number ≡ found → flying_lines id group (option_map_or (λ (packet : Packet Frame). number_if id number packet) found [] ++ about id group.sent numbers) ≡ flying_line id group.nodes number found ++ flying_lines id group numbers
+    go : flying_lines id group (about id group.sent numbers) ≡ flying_lines id group numbers →
+        (found : Option (Packet Frame)) →
+        slice_get group.sent number ≡ found →
+        flying_lines id group (option_map_or (λ (packet : Packet Frame). number_if id number packet) found [] ++ about id group.sent numbers)
+        ≡ flying_line id group.nodes number found ++ flying_lines id group numbers
     go later None e = later
     go later (Some packet) e = silent (is_silent id (frame_content packet.note)) refl
       where
-        silent : (b : Bool) → is_silent id (frame_content packet.note) ≡ b → flying_lines id group ((if b then [] else number ∷ []) ++ about id group.sent numbers) ≡ (if b then [] else flying_arrow id number packet.sender (option_map origin_of (node_of packet.to group.nodes))) ++ flying_lines id group numbers
+        silent : (b : Bool) →
+            is_silent id (frame_content packet.note) ≡ b →
+            flying_lines id group ((if b then [] else number ∷ []) ++ about id group.sent numbers)
+            ≡ (if b then [] else flying_arrow id number packet.sender (option_map origin_of (node_of packet.to group.nodes))) ++ flying_lines id group numbers
         silent true is = later
         silent false is =
             ap (λ (rest : List ℕ). flying_at id group number ++ rest) later
             ∙ ap (λ (line : List ℕ). line ++ flying_lines id group numbers)
-            (ap (flying_line id group.nodes number) e ∙ ap (λ (b : Bool). if b then [] else flying_arrow id number packet.sender (option_map origin_of (node_of packet.to group.nodes))) is)
+            (ap (flying_line id group.nodes number) e
+            ∙ ap (λ (b : Bool). if b then [] else flying_arrow id number packet.sender (option_map origin_of (node_of packet.to group.nodes))) is)

@@ -16,7 +16,12 @@ use Rattle.scenario.specs.declared.action.Action.TheVariants.{Down, Fire}
 
 module _ (group : Group Plum Frame) (node : Name) where
   -- a timer that is armed
-  pub armed : (id : MsgId) (core : Plum) → core_of node group.nodes ≡ Some core → has_id (plum_state core).timers id ≡ true → (why : Idle) → IsIdle plum_state why (Fire node id) group → ⊥
+  pub armed : (id : MsgId) (core : Plum) →
+      core_of node group.nodes ≡ Some core →
+      has_id (plum_state core).timers id ≡ true →
+      (why : Idle) →
+      IsIdle plum_state why (Fire node id) group →
+      ⊥
   armed id core runs has NoTimer (name, other, its, is, also, lacks) =
       let same_name : node ≡ name = cc is in
       let same_id : id ≡ other = cc is in
@@ -25,13 +30,19 @@ module _ (group : Group Plum Frame) (node : Name) where
   armed id core runs has NoLink (name, peer, its, is, also, lacks) = absurd (cc is)
 
   -- a link that is there
-  pub linked : (peer : Name) (core : Plum) → core_of node group.nodes ≡ Some core → has_name (plum_state core).active peer ≡ true → (why : Idle) → IsIdle plum_state why (Down node peer) group → ⊥
+  pub linked : (peer : Name) (core : Plum) →
+      core_of node group.nodes ≡ Some core →
+      has_name (plum_state core).active peer ≡ true →
+      (why : Idle) →
+      IsIdle plum_state why (Down node peer) group →
+      ⊥
   linked peer core runs has NoTimer (name, id, its, is, also, lacks) = absurd (cc is)
   linked peer core runs has NoLink (name, other, its, is, also, lacks) =
       let same_name : node ≡ name = cc is in
       let same_peer : peer ≡ other = cc is in
       let same : core ≡ its = same_Some core its (sym runs ∙ ap (λ (n : Name). core_of n group.nodes) same_name ∙ also) in
-      true≢false (sym has ∙ ap (λ (c : Plum). has_name (plum_state c).active peer) same ∙ ap (λ (p : Name). has_name (plum_state its).active p) same_peer ∙ lacks)
+      true≢false
+      (sym has ∙ ap (λ (c : Plum). has_name (plum_state c).active peer) same ∙ ap (λ (p : Name). has_name (plum_state its).active p) same_peer ∙ lacks)
 
   -- a node that does not run
   pub stopped_timer : (id : MsgId) → core_of node group.nodes ≡ None → (why : Idle) → IsIdle plum_state why (Fire node id) group → ⊥
@@ -49,6 +60,11 @@ module _ (group : Group Plum Frame) (node : Name) where
       absurd (cc both)
 
 -- what neither fires a timer nor has a link fail
-pub neither : (group : Group Plum Frame) (action : Action) → ((node : Name) (id : MsgId) → action ≢ Fire node id) → ((node : Name) (peer : Name) → action ≢ Down node peer) → (why : Idle) → IsIdle plum_state why action group → ⊥
+pub neither : (group : Group Plum Frame) (action : Action) →
+    ((node : Name) (id : MsgId) → action ≢ Fire node id) →
+    ((node : Name) (peer : Name) → action ≢ Down node peer) →
+    (why : Idle) →
+    IsIdle plum_state why action group →
+    ⊥
 neither group action not_fire not_down NoTimer (node, id, core, is, runs, lacks) = not_fire node id is
 neither group action not_fire not_down NoLink (node, peer, core, is, runs, lacks) = not_down node peer is

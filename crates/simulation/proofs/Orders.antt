@@ -17,4 +17,5 @@ pub msg_id_total : IsTotalOrder msg_id_cmp
 msg_id_total = then_total (on_total (λ (id : MsgId). id.origin) origin_total) (on_total (λ (id : MsgId). id.seq) nat_cmp_total)
 
 pub origin_antisymmetric : (a b : Origin) → origin_cmp a b ≡ Equal → a ≡ b
-origin_antisymmetric a b e = (same_origin-Decides a b).0 (both_tied _ _ _ _ (texts_ties a.name b.name) (unsigned_ties a.incarnation.0 b.incarnation.0) ∙ ap is_eq e)
+origin_antisymmetric a b e =
+    (same_origin-Decides a b).0 (both_tied _ _ _ _ (texts_ties a.name b.name) (unsigned_ties a.incarnation.0 b.incarnation.0) ∙ ap is_eq e)

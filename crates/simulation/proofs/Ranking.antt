@@ -1,5 +1,6 @@
 -- Ranks have the order of what they are ranks of.
-use Rattle.std.proofs.Common.{◌≡◌, ◌∙◌, ◌+◌, ◌<◌, ◌≤◌, ℕ, Bool, true, false, List, [], ◌∷◌, ◌++◌, Some, None, get_or, length, take, nat_lt, ap, sym, refl, subst, arith, if◌then◌else◌, All, Contains}
+use Rattle.std.proofs.Common.{◌≡◌, ◌∙◌, ◌+◌, ◌<◌, ◌≤◌, ℕ, Bool, true, false, List, [], ◌∷◌, ◌++◌, Some, None, get_or}
+use Rattle.std.proofs.Common.{length, take, nat_lt, ap, sym, refl, subst, arith, if◌then◌else◌, All, Contains}
 use Rattle.std.specs.Cmp.{IsTotalOrder}
 use Rattle.std.specs.List.{list_any, position_or_len}
 use Rattle.std.specs.List.Sorted.{IsSortedBy}
@@ -23,7 +24,11 @@ module _ {K : Type 0} (eq : K → K → Bool) (same : (x y : K) → eq x y ≡ t
       by false e = subst (λ l. Contains l x) (sym (ap (λ c. if c then ks else ks ++ k ∷ []) e)) (Contains-append_left ks (k ∷ []) x has)
 
   -- the value of one item more
-  pub all_inserted-more : {D : Type 0} (value : D → K) (ds : List D) (i : ℕ) (d : D) (ks : List K) → i < length ds → d ≡ get_or ds i d → All (λ e. Contains ks (value e)) (take i ds) → All (λ e. Contains (insert_key eq ks (value d)) (value e)) (take (i + 1) ds)
+  pub all_inserted-more : {D : Type 0} (value : D → K) (ds : List D) (i : ℕ) (d : D) (ks : List K) →
+      i < length ds →
+      d ≡ get_or ds i d →
+      All (λ e. Contains ks (value e)) (take i ds) →
+      All (λ e. Contains (insert_key eq ks (value d)) (value e)) (take (i + 1) ds)
   all_inserted-more {D} value ds i d ks within is all =
       let Has : D → Type 0 = λ e. Contains (insert_key eq ks (value d)) (value e) in
       All-more Has ds i d within
@@ -59,8 +64,16 @@ module _ {K : Type 0} (eq : K → K → Bool) (same : (x y : K) → eq x y ≡ t
   not_lower m n e = grind arith
 
   -- what has no lower rank is no less
-  pub rank-lower : (cmp : K → K → Ordering) → IsTotalOrder cmp → (ks : List K) (x y : K) → IsSortedBy (λ a b. is_lt (cmp a b)) ks → Contains ks x → Contains ks y → is_lt (nat_cmp (rank_in eq ks x) (rank_in eq ks y)) ≡ false → is_lt (cmp x y) ≡ false
+  pub rank-lower : (cmp : K → K → Ordering) →
+      IsTotalOrder cmp →
+      (ks : List K) (x y : K) →
+      IsSortedBy (λ a b. is_lt (cmp a b)) ks →
+      Contains ks x →
+      Contains ks y →
+      is_lt (nat_cmp (rank_in eq ks x) (rank_in eq ks y)) ≡ false →
+      is_lt (cmp x y) ≡ false
   rank-lower cmp total ks x y sorted has_x has_y higher =
       let order = not_lower _ _ higher in
-      let far = sorted_far (λ a b. is_lt (cmp a b)) (ranks_by total (λ (a : K). a)) ks sorted (rank_in eq ks y) (rank_in eq ks x) x order (rank-within ks x has_x) in
+      let far =
+      sorted_far (λ a b. is_lt (cmp a b)) (ranks_by total (λ (a : K). a)) ks sorted (rank_in eq ks y) (rank_in eq ks x) x order (rank-within ks x has_x) in
       sym (ap (λ (a : K). is_lt (cmp a (get_or ks (rank_in eq ks y) x))) (rank-at ks x x has_x) ∙ ap (λ (b : K). is_lt (cmp x b)) (rank-at ks y x has_y)) ∙ far

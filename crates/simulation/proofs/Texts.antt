@@ -3,7 +3,11 @@ use Rattle.std.proofs.Common.{◌≡◌, ℕ, List, [], ◌++◌, sym, append-ni
 use Rattle.std.specs.Io.KnownBytes.{Appends}
 use Rattle.trace_text.proofs.Texts.{joined}
 
-pub written : (old mid new : Option (List ℕ)) (part step whole : List ℕ) → Appends old mid part → Appends mid new step → whole ≡ part ++ step → Appends old new whole
+pub written : (old mid new : Option (List ℕ)) (part step whole : List ℕ) →
+    Appends old mid part →
+    Appends mid new step →
+    whole ≡ part ++ step →
+    Appends old new whole
 written None mid new part step whole a b w = tt
 written (Some xs) None new part step whole a b w = absurd a
 written (Some xs) (Some ys) None part step whole a b w = absurd b

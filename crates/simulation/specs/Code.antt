@@ -4,7 +4,8 @@ use Rattle.std.specs.Fmt.{decimal}
 use Rattle.at_rest.specs.declared.error.SettleError.{SettleError}
 use Rattle.at_rest.specs.declared.error.SettleError.TheVariants as settle
 use Rattle.world.specs.declared.error.WorldError.{WorldError}
-use Rattle.world.specs.declared.error.WorldError.TheVariants.{UnknownNode, NotRunning, StaleIncarnation, BadPeers, NoPacket, PayloadTooLong, SeqSpent, OutOfMemory}
+use Rattle.world.specs.declared.error.WorldError.TheVariants.{UnknownNode, NotRunning, StaleIncarnation, BadPeers}
+use Rattle.world.specs.declared.error.WorldError.TheVariants.{NoPacket, PayloadTooLong, SeqSpent, OutOfMemory}
 
 -- `W` and a number; for a stale incarnation the highest one of the node is printed too
 abbrev pub code_of : WorldError → List ℕ

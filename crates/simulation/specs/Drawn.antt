@@ -39,5 +39,6 @@ pub record DrawsShown (only : Option MsgId) (group : Logged Plum Frame) (before 
 pub record Draws (most : ℕ) (only : Option MsgId) (seed : Option ℕ) (limits : Limits) (actions : List Action) (before after : Option (List ℕ)) : Type 0 where
   pub group : Logged Plum Frame
   pub rolls : Option Stream
-  pub played : PlaysActions plum_state PlumStarts PlumSteps most actions (record { rolls = rolls_of seed; group = empty_group limits }) (record { rolls = rolls; group = group })
+  pub played : PlaysActions plum_state PlumStarts PlumSteps most actions
+      (record { rolls = rolls_of seed; group = empty_group limits }) (record { rolls = rolls; group = group })
   pub drawn : DrawsShown only group before after

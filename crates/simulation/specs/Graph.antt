@@ -42,7 +42,8 @@ link_lines name (member ∷ members) = link_line name member ++ link_lines name 
 -- dotted
 abbrev pub node_lines : Origin → Option Plum → List ℕ
 node_lines node None = codes "    \"" ++ node.name ++ codes "\" [label = \"" ++ origin_text node ++ codes " stopped\", style = dotted];\n"
-node_lines node (Some core) = codes "    \"" ++ node.name ++ codes "\" [label = \"" ++ origin_text node ++ codes "\"];\n" ++ link_lines node.name core.gossip.peers.members
+node_lines node (Some core) =
+    codes "    \"" ++ node.name ++ codes "\" [label = \"" ++ origin_text node ++ codes "\"];\n" ++ link_lines node.name core.gossip.peers.members
 
 -- the lines of a node of a group
 abbrev pub state_lines : NodeState Plum → List ℕ
@@ -70,7 +71,9 @@ edge_line id node (Some parent) = between_text id parent node ++ codes " [style 
 
 -- the lines of a delivery: the run that delivered, and the arrow to it
 abbrev pub twig_lines : MsgId → Branch → List ℕ
-twig_lines id branch = (codes "    \"" ++ msg_id_text id ++ codes " " ++ origin_text branch.node ++ codes "\" [label = \"" ++ origin_text branch.node ++ codes "\"];\n") ++ edge_line id branch.node branch.parent
+twig_lines id branch =
+    (codes "    \"" ++ msg_id_text id ++ codes " " ++ origin_text branch.node ++ codes "\" [label = \"" ++ origin_text branch.node ++ codes "\"];\n")
+    ++ edge_line id branch.node branch.parent
 
 -- the lines of deliveries, in their order
 abbrev pub crown_lines : MsgId → List Branch → List ℕ
@@ -79,7 +82,8 @@ crown_lines id (branch ∷ branches) = twig_lines id branch ++ crown_lines id br
 
 -- the line of a run that has not delivered the message: it is dotted
 abbrev pub lacking_line : MsgId → Origin → List ℕ
-lacking_line id node = codes "    \"" ++ msg_id_text id ++ codes " " ++ origin_text node ++ codes "\" [label = \"" ++ origin_text node ++ codes "\", style = dotted];\n"
+lacking_line id node =
+    codes "    \"" ++ msg_id_text id ++ codes " " ++ origin_text node ++ codes "\" [label = \"" ++ origin_text node ++ codes "\", style = dotted];\n"
 
 -- the line of a node, if it runs and has not delivered the message
 abbrev pub lacking_lines_of : MsgId → List Branch → Origin → Option Plum → List ℕ
@@ -113,7 +117,8 @@ flying_arrow id number sender (Some receiver) = arrow_line id number sender rece
 -- the line of a packet with this number, if there is one and it carries, announces or asks for the message
 abbrev pub flying_line : MsgId → List (NodeState Plum) → ℕ → Option (Packet Frame) → List ℕ
 flying_line id nodes number None = []
-flying_line id nodes number (Some packet) = if is_silent id (frame_content packet.note) then [] else flying_arrow id number packet.sender (option_map origin_of (node_of packet.to nodes))
+flying_line id nodes number (Some packet) =
+    if is_silent id (frame_content packet.note) then [] else flying_arrow id number packet.sender (option_map origin_of (node_of packet.to nodes))
 
 -- the line of the packet that was sent with this number
 abbrev pub flying_at : MsgId → Group Plum Frame → ℕ → List ℕ
@@ -142,7 +147,8 @@ head_text id rest = opening_text id ++ title_text id rest
 
 -- the part of a message
 abbrev pub part_text : MsgId → Bool → List Branch → Group Plum Frame → List ℕ
-part_text id rest branches group = head_text id rest ++ crown_lines id branches ++ lacking_lines id branches group.nodes ++ flying_lines id group group.flight ++ codes "  }\n"
+part_text id rest branches group =
+    head_text id rest ++ crown_lines id branches ++ lacking_lines id branches group.nodes ++ flying_lines id group group.flight ++ codes "  }\n"
 
 module _ (group : Logged Plum Frame) where
   -- The text is the part of a message in this group.
@@ -156,4 +162,7 @@ module _ (group : Logged Plum Frame) where
   pub record DrawsGroup (ids : List MsgId) (text : List ℕ) : Type 0 where
     pub parts : List ℕ
     pub drawn : InTurn DrawsPart ids parts
-    pub written : text ≡ (((codes "digraph plumtree {\n  rankdir = LR;\n  subgraph \"cluster overlay\" {\n    label = \"overlay\";\n" ++ overlay_lines group.group.nodes) ++ codes "  }\n") ++ parts) ++ codes "}\n"
+    pub written : text
+        ≡ (((codes "digraph plumtree {\n  rankdir = LR;\n  subgraph \"cluster overlay\" {\n    label = \"overlay\";\n" ++ overlay_lines group.group.nodes)
+        ++ codes "  }\n") ++ parts)
+        ++ codes "}\n"

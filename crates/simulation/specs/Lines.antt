@@ -25,7 +25,9 @@ payload_text (b ∷ bs) = hexadecimal (b ∷ bs)
 
 -- the line of a delivery: the run that delivered, the message's id, and the length and the bytes of its payload
 abbrev pub line_of : Delivery → List ℕ
-line_of d = codes "deliver " ++ origin_text d.node ++ codes " " ++ msg_id_text d.id ++ codes " " ++ decimal (length d.payload) ++ codes " " ++ payload_text d.payload ++ codes "\n"
+line_of d =
+    codes "deliver " ++ origin_text d.node ++ codes " " ++ msg_id_text d.id ++ codes " "
+    ++ decimal (length d.payload) ++ codes " " ++ payload_text d.payload ++ codes "\n"
 
 -- the lines of deliveries, in their order
 abbrev pub lines_of : List Delivery → List ℕ

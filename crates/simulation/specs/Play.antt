@@ -1,5 +1,6 @@
 -- How the actions of a scenario are played in a group.
-use Rattle.std.specs.Prelude.{◌≡◌, ◌≢◌, ◌<◌, ◌≤◌, ℕ, zero, suc, false, List, [], ◌∷◌, ◌++◌, Option, Some, None, MatchOption, reverse, slice_get, take, IsPermutation, IsSorted}
+use Rattle.std.specs.Prelude.{◌≡◌, ◌≢◌, ◌<◌, ◌≤◌, ℕ, zero, suc, false, List, [], ◌∷◌, ◌++◌, Option, Some}
+use Rattle.std.specs.Prelude.{None, MatchOption, reverse, slice_get, take, IsPermutation, IsSorted}
 use Rattle.std.specs.Io.KnownBytes.{Appends}
 use Rattle.node_names.specs.Same.{has_id, has_name}
 use Rattle.node_names.specs.NodeName.{Name}
@@ -100,8 +101,15 @@ pub record Standing (C N : Type 0) : Type 0 where
 -- The action would do nothing, although its node runs: the timer that fires is not armed, or the link that fails does
 -- not exist.
 abbrev pub IsIdle : {C N : Type 0} → (C → CoreState) → Idle → Action → Group C N → Type 0
-IsIdle {C} state idle.NoTimer action group = (node : Name) × (id : MsgId) × (core : C) × (action ≡ Fire node id) × (core_of node group.nodes ≡ Some core) × (has_id (state core).timers id ≡ false)
-IsIdle {C} state idle.NoLink action group = (node : Name) × (peer : Name) × (core : C) × (action ≡ Down node peer) × (core_of node group.nodes ≡ Some core) × (has_name (state core).active peer ≡ false)
+IsIdle {C} state idle.NoTimer action group =
+    (node : Name) × (id : MsgId) × (core : C) × (action ≡ Fire node id) × (core_of node group.nodes ≡ Some core) × (has_id (state core).timers id ≡ false)
+IsIdle {C} state idle.NoLink action group =
+    (node : Name)
+    × (peer : Name)
+    × (core : C)
+    × (action ≡ Down node peer)
+    × (core_of node group.nodes ≡ Some core)
+    × (has_name (state core).active peer ≡ false)
 
 module _
     {C N : Type 0}
@@ -155,7 +163,8 @@ module _
       -- fails.
       abbrev pub StopsSettling : SettleError → Logged C N → Logged C N → Type 0
       StopsSettling settle.NotCalm old new = (new ≡ old) × (IsCalm state content old.group → ⊥)
-      StopsSettling settle.SeqSpent old new = (events : List Event) × Settles state starts steps events old new × IsNextSpent state starts steps is_spent new.group
+      StopsSettling settle.SeqSpent old new =
+          (events : List Event) × Settles state starts steps events old new × IsNextSpent state starts steps is_spent new.group
       StopsSettling settle.OutOfMemory old new = (events : List Event) × Settles state starts steps events old new
 
       -- An action stops early: its event, or an arrival after some others, is refused, or a packet is still in flight
@@ -166,7 +175,14 @@ module _
           (λ e. (new ≡ old.group) × Refuses e why new)
       HaltsIn most action (halt.Unsettled why) old new = (event_of (rolled old.rolls) action ≡ None) × StopsSettling why old.group new
       HaltsIn most action (halt.Idle why) old new = (new ≡ old.group) × IsIdle state why action old.group.group
-      HaltsIn most action halt.NoEnd old new = (event_of (rolled old.rolls) action ≡ None) × (n : ℕ) × (n ≡ most) × (between : Standing C N) × Drains n old between × (new ≡ between.group) × (new.group.flight ≢ [])
+      HaltsIn most action halt.NoEnd old new =
+          (event_of (rolled old.rolls) action ≡ None)
+          × (n : ℕ)
+          × (n ≡ most)
+          × (between : Standing C N)
+          × Drains n old between
+          × (new ≡ between.group)
+          × (new.group.flight ≢ [])
 
       -- The run stops at the action with this number, after all those before it were played.
       pub record HaltsAt (most : ℕ) (actions : List Action) (number : ℕ) (stop : ActionError) (old : Standing C N) (new : Logged C N) : Type 0 where
@@ -182,7 +198,8 @@ module _
 
 -- The output gains what is printed for a group and its deliveries: the lines of the deliveries, sorted, and then those
 -- of each message that was broadcast, in the order of their ids.
-pub record PrintsGroup {C N : Type 0} (state : C → CoreState) (content : N → Content) (group : Logged C N) (deliveries : List Delivery) (before after : Option (List ℕ)) : Type 0 where
+pub record PrintsGroup {C N : Type 0} (state : C → CoreState) (content : N → Content)
+    (group : Logged C N) (deliveries : List Delivery) (before after : Option (List ℕ)) : Type 0 where
   pub lines : List Delivery
   pub messages : List MsgId
   pub trees : List ℕ
@@ -208,7 +225,8 @@ pub record Prints
     : Type 0 where
   pub group : Logged C N
   pub rolls : Option Stream
-  pub played : PlaysActions state starts steps most actions (record { rolls = rolls_of seed; group = empty_group limits }) (record { rolls = rolls; group = group })
+  pub played : PlaysActions state starts steps most actions
+      (record { rolls = rolls_of seed; group = empty_group limits }) (record { rolls = rolls; group = group })
   pub printed : PrintsGroup state content group (delivered group) before after
 
 -- The output gains what is printed for a group that played these actions up to the one at which it stopped with this

@@ -1,5 +1,6 @@
 -- The trace of a run, step by step.
-use Rattle.std.specs.Prelude.{◌≡◌, ◌↔◌, ℕ, zero, suc, Bool, IsTrue, List, [], ◌++◌, length, reverse, Option, Some, None, slice_get, codes, IsPermutation, IsSorted}
+use Rattle.std.specs.Prelude.{◌≡◌, ◌↔◌, ℕ, zero, suc, Bool, IsTrue, List, [], ◌++◌, length, reverse}
+use Rattle.std.specs.Prelude.{Option, Some, None, slice_get, codes, IsPermutation, IsSorted}
 use Rattle.std.specs.Fmt.{decimal}
 use Rattle.std.specs.Io.KnownBytes.{Appends}
 use Rattle.at_rest.specs.Tree.{tree_of}
@@ -82,5 +83,6 @@ pub record TellsGroup (group : Logged Plum Frame) (before after : Option (List �
 pub record Traces (most : ℕ) (seed : Option ℕ) (limits : Limits) (actions : List Action) (before after : Option (List ℕ)) : Type 0 where
   pub group : Logged Plum Frame
   pub rolls : Option Stream
-  pub played : PlaysActions plum_state PlumStarts PlumSteps most actions (record { rolls = rolls_of seed; group = empty_group limits }) (record { rolls = rolls; group = group })
+  pub played : PlaysActions plum_state PlumStarts PlumSteps most actions
+      (record { rolls = rolls_of seed; group = empty_group limits }) (record { rolls = rolls; group = group })
   pub told : TellsGroup group before after

@@ -35,7 +35,10 @@ pub fn ended(
     written: Result<(), OutputError>,
 ) -> Result<(), SimulationError>
     ensures ok { OnOk result (IsOk played × IsOk written) }
-    ensures stopped { (fault : PlayError) → result ≡ Err (SimulationError.Stopped fault) → fault ≢ PlayError.OutOfMemory → (played ≡ Err fault) × IsOk written }
+    ensures stopped { (fault : PlayError)
+        → result ≡ Err (SimulationError.Stopped fault)
+        → fault ≢ PlayError.OutOfMemory
+        → (played ≡ Err fault) × IsOk written }
     ensures read { (fault : ScenarioError) → result ≢ Err (SimulationError.Refused fault) }
 {
     match written {

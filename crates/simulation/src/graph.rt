@@ -26,7 +26,9 @@ pub fn write_graph<A: Allocator + Copy, W: Write>(
     messages: &[MsgId],
     out: &mut W,
 ) -> Result<(), OutputError>
-    ensures { OnOk result ((text : List ℕ) × DrawsGroup group.now messages.now text × Appends (W.contents out.old) (W.contents out.new) text) }
+    ensures { OnOk result ((text : List ℕ)
+        × DrawsGroup group.now messages.now text
+        × Appends (W.contents out.old) (W.contents out.new) text) }
 {
     let mut text = String::new(alloc);
     push_graph(alloc, &mut text, group, messages)?;
@@ -41,7 +43,9 @@ fn push_graph<A: Allocator + Copy>(
     group: &World<PlumCore<A>, A>,
     messages: &[MsgId],
 ) -> Result<(), AllocError>
-    ensures { OnOk result ((drawn : List ℕ) × DrawsGroup group.now messages.now drawn × (string_bytes text.new ≡ string_bytes text.old ++ drawn)) }
+    ensures { OnOk result ((drawn : List ℕ)
+        × DrawsGroup group.now messages.now drawn
+        × (string_bytes text.new ≡ string_bytes text.old ++ drawn)) }
 {
     text.push_str(
         "digraph plumtree {\n  rankdir = LR;\n  subgraph \"cluster overlay\" {\n    label = \"overlay\";\n",

@@ -1,5 +1,5 @@
-//! Plays scenarios in a simulated group, and prints, draws or traces the outcome. This is a library, so that tests can play
-//! scenarios by readers and writers of their own.
+//! Plays scenarios in a simulated group, and prints, draws or traces the outcome. This is a library, so that tests can
+//! play scenarios by readers and writers of their own.
 #![tactic(auto)]
 
 mod code;

@@ -40,11 +40,19 @@ pub fn simulate<W: Write>(
 ) -> Result<(), SimulationError>
     ensures printed { OnOk result ((seed : Option ℕ) × (sizes : Sizes) × (actions : List Action)
         × IsScenario MAX_SCENARIO_BYTES MAX_EVENTS text.now seed sizes actions
-        × Prints plum_state frame_content PlumStarts PlumSteps MAX_ARRIVALS seed sizes actions (W.contents out.old) (W.contents out.new)) }
-    ensures stopped { (fault : PlayError) → result ≡ Err (SimulationError.Stopped fault) → fault ≢ PlayError.OutOfMemory → (seed : Option ℕ) × (sizes : Sizes) × (actions : List Action)
+        × Prints plum_state frame_content PlumStarts PlumSteps MAX_ARRIVALS seed sizes actions
+        (W.contents out.old) (W.contents out.new)) }
+    ensures stopped { (fault : PlayError)
+        → result ≡ Err (SimulationError.Stopped fault)
+        → fault ≢ PlayError.OutOfMemory
+        → (seed : Option ℕ) × (sizes : Sizes) × (actions : List Action)
         × IsScenario MAX_SCENARIO_BYTES MAX_EVENTS text.now seed sizes actions
-        × PrintsHalted plum_state frame_content PlumStarts PlumSteps PlumIsSpent MAX_ARRIVALS seed sizes actions fault (W.contents out.old) (W.contents out.new) }
-    ensures refused { (fault : ScenarioError) → result ≡ Err (SimulationError.Refused fault) → fault ≢ ScenarioError.OutOfMemory → (seed : Option ℕ) (sizes : Sizes) (actions : List Action)
+        × PrintsHalted plum_state frame_content PlumStarts PlumSteps PlumIsSpent MAX_ARRIVALS seed sizes actions fault
+        (W.contents out.old) (W.contents out.new) }
+    ensures refused { (fault : ScenarioError)
+        → result ≡ Err (SimulationError.Refused fault)
+        → fault ≢ ScenarioError.OutOfMemory
+        → (seed : Option ℕ) (sizes : Sizes) (actions : List Action)
         → ¬ IsScenario MAX_SCENARIO_BYTES MAX_EVENTS text.now seed sizes actions }
     ensures unplayed { (fault : ScenarioError) → result ≡ Err (SimulationError.Refused fault) → out.new ≡ out.old }
 {
@@ -64,7 +72,10 @@ pub fn draw<W: Write>(
     ensures drawn { OnOk result ((seed : Option ℕ) × (sizes : Sizes) × (actions : List Action)
         × IsScenario MAX_SCENARIO_BYTES MAX_EVENTS text.now seed sizes actions
         × Draws MAX_ARRIVALS only.now seed sizes actions (W.contents out.old) (W.contents out.new)) }
-    ensures refused { (fault : ScenarioError) → result ≡ Err (SimulationError.Refused fault) → fault ≢ ScenarioError.OutOfMemory → (seed : Option ℕ) (sizes : Sizes) (actions : List Action)
+    ensures refused { (fault : ScenarioError)
+        → result ≡ Err (SimulationError.Refused fault)
+        → fault ≢ ScenarioError.OutOfMemory
+        → (seed : Option ℕ) (sizes : Sizes) (actions : List Action)
         → ¬ IsScenario MAX_SCENARIO_BYTES MAX_EVENTS text.now seed sizes actions }
     ensures unplayed { (fault : ScenarioError) → result ≡ Err (SimulationError.Refused fault) → out.new ≡ out.old }
 {
@@ -84,7 +95,10 @@ pub fn trace<W: Write>(
     ensures traced { OnOk result ((seed : Option ℕ) × (sizes : Sizes) × (actions : List Action)
         × IsScenario MAX_SCENARIO_BYTES MAX_EVENTS text.now seed sizes actions
         × Traces MAX_ARRIVALS seed sizes actions (W.contents out.old) (W.contents out.new)) }
-    ensures refused { (fault : ScenarioError) → result ≡ Err (SimulationError.Refused fault) → fault ≢ ScenarioError.OutOfMemory → (seed : Option ℕ) (sizes : Sizes) (actions : List Action)
+    ensures refused { (fault : ScenarioError)
+        → result ≡ Err (SimulationError.Refused fault)
+        → fault ≢ ScenarioError.OutOfMemory
+        → (seed : Option ℕ) (sizes : Sizes) (actions : List Action)
         → ¬ IsScenario MAX_SCENARIO_BYTES MAX_EVENTS text.now seed sizes actions }
     ensures unplayed { (fault : ScenarioError) → result ≡ Err (SimulationError.Refused fault) → out.new ≡ out.old }
 {
@@ -99,8 +113,13 @@ pub fn play_and_print<A: Allocator + Copy, W: Write>(
     is_strict: bool,
     out: &mut W,
 ) -> Result<(), SimulationError>
-    ensures printed { OnOk result (Prints plum_state frame_content PlumStarts PlumSteps MAX_ARRIVALS scenario.now.seed scenario.now.limits scenario.now.actions.items (W.contents out.old) (W.contents out.new)) }
-    ensures stopped { (fault : PlayError) → result ≡ Err (SimulationError.Stopped fault) → fault ≢ PlayError.OutOfMemory → PrintsHalted plum_state frame_content PlumStarts PlumSteps PlumIsSpent MAX_ARRIVALS scenario.now.seed scenario.now.limits scenario.now.actions.items fault (W.contents out.old) (W.contents out.new) }
+    ensures printed { OnOk result (Prints plum_state frame_content PlumStarts PlumSteps MAX_ARRIVALS
+        scenario.now.seed scenario.now.limits scenario.now.actions.items (W.contents out.old) (W.contents out.new)) }
+    ensures stopped { (fault : PlayError)
+        → result ≡ Err (SimulationError.Stopped fault)
+        → fault ≢ PlayError.OutOfMemory
+        → PrintsHalted plum_state frame_content PlumStarts PlumSteps PlumIsSpent MAX_ARRIVALS scenario.now.seed
+        scenario.now.limits scenario.now.actions.items fault (W.contents out.old) (W.contents out.new) }
     ensures read { (fault : ScenarioError) → result ≢ Err (SimulationError.Refused fault) }
 {
     let Ok(mut text) = String::with_capacity(alloc, LINE_ROOM) else {
@@ -121,7 +140,8 @@ fn play_and_draw<A: Allocator + Copy, W: Write>(
     is_strict: bool,
     out: &mut W,
 ) -> Result<(), SimulationError>
-    ensures drawn { OnOk result (Draws MAX_ARRIVALS only.now scenario.now.seed scenario.now.limits scenario.now.actions.items (W.contents out.old) (W.contents out.new)) }
+    ensures drawn { OnOk result (Draws MAX_ARRIVALS only.now scenario.now.seed
+        scenario.now.limits scenario.now.actions.items (W.contents out.old) (W.contents out.new)) }
     ensures read { (fault : ScenarioError) → result ≢ Err (SimulationError.Refused fault) }
 {
     let mut player = Player::<PlumCore<A>, A>::new(alloc, scenario.seed, scenario.limits);
@@ -139,7 +159,8 @@ pub fn play_and_trace<A: Allocator + Copy, W: Write>(
     is_strict: bool,
     out: &mut W,
 ) -> Result<(), SimulationError>
-    ensures traced { OnOk result (Traces MAX_ARRIVALS scenario.now.seed scenario.now.limits scenario.now.actions.items (W.contents out.old) (W.contents out.new)) }
+    ensures traced { OnOk result (Traces MAX_ARRIVALS scenario.now.seed scenario.now.limits scenario.now.actions.items
+        (W.contents out.old) (W.contents out.new)) }
     ensures read { (fault : ScenarioError) → result ≢ Err (SimulationError.Refused fault) }
 {
     let mut player = Player::<PlumCore<A>, A>::new(alloc, scenario.seed, scenario.limits);
@@ -220,7 +241,8 @@ fn print<C: Core<A>, A: Allocator + Copy, W: Write>(
     group: &World<C, A>,
     out: &mut W,
 ) -> Result<(), OutputError>
-    ensures { OnOk result (PrintsGroup C.state C.Note.content group.now (delivered group.now) (W.contents out.old) (W.contents out.new)) }
+    ensures { OnOk result
+        (PrintsGroup C.state C.Note.content group.now (delivered group.now) (W.contents out.old) (W.contents out.new)) }
 {
     let mut deliveries = output::deliveries(alloc, group.log())?;
     output::sort(&mut deliveries)?;

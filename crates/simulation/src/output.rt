@@ -1,5 +1,6 @@
 //! The lines that are printed for deliveries.
-ghost use Rattle.std.specs.Prelude.{◌≡◌, ◌<◌, ◌≤◌, ◌*◌, ◌++◌, length, map, reverse, take, IsAscii, IsPermutation, IsSorted, IfOk, OnOk, string_bytes};
+ghost use Rattle.std.specs.Prelude.{◌≡◌, ◌<◌, ◌≤◌, ◌*◌, ◌++◌, length, map, reverse, take};
+ghost use Rattle.std.specs.Prelude.{IsAscii, IsPermutation, IsSorted, IfOk, OnOk, string_bytes};
 ghost use Rattle.std.specs.Io.KnownBytes.{Appends};
 ghost use Rattle.world.specs.History.{deliveries as all_deliveries};
 ghost use Rattle.simulation.specs.Lines.{hex_digit, hexadecimal, payload_text, line_of, lines_of, line_cmp};
@@ -67,7 +68,8 @@ fn push_each<'a, A: Allocator>(
 ///
 /// Sorts by ranks, first by that of the message, because nodes and ids are slow to compare and to move.
 pub fn sort<A: Allocator + Copy>(deliveries: &mut Vec<&Delivery<A>, A>) -> Result<(), AllocError>
-    ensures permutation { OnOk result (IsPermutation (map (λ d. d.now) deliveries.old.items) (map (λ d. d.now) deliveries.new.items)) }
+    ensures permutation { OnOk result
+        (IsPermutation (map (λ d. d.now) deliveries.old.items) (map (λ d. d.now) deliveries.new.items)) }
     ensures sorted { OnOk result (IsSorted line_cmp (map (λ d. d.now) deliveries.new.items)) }
 {
     let alloc = *deliveries.allocator();
@@ -83,7 +85,8 @@ pub fn write_lines<A: Allocator, W: Write>(
     deliveries: &[&Delivery<A>],
     out: &mut W,
 ) -> Result<(), OutputError>
-    ensures { OnOk result (Appends (W.contents out.old) (W.contents out.new) (lines_of (map (λ d. d.now) deliveries.now))) }
+    ensures { OnOk result
+        (Appends (W.contents out.old) (W.contents out.new) (lines_of (map (λ d. d.now) deliveries.now))) }
 {
     for delivery in deliveries {
         text.clear();

@@ -4,7 +4,8 @@ ghost use Rattle.frames.specs.Content.{frame_content};
 ghost use Rattle.node_core.specs.Plum.{plum_state};
 ghost use Rattle.node_names.specs.Same.{has_name};
 ghost use Rattle.node_core.specs.Steps.{PlumIsSpent, PlumStarts, PlumSteps};
-ghost use Rattle.simulation.specs.Play.{event_of, fault_of, empty_group, rolls_after, HaltsIn, IsHalted, IsIdle, PlaysAction, PlaysActions, Refuses, Takes};
+ghost use Rattle.simulation.specs.Play.{event_of, fault_of, empty_group, rolls_after, HaltsIn};
+ghost use Rattle.simulation.specs.Play.{IsHalted, IsIdle, PlaysAction, PlaysActions, Refuses, Takes};
 ghost use Rattle.simulation.specs.Rolls.{rolled, rolls_in, rolls_of};
 
 use crate::code::{Code, SettleCode};
@@ -139,8 +140,12 @@ impl<C: Core<A>, A: Allocator + Copy> Player<C, A> {
 
     /// Lets the oldest packet arrive until none is in flight.
     fn arrive_all(&mut self) -> Result<(), ActionError>
-        ensures ok { OnOk result (PlaysAction C.state C.starts C.steps MAX_ARRIVALS Action.ArriveAll (record { rolls = rolls_in self.old.rolls; group = self.old.group }) (record { rolls = rolls_in self.new.rolls; group = self.new.group })) }
-        ensures halted { IfErr result (λ halt. halt ≢ ActionError.Refused WorldError.OutOfMemory → HaltsIn C.state C.starts C.steps C.Note.content C.is_spent MAX_ARRIVALS Action.ArriveAll halt (record { rolls = rolls_in self.old.rolls; group = self.old.group }) self.new.group) }
+        ensures ok { OnOk result (PlaysAction C.state C.starts C.steps MAX_ARRIVALS Action.ArriveAll
+            (record { rolls = rolls_in self.old.rolls; group = self.old.group })
+            (record { rolls = rolls_in self.new.rolls; group = self.new.group })) }
+        ensures halted { IfErr result (λ halt. halt ≢ ActionError.Refused WorldError.OutOfMemory
+            → HaltsIn C.state C.starts C.steps C.Note.content C.is_spent MAX_ARRIVALS Action.ArriveAll halt
+            (record { rolls = rolls_in self.old.rolls; group = self.old.group }) self.new.group) }
     {
         for _ in 0..MAX_ARRIVALS {
             if self.group.flight().is_empty() {
@@ -164,7 +169,8 @@ impl<C: Core<A>, A: Allocator + Copy> Player<C, A> {
     /// Plays one event.
     fn step(&mut self, event: Event<A>) -> Result<(), WorldError>
         ensures ok { OnOk result (Takes C.state C.starts C.steps event self.old.group self.new.group) }
-        ensures refused { IfErr result (λ why. why ≢ WorldError.OutOfMemory → (self.new.group ≡ self.old.group) × Refuses C.state C.starts C.steps C.Note.content C.is_spent event why self.new.group) }
+        ensures refused { IfErr result (λ why. why ≢ WorldError.OutOfMemory → (self.new.group ≡ self.old.group)
+            × Refuses C.state C.starts C.steps C.Note.content C.is_spent event why self.new.group) }
         ensures rolls { self.new.rolls ≡ self.old.rolls }
     {
         self.group.play(&event)?;
@@ -175,8 +181,12 @@ impl<C: Core<A>, A: Allocator + Copy> Player<C, A> {
 impl<A: Allocator + Copy> Player<PlumCore<A>, A> {
     /// Plays actions in order. If `is_strict`, an action that does nothing is an error.
     pub fn play(&mut self, alloc: A, actions: &[Action], is_strict: bool) -> Result<(), PlayError>
-        ensures ok { OnOk result (PlaysActions plum_state PlumStarts PlumSteps MAX_ARRIVALS actions.now (record { rolls = rolls_in self.old.rolls; group = self.old.group }) (record { rolls = rolls_in self.new.rolls; group = self.new.group })) }
-        ensures stopped { IfErr result (λ fault. fault ≢ PlayError.OutOfMemory → IsHalted plum_state PlumStarts PlumSteps frame_content PlumIsSpent MAX_ARRIVALS actions.now fault (record { rolls = rolls_in self.old.rolls; group = self.old.group }) self.new.group) }
+        ensures ok { OnOk result (PlaysActions plum_state PlumStarts PlumSteps MAX_ARRIVALS actions.now
+            (record { rolls = rolls_in self.old.rolls; group = self.old.group })
+            (record { rolls = rolls_in self.new.rolls; group = self.new.group })) }
+        ensures stopped { IfErr result (λ fault. fault ≢ PlayError.OutOfMemory
+            → IsHalted plum_state PlumStarts PlumSteps frame_content PlumIsSpent MAX_ARRIVALS actions.now fault
+            (record { rolls = rolls_in self.old.rolls; group = self.old.group }) self.new.group) }
     {
         for (number, action) in actions.iter().enumerate() {
             let taken = self.group.log().len();
@@ -192,8 +202,12 @@ impl<A: Allocator + Copy> Player<PlumCore<A>, A> {
 
     /// Plays one action.
     fn play_action(&mut self, alloc: A, action: &Action, is_strict: bool) -> Result<(), ActionError>
-        ensures ok { OnOk result (PlaysAction plum_state PlumStarts PlumSteps MAX_ARRIVALS action.now (record { rolls = rolls_in self.old.rolls; group = self.old.group }) (record { rolls = rolls_in self.new.rolls; group = self.new.group })) }
-        ensures halted { IfErr result (λ halt. halt ≢ ActionError.Refused WorldError.OutOfMemory → HaltsIn plum_state PlumStarts PlumSteps frame_content PlumIsSpent MAX_ARRIVALS action.now halt (record { rolls = rolls_in self.old.rolls; group = self.old.group }) self.new.group) }
+        ensures ok { OnOk result (PlaysAction plum_state PlumStarts PlumSteps MAX_ARRIVALS action.now
+            (record { rolls = rolls_in self.old.rolls; group = self.old.group })
+            (record { rolls = rolls_in self.new.rolls; group = self.new.group })) }
+        ensures halted { IfErr result (λ halt. halt ≢ ActionError.Refused WorldError.OutOfMemory
+            → HaltsIn plum_state PlumStarts PlumSteps frame_content PlumIsSpent MAX_ARRIVALS action.now halt
+            (record { rolls = rolls_in self.old.rolls; group = self.old.group }) self.new.group) }
     {
         if is_strict && let Some(why) = self.idle(action) {
             return Err(ActionError::Idle(why));
@@ -215,8 +229,12 @@ impl<A: Allocator + Copy> Player<PlumCore<A>, A> {
 
     /// Plays one action, whatever it does.
     fn take_action(&mut self, alloc: A, action: &Action) -> Result<(), ActionError>
-        ensures ok { OnOk result (PlaysAction plum_state PlumStarts PlumSteps MAX_ARRIVALS action.now (record { rolls = rolls_in self.old.rolls; group = self.old.group }) (record { rolls = rolls_in self.new.rolls; group = self.new.group })) }
-        ensures halted { IfErr result (λ halt. halt ≢ ActionError.Refused WorldError.OutOfMemory → HaltsIn plum_state PlumStarts PlumSteps frame_content PlumIsSpent MAX_ARRIVALS action.now halt (record { rolls = rolls_in self.old.rolls; group = self.old.group }) self.new.group) }
+        ensures ok { OnOk result (PlaysAction plum_state PlumStarts PlumSteps MAX_ARRIVALS action.now
+            (record { rolls = rolls_in self.old.rolls; group = self.old.group })
+            (record { rolls = rolls_in self.new.rolls; group = self.new.group })) }
+        ensures halted { IfErr result (λ halt. halt ≢ ActionError.Refused WorldError.OutOfMemory
+            → HaltsIn plum_state PlumStarts PlumSteps frame_content PlumIsSpent MAX_ARRIVALS action.now halt
+            (record { rolls = rolls_in self.old.rolls; group = self.old.group }) self.new.group) }
     {
         match event_of(alloc, &mut self.rolls, action) {
             Ok(Some(event)) => match self.step(event) {
@@ -231,8 +249,12 @@ impl<A: Allocator + Copy> Player<PlumCore<A>, A> {
     /// Plays an action that consists of many events.
     fn play_many(&mut self, alloc: A, action: &Action) -> Result<(), ActionError>
         requires { event_of (rolled (rolls_in self.old.rolls)) action.now ≡ None }
-        ensures ok { OnOk result (PlaysAction plum_state PlumStarts PlumSteps MAX_ARRIVALS action.now (record { rolls = rolls_in self.old.rolls; group = self.old.group }) (record { rolls = rolls_in self.new.rolls; group = self.new.group })) }
-        ensures halted { IfErr result (λ halt. halt ≢ ActionError.Refused WorldError.OutOfMemory → HaltsIn plum_state PlumStarts PlumSteps frame_content PlumIsSpent MAX_ARRIVALS action.now halt (record { rolls = rolls_in self.old.rolls; group = self.old.group }) self.new.group) }
+        ensures ok { OnOk result (PlaysAction plum_state PlumStarts PlumSteps MAX_ARRIVALS action.now
+            (record { rolls = rolls_in self.old.rolls; group = self.old.group })
+            (record { rolls = rolls_in self.new.rolls; group = self.new.group })) }
+        ensures halted { IfErr result (λ halt. halt ≢ ActionError.Refused WorldError.OutOfMemory
+            → HaltsIn plum_state PlumStarts PlumSteps frame_content PlumIsSpent MAX_ARRIVALS action.now halt
+            (record { rolls = rolls_in self.old.rolls; group = self.old.group }) self.new.group) }
     {
         match action {
             Action::ArriveAll => self.arrive_all(),
@@ -243,8 +265,12 @@ impl<A: Allocator + Copy> Player<PlumCore<A>, A> {
 
     /// Brings the group to rest.
     fn settle(&mut self, alloc: A) -> Result<(), ActionError>
-        ensures ok { OnOk result (PlaysAction plum_state PlumStarts PlumSteps MAX_ARRIVALS Action.Settle (record { rolls = rolls_in self.old.rolls; group = self.old.group }) (record { rolls = rolls_in self.new.rolls; group = self.new.group })) }
-        ensures halted { IfErr result (λ halt. HaltsIn plum_state PlumStarts PlumSteps frame_content PlumIsSpent MAX_ARRIVALS Action.Settle halt (record { rolls = rolls_in self.old.rolls; group = self.old.group }) self.new.group) }
+        ensures ok { OnOk result (PlaysAction plum_state PlumStarts PlumSteps MAX_ARRIVALS Action.Settle
+            (record { rolls = rolls_in self.old.rolls; group = self.old.group })
+            (record { rolls = rolls_in self.new.rolls; group = self.new.group })) }
+        ensures halted { IfErr result
+            (λ halt. HaltsIn plum_state PlumStarts PlumSteps frame_content PlumIsSpent MAX_ARRIVALS Action.Settle halt
+            (record { rolls = rolls_in self.old.rolls; group = self.old.group }) self.new.group) }
     {
         match at_rest::settle(alloc, &mut self.group) {
             Ok(_) => Ok(()),
@@ -260,7 +286,9 @@ fn idle_timer<A: Allocator + Copy>(
     id: &MsgId,
 ) -> Option<Idle>
     ensures idle { IfSome result (λ why. IsIdle plum_state why (Action.Fire node.now id.now) group.now.group) }
-    ensures busy { result ≡ None → (why : Idle) → ¬ IsIdle plum_state why (Action.Fire node.now id.now) group.now.group }
+    ensures busy { result ≡ None
+        → (why : Idle)
+        → ¬ IsIdle plum_state why (Action.Fire node.now id.now) group.now.group }
 {
     match group.core(node) {
         Some(core) if !core.is_armed(id) => Some(Idle::NoTimer),
@@ -282,7 +310,9 @@ fn idle_link<A: Allocator + Copy>(
     peer: &NodeName,
 ) -> Option<Idle>
     ensures idle { IfSome result (λ why. IsIdle plum_state why (Action.Down node.now peer.now) group.now.group) }
-    ensures busy { result ≡ None → (why : Idle) → ¬ IsIdle plum_state why (Action.Down node.now peer.now) group.now.group }
+    ensures busy { result ≡ None
+        → (why : Idle)
+        → ¬ IsIdle plum_state why (Action.Down node.now peer.now) group.now.group }
 {
     match group.core(node) {
         Some(core) if !is_linked(core, peer) => Some(Idle::NoLink),

@@ -34,7 +34,8 @@ pub fn play_input<R: Read, W: Write, F: Write>(
     ensures status { result ≤ 2 }
     ensures quiet { result ≡ 0 → faults.new ≡ faults.old }
     ensures unplayed { result ≡ 2 → out.new ≡ out.old }
-    ensures played { result ≡ 0 → IfSome (R.remaining input.old) (λ text. (seed : Option ℕ) × (sizes : Sizes) × (actions : List Action)
+    ensures played { result ≡ 0
+        → IfSome (R.remaining input.old) (λ text. (seed : Option ℕ) × (sizes : Sizes) × (actions : List Action)
         × IsScenario MAX_SCENARIO_BYTES MAX_EVENTS text seed sizes actions
         × IsWritten MAX_ARRIVALS form seed sizes actions (W.contents out.old) (W.contents out.new)) }
 {
@@ -59,7 +60,10 @@ fn play<W: Write, F: Write>(
     ensures played { result ≡ 0 → (seed : Option ℕ) × (sizes : Sizes) × (actions : List Action)
         × IsScenario MAX_SCENARIO_BYTES MAX_EVENTS text.now seed sizes actions
         × IsWritten MAX_ARRIVALS form seed sizes actions (W.contents out.old) (W.contents out.new) }
-    ensures refused { result ≡ 2 → is_strict ≡ false → (seed : Option ℕ) (sizes : Sizes) (actions : List Action) → ¬ IsScenario MAX_SCENARIO_BYTES MAX_EVENTS text.now seed sizes actions }
+    ensures refused { result ≡ 2
+        → is_strict ≡ false
+        → (seed : Option ℕ) (sizes : Sizes) (actions : List Action)
+        → ¬ IsScenario MAX_SCENARIO_BYTES MAX_EVENTS text.now seed sizes actions }
 {
     if is_strict && let Some(status) = report_unknown(alloc, text, faults) {
         return status;
@@ -82,7 +86,9 @@ fn play_known<W: Write, F: Write>(
     ensures played { result ≡ 0 → (seed : Option ℕ) × (sizes : Sizes) × (actions : List Action)
         × IsScenario MAX_SCENARIO_BYTES MAX_EVENTS text.now seed sizes actions
         × IsWritten MAX_ARRIVALS form seed sizes actions (W.contents out.old) (W.contents out.new) }
-    ensures refused { result ≡ 2 → (seed : Option ℕ) (sizes : Sizes) (actions : List Action) → ¬ IsScenario MAX_SCENARIO_BYTES MAX_EVENTS text.now seed sizes actions }
+    ensures refused { result ≡ 2
+        → (seed : Option ℕ) (sizes : Sizes) (actions : List Action)
+        → ¬ IsScenario MAX_SCENARIO_BYTES MAX_EVENTS text.now seed sizes actions }
 {
     let ended = write_outcome(alloc, form, is_strict, text, out);
     if let Err(SimulationError::Stopped(PlayError::Idle { event, why })) = ended {
@@ -107,7 +113,10 @@ fn write_outcome<W: Write>(
     ensures played { OnOk result ((seed : Option ℕ) × (sizes : Sizes) × (actions : List Action)
         × IsScenario MAX_SCENARIO_BYTES MAX_EVENTS text.now seed sizes actions
         × IsWritten MAX_ARRIVALS form seed sizes actions (W.contents out.old) (W.contents out.new)) }
-    ensures refused { (fault : ScenarioError) → result ≡ Err (SimulationError.Refused fault) → fault ≢ ScenarioError.OutOfMemory → (seed : Option ℕ) (sizes : Sizes) (actions : List Action)
+    ensures refused { (fault : ScenarioError)
+        → result ≡ Err (SimulationError.Refused fault)
+        → fault ≢ ScenarioError.OutOfMemory
+        → (seed : Option ℕ) (sizes : Sizes) (actions : List Action)
         → ¬ IsScenario MAX_SCENARIO_BYTES MAX_EVENTS text.now seed sizes actions }
     ensures unplayed { (fault : ScenarioError) → result ≡ Err (SimulationError.Refused fault) → out.new ≡ out.old }
 {
@@ -133,7 +142,10 @@ pub fn report_unread<F: Write>(error: &io::Error, faults: &mut F) -> u8
 pub fn conclude<F: Write>(ended: Result<(), SimulationError>, faults: &mut F) -> u8
     ensures status { result ≤ 2 }
     ensures quiet { result ≡ 0 → (faults.new ≡ faults.old) × IsOk ended }
-    ensures refused { result ≡ 2 → (fault : ScenarioError) × (ended ≡ Err (SimulationError.Refused fault)) × (fault ≢ ScenarioError.OutOfMemory) }
+    ensures refused { result ≡ 2
+        → (fault : ScenarioError)
+        × (ended ≡ Err (SimulationError.Refused fault))
+        × (fault ≢ ScenarioError.OutOfMemory) }
 {
     match ended {
         Ok(()) => 0,

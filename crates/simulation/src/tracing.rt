@@ -46,7 +46,9 @@ fn write_steps<A: Allocator + Copy, W: Write>(
     begun: &[usize],
     out: &mut W,
 ) -> Result<World<PlumCore<A>, A>, OutputError>
-    ensures { IfOk result (λ run. (steps : List ℕ) × TellsSteps group.now.limits group.now.log (length group.now.log) run steps × Appends (W.contents out.old) (W.contents out.new) steps) }
+    ensures { IfOk result (λ run. (steps : List ℕ)
+        × TellsSteps group.now.limits group.now.log (length group.now.log) run steps
+        × Appends (W.contents out.old) (W.contents out.new) steps) }
 {
     let mut run = World::new(alloc, group.limits());
     for (place, entry) in group.log().iter().enumerate() {

@@ -1,5 +1,6 @@
 //! The lines that are printed for messages: whether the group is at rest for each, and its tree.
-ghost use Rattle.std.specs.Prelude.{◌≡◌, [], ◌∷◌, ◌++◌, ℕ, List, map, IsPermutation, IsSorted, IfOk, OnOk, string_bytes};
+ghost use Rattle.std.specs.Prelude.{◌≡◌, [], ◌∷◌, ◌++◌, ℕ, List, map, IsPermutation};
+ghost use Rattle.std.specs.Prelude.{IsSorted, IfOk, OnOk, string_bytes};
 ghost use Rattle.std.specs.Io.KnownBytes.{Appends};
 ghost use Rattle.node_names.specs.Order.{id_cmp};
 ghost use Rattle.simulation.specs.Trees.{branch_line, branch_lines, broadcasts_of, rest_word, tree_lines, TellsTrees};
@@ -18,7 +19,8 @@ pub fn broadcasts<A: Allocator + Copy>(
     alloc: A,
     deliveries: &[&Delivery<A>],
 ) -> Result<Vec<MsgId, A>, AllocError>
-    ensures permutation { IfOk result (λ ids. IsPermutation (broadcasts_of (map (λ d. d.now) deliveries.now)) ids.items) }
+    ensures permutation { IfOk result
+        (λ ids. IsPermutation (broadcasts_of (map (λ d. d.now) deliveries.now)) ids.items) }
     ensures sorted { IfOk result (λ ids. IsSorted id_cmp ids.items) }
 {
     let mut ids = own_deliveries(alloc, deliveries)?;
@@ -61,7 +63,9 @@ pub fn write_trees<C: Core<A>, A: Allocator + Copy, W: Write>(
     ids: &[MsgId],
     out: &mut W,
 ) -> Result<(), OutputError>
-    ensures { OnOk result ((written : List ℕ) × TellsTrees C.state C.Note.content group.now ids.now written × Appends (W.contents out.old) (W.contents out.new) written) }
+    ensures { OnOk result ((written : List ℕ)
+        × TellsTrees C.state C.Note.content group.now ids.now written
+        × Appends (W.contents out.old) (W.contents out.new) written) }
 {
     let forest = Forest::new(alloc, group)?;
     let unrest = Unrest::new(alloc, group)?;
@@ -79,7 +83,8 @@ fn write_tree<A: Allocator, W: Write>(
     branches: &[Branch],
     out: &mut W,
 ) -> Result<(), OutputError>
-    ensures { OnOk result (Appends (W.contents out.old) (W.contents out.new) (tree_lines id.now is_resting branches.now)) }
+    ensures { OnOk result
+        (Appends (W.contents out.old) (W.contents out.new) (tree_lines id.now is_resting branches.now)) }
 {
     text.clear();
     push_tree(text, id, is_resting, branches)?;

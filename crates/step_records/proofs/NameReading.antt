@@ -50,12 +50,24 @@ octets_length len bytes letters rest e =
     rw (← front) (omega (arith, length-take len bytes))
 
 -- a name is read where its length and its bytes are those of a name
-pub name_read : (old after letters rest : List ℕ) (len : ℕ) → byte old ≡ Ok (len, after) → 1 ≤ len → len ≤ 32 → octets len after ≡ Ok (letters, rest) → IsNodeName letters → name old ≡ Ok (letters, rest)
+pub name_read : (old after letters rest : List ℕ) (len : ℕ) →
+    byte old ≡ Ok (len, after) →
+    1 ≤ len →
+    len ≤ 32 →
+    octets len after ≡ Ok (letters, rest) →
+    IsNodeName letters →
+    name old ≡ Ok (letters, rest)
 unfolding name
 name_read old after letters rest len b some few o h = rw (b, len_passes len some few, o, letters_pass letters h) refl
 
 -- a name is refused if its length is right but its bytes are not those of a name
-pub name_refused : (old after letters rest : List ℕ) (len : ℕ) → byte old ≡ Ok (len, after) → 1 ≤ len → len ≤ 32 → octets len after ≡ Ok (letters, rest) → (IsNodeName letters → ⊥) → name old ≡ Err BadName
+pub name_refused : (old after letters rest : List ℕ) (len : ℕ) →
+    byte old ≡ Ok (len, after) →
+    1 ≤ len →
+    len ≤ 32 →
+    octets len after ≡ Ok (letters, rest) →
+    (IsNodeName letters → ⊥) →
+    name old ≡ Err BadName
 unfolding name
 name_refused old after letters rest len b some few o h =
     let l = octets_length len after letters rest o in

@@ -1,5 +1,6 @@
 //! The blocks of a file.
-ghost use Rattle.std.specs.Prelude.{◌≡◌, ◌≤◌, ◌+◌, ◌++◌, Ok, Err, List, ℕ, IfOk, IfSome, MatchResult, OnErr, option_map, length, take};
+ghost use Rattle.std.specs.Prelude.{◌≡◌, ◌≤◌, ◌+◌, ◌++◌, Ok, Err, List, ℕ, IfOk, IfSome};
+ghost use Rattle.std.specs.Prelude.{MatchResult, OnErr, option_map, length, take};
 ghost use Rattle.step_records.specs.Block.{block, check_after, read_block, word_of};
 
 use crate::MAX_BODY;
@@ -46,7 +47,8 @@ pub(crate) fn read_block<'a>(
         (λ kind. read_block before.now.0 bytes.now ≡ Err kind) }
     ensures len { IfOk result (λ found. IfSome found (λ b. b.len ≡ length b.body.now + 12)) }
     ensures within { IfOk result (λ found. IfSome found (λ b. b.len ≤ length bytes.now)) }
-    ensures check { IfOk result (λ found. IfSome found (λ b. b.check.0 ≡ check_after before.now.0 (take 4 bytes.now) b.body.now)) }
+    ensures check { IfOk result
+        (λ found. IfSome found (λ b. b.check.0 ≡ check_after before.now.0 (take 4 bytes.now) b.body.now)) }
 {
     if bytes.len() < 4 {
         return Ok(None);

@@ -27,7 +27,8 @@ pub(crate) const JOIN: u8 = 7;
 
 /// Appends the kind, the sender and the dice of an arrival.
 fn put_sender(out: &mut Vec<u8>, sender: &Origin, dice: &Dice) -> Result<(), AllocError>
-    ensures bytes { OnOk result (out.new.items ≡ out.old.items ++ 2 ∷ (origin_octets sender.now ++ dice_text dice.now)) }
+    ensures bytes { OnOk result
+        (out.new.items ≡ out.old.items ++ 2 ∷ (origin_octets sender.now ++ dice_text dice.now)) }
     ensures sender { OnOk result (IsOrigin sender.now) }
 {
     out.push(ARRIVE)?;

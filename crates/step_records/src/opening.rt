@@ -22,8 +22,8 @@ pub(crate) struct Opening {
     pub(crate) len: usize,
 }
 
-/// Judges the eight bytes before the first block of a file, and returns the bytes behind them. `None`: the eight are not
-/// all there.
+/// Judges the eight bytes before the first block of a file, and returns the bytes behind them. `None`: the eight are
+/// not all there.
 fn behind_start(bytes: &[u8]) -> Result<Option<&[u8]>, RecordErrorKind>
     ensures { IfOk result (λ found. IfSome found (λ rest. length rest.now + 8 ≡ length bytes.now)) }
 {

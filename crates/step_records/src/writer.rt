@@ -33,7 +33,8 @@ fn put_file(
     put_block(out, &Check::START, body.as_slice())
 }
 
-/// Appends an entry behind this check, and returns its own check. If memory runs out, some of its bytes may be appended.
+/// Appends an entry behind this check, and returns its own check. If memory runs out, some of its bytes may be
+/// appended.
 fn put_entry(
     alloc: Global,
     before: &Check,
@@ -85,8 +86,8 @@ impl RecordWriter {
         Ok(())
     }
 
-    /// Appends the entry of a stimulus to `out`. A payload longer than `MAX_BODY`, which no node takes, is refused as if
-    /// memory ran out.
+    /// Appends the entry of a stimulus to `out`. A payload longer than `MAX_BODY`, which no node takes, is refused as
+    /// if memory ran out.
     pub fn push(
         &mut self,
         stimulus: &Stimulus<Frame>,

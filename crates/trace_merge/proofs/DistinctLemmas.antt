@@ -25,7 +25,8 @@ pub record IsOfSeen (traces : List (Trace Frame)) (n : ℕ) (o : Origin) : Type 
 
 -- No two traces before the place are of one run.
 abbrev pub AreDistinctBefore : List (Trace Frame) → ℕ → Type 0
-AreDistinctBefore traces n = (i j : ℕ) (s t : Trace Frame) → i < n → j < n → slice_get traces i ≡ Some s → slice_get traces j ≡ Some t → s.origin ≡ t.origin → i ≡ j
+AreDistinctBefore traces n =
+    (i j : ℕ) (s t : Trace Frame) → i < n → j < n → slice_get traces i ≡ Some s → slice_get traces j ≡ Some t → s.origin ≡ t.origin → i ≡ j
 
 -- what a test that another one undoes says
 pub not_passed : (b passed : Bool) → passed ≡ not b → passed ≡ true → b ≡ false
@@ -50,14 +51,31 @@ module _
 
     -- where the run was seen, two traces are of it
     pub doubled_from : IsOfSeen traces n o → IsDoubled traces o
-    doubled_from is = record { first = is.at; second = n; one = is.trace; other = t; apart = is.before; one_listed = is.listed; other_listed = there; one_its = is.its; other_its = sym its }
+    doubled_from is = record {
+      first = is.at;
+      second = n;
+      one = is.trace;
+      other = t;
+      apart = is.before;
+      one_listed = is.listed;
+      other_listed = there;
+      one_its = is.its;
+      other_its = sym its;
+    }
 
     -- where it was not, no two are of one run
-    pub distinct_more : (old : List Origin) → AreSeen traces n old → list_any (same_origin o) old ≡ false → AreDistinctBefore traces n → AreDistinctBefore traces (n + 1)
+    pub distinct_more : (old : List Origin) →
+        AreSeen traces n old →
+        list_any (same_origin o) old ≡ false →
+        AreDistinctBefore traces n →
+        AreDistinctBefore traces (n + 1)
     distinct_more old seen fresh distinct i j s u below beneath listed named same =
-        passed_more (λ (k : ℕ) (x : Trace Frame). (m : ℕ) (y : Trace Frame) → m < n + 1 → slice_get traces m ≡ Some y → x.origin ≡ y.origin → k ≡ m) traces n t at
-        (λ k x lower is. passed_more (λ (m : ℕ) (y : Trace Frame). x.origin ≡ y.origin → k ≡ m) traces n t at (λ m y under has e. distinct k m x y lower under is has e) (λ e. absurd (apart k x lower is e)))
-        (passed_more (λ (m : ℕ) (y : Trace Frame). t.origin ≡ y.origin → n ≡ m) traces n t at (λ m y under has e. absurd (apart m y under has (sym e))) (λ e. refl))
+        passed_more
+        (λ (k : ℕ) (x : Trace Frame). (m : ℕ) (y : Trace Frame) → m < n + 1 → slice_get traces m ≡ Some y → x.origin ≡ y.origin → k ≡ m) traces n t at
+        (λ k x lower is. passed_more (λ (m : ℕ) (y : Trace Frame). x.origin ≡ y.origin → k ≡ m) traces n t at
+        (λ m y under has e. distinct k m x y lower under is has e) (λ e. absurd (apart k x lower is e)))
+        (passed_more (λ (m : ℕ) (y : Trace Frame). t.origin ≡ y.origin → n ≡ m) traces n t at
+        (λ m y under has e. absurd (apart m y under has (sym e))) (λ e. refl))
         i s below listed j u beneath named same
       where
         apart : (k : ℕ) (x : Trace Frame) → k < n → slice_get traces k ≡ Some x → x.origin ≡ t.origin → ⊥
@@ -76,9 +94,14 @@ module _
           either false c e = e
 
       -- and each run that is seen is a trace's
-      pub known_more : ((q : Origin) → list_any (same_origin q) old ≡ true → IsOfSeen traces n q) → (q : Origin) → list_any (same_origin q) new ≡ true → IsOfSeen traces (n + 1) q
+      pub known_more : ((q : Origin) → list_any (same_origin q) old ≡ true → IsOfSeen traces n q) →
+          (q : Origin) →
+          list_any (same_origin q) new ≡ true →
+          IsOfSeen traces (n + 1) q
       known_more known q is = go (same_origin o q) refl (sym (updates q) ∙ is)
         where
           go : (b : Bool) → same_origin o q ≡ b → cond b true (list_any (same_origin q) old) ≡ true → IsOfSeen traces (n + 1) q
           go true e h = record { at = n; trace = t; before = omega arith; listed = there; its = sym its ∙ (same_origin-Decides o q).0 e }
-          go false e h = let was : IsOfSeen traces n q = known q h in record { at = was.at; trace = was.trace; before = omega (arith, was.before); listed = was.listed; its = was.its }
+          go false e h =
+              let was : IsOfSeen traces n q = known q h in
+              record { at = was.at; trace = was.trace; before = omega (arith, was.before); listed = was.listed; its = was.its }

@@ -29,7 +29,8 @@ abbrev pub nobody : Limits → Logged Plum Frame
 nobody limits = record { limits = limits; group = record { nodes = []; sent = []; flight = [] }; log = [] }
 
 -- nothing is played yet
-pub begins : (limits : Limits) (traces : List (Trace Frame)) → IsMerging limits traces (record { world = nobody limits; events = []; places = replicate (length traces) None; frames = [] })
+pub begins : (limits : Limits) (traces : List (Trace Frame)) →
+    IsMerging limits traces (record { world = nobody limits; events = []; places = replicate (length traces) None; frames = [] })
 begins limits traces = record {
   same_limits = refl;
   ran = record { no_nodes = refl; nothing_sent = refl; nothing_in_flight = refl };
@@ -51,7 +52,12 @@ each_at P [] h = tt
 each_at P (x ∷ xs) h = (h 0 x refl, each_at P xs (λ i y at. h (suc i) y at))
 
 -- all is played
-pub ends : (limits : Limits) (traces : List (Trace Frame)) (m : Merge) → AreDistinct traces → IsMerging limits traces m → AreOut traces m.places → Headline plum_state frame_content m.world → IsMerged limits traces m.events
+pub ends : (limits : Limits) (traces : List (Trace Frame)) (m : Merge) →
+    AreDistinct traces →
+    IsMerging limits traces m →
+    AreOut traces m.places →
+    Headline plum_state frame_content m.world →
+    IsMerged limits traces m.events
 ends limits traces m distinct mm out headline = record {
   distinct = distinct;
   world = m.world;
@@ -61,7 +67,8 @@ ends limits traces m distinct mm out headline = record {
   headline = headline;
   kept = mm.kept;
   started = mm.started;
-  projected = each_at (λ (t : Trace Frame). projection_in t.origin m.world ≡ Some t) traces (λ i t at. whole t (place_at m.places i) (mm.stands i t at) (out i t at));
+  projected =
+      each_at (λ (t : Trace Frame). projection_in t.origin m.world ≡ Some t) traces (λ i t at. whole t (place_at m.places i) (mm.stands i t at) (out i t at));
 }
   where
     whole : (t : Trace Frame) (p : Option ℕ) → Stands limits m.world t p → IsOut t p → projection_in t.origin m.world ≡ Some t

@@ -32,8 +32,12 @@ ranks_less x y low = go (nat_cmp x y) refl
   where
     go : (o : Ordering) → nat_cmp x y ≡ o → nat_cmp x y ≡ Less
     go Less e = e
-    go Equal e = let same : x ≡ y = subst (λ (o : Ordering). MatchOrdering o (x < y) (x ≡ y) (y < x)) e (ranked x y (nat_cmp x y) refl) in absurd (omega (arith, same, low))
-    go Greater e = let over : y < x = subst (λ (o : Ordering). MatchOrdering o (x < y) (x ≡ y) (y < x)) e (ranked x y (nat_cmp x y) refl) in absurd (omega (arith, over, low))
+    go Equal e =
+        let same : x ≡ y = subst (λ (o : Ordering). MatchOrdering o (x < y) (x ≡ y) (y < x)) e (ranked x y (nat_cmp x y) refl) in
+        absurd (omega (arith, same, low))
+    go Greater e =
+        let over : y < x = subst (λ (o : Ordering). MatchOrdering o (x < y) (x ≡ y) (y < x)) e (ranked x y (nat_cmp x y) refl) in
+        absurd (omega (arith, over, low))
 
 same_run : (a b : Origin) → is_eq (origin_cmp a b) ≡ true → a ≡ b
 same_run a b e = (same_origin-Decides a b).0 (both_tied _ _ _ _ (texts_ties a.name b.name) (unsigned_ties a.incarnation.0 b.incarnation.0) ∙ e)
@@ -44,7 +48,8 @@ itself a = sym (both_tied _ _ _ _ (texts_ties a.name a.name) (unsigned_ties a.in
 -- an earlier run is below the other
 pub earlier_less : (one other : Origin) → IsEarlier one other → origin_cmp one other ≡ Less
 earlier_less one other is =
-    ap (λ o. ordering_then o (nat_cmp one.incarnation.0 other.incarnation.0)) (subst (λ n. name_cmp one.name n ≡ Equal) is.0 (tied_itself nat_list_cmp_total one.name)) ∙ ranks_less one.incarnation.0 other.incarnation.0 is.1
+    ap (λ o. ordering_then o (nat_cmp one.incarnation.0 other.incarnation.0))
+    (subst (λ n. name_cmp one.name n ≡ Equal) is.0 (tied_itself nat_list_cmp_total one.name)) ∙ ranks_less one.incarnation.0 other.incarnation.0 is.1
 
 -- where one run is an earlier one of the name, the last run below is too
 last_earlier : (last one other : Origin) → IsEarlier one other → origin_cmp last other ≡ Less → is_lt (origin_cmp last one) ≡ false → IsEarlier last other
@@ -52,9 +57,13 @@ last_earlier last one other is less most = go (name_cmp last.name other.name) re
   where
     go : (o : Ordering) → name_cmp last.name other.name ≡ o → IsEarlier last other
     go Less e =
-        let low : origin_cmp last one ≡ Less = ap (λ o. ordering_then o (nat_cmp last.incarnation.0 one.incarnation.0)) (subst (λ n. name_cmp last.name n ≡ Less) (sym is.0) e) in
+        let low : origin_cmp last one ≡ Less =
+        ap (λ o. ordering_then o (nat_cmp last.incarnation.0 one.incarnation.0)) (subst (λ n. name_cmp last.name n ≡ Less) (sym is.0) e) in
         absurd (false≢true (sym most ∙ ap is_lt low))
-    go Equal e = (exact_bytes last.name other.name e, less_than last.incarnation.0 other.incarnation.0 (sym (ap (λ o. ordering_then o (nat_cmp last.incarnation.0 other.incarnation.0)) e) ∙ less))
+    go Equal e = (
+      exact_bytes last.name other.name e,
+      less_than last.incarnation.0 other.incarnation.0 (sym (ap (λ o. ordering_then o (nat_cmp last.incarnation.0 other.incarnation.0)) e) ∙ less),
+    )
     go Greater e = let no : Greater ≡ Less = sym (ap (λ o. ordering_then o (nat_cmp last.incarnation.0 other.incarnation.0)) e) ∙ less in cc
 
 -- so where it is not, no run is
@@ -97,7 +106,10 @@ module _
     pub named_more : AreNamed traces old → AreNamed traces new
     named_more named q n found = go (is_eq (origin_cmp o q)) refl (sym (updates q) ∙ found)
       where
-        go : (b : Bool) → is_eq (origin_cmp o q) ≡ b → cond b (Some at) (get origin_cmp old q) ≡ Some n → (u : Trace Frame) × (slice_get traces n ≡ Some u) × (u.origin ≡ q)
+        go : (b : Bool) →
+            is_eq (origin_cmp o q) ≡ b →
+            cond b (Some at) (get origin_cmp old q) ≡ Some n →
+            (u : Trace Frame) × (slice_get traces n ≡ Some u) × (u.origin ≡ q)
         go true same e =
             let here : at ≡ n = cc in
             (t, subst (λ k. slice_get traces k ≡ Some t) here (slice_get_read traces (length traces) at t refl within is), sym its ∙ same_run o q same)
@@ -107,14 +119,19 @@ module _
     there_more there =
         passed_more (λ (i : ℕ) (u : Trace Frame). IsSome (get origin_cmp new u.origin)) traces at t is
         (λ i u below listed. subst (λ (x : Option ℕ). IsSome x) (sym (updates u.origin)) (either (is_eq (origin_cmp o u.origin)) _ (there i u below listed)))
-        (subst (λ (x : Option ℕ). IsSome x) (sym (updates t.origin ∙ ap (λ b. cond b (Some at) (get origin_cmp old t.origin)) (subst (λ q. is_eq (origin_cmp o q) ≡ true) its (itself o)))) refl)
+        (subst (λ (x : Option ℕ). IsSome x)
+        (sym (updates t.origin ∙ ap (λ b. cond b (Some at) (get origin_cmp old t.origin)) (subst (λ q. is_eq (origin_cmp o q) ≡ true) its (itself o)))) refl)
       where
         either : (b : Bool) (x : Option ℕ) → IsSome x → IsSome (cond b (Some at) x)
         either true x some = refl
         either false x some = some
 
 -- where all runs are there, nothing has to be played out
-pub all_left : (traces : List (Trace Frame)) (runs : BTreeMap Origin ℕ) → AreNamed traces runs → ((i : ℕ) (t : Trace Frame) → slice_get traces i ≡ Some t → IsSome (get origin_cmp runs t.origin)) → (places : List (Option ℕ)) → AreLeft traces places runs
+pub all_left : (traces : List (Trace Frame)) (runs : BTreeMap Origin ℕ) →
+    AreNamed traces runs →
+    ((i : ℕ) (t : Trace Frame) → slice_get traces i ≡ Some t → IsSome (get origin_cmp runs t.origin)) →
+    (places : List (Option ℕ)) →
+    AreLeft traces places runs
 all_left traces runs named there places = record {
   named = named;
   others = λ i t listed none. absurd (false≢true (sym (ap is_some none) ∙ there i t listed));

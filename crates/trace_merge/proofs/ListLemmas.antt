@@ -15,7 +15,8 @@ use Rattle.world.specs.declared.packet.Packet.{Packet}
 -- one of two lists that are joined is one of either
 pub one_of-append : {X : Type 0} (x : X) (xs ys : List X) → IsOneOf x (xs ++ ys) → IsOneOf x xs ⊎ IsOneOf x ys
 one_of-append x [] ys one = inr one
-one_of-append {X} x (y ∷ xs) ys one = elim one [ inl here ↦ inl (inl here) | inr later ↦ (elim (one_of-append x xs ys later) [ inl before ↦ inl (inr before) | inr behind ↦ inr behind ]) ]
+one_of-append {X} x (y ∷ xs) ys one =
+    elim one [ inl here ↦ inl (inl here) | inr later ↦ (elim (one_of-append x xs ys later) [ inl before ↦ inl (inr before) | inr behind ↦ inr behind ]) ]
 
 -- one of the first is one of both
 pub one_of-left : {X : Type 0} (x : X) (xs ys : List X) → IsOneOf x xs → IsOneOf x (xs ++ ys)
@@ -45,7 +46,11 @@ slice_get-last {X} xs x =
     slice_get_read (xs ++ x ∷ []) (length (xs ++ x ∷ [])) (length xs) x refl within (sym (get_or-last xs x x))
 
 -- one of the first ones and of the next is one of the first ones or the next
-pub one_of-take : {X : Type 0} (xs : List X) (i : ℕ) (x y : X) → i < length xs → x ≡ get_or xs i x → IsOneOf y (take (i + 1) xs) → IsOneOf y (take i xs) ⊎ (y ≡ x)
+pub one_of-take : {X : Type 0} (xs : List X) (i : ℕ) (x y : X) →
+    i < length xs →
+    x ≡ get_or xs i x →
+    IsOneOf y (take (i + 1) xs) →
+    IsOneOf y (take i xs) ⊎ (y ≡ x)
 one_of-take {X} xs i x y within at one =
     let longer : take (i + 1) xs ≡ take i xs ++ x ∷ [] = take_more xs i x within ∙ ap (λ z. take i xs ++ z ∷ []) (sym at) in
     elim (one_of-append y (take i xs) (x ∷ []) (subst (IsOneOf y) longer one)) [
@@ -54,9 +59,12 @@ one_of-take {X} xs i x y within at one =
     ]
 
 -- a send is one of a list where its packet is one of the list's packets
-pub one_of-packets : {N : Type 0} (sender : Origin) (sends : List (Name × N)) (send : Name × N) → IsOneOf send sends → IsOneOf (record { sender = sender; to = send.0; note = send.1 }) (packets sender sends)
+pub one_of-packets : {N : Type 0} (sender : Origin) (sends : List (Name × N)) (send : Name × N) →
+    IsOneOf send sends →
+    IsOneOf (record { sender = sender; to = send.0; note = send.1 }) (packets sender sends)
 one_of-packets sender [] send one = absurd one
-one_of-packets {N} sender (first ∷ sends) send one = elim one [ inl here ↦ inl (λ i. record { sender = sender; to = (here i).0; note = (here i).1 }) | inr later ↦ inr (one_of-packets sender sends send later) ]
+one_of-packets {N} sender (first ∷ sends) send one =
+    elim one [ inl here ↦ inl (λ i. record { sender = sender; to = (here i).0; note = (here i).1 }) | inr later ↦ inr (one_of-packets sender sends send later) ]
 
 -- What a packet that was made of sends is.
 pub record IsMadeOf {N : Type 0} (sender : Origin) (sends : List (Name × N)) (packet : Packet N) : Type 0 where
@@ -64,7 +72,9 @@ pub record IsMadeOf {N : Type 0} (sender : Origin) (sends : List (Name × N)) (p
   pub sends_it : IsOneOf (packet.to, packet.note) sends
 
 -- and back
-pub made_of-packets : {N : Type 0} (sender : Origin) (sends : List (Name × N)) (packet : Packet N) → IsOneOf packet (packets sender sends) → IsMadeOf sender sends packet
+pub made_of-packets : {N : Type 0} (sender : Origin) (sends : List (Name × N)) (packet : Packet N) →
+    IsOneOf packet (packets sender sends) →
+    IsMadeOf sender sends packet
 made_of-packets sender [] packet one = absurd one
 made_of-packets {N} sender (first ∷ sends) packet one =
     elim one [
@@ -88,16 +98,24 @@ pub put_same : {C : Type 0} (node : NodeState C) (nodes : List (NodeState C)) �
 put_same node [] = ap (λ b. cond b (Some node) None) (name_is node.name)
 put_same {C} node (other ∷ others) = go (same_name node.name other.name) refl (put_same node others)
   where
-    go : (b : Bool) → same_name node.name other.name ≡ b → node_of node.name (put_node node others) ≡ Some node → node_of node.name (if b then node ∷ others else other ∷ put_node node others) ≡ Some node
+    go : (b : Bool) →
+        same_name node.name other.name ≡ b →
+        node_of node.name (put_node node others) ≡ Some node →
+        node_of node.name (if b then node ∷ others else other ∷ put_node node others) ≡ Some node
     go true at later = ap (λ b. cond b (Some node) (node_of node.name others)) (name_is node.name)
     go false at later = ap (λ b. cond b (Some other) (node_of node.name (put_node node others))) at ∙ later
 
 -- and under every other name what was found before
-pub put_other : {C : Type 0} (name : Name) (node : NodeState C) (nodes : List (NodeState C)) → same_name name node.name ≡ false → node_of name (put_node node nodes) ≡ node_of name nodes
+pub put_other : {C : Type 0} (name : Name) (node : NodeState C) (nodes : List (NodeState C)) →
+    same_name name node.name ≡ false →
+    node_of name (put_node node nodes) ≡ node_of name nodes
 put_other name node [] is = ap (λ b. cond b (Some node) None) is
 put_other {C} name node (other ∷ others) is = go (same_name node.name other.name) refl (put_other name node others is)
   where
-    go : (b : Bool) → same_name node.name other.name ≡ b → node_of name (put_node node others) ≡ node_of name others → node_of name (if b then node ∷ others else other ∷ put_node node others) ≡ node_of name (other ∷ others)
+    go : (b : Bool) →
+        same_name node.name other.name ≡ b →
+        node_of name (put_node node others) ≡ node_of name others →
+        node_of name (if b then node ∷ others else other ∷ put_node node others) ≡ node_of name (other ∷ others)
     go true at later =
         let same : node.name ≡ other.name = (same_name-Decides node.name other.name).0 at in
         let apart : same_name name other.name ≡ false = ap (same_name name) (sym same) ∙ is in
@@ -109,6 +127,12 @@ pub found_name : {C : Type 0} (name : Name) (nodes : List (NodeState C)) (found 
 found_name name [] found e = let no : None ≡ Some found = e in cc
 found_name {C} name (other ∷ others) found e = go (same_name name other.name) refl e (found_name name others found)
   where
-    go : (b : Bool) → same_name name other.name ≡ b → cond b (Some other) (node_of name others) ≡ Some found → (node_of name others ≡ Some found → name ≡ found.name) → name ≡ found.name
-    go true is f later = let same : Some other ≡ Some found = f in let this : other ≡ found = cc in (same_name-Decides name other.name).0 is ∙ ap (λ (n : NodeState C). n.name) this
+    go : (b : Bool) →
+        same_name name other.name ≡ b →
+        cond b (Some other) (node_of name others) ≡ Some found →
+        (node_of name others ≡ Some found → name ≡ found.name) →
+        name ≡ found.name
+    go true is f later =
+        let same : Some other ≡ Some found = f in
+        let this : other ≡ found = cc in (same_name-Decides name other.name).0 is ∙ ap (λ (n : NodeState C). n.name) this
     go false is f later = later f

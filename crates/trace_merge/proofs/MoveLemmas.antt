@@ -12,7 +12,10 @@ pub moves_none : (traces : List (Trace Frame)) (m : Merge) → IsMerging m.world
 moves_none traces m mm = record { limits = refl; merging = mm; falls = λ no. (let never : ⊥ = cc in absurd never); still = λ it. refl }
 
 -- something more is played
-pub moves_on : (traces : List (Trace Frame)) (moved : Bool) (old now new : Merge) → Moves traces moved old now → Advances traces now new → Moves traces true old new
+pub moves_on : (traces : List (Trace Frame)) (moved : Bool) (old now new : Merge) →
+    Moves traces moved old now →
+    Advances traces now new →
+    Moves traces true old new
 moves_on traces moved old now new so on =
     record {
       limits = on.limits ∙ so.limits;
@@ -22,7 +25,9 @@ moves_on traces moved old now new so on =
     }
   where
     falls : (b : Bool) → moved ≡ b → remaining traces new.places < remaining traces old.places
-    falls true is = (let a : remaining traces now.places < remaining traces old.places = so.falls is in let b : remaining traces new.places < remaining traces now.places = on.falls in omega (arith, a, b))
+    falls true is =
+        (let a : remaining traces now.places < remaining traces old.places = so.falls is in
+        let b : remaining traces new.places < remaining traces now.places = on.falls in omega (arith, a, b))
     falls false is = subst (λ (m : Merge). remaining traces new.places < remaining traces m.places) (so.still is) on.falls
 
 -- nothing more is played
@@ -34,5 +39,8 @@ pub moved_advances : (traces : List (Trace Frame)) (moved : Bool) (old new : Mer
 moved_advances traces moved old new so is = record { limits = so.limits; merging = so.merging; falls = so.falls is }
 
 -- a refusal later on is one from where it began
-pub refuses_from : (traces : List (Trace Frame)) (moved : Bool) (old now : Merge) (fault : MergeFault) → Moves traces moved old now → Refuses now.world.limits traces fault → Refuses old.world.limits traces fault
+pub refuses_from : (traces : List (Trace Frame)) (moved : Bool) (old now : Merge) (fault : MergeFault) →
+    Moves traces moved old now →
+    Refuses now.world.limits traces fault →
+    Refuses old.world.limits traces fault
 refuses_from traces moved old now fault so refuses = subst (λ l. Refuses l traces fault) so.limits refuses

@@ -6,7 +6,14 @@ use Rattle.std.proofs.lemmas.Bool.{false≢true}
 use Rattle.std.proofs.lemmas.Option.{get_or_from_slice_get}
 
 -- what holds of each element before a place and of the one there holds of each before the next place
-pub passed_more : {X : Type 0} (P : ℕ → X → Type 0) (xs : List X) (at : ℕ) (x : X) → x ≡ get_or xs at x → ((i : ℕ) (y : X) → i < at → slice_get xs i ≡ Some y → P i y) → P at x → (i : ℕ) (y : X) → i < at + 1 → slice_get xs i ≡ Some y → P i y
+pub passed_more : {X : Type 0} (P : ℕ → X → Type 0) (xs : List X) (at : ℕ) (x : X) →
+    x ≡ get_or xs at x →
+    ((i : ℕ) (y : X) → i < at → slice_get xs i ≡ Some y → P i y) →
+    P at x →
+    (i : ℕ) (y : X) →
+    i < at + 1 →
+    slice_get xs i ≡ Some y →
+    P i y
 passed_more {X} P xs at x is before here i y below listed = go (nat_eq i at) refl
   where
     go : (b : Bool) → nat_eq i at ≡ b → P i y

@@ -32,7 +32,8 @@ pub sent_within-suc : (t : Trace Frame) (k : ℕ) (s : Step Frame) → slice_get
 sent_within-suc t k s step =
     let sends : Step Frame → List (Name × Frame) = λ (x : Step Frame). x.out.sends in
     ap (λ xs. t.opening.sends ++ flat_map sends xs) (take_one t k s step)
-    ∙ ap (λ xs. t.opening.sends ++ xs) (flat_map-append sends (take k t.steps) (s ∷ []) ∙ ap (λ xs. flat_map sends (take k t.steps) ++ xs) (append-nil s.out.sends))
+    ∙ ap (λ xs. t.opening.sends ++ xs)
+    (flat_map-append sends (take k t.steps) (s ∷ []) ∙ ap (λ xs. flat_map sends (take k t.steps) ++ xs) (append-nil s.out.sends))
     ∙ sym (append_assoc t.opening.sends (flat_map sends (take k t.steps)) s.out.sends)
 
 module _
@@ -63,7 +64,9 @@ module _
               let it : is.trace ≡ t = cc in
               let stood : Some is.place ≡ Some k = (sym is.stands ∙ ap (place_at places) here.0 ∙ placed) in
               let far : is.place ≡ k = cc in
-              let sends : IsOneOf (packet.to, packet.note) (sent_within k t) = subst (λ n. IsOneOf (packet.to, packet.note) (sent_within n t)) far (subst (λ u. IsOneOf (packet.to, packet.note) (sent_within is.place u)) it is.sends) in
+              let sends : IsOneOf (packet.to, packet.note) (sent_within k t) =
+              subst (λ n. IsOneOf (packet.to, packet.note) (sent_within n t)) far
+              (subst (λ u. IsOneOf (packet.to, packet.note) (sent_within is.place u)) it is.sends) in
               record {
                 at = is.at;
                 place = suc k;
@@ -71,7 +74,10 @@ module _
                 listed = ap (slice_get traces) here.0 ∙ listed;
                 its = ap (λ (u : Trace Frame). u.origin) (sym it) ∙ is.its;
                 stands = here.1;
-                sends = subst (IsOneOf (packet.to, packet.note)) (sym (sent_within-suc t k s step)) (one_of-left (packet.to, packet.note) (sent_within k t) s.out.sends sends);
+                sends =
+                    subst (IsOneOf (packet.to, packet.note)) (sym (sent_within-suc t k s step))
+                    (one_of-left (packet.to, packet.note) (sent_within k t) s.out.sends sends);
               })
-          | inr there ↦ record { at = is.at; place = is.place; trace = is.trace; listed = is.listed; its = is.its; stands = there.1 ∙ is.stands; sends = is.sends }
+          | inr there ↦
+              record { at = is.at; place = is.place; trace = is.trace; listed = is.listed; its = is.its; stands = there.1 ∙ is.stands; sends = is.sends }
         ]

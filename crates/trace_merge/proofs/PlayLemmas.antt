@@ -65,7 +65,10 @@ and-false true = refl
 and-false false = refl
 
 -- an event that steps a core starts no node
-pub starts_none : {N : Type 0} (o : Origin) (sent : List (Packet N)) (event : Event) (number : Option ℕ) (name : Name) (out : Output N) (trace : Option (Trace N)) → stepped_name sent event number ≡ Some name → started_on o event out trace ≡ trace
+pub starts_none : {N : Type 0} (o : Origin) (sent : List (Packet N)) (event : Event)
+    (number : Option ℕ) (name : Name) (out : Output N) (trace : Option (Trace N)) →
+    stepped_name sent event number ≡ Some name →
+    started_on o event out trace ≡ trace
 starts_none o sent (Start n incarnation peers contact) number name out trace is = let none : None ≡ Some name = is in cc
 starts_none o sent (Broadcast n payload) number name out trace is = refl
 starts_none o sent (Arrive place dice) number name out trace is = refl
@@ -86,25 +89,37 @@ module _
     (limits : Limits)
   where
     -- a step of a name and by a stimulus is one of the same name and by the same stimulus
-    acts_so : (before : Group C N) (entry : Entry) (after : Group C N) (staying : List ℕ) (n name : Name) (t told : Stimulus N) → Acts state steps before staying n t entry after → Some n ≡ Some name → Some t ≡ Some told → Acts state steps before staying name told entry after
+    acts_so : (before : Group C N) (entry : Entry) (after : Group C N) (staying : List ℕ) (n name : Name) (t told : Stimulus N) →
+        Acts state steps before staying n t entry after →
+        Some n ≡ Some name →
+        Some t ≡ Some told →
+        Acts state steps before staying name told entry after
     acts_so before entry after staying n name t told acts is by =
         let same : n ≡ name = cc in
         let tells : t ≡ told = cc in
         subst (λ m. Acts state steps before staying m told entry after) same (subst (λ s. Acts state steps before staying n s entry after) tells acts)
 
     -- where nothing leaves the flight
-    acts_as : (before : Group C N) (entry : Entry) (after : Group C N) (n name : Name) (t told : Stimulus N) → Acts state steps before before.flight n t entry after → Some n ≡ Some name → Some t ≡ Some told → (staying : List ℕ) × Acts state steps before staying name told entry after
+    acts_as : (before : Group C N) (entry : Entry) (after : Group C N) (n name : Name) (t told : Stimulus N) →
+        Acts state steps before before.flight n t entry after →
+        Some n ≡ Some name →
+        Some t ≡ Some told →
+        (staying : List ℕ) × Acts state steps before staying name told entry after
     acts_as before entry after n name t told acts is by = (before.flight, acts_so before entry after before.flight n name t told acts is by)
 
     -- an event that steps the core of a name acts there
-    pub acts_of : (before : Group C N) (entry : Entry) (after : Group C N) (event : Event) (name : Name) (told : Stimulus N) → Effect state starts steps limits before entry after event → stepped_name before.sent event entry.packet ≡ Some name → stimulus_by before.sent event entry.packet ≡ Some told →
+    pub acts_of : (before : Group C N) (entry : Entry) (after : Group C N) (event : Event) (name : Name) (told : Stimulus N) →
+        Effect state starts steps limits before entry after event →
+        stepped_name before.sent event entry.packet ≡ Some name →
+        stimulus_by before.sent event entry.packet ≡ Some told →
         (staying : List ℕ) × Acts state steps before staying name told entry after
     acts_of before entry after (Start n incarnation peers contact) name told effect is by = let none : None ≡ Some name = is in cc
     acts_of before entry after (Broadcast n payload) name told effect is by = acts_as before entry after n name (stimulus.Broadcast payload) told effect.1 is by
     acts_of before entry after (Arrive place dice) name told effect is by =
         let under : sent_under before.sent entry.packet ≡ Some effect.packet = ap (sent_under before.sent) effect.named ∙ effect.sent in (
           _,
-          acts_so before entry after (remove before.flight place) effect.packet.to name (stimulus.Arrive effect.packet.sender effect.packet.note dice) told effect.acts
+          acts_so before entry after (remove before.flight place) effect.packet.to name
+              (stimulus.Arrive effect.packet.sender effect.packet.note dice) told effect.acts
               (sym (ap receiver under) ∙ is) (sym (ap (λ p. arrival p dice) under) ∙ by),
         )
     acts_of before entry after (Lose place) name told effect is by = let none : None ≡ Some name = is in cc
@@ -117,15 +132,22 @@ module _
     acts_of before entry after (Stop n) name told effect is by = let none : None ≡ Some name = is in cc
 
     -- the history goes on
-    pub ran_on : (event : Event) (given : List Delivery) (old new : Logged C N) → Applied state starts steps event given old new → old.limits ≡ limits → Run state starts steps limits (reverse old.log) old.group → Run state starts steps limits (reverse new.log) new.group
+    pub ran_on : (event : Event) (given : List Delivery) (old new : Logged C N) →
+        Applied state starts steps event given old new →
+        old.limits ≡ limits →
+        Run state starts steps limits (reverse old.log) old.group →
+        Run state starts steps limits (reverse new.log) new.group
     ran_on event given old new applied same ran =
         subst (λ h. Run state starts steps limits h new.group) (sym (ap reverse applied.logged ∙ newest old.log applied.entry))
         (old.group, ran, subst (λ l. Happens state starts steps l old.group applied.entry new.group) same applied.happened)
 
     -- and so does what a run did
-    pub projected_on : (o : Origin) (event : Event) (given : List Delivery) (old new : Logged C N) (applied : Applied state starts steps event given old new) → old.limits ≡ limits → Run state starts steps limits (reverse old.log) old.group →
+    pub projected_on : (o : Origin) (event : Event) (given : List Delivery) (old new : Logged C N) (applied : Applied state starts steps event given old new) →
+        old.limits ≡ limits →
+        Run state starts steps limits (reverse old.log) old.group →
         projection_in o new ≡ traced_on o (incarnation_of o.name (reverse old.log)) new.group.sent applied.entry (length new.group.sent) (projection_in o old)
     projected_on o event given old new applied same ran =
-        let happened : Happens state starts steps limits old.group applied.entry new.group = subst (λ l. Happens state starts steps l old.group applied.entry new.group) same applied.happened in
+        let happened : Happens state starts steps limits old.group applied.entry new.group =
+        subst (λ l. Happens state starts steps l old.group applied.entry new.group) same applied.happened in
         ap (projection o new.group.sent (length new.group.sent)) (ap reverse applied.logged ∙ newest old.log applied.entry)
         ∙ projection-after state starts steps limits o (reverse old.log) old.group applied.entry new.group ran happened.0 happened.1

@@ -6,7 +6,11 @@ use Rattle.frames.specs.Frame.{Frame}
 use Rattle.trace_merge.specs.Merging.{left, place_at, remaining}
 
 -- where less is left of one trace, less is left of all
-pub remaining_falls : (traces : List (Trace Frame)) (places : List (Option ℕ)) (at k : ℕ) (t : Trace Frame) → slice_get traces at ≡ Some t → at < length places → left t (Some k) < left t (place_at places at) → remaining traces (set places at (Some k)) < remaining traces places
+pub remaining_falls : (traces : List (Trace Frame)) (places : List (Option ℕ)) (at k : ℕ) (t : Trace Frame) →
+    slice_get traces at ≡ Some t →
+    at < length places →
+    left t (Some k) < left t (place_at places at) →
+    remaining traces (set places at (Some k)) < remaining traces places
 remaining_falls [] places at k t listed within less = let none : None ≡ Some t = listed in cc
 remaining_falls (u ∷ traces) [] at k t listed within less = absurd (omega arith)
 remaining_falls (u ∷ traces) (p ∷ places) zero k t listed within less =

@@ -45,8 +45,13 @@ module _
     projected o =
         projected_on plum_state PlumStarts PlumSteps limits o (Again number) given m.world world applied mm.same_limits mm.ran
         ∙ (λ i. started_on o (applied.of_event i) (output_of applied.entry (length world.group.sent) world.group.sent)
-        (stepped_on (is_last o (incarnation_of o.name (reverse m.world.log)) && is_name o.name (stepped_name world.group.sent (applied.of_event i) applied.entry.packet)) (stimulus_by world.group.sent (applied.of_event i) applied.entry.packet) (output_of applied.entry (length world.group.sent) world.group.sent) (projection_in o m.world)))
-        ∙ ap (λ b. stepped_on b None (output_of applied.entry (length world.group.sent) world.group.sent) (projection_in o m.world)) (and-false (is_last o (incarnation_of o.name (reverse m.world.log))))
+        (stepped_on
+        (is_last o (incarnation_of o.name (reverse m.world.log)) && is_name o.name (stepped_name world.group.sent (applied.of_event i) applied.entry.packet))
+        (stimulus_by world.group.sent (applied.of_event i) applied.entry.packet)
+        (output_of applied.entry (length world.group.sent) world.group.sent)
+        (projection_in o m.world)))
+        ∙ ap (λ b. stepped_on b None (output_of applied.entry (length world.group.sent) world.group.sent) (projection_in o m.world))
+        (and-false (is_last o (incarnation_of o.name (reverse m.world.log))))
 
     lasts : (name : Name) → incarnation_of name (reverse world.log) ≡ incarnation_of name (reverse m.world.log)
     lasts name =
@@ -79,14 +84,23 @@ module _
     repeats_on = record {
       same_limits = applied.same_limits ∙ mm.same_limits;
       ran = ran_on plum_state PlumStarts PlumSteps limits (Again number) given m.world world applied mm.same_limits mm.ran;
-      of_events = ap (map (λ (e : Entry). e.event)) applied.logged ∙ map-append (λ (e : Entry). e.event) m.world.log (applied.entry ∷ []) ∙ (λ i. mm.of_events i ++ applied.of_event i ∷ []);
+      of_events =
+          ap (map (λ (e : Entry). e.event)) applied.logged
+          ∙ map-append (λ (e : Entry). e.event) m.world.log (applied.entry ∷ [])
+          ∙ (λ i. mm.of_events i ++ applied.of_event i ∷ []);
       kept = each-append IsKept m.events (Again number ∷ []) mm.kept (tt, tt);
-      started = each-append (λ (e : Event). (o : Origin) → IsStartOf o e → HasTrace traces o) m.events (Again number ∷ []) mm.started ((λ o started. absurd started), tt);
+      started =
+          each-append (λ (e : Event). (o : Origin) → IsStartOf o e → HasTrace traces o) m.events (Again number ∷ []) mm.started (
+            (λ o started. absurd started),
+            tt,
+          );
       counted = mm.counted;
       stands = λ i u at_i. stay u (place_at m.places i) (mm.stands i u at_i);
       later = mm.later;
       known = λ name node is. mm.known name node (sym (found_as name) ∙ is);
-      in_sent = λ i q u send at_i goes one. subst (IsOneOf (record { sender = u.origin; to = send.0; note = send.1 })) (sym repeats.others.sent) (mm.in_sent i q u send at_i goes one);
+      in_sent =
+          λ i q u send at_i goes one. subst (IsOneOf (record { sender = u.origin; to = send.0; note = send.1 }))
+          (sym repeats.others.sent) (mm.in_sent i q u send at_i goes one);
       sent_by = λ packet one. mm.sent_by packet (subst (IsOneOf packet) repeats.others.sent one);
       found = found;
     }

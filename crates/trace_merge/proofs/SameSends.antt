@@ -11,7 +11,9 @@ use Rattle.trace_merge.specs.Projection.{said}
 
 -- packets, read as what they say
 pub said_from_slice : {N : Type 0} {s : Iter (Packet N)} (xs : List (Packet N)) → iter_rest s ≡ xs → YieldsList fronts (λ y. said y.now) s (map said xs)
-said_from_slice {N} {s} xs e = subst (λ ys. YieldsList fronts (λ y. said y.now) s (map said ys)) e (YieldsList-from_shown fronts (λ y. said y.now) (λ t. map said (iter_rest t)) none more s)
+said_from_slice {N} {s} xs e =
+    subst (λ ys. YieldsList fronts (λ y. said y.now) s (map said ys)) e
+    (YieldsList-from_shown fronts (λ y. said y.now) (λ t. map said (iter_rest t)) none more s)
   where
     none : (t u : Iter (Packet N)) → fronts t None u → length (map said (iter_rest t)) ≡ 0
     none t u h = length-map (iter_rest t) said ∙ h.0

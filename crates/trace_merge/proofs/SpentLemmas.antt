@@ -30,7 +30,8 @@ abbrev pub HasNumber : ℕ → List (Name × Frame) → Type 0
 HasNumber n sends = (send : Name × Frame) × IsOneOf send sends × (send.1.number ≡ n)
 
 -- bodies that are numbered end with the last number
-numbered_last : (me : Origin) (framed : ℕ) (first : Name × Body) (bodies : List (Name × Body)) → HasNumber (framed + suc (length bodies)) (numbered me framed (first ∷ bodies))
+numbered_last : (me : Origin) (framed : ℕ) (first : Name × Body) (bodies : List (Name × Body)) →
+    HasNumber (framed + suc (length bodies)) (numbered me framed (first ∷ bodies))
 numbered_last me framed first [] = let one : framed + 1 ≡ framed + suc 0 = omega arith in (_, inl refl, one)
 numbered_last me framed first (next ∷ bodies) =
     let rest = numbered_last me (framed + 1) next bodies in
@@ -46,7 +47,9 @@ numbered_at me framed (first ∷ bodies) = inr (numbered_last me framed first bo
 abbrev pub StandsAt : ℕ → ℕ → List (Name × Frame) → Type 0
 StandsAt before now sends = (now ≡ before) ⊎ HasNumber now sends
 
-leads_at : (first : Plum) (steps : List (Step Frame)) (last : Plum) → Leads PlumSteps first steps last → StandsAt first.framed last.framed (flat_map (λ (s : Step Frame). s.out.sends) steps)
+leads_at : (first : Plum) (steps : List (Step Frame)) (last : Plum) →
+    Leads PlumSteps first steps last →
+    StandsAt first.framed last.framed (flat_map (λ (s : Step Frame). s.out.sends) steps)
 leads_at first [] last leads = inl (ap (λ (p : Plum). p.framed) leads)
 leads_at first (s ∷ steps) last (next, step, rest) =
     let sends : Step Frame → List (Name × Frame) = λ (x : Step Frame). x.out.sends in
@@ -67,7 +70,10 @@ opening_at me None = inl refl
 opening_at me (Some contact) = inr (_, inl refl, refl)
 
 -- a core that a trace leads to stands at a number of 64 bits, if the trace's frames do
-pub framed_short : (limits : Limits) (t : Trace Frame) (k : ℕ) (core : Plum) → Replays PlumStarts PlumSteps limits (cut k t) core → AreShort (sent_within k t) → core.framed ≤ greatest
+pub framed_short : (limits : Limits) (t : Trace Frame) (k : ℕ) (core : Plum) →
+    Replays PlumStarts PlumSteps limits (cut k t) core →
+    AreShort (sent_within k t) →
+    core.framed ≤ greatest
 framed_short limits t k core r short =
     let start : r.first.framed ≡ 0 + length (opening t.contact) = ap (λ (p : Plum). p.framed) r.started.leaves in
     elim (leads_at r.first (take k t.steps) core r.leads) [
@@ -79,7 +85,8 @@ framed_short limits t k core r short =
                 omega (arith, same, start, has.2, low))
           ])
       | inr has ↦
-          (let low : has.0.1.number ≤ greatest = short has.0 (one_of-right has.0 t.opening.sends (flat_map (λ (s : Step Frame). s.out.sends) (take k t.steps)) has.1) in
+          (let low : has.0.1.number ≤ greatest =
+          short has.0 (one_of-right has.0 t.opening.sends (flat_map (λ (s : Step Frame). s.out.sends) (take k t.steps)) has.1) in
           omega (arith, has.2, low))
     ]
 
@@ -94,18 +101,24 @@ one_more (d ∷ given) id is few past =
     omega (arith, seq, low, past)
 
 -- a step whose frames and messages have numbers of 64 bits has used up none
-pub never_spent : (limits : Limits) (t : Trace Frame) (k : ℕ) (s : Step Frame) (core last : Plum) → slice_get t.steps k ≡ Some s → Replays PlumStarts PlumSteps limits (cut k t) core → PlumSteps core s.stimulus s.out.sends s.out.deliveries last →
+pub never_spent : (limits : Limits) (t : Trace Frame) (k : ℕ) (s : Step Frame) (core last : Plum) →
+    slice_get t.steps k ≡ Some s →
+    Replays PlumStarts PlumSteps limits (cut k t) core →
+    PlumSteps core s.stimulus s.out.sends s.out.deliveries last →
     AreShort (sent_within (suc k) t) → AreFew s.out.deliveries → PlumIsSpent core s.stimulus → ⊥
 never_spent limits t k s core last at r step short few spent =
     elim spent [
       | inl messages ↦ out_of s.stimulus refl messages
       | inr frames ↦
           (let bodies : List (Name × Body) = (turned core.me core.membership core.gossip s.stimulus).sends in
-          let before : core.framed ≤ greatest = framed_short limits t k core r (λ send one. short send (subst (IsOneOf send) (sym (sent_within-suc t k s at)) (one_of-left send (sent_within k t) s.out.sends one))) in
+          let before : core.framed ≤ greatest =
+          framed_short limits t k core r
+          (λ send one. short send (subst (IsOneOf send) (sym (sent_within-suc t k s at)) (one_of-left send (sent_within k t) s.out.sends one))) in
           elim (numbered_at core.me core.framed bodies) [
             | inl none ↦ (let many : 2 ^ 64 - 1 < core.framed + length bodies = frames in omega (arith, none, before, many))
             | inr has ↦
-                (let low : has.0.1.number ≤ greatest = short has.0 (subst (IsOneOf has.0) (sym (sent_within-suc t k s at)) (one_of-right has.0 (sent_within k t) s.out.sends (subst (IsOneOf has.0) (sym step.sent) has.1))) in
+                (let low : has.0.1.number ≤ greatest = short has.0 (subst (IsOneOf has.0) (sym (sent_within-suc t k s at))
+                (one_of-right has.0 (sent_within k t) s.out.sends (subst (IsOneOf has.0) (sym step.sent) has.1))) in
                 let many : 2 ^ 64 - 1 < core.framed + length bodies = frames in
                 omega (arith, has.2, low, many))
           ])
@@ -113,7 +126,9 @@ never_spent limits t k s core last at r step short few spent =
   where
     out_of : (told : Stimulus Frame) → s.stimulus ≡ told → IsOutOfNumbers (plum_state core) told → ⊥
     out_of (Broadcast payload) is out =
-        let gives : ids s.out.deliveries ≡ next_id (plum_state core) ∷ [] = plum_delivers_one.of_broadcast core payload s.out.sends s.out.deliveries last (subst (λ told. PlumSteps core told s.out.sends s.out.deliveries last) is step) in
+        let gives : ids s.out.deliveries ≡ next_id (plum_state core) ∷ [] =
+        plum_delivers_one.of_broadcast core payload s.out.sends s.out.deliveries last
+        (subst (λ told. PlumSteps core told s.out.sends s.out.deliveries last) is step) in
         one_more s.out.deliveries (next_id (plum_state core)) gives few (let full : (plum_state core).count ≡ 2 ^ 64 - 1 = out.1 in omega (arith, full))
     out_of (Arrive sender note dice) is out = out
     out_of (Fire id) is out = out

@@ -32,7 +32,9 @@ slice_get-more {X} xs ys i x at =
     slice_get_read (xs ++ ys) (length (xs ++ ys)) i x refl still (sym (get_or-append xs ys x i within ∙ get_or_from_slice_get xs i x x at))
 
 -- and so do the packets up to a number
-pub sends_between-more : {N : Type 0} (xs ys : List (Packet N)) (first : ℕ) → first ≤ length xs → sends_between first (length xs) (xs ++ ys) ≡ sends_between first (length xs) xs
+pub sends_between-more : {N : Type 0} (xs ys : List (Packet N)) (first : ℕ) →
+    first ≤ length xs →
+    sends_between first (length xs) (xs ++ ys) ≡ sends_between first (length xs) xs
 sends_between-more {N} xs ys first low =
     let fits : length xs - first ≤ length (drop first xs) = simp length-drop (omega arith) in
     ap (map said) (ap (take (length xs - first)) (drop-append-le first xs ys low) ∙ take-append-le (length xs - first) (drop first xs) ys fits)
@@ -43,11 +45,13 @@ said-packets sender [] = refl
 said-packets {N} sender (send ∷ sends) = λ i. (send.0, send.1) ∷ said-packets sender sends i
 
 -- what was sent last
-pub sends_between-last : {N : Type 0} (xs : List (Packet N)) (sender : Origin) (sends : List (Name × N)) → sends_between (length xs) (length (xs ++ packets sender sends)) (xs ++ packets sender sends) ≡ sends
+pub sends_between-last : {N : Type 0} (xs : List (Packet N)) (sender : Origin) (sends : List (Name × N)) →
+    sends_between (length xs) (length (xs ++ packets sender sends)) (xs ++ packets sender sends) ≡ sends
 sends_between-last {N} xs sender sends =
     let ps : List (Packet N) = packets sender sends in
     let many : length (xs ++ ps) - length xs ≡ length ps = simp length-append (omega arith) in
-    ap (map said) (ap (λ n. take n (drop (length xs) (xs ++ ps))) many ∙ ap (take (length ps)) (drop-append_seam xs ps) ∙ take-length ps) ∙ said-packets sender sends
+    ap (map said) (ap (λ n. take n (drop (length xs) (xs ++ ps))) many ∙ ap (take (length ps)) (drop-append_seam xs ps) ∙ take-length ps)
+    ∙ said-packets sender sends
 
 -- a trace goes on in the same way where what it reads of the packets is the same
 pub traced-same :
@@ -64,12 +68,14 @@ pub traced-same :
     trace ≡ other →
     traced_on o last sent entry end trace ≡ traced_on o last others entry end other
 traced-same {N} o last entry end sent others trace other sends told name before =
-    λ i. started_on o entry.event (record { sends = sends i; deliveries = entry.given }) (stepped_on (is_last o last && is_name o.name (name i)) (told i) (record { sends = sends i; deliveries = entry.given }) (before i))
+    λ i. started_on o entry.event (record { sends = sends i; deliveries = entry.given })
+    (stepped_on (is_last o last && is_name o.name (name i)) (told i) (record { sends = sends i; deliveries = entry.given }) (before i))
 
 -- What the event says of these packets it says when more follow.
 abbrev pub Names : {N : Type 0} → Event → Option ℕ → List (Packet N) → Type 0
 Names {N} event number sent =
-    (more : List (Packet N)) → (stimulus_by (sent ++ more) event number ≡ stimulus_by sent event number) × (stepped_name (sent ++ more) event number ≡ stepped_name sent event number)
+    (more : List (Packet N)) →
+    (stimulus_by (sent ++ more) event number ≡ stimulus_by sent event number) × (stepped_name (sent ++ more) event number ≡ stepped_name sent event number)
 
 module _
     {C N : Type 0}
@@ -79,7 +85,9 @@ module _
     (limits : Limits)
   where
     -- an event's packets come behind those before it
-    pub sent_grows : (before : Group C N) (entry : Entry) (after : Group C N) (event : Event) → Effect state starts steps limits before entry after event → (more : List (Packet N)) × (after.sent ≡ before.sent ++ more)
+    pub sent_grows : (before : Group C N) (entry : Entry) (after : Group C N) (event : Event) →
+        Effect state starts steps limits before entry after event →
+        (more : List (Packet N)) × (after.sent ≡ before.sent ++ more)
     sent_grows before entry after (Start name incarnation peers contact) effect = (_, effect.1.sending.sent)
     sent_grows before entry after (Broadcast name payload) effect = (_, effect.1.sending.sent)
     sent_grows before entry after (Arrive place dice) effect = (_, effect.acts.sending.sent)
@@ -93,10 +101,14 @@ module _
     sent_grows before entry after (Stop name) effect = ([], effect.1.sent ∙ sym (append-nil before.sent))
 
     -- an event names a packet that was sent before it, if it names one
-    pub names_before : (before : Group C N) (entry : Entry) (after : Group C N) (event : Event) → Effect state starts steps limits before entry after event → Names event entry.packet before.sent
+    pub names_before : (before : Group C N) (entry : Entry) (after : Group C N) (event : Event) →
+        Effect state starts steps limits before entry after event →
+        Names event entry.packet before.sent
     names_before before entry after (Arrive place dice) effect more =
         let under : sent_under (before.sent ++ more) entry.packet ≡ sent_under before.sent entry.packet =
-        ap (sent_under (before.sent ++ more)) effect.named ∙ slice_get-more before.sent more effect.number effect.packet effect.sent ∙ sym (ap (sent_under before.sent) effect.named ∙ effect.sent)
+        ap (sent_under (before.sent ++ more)) effect.named
+        ∙ slice_get-more before.sent more effect.number effect.packet effect.sent
+        ∙ sym (ap (sent_under before.sent) effect.named ∙ effect.sent)
         in (ap (λ p. arrival p dice) under, ap receiver under)
     names_before before entry after (Start name incarnation peers contact) effect more = (refl, refl)
     names_before before entry after (Broadcast name payload) effect more = (refl, refl)
@@ -119,8 +131,12 @@ module _
         subst (λ xs. projection o (xs ++ more) (length xs) (entry ∷ past) ≡ projection o xs (length xs) (entry ∷ past)) (sym grows.1)
         (later o entry past before grows.0 more first names (λ xs. projection-stays o past before xs ran))
       where
-        later : (o : Origin) (entry : Entry) (past : List Entry) (before : Group C N) (ps more : List (Packet N)) → entry.first_sent ≡ length before.sent → Names entry.event entry.packet before.sent → ((xs : List (Packet N)) → projection o (before.sent ++ xs) (length before.sent) past ≡ projection o before.sent (length before.sent) past) →
-            projection o ((before.sent ++ ps) ++ more) (length (before.sent ++ ps)) (entry ∷ past) ≡ projection o (before.sent ++ ps) (length (before.sent ++ ps)) (entry ∷ past)
+        later : (o : Origin) (entry : Entry) (past : List Entry) (before : Group C N) (ps more : List (Packet N)) →
+            entry.first_sent ≡ length before.sent →
+            Names entry.event entry.packet before.sent →
+            ((xs : List (Packet N)) → projection o (before.sent ++ xs) (length before.sent) past ≡ projection o before.sent (length before.sent) past) →
+            projection o ((before.sent ++ ps) ++ more) (length (before.sent ++ ps)) (entry ∷ past)
+            ≡ projection o (before.sent ++ ps) (length (before.sent ++ ps)) (entry ∷ past)
         later o entry past before ps more first names stays =
             let joined : (before.sent ++ ps) ++ more ≡ before.sent ++ (ps ++ more) = append_assoc before.sent ps more in
             let low : entry.first_sent ≤ length (before.sent ++ ps) = simp length-append (omega arith) in
@@ -135,10 +151,15 @@ module _
             (ap (λ xs. projection o xs entry.first_sent past) joined ∙ told (ps ++ more) ∙ sym (told ps))
 
     -- what is projected after one more event
-    pub projection-after : (o : Origin) (past : List Entry) (before : Group C N) (entry : Entry) (after : Group C N) → Run state starts steps limits past before → entry.first_sent ≡ length before.sent → Effect state starts steps limits before entry after entry.event →
+    pub projection-after : (o : Origin) (past : List Entry) (before : Group C N) (entry : Entry) (after : Group C N) →
+        Run state starts steps limits past before →
+        entry.first_sent ≡ length before.sent →
+        Effect state starts steps limits before entry after entry.event →
         projection o after.sent (length after.sent) (entry ∷ past)
         ≡ traced_on o (incarnation_of o.name past) after.sent entry (length after.sent) (projection o before.sent (length before.sent) past)
     projection-after o past before entry after ran first effect =
         let grows : (ps : List (Packet N)) × (after.sent ≡ before.sent ++ ps) = sent_grows before entry after entry.event effect in
         ap (traced_on o (incarnation_of o.name past) after.sent entry (length after.sent))
-        (ap (λ n. projection o after.sent n past) first ∙ ap (λ xs. projection o xs (length before.sent) past) grows.1 ∙ projection-stays o past before grows.0 ran)
+        (ap (λ n. projection o after.sent n past) first
+        ∙ ap (λ xs. projection o xs (length before.sent) past) grows.1
+        ∙ projection-stays o past before grows.0 ran)

@@ -24,10 +24,12 @@ use Rattle.frames.specs.Frame.{Frame}
 use Rattle.node_core.specs.Plum.{Plum, plum_state}
 use Rattle.node_core.specs.Steps.{PlumStarts, PlumSteps}
 use Rattle.trace_merge.specs.FrameIds.{AreFound}
-use Rattle.trace_merge.specs.Merging.{AreDistinct, HasTrace, IsKept, IsMerging, IsOut, IsSentBy, IsReady, IsStartOf, IsStarted, Merge, RunsTo, Stands, cut, place_at, sent_within, start_of}
+use Rattle.trace_merge.specs.Merging.{AreDistinct, HasTrace, IsKept, IsMerging, IsOut, IsSentBy, IsReady, IsStartOf}
+use Rattle.trace_merge.specs.Merging.{IsStarted, Merge, RunsTo, Stands, cut, place_at, sent_within, start_of}
 use Rattle.trace_merge.specs.declared.frame_index.FrameId.{FrameId}
 use Rattle.trace_merge.specs.Projection.{is_last, is_name, output_of, projection_in, said, sends_between, started_on, stepped_name, stepped_on}
-use Rattle.trace_merge.proofs.ListLemmas.{each-append, made_of-packets, name_is, one_of-append, one_of-left, one_of-packets, one_of-right, one_of_place, put_other, put_same}
+use Rattle.trace_merge.proofs.ListLemmas.{each-append, made_of-packets, name_is, one_of-append, one_of-left}
+use Rattle.trace_merge.proofs.ListLemmas.{one_of-packets, one_of-right, one_of_place, put_other, put_same}
 use Rattle.trace_merge.proofs.PlaceLemmas.{at_or_not}
 use Rattle.trace_merge.proofs.PlayLemmas.{and-false, name-differs, newest, origin-differs, projected_on, ran_on}
 use Rattle.trace_merge.proofs.Stable.{said-packets, sends_between-last}
@@ -74,20 +76,32 @@ module _
         λ i. record { sends = all i; deliveries = none i }
 
     -- what each run did so far: this one has started
-    projected : (o : Origin) → projection_in o world ≡ (if same_origin o t.origin then Some (record { origin = o; peers = t.peers; contact = t.contact; opening = t.opening; steps = [] }) else projection_in o m.world)
+    projected : (o : Origin) →
+        projection_in o world
+        ≡ (if same_origin o t.origin
+        then Some (record { origin = o; peers = t.peers; contact = t.contact; opening = t.opening; steps = [] })
+        else projection_in o m.world)
     projected o =
         projected_on plum_state PlumStarts PlumSteps limits o (start_of t) given m.world world applied mm.same_limits mm.ran
         ∙ (λ i. started_on o (applied.of_event i) (out_is i)
-        (stepped_on (is_last o (incarnation_of o.name (reverse m.world.log)) && is_name o.name (stepped_name world.group.sent (applied.of_event i) applied.entry.packet)) (stimulus_by world.group.sent (applied.of_event i) applied.entry.packet) (out_is i) (projection_in o m.world)))
-        ∙ ap (λ b. started_on o (start_of t) t.opening (stepped_on b None t.opening (projection_in o m.world))) (and-false (is_last o (incarnation_of o.name (reverse m.world.log))))
+        (stepped_on
+        (is_last o (incarnation_of o.name (reverse m.world.log)) && is_name o.name (stepped_name world.group.sent (applied.of_event i) applied.entry.packet))
+        (stimulus_by world.group.sent (applied.of_event i) applied.entry.packet) (out_is i) (projection_in o m.world)))
+        ∙ ap (λ b. started_on o (start_of t) t.opening (stepped_on b None t.opening (projection_in o m.world)))
+        (and-false (is_last o (incarnation_of o.name (reverse m.world.log))))
 
     mine : projection_in t.origin world ≡ Some (cut 0 t)
     mine = projected t.origin ∙ ap (λ b. if b then Some (cut 0 t) else projection_in t.origin m.world) ((same_origin-Decides t.origin t.origin).1 refl)
 
     others : (o : Origin) → o ≢ t.origin → projection_in o world ≡ projection_in o m.world
-    others o differs = projected o ∙ ap (λ b. if b then Some (record { origin = o; peers = t.peers; contact = t.contact; opening = t.opening; steps = [] }) else projection_in o m.world) (origin-differs o t.origin differs)
+    others o differs =
+        projected o
+        ∙ ap (λ b. if b then Some (record { origin = o; peers = t.peers; contact = t.contact; opening = t.opening; steps = [] }) else projection_in o m.world)
+        (origin-differs o t.origin differs)
 
-    lasts : (name : Name) → incarnation_of name (reverse world.log) ≡ (if same_name name t.origin.name then Some t.origin.incarnation else incarnation_of name (reverse m.world.log))
+    lasts : (name : Name) →
+        incarnation_of name (reverse world.log)
+        ≡ (if same_name name t.origin.name then Some t.origin.incarnation else incarnation_of name (reverse m.world.log))
     lasts name =
         ap (incarnation_of name) (ap reverse applied.logged ∙ newest m.world.log applied.entry)
         ∙ ap (λ e. started_by name e (incarnation_of name (reverse m.world.log))) applied.of_event
@@ -103,7 +117,8 @@ module _
 
     runs_on : RunsTo limits world t 0
     runs_on = record {
-      last = lasts t.origin.name ∙ ap (λ b. if b then Some t.origin.incarnation else incarnation_of t.origin.name (reverse m.world.log)) (name_is t.origin.name);
+      last =
+          lasts t.origin.name ∙ ap (λ b. if b then Some t.origin.incarnation else incarnation_of t.origin.name (reverse m.world.log)) (name_is t.origin.name);
       node = now;
       core = starts.core;
       known = found_here;
@@ -131,7 +146,13 @@ module _
         let out : q ≡ length u.steps = subst (IsOut u) goes (ready i u at_i same lower) in
         omega (arith, more, out)
 
-    stay : (i : ℕ) (u : Trace Frame) → slice_get traces i ≡ Some u → u.origin ≢ t.origin → (p : Option ℕ) → place_at m.places i ≡ p → Stands limits m.world u p → Stands limits world u p
+    stay : (i : ℕ) (u : Trace Frame) →
+        slice_get traces i ≡ Some u →
+        u.origin ≢ t.origin →
+        (p : Option ℕ) →
+        place_at m.places i ≡ p →
+        Stands limits m.world u p →
+        Stands limits world u p
     stay i u at_i differs None goes h = others u.origin differs ∙ h
     stay i u at_i differs (Some q) goes h = (
       h.0,
@@ -140,7 +161,11 @@ module _
           let r : RunsTo limits m.world u q = h.2 more in
           let away : u.origin.name ≢ t.origin.name = apart i q u at_i goes more in
           record {
-            last = lasts u.origin.name ∙ ap (λ b. if b then Some t.origin.incarnation else incarnation_of u.origin.name (reverse m.world.log)) (name-differs u.origin.name t.origin.name away) ∙ r.last;
+            last =
+                lasts u.origin.name
+                ∙ ap (λ b. if b then Some t.origin.incarnation else incarnation_of u.origin.name (reverse m.world.log))
+                (name-differs u.origin.name t.origin.name away)
+                ∙ r.last;
             node = r.node;
             core = r.core;
             known = found_there u.origin.name away ∙ r.known;
@@ -171,7 +196,13 @@ module _
           | inr there ↦ there.1 ∙ goes
         ]
 
-    later : (i j q : ℕ) (u v : Trace Frame) → slice_get traces i ≡ Some u → slice_get traces j ≡ Some v → u.origin.name ≡ v.origin.name → place_at moved i ≡ None → place_at moved j ≡ Some q → v.origin.incarnation.0 < u.origin.incarnation.0
+    later : (i j q : ℕ) (u v : Trace Frame) →
+        slice_get traces i ≡ Some u →
+        slice_get traces j ≡ Some v →
+        u.origin.name ≡ v.origin.name →
+        place_at moved i ≡ None →
+        place_at moved j ≡ Some q →
+        v.origin.incarnation.0 < u.origin.incarnation.0
     later i j q u v at_i at_j same waits goes =
         elim (at_or_not m.places at (Some 0) i in_places) [
           | inl here ↦ (let none : None ≡ Some 0 = sym waits ∙ here.1 in cc)
@@ -183,8 +214,10 @@ module _
                     let it : t ≡ v = cc in
                     let name : u.origin.name ≡ t.origin.name = same ∙ ap (λ (w : Trace Frame). w.origin.name) (sym it) in
                     let no : u.origin.incarnation.0 < t.origin.incarnation.0 → ⊥ = (λ low. subst (IsOut u) before (ready i u at_i name low)) in
-                    let apart_from : u.origin.incarnation.0 ≡ t.origin.incarnation.0 → ⊥ = (λ eq. there.0 (distinct i at u t at_i listed (λ k. record { name = name k; incarnation = record { 0 = eq k } }))) in
-                    subst (λ (w : Trace Frame). w.origin.incarnation.0 < u.origin.incarnation.0) it (higher u.origin.incarnation.0 t.origin.incarnation.0 no apart_from))
+                    let apart_from : u.origin.incarnation.0 ≡ t.origin.incarnation.0 → ⊥ =
+                    (λ eq. there.0 (distinct i at u t at_i listed (λ k. record { name = name k; incarnation = record { 0 = eq k } }))) in
+                    subst (λ (w : Trace Frame). w.origin.incarnation.0 < u.origin.incarnation.0) it
+                    (higher u.origin.incarnation.0 t.origin.incarnation.0 no apart_from))
                 | inr that ↦ mm.later i j q u v at_i at_j same before (sym that.1 ∙ goes)
               ])
         ]
@@ -200,13 +233,24 @@ module _
             let same : name ≡ t.origin.name = (same_name-Decides name t.origin.name).0 is in
             let e : Some now ≡ Some node = sym found_here ∙ ap (λ n. node_of n world.group.nodes) (sym same) ∙ at_name in
             let it : now ≡ node = cc in
-            record { at = at; place = 0; trace = t; listed = listed; its = ap (λ (n : NodeState Plum). origin_of n) it; stands = get_or-set_same m.places at (Some 0) None in_places }
+            record {
+              at = at;
+              place = 0;
+              trace = t;
+              listed = listed;
+              its = ap (λ (n : NodeState Plum). origin_of n) it;
+              stands = get_or-set_same m.places at (Some 0) None in_places;
+            }
         go false is =
             let differs : name ≢ t.origin.name = (λ e. false≢true (sym is ∙ (same_name-Decides name t.origin.name).1 e)) in
             let old : IsStarted traces m.places (origin_of node) = mm.known name node (sym (found_there name differs) ∙ at_name) in
             record { at = old.at; place = old.place; trace = old.trace; listed = old.listed; its = old.its; stands = still old.at old.place old.stands }
 
-    in_sent : (i q : ℕ) (u : Trace Frame) (send : Name × Frame) → slice_get traces i ≡ Some u → place_at moved i ≡ Some q → IsOneOf send (sent_within q u) → IsOneOf (record { sender = u.origin; to = send.0; note = send.1 }) world.group.sent
+    in_sent : (i q : ℕ) (u : Trace Frame) (send : Name × Frame) →
+        slice_get traces i ≡ Some u →
+        place_at moved i ≡ Some q →
+        IsOneOf send (sent_within q u) →
+        IsOneOf (record { sender = u.origin; to = send.0; note = send.1 }) world.group.sent
     in_sent i q u send at_i goes one =
         subst (IsOneOf (record { sender = u.origin; to = send.0; note = send.1 })) (sym starts.sending.sent)
         (elim (at_or_not m.places at (Some 0) i in_places) [
@@ -215,9 +259,13 @@ module _
               let it : t ≡ u = cc in
               let f : Some 0 ≡ Some q = sym here.1 ∙ goes in
               let far : 0 ≡ q = cc in
-              let its : IsOneOf send t.opening.sends = subst (IsOneOf send) (append-nil t.opening.sends) (subst (λ n. IsOneOf send (sent_within n t)) (sym far) (subst (λ v. IsOneOf send (sent_within q v)) (sym it) one)) in
-              subst (λ (v : Trace Frame). IsOneOf (record { sender = v.origin; to = send.0; note = send.1 }) (m.world.group.sent ++ packets t.origin starts.sends)) it
-              (one_of-right _ m.world.group.sent (packets t.origin starts.sends) (one_of-packets t.origin starts.sends send (subst (IsOneOf send) (sym sends_are) its))))
+              let its : IsOneOf send t.opening.sends =
+              subst (IsOneOf send) (append-nil t.opening.sends)
+              (subst (λ n. IsOneOf send (sent_within n t)) (sym far) (subst (λ v. IsOneOf send (sent_within q v)) (sym it) one)) in
+              subst
+              (λ (v : Trace Frame). IsOneOf (record { sender = v.origin; to = send.0; note = send.1 }) (m.world.group.sent ++ packets t.origin starts.sends)) it
+              (one_of-right _ m.world.group.sent (packets t.origin starts.sends)
+              (one_of-packets t.origin starts.sends send (subst (IsOneOf send) (sym sends_are) its))))
           | inr there ↦ one_of-left _ m.world.group.sent (packets t.origin starts.sends) (mm.in_sent i q u send at_i (sym there.1 ∙ goes) one)
         ])
 
@@ -226,7 +274,15 @@ module _
         elim (one_of-append packet m.world.group.sent (packets t.origin starts.sends) (subst (IsOneOf packet) starts.sending.sent one)) [
           | inl old ↦
               (let by : IsSentBy traces m.places packet = mm.sent_by packet old in
-              record { at = by.at; place = by.place; trace = by.trace; listed = by.listed; its = by.its; stands = still by.at by.place by.stands; sends = by.sends })
+              record {
+                at = by.at;
+                place = by.place;
+                trace = by.trace;
+                listed = by.listed;
+                its = by.its;
+                stands = still by.at by.place by.stands;
+                sends = by.sends;
+              })
           | inr new ↦
               (let made = made_of-packets t.origin starts.sends packet new in
               record {
@@ -236,7 +292,9 @@ module _
                 listed = listed;
                 its = made.its;
                 stands = get_or-set_same m.places at (Some 0) None in_places;
-                sends = subst (IsOneOf (packet.to, packet.note)) (sym (append-nil t.opening.sends)) (subst (IsOneOf (packet.to, packet.note)) sends_are made.sends_it);
+                sends =
+                    subst (IsOneOf (packet.to, packet.note)) (sym (append-nil t.opening.sends))
+                    (subst (IsOneOf (packet.to, packet.note)) sends_are made.sends_it);
               })
         ]
 
@@ -248,7 +306,10 @@ module _
     starts_on = record {
       same_limits = applied.same_limits ∙ mm.same_limits;
       ran = ran_on plum_state PlumStarts PlumSteps limits (start_of t) given m.world world applied mm.same_limits mm.ran;
-      of_events = ap (map (λ (e : Entry). e.event)) applied.logged ∙ map-append (λ (e : Entry). e.event) m.world.log (applied.entry ∷ []) ∙ (λ i. mm.of_events i ++ applied.of_event i ∷ []);
+      of_events =
+          ap (map (λ (e : Entry). e.event)) applied.logged
+          ∙ map-append (λ (e : Entry). e.event) m.world.log (applied.entry ∷ [])
+          ∙ (λ i. mm.of_events i ++ applied.of_event i ∷ []);
       kept = each-append IsKept m.events (start_of t ∷ []) mm.kept (tt, tt);
       started = each-append (λ (e : Event). (o : Origin) → IsStartOf o e → HasTrace traces o) m.events (start_of t ∷ []) mm.started (starts_its, tt);
       counted = length-set m.places at (Some 0) ∙ mm.counted;

@@ -26,17 +26,21 @@ use Rattle.frames.specs.Frame.{Frame}
 use Rattle.node_core.specs.Plum.{Plum, plum_state}
 use Rattle.node_core.specs.Steps.{PlumStarts, PlumSteps}
 use Rattle.trace_merge.specs.FrameIds.{AreFound}
-use Rattle.trace_merge.specs.Merging.{AreDistinct, HasTrace, IsKept, IsMerging, IsSentBy, IsStartOf, IsStarted, Merge, RunsTo, Stands, cut, place_at, sent_within}
+use Rattle.trace_merge.specs.Merging.{AreDistinct, HasTrace, IsKept, IsMerging, IsSentBy, IsStartOf}
+use Rattle.trace_merge.specs.Merging.{IsStarted, Merge, RunsTo, Stands, cut, place_at, sent_within}
 use Rattle.trace_merge.specs.declared.frame_index.FrameId.{FrameId}
 use Rattle.trace_merge.specs.Projection.{is_last, is_name, output_of, projection_in, said, sends_between, stepped_name, stepped_on}
 use Rattle.trace_merge.proofs.Determined.{replays_on, take_one}
-use Rattle.trace_merge.proofs.ListLemmas.{each-append, found_name, made_of-packets, name_is, one_of-append, one_of-left, one_of-packets, one_of-right, put_other, put_same}
+use Rattle.trace_merge.proofs.ListLemmas.{each-append, found_name, made_of-packets, name_is, one_of-append}
+use Rattle.trace_merge.proofs.ListLemmas.{one_of-left, one_of-packets, one_of-right, put_other, put_same}
 use Rattle.trace_merge.proofs.PlaceLemmas.{at_or_not, sent_stays, sent_within-suc, started_stays}
 use Rattle.trace_merge.proofs.PlayLemmas.{acts_of, and-false, is_last-its, is_last-not, name-differs, newest, projected_on, ran_on, starts_none}
 use Rattle.trace_merge.proofs.Stable.{Names, names_before, said-packets, sends_between-last}
 
 -- an event that steps a core leaves which runs were started last
-pub starts_no : {N : Type 0} (sent : List (Packet N)) (event : Event) (number : Option ℕ) (name other : Name) (last : Option Incarnation) → stepped_name sent event number ≡ Some name → started_by other event last ≡ last
+pub starts_no : {N : Type 0} (sent : List (Packet N)) (event : Event) (number : Option ℕ) (name other : Name) (last : Option Incarnation) →
+    stepped_name sent event number ≡ Some name →
+    started_by other event last ≡ last
 starts_no sent (Start n incarnation peers contact) number name other last is = let none : None ≡ Some name = is in cc
 starts_no sent (Broadcast n payload) number name other last is = refl
 starts_no sent (Arrive place dice) number name other last is = refl
@@ -50,7 +54,10 @@ starts_no sent (Join n contact) number name other last is = refl
 starts_no sent (Stop n) number name other last is = refl
 
 -- nor is it the start of one
-pub is_no_start : {N : Type 0} (sent : List (Packet N)) (event : Event) (number : Option ℕ) (name : Name) (o : Origin) → stepped_name sent event number ≡ Some name → IsStartOf o event → ⊥
+pub is_no_start : {N : Type 0} (sent : List (Packet N)) (event : Event) (number : Option ℕ) (name : Name) (o : Origin) →
+    stepped_name sent event number ≡ Some name →
+    IsStartOf o event →
+    ⊥
 is_no_start sent (Start n incarnation peers contact) number name o is started = let none : None ≡ Some name = is in cc
 is_no_start sent (Broadcast n payload) number name o is started = started
 is_no_start sent (Arrive place dice) number name o is started = started
@@ -100,7 +107,9 @@ module _
     runs = stood.2 within
 
     acted : (staying : List ℕ) × Acts plum_state PlumSteps m.world.group staying t.origin.name s.stimulus applied.entry world.group
-    acted = acts_of plum_state PlumStarts PlumSteps limits m.world.group applied.entry world.group applied.entry.event t.origin.name s.stimulus happened.1 named told
+    acted =
+        acts_of plum_state PlumStarts PlumSteps limits m.world.group applied.entry
+        world.group applied.entry.event t.origin.name s.stimulus happened.1 named told
 
     acts : Acts plum_state PlumSteps m.world.group acted.0 t.origin.name s.stimulus applied.entry world.group
     acts = acted.1
@@ -115,7 +124,9 @@ module _
     node_name = found_name t.origin.name m.world.group.nodes acts.node acts.known
 
     origin : origin_of acts.node ≡ t.origin
-    origin = let high : acts.node.highest ≡ t.origin.incarnation = ap (λ (n : NodeState Plum). n.highest) same_node ∙ runs.highest in λ i. record { name = sym node_name i; incarnation = high i }
+    origin =
+        let high : acts.node.highest ≡ t.origin.incarnation = ap (λ (n : NodeState Plum). n.highest) same_node ∙ runs.highest in
+        λ i. record { name = sym node_name i; incarnation = high i }
 
     sent_is : world.group.sent ≡ m.world.group.sent ++ packets t.origin acts.sends
     sent_is = acts.sending.sent ∙ ap (λ o. m.world.group.sent ++ packets o acts.sends) origin
@@ -152,22 +163,31 @@ module _
         in λ i. record { sends = all i; deliveries = gives i }
 
     -- what each run did so far: this one has one step more
-    projected : (o : Origin) → projection_in o world ≡ stepped_on (is_last o (incarnation_of o.name (reverse m.world.log)) && same_name o.name t.origin.name) (Some s.stimulus) s.out (projection_in o m.world)
+    projected : (o : Origin) →
+        projection_in o world
+        ≡ stepped_on (is_last o (incarnation_of o.name (reverse m.world.log)) && same_name o.name t.origin.name)
+        (Some s.stimulus) s.out (projection_in o m.world)
     projected o =
         projected_on plum_state PlumStarts PlumSteps limits o event given m.world world applied mm.same_limits mm.ran
         ∙ starts_none o world.group.sent applied.entry.event applied.entry.packet t.origin.name _ _ named_now
-        ∙ (λ i. stepped_on (is_last o (incarnation_of o.name (reverse m.world.log)) && is_name o.name (named_now i)) (told_now i) (out_is i) (projection_in o m.world))
+        ∙ (λ i. stepped_on (is_last o (incarnation_of o.name (reverse m.world.log)) && is_name o.name (named_now i))
+        (told_now i) (out_is i) (projection_in o m.world))
 
     mine : projection_in t.origin world ≡ Some (cut (suc k) t)
     mine =
         projected t.origin
-        ∙ (λ i. stepped_on (is_last-its t.origin (incarnation_of t.origin.name (reverse m.world.log)) runs.last i && name_is t.origin.name i) (Some s.stimulus) s.out (stood.1 i))
+        ∙ (λ i. stepped_on (is_last-its t.origin (incarnation_of t.origin.name (reverse m.world.log)) runs.last i && name_is t.origin.name i)
+        (Some s.stimulus) s.out (stood.1 i))
         ∙ ap (λ steps. Some (record t { steps = steps })) (sym (take_one t k s step))
 
     others : (o : Origin) → o ≢ t.origin → projection_in o world ≡ projection_in o m.world
     others o differs = projected o ∙ go (same_name o.name t.origin.name) refl
       where
-        go : (b : Bool) → same_name o.name t.origin.name ≡ b → stepped_on (is_last o (incarnation_of o.name (reverse m.world.log)) && same_name o.name t.origin.name) (Some s.stimulus) s.out (projection_in o m.world) ≡ projection_in o m.world
+        go : (b : Bool) →
+            same_name o.name t.origin.name ≡ b →
+            stepped_on (is_last o (incarnation_of o.name (reverse m.world.log)) && same_name o.name t.origin.name)
+            (Some s.stimulus) s.out (projection_in o m.world)
+            ≡ projection_in o m.world
         go true is =
             let same : o.name ≡ t.origin.name = (same_name-Decides o.name t.origin.name).0 is in
             let not_last : is_last o (incarnation_of o.name (reverse m.world.log)) ≡ false =
@@ -193,7 +213,8 @@ module _
     found_here = ap (λ n. node_of n world.group.nodes) node_name ∙ ap (node_of acts.node.name) acts.nodes ∙ put_same now m.world.group.nodes
 
     found_there : (name : Name) → name ≢ t.origin.name → node_of name world.group.nodes ≡ node_of name m.world.group.nodes
-    found_there name differs = ap (node_of name) acts.nodes ∙ put_other name now m.world.group.nodes (name-differs name acts.node.name (λ e. differs (e ∙ sym node_name)))
+    found_there name differs =
+        ap (node_of name) acts.nodes ∙ put_other name now m.world.group.nodes (name-differs name acts.node.name (λ e. differs (e ∙ sym node_name)))
 
     runs_on : RunsTo limits world t (suc k)
     runs_on = record {
@@ -213,7 +234,10 @@ module _
     moved = set m.places at (Some (suc k))
 
     -- a run that may still go on is not of this name, if it is another
-    apart : (u : Trace Frame) → u.origin ≢ t.origin → incarnation_of u.origin.name (reverse m.world.log) ≡ Some u.origin.incarnation → u.origin.name ≢ t.origin.name
+    apart : (u : Trace Frame) →
+        u.origin ≢ t.origin →
+        incarnation_of u.origin.name (reverse m.world.log) ≡ Some u.origin.incarnation →
+        u.origin.name ≢ t.origin.name
     apart u differs last same =
         let both : Some u.origin.incarnation ≡ Some t.origin.incarnation = sym last ∙ ap (λ n. incarnation_of n (reverse m.world.log)) same ∙ runs.last in
         let inc : u.origin.incarnation ≡ t.origin.incarnation = cc in
@@ -250,7 +274,13 @@ module _
               (stay u (λ same. there.0 (distinct i at u t at_i listed same)) (place_at m.places i) (mm.stands i u at_i))
         ]
 
-    later : (i j q : ℕ) (u v : Trace Frame) → slice_get traces i ≡ Some u → slice_get traces j ≡ Some v → u.origin.name ≡ v.origin.name → place_at moved i ≡ None → place_at moved j ≡ Some q → v.origin.incarnation.0 < u.origin.incarnation.0
+    later : (i j q : ℕ) (u v : Trace Frame) →
+        slice_get traces i ≡ Some u →
+        slice_get traces j ≡ Some v →
+        u.origin.name ≡ v.origin.name →
+        place_at moved i ≡ None →
+        place_at moved j ≡ Some q →
+        v.origin.incarnation.0 < u.origin.incarnation.0
     later i j q u v at_i at_j same waits goes =
         elim (at_or_not m.places at (Some (suc k)) i in_places) [
           | inl here ↦ (let none : None ≡ Some (suc k) = sym waits ∙ here.1 in cc)
@@ -276,7 +306,11 @@ module _
             let differs : name ≢ t.origin.name = (λ e. false≢true (sym is ∙ (same_name-Decides name t.origin.name).1 e)) in
             started_stays traces m.places at k t s in_places listed placed step (origin_of node) (mm.known name node (sym (found_there name differs) ∙ at_name))
 
-    in_sent : (i q : ℕ) (u : Trace Frame) (send : Name × Frame) → slice_get traces i ≡ Some u → place_at moved i ≡ Some q → IsOneOf send (sent_within q u) → IsOneOf (record { sender = u.origin; to = send.0; note = send.1 }) world.group.sent
+    in_sent : (i q : ℕ) (u : Trace Frame) (send : Name × Frame) →
+        slice_get traces i ≡ Some u →
+        place_at moved i ≡ Some q →
+        IsOneOf send (sent_within q u) →
+        IsOneOf (record { sender = u.origin; to = send.0; note = send.1 }) world.group.sent
     in_sent i q u send at_i goes one =
         subst (IsOneOf (record { sender = u.origin; to = send.0; note = send.1 })) (sym sent_is)
         (elim (at_or_not m.places at (Some (suc k)) i in_places) [
@@ -285,11 +319,16 @@ module _
               let it : t ≡ u = cc in
               let f : Some (suc k) ≡ Some q = sym here.1 ∙ goes in
               let far : suc k ≡ q = cc in
-              let its : IsOneOf send (sent_within k t ++ s.out.sends) = subst (IsOneOf send) (sent_within-suc t k s step) (subst (λ n. IsOneOf send (sent_within n t)) (sym far) (subst (λ v. IsOneOf send (sent_within q v)) (sym it) one)) in
-              subst (λ (v : Trace Frame). IsOneOf (record { sender = v.origin; to = send.0; note = send.1 }) (m.world.group.sent ++ packets t.origin acts.sends)) it
+              let its : IsOneOf send (sent_within k t ++ s.out.sends) =
+              subst (IsOneOf send) (sent_within-suc t k s step)
+              (subst (λ n. IsOneOf send (sent_within n t)) (sym far) (subst (λ v. IsOneOf send (sent_within q v)) (sym it) one)) in
+              subst
+              (λ (v : Trace Frame). IsOneOf (record { sender = v.origin; to = send.0; note = send.1 }) (m.world.group.sent ++ packets t.origin acts.sends)) it
               (elim (one_of-append send (sent_within k t) s.out.sends its) [
                 | inl old ↦ one_of-left _ m.world.group.sent (packets t.origin acts.sends) (mm.in_sent at k t send listed placed old)
-                | inr new ↦ one_of-right _ m.world.group.sent (packets t.origin acts.sends) (one_of-packets t.origin acts.sends send (subst (IsOneOf send) (sym sends_are) new))
+                | inr new ↦
+                    one_of-right _ m.world.group.sent (packets t.origin acts.sends)
+                    (one_of-packets t.origin acts.sends send (subst (IsOneOf send) (sym sends_are) new))
               ]))
           | inr there ↦ one_of-left _ m.world.group.sent (packets t.origin acts.sends) (mm.in_sent i q u send at_i (sym there.1 ∙ goes) one)
         ])
@@ -307,7 +346,9 @@ module _
                 listed = listed;
                 its = made.its;
                 stands = get_or-set_same m.places at (Some (suc k)) None in_places;
-                sends = subst (IsOneOf (packet.to, packet.note)) (sym (sent_within-suc t k s step)) (one_of-right (packet.to, packet.note) (sent_within k t) s.out.sends (subst (IsOneOf (packet.to, packet.note)) sends_are made.sends_it));
+                sends =
+                    subst (IsOneOf (packet.to, packet.note)) (sym (sent_within-suc t k s step))
+                    (one_of-right (packet.to, packet.note) (sent_within k t) s.out.sends (subst (IsOneOf (packet.to, packet.note)) sends_are made.sends_it));
               })
         ]
 
@@ -316,10 +357,16 @@ module _
     steps_on = record {
       same_limits = applied.same_limits ∙ mm.same_limits;
       ran = ran_on plum_state PlumStarts PlumSteps limits event given m.world world applied mm.same_limits mm.ran;
-      of_events = ap (map (λ (e : Entry). e.event)) applied.logged ∙ map-append (λ (e : Entry). e.event) m.world.log (applied.entry ∷ []) ∙ (λ i. mm.of_events i ++ applied.of_event i ∷ []);
+      of_events =
+          ap (map (λ (e : Entry). e.event)) applied.logged
+          ∙ map-append (λ (e : Entry). e.event) m.world.log (applied.entry ∷ [])
+          ∙ (λ i. mm.of_events i ++ applied.of_event i ∷ []);
       kept = each-append IsKept m.events (event ∷ []) mm.kept (kept, tt);
-      started = each-append (λ (e : Event). (o : Origin) → IsStartOf o e → HasTrace traces o) m.events (event ∷ []) mm.started
-          (subst (λ e. (o : Origin) → IsStartOf o e → HasTrace traces o) applied.of_event (λ o started. absurd (is_no_start m.world.group.sent applied.entry.event applied.entry.packet t.origin.name o named started)), tt);
+      started = each-append (λ (e : Event). (o : Origin) → IsStartOf o e → HasTrace traces o) m.events (event ∷ []) mm.started (
+        subst (λ e. (o : Origin) → IsStartOf o e → HasTrace traces o) applied.of_event
+            (λ o started. absurd (is_no_start m.world.group.sent applied.entry.event applied.entry.packet t.origin.name o named started)),
+        tt,
+      );
       counted = length-set m.places at (Some (suc k)) ∙ mm.counted;
       stands = stands;
       later = later;

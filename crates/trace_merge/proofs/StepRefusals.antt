@@ -35,8 +35,10 @@ use Rattle.trace_merge.proofs.SpentLemmas.{never_spent}
 use Rattle.trace_merge.proofs.Stable.{said-packets}
 
 -- the number that an entry has is that of the packet which its event names
-pub named_in : (limits : Limits) (before : Group Plum Frame) (entry : Entry) (after : Group Plum Frame) (event : Event) → Effect plum_state PlumStarts PlumSteps limits before entry after event →
-    (stepped_name before.sent event entry.packet ≡ stepped_name before.sent event (number_in before event)) × (stimulus_by before.sent event entry.packet ≡ stimulus_by before.sent event (number_in before event))
+pub named_in : (limits : Limits) (before : Group Plum Frame) (entry : Entry) (after : Group Plum Frame) (event : Event) →
+    Effect plum_state PlumStarts PlumSteps limits before entry after event →
+    (stepped_name before.sent event entry.packet ≡ stepped_name before.sent event (number_in before event))
+    × (stimulus_by before.sent event entry.packet ≡ stimulus_by before.sent event (number_in before event))
 named_in limits before entry after (Arrive place dice) effect =
     let same : entry.packet ≡ slice_get before.flight place = effect.named ∙ sym effect.in_flight in
     (ap (λ n. receiver (sent_under before.sent n)) same, ap (λ n. arrival (sent_under before.sent n) dice) same)
@@ -57,7 +59,11 @@ pub record Told (before : Group Plum Frame) (entry : Entry) (name : Name) (told 
   pub tells : stimulus_by before.sent entry.event entry.packet ≡ Some told
 
 -- an event that tells a core something does so once it is applied
-pub told_by : (limits : Limits) (event : Event) (given : List Delivery) (old new : Logged Plum Frame) (name : Name) (told : Stimulus Frame) → old.limits ≡ limits → (applied : Applied plum_state PlumStarts PlumSteps event given old new) → Tells old.group event name told → Told old.group applied.entry name told
+pub told_by : (limits : Limits) (event : Event) (given : List Delivery) (old new : Logged Plum Frame) (name : Name) (told : Stimulus Frame) →
+    old.limits ≡ limits →
+    (applied : Applied plum_state PlumStarts PlumSteps event given old new) →
+    Tells old.group event name told →
+    Told old.group applied.entry name told
 told_by limits event given old new name told same applied tells =
     let effect : Effect plum_state PlumStarts PlumSteps limits old.group applied.entry new.group event =
     subst (λ e. Effect plum_state PlumStarts PlumSteps limits old.group applied.entry new.group e) applied.of_event
@@ -92,18 +98,27 @@ module _
     must last r = replays_back limits t k s runs.core last step runs.replays r
 
     -- one that comes out otherwise
-    pub step_differs : (event : Event) (world : Logged Plum Frame) (given : List Delivery) (applied : Applied plum_state PlumStarts PlumSteps event given m.world world) → Tells m.world.group event t.origin.name s.stimulus →
-        ((map said (drop (length m.world.group.sent) world.group.sent) ≡ s.out.sends) × (applied.entry.given ≡ s.out.deliveries) → ⊥) → (last : Plum) → Replays PlumStarts PlumSteps limits (cut (suc k) t) last → ⊥
+    pub step_differs : (event : Event) (world : Logged Plum Frame) (given : List Delivery)
+        (applied : Applied plum_state PlumStarts PlumSteps event given m.world world) → Tells m.world.group event t.origin.name s.stimulus →
+        ((map said (drop (length m.world.group.sent) world.group.sent) ≡ s.out.sends) × (applied.entry.given ≡ s.out.deliveries) → ⊥) →
+        (last : Plum) →
+        Replays PlumStarts PlumSteps limits (cut (suc k) t) last →
+        ⊥
     step_differs event world given applied tells differs last r =
-        let told : Told m.world.group applied.entry t.origin.name s.stimulus = told_by limits event given m.world world t.origin.name s.stimulus mm.same_limits applied tells in
-        let happened : Happens plum_state PlumStarts PlumSteps limits m.world.group applied.entry world.group = subst (λ l. Happens plum_state PlumStarts PlumSteps l m.world.group applied.entry world.group) mm.same_limits applied.happened in
-        let acted = acts_of plum_state PlumStarts PlumSteps limits m.world.group applied.entry world.group applied.entry.event t.origin.name s.stimulus happened.1 told.named told.tells in
+        let told : Told m.world.group applied.entry t.origin.name s.stimulus =
+        told_by limits event given m.world world t.origin.name s.stimulus mm.same_limits applied tells in
+        let happened : Happens plum_state PlumStarts PlumSteps limits m.world.group applied.entry world.group =
+        subst (λ l. Happens plum_state PlumStarts PlumSteps l m.world.group applied.entry world.group) mm.same_limits applied.happened in
+        let acted =
+        acts_of plum_state PlumStarts PlumSteps limits m.world.group applied.entry world.group
+        applied.entry.event t.origin.name s.stimulus happened.1 told.named told.tells in
         let acts : Acts plum_state PlumSteps m.world.group acted.0 t.origin.name s.stimulus applied.entry world.group = acted.1 in
         let e : Some acts.node ≡ Some runs.node = sym acts.known ∙ runs.known in
         let same_node : acts.node ≡ runs.node = cc in
         let f : Some acts.old ≡ Some runs.core = sym acts.running ∙ ap (λ (n : NodeState Plum). n.core) same_node ∙ runs.running in
         let same_core : acts.old ≡ runs.core = cc in
-        let done : PlumSteps runs.core s.stimulus acts.sends applied.entry.given acts.new = subst (λ c. PlumSteps c s.stimulus acts.sends applied.entry.given acts.new) same_core acts.stepped in
+        let done : PlumSteps runs.core s.stimulus acts.sends applied.entry.given acts.new =
+        subst (λ c. PlumSteps c s.stimulus acts.sends applied.entry.given acts.new) same_core acts.stepped in
         let same = steps_same runs.core s.stimulus acts.sends s.out.sends applied.entry.given s.out.deliveries acts.new last done (must last r) in
         differs (
           ap (λ ps. map said (drop (length m.world.group.sent) ps)) acts.sending.sent
@@ -145,7 +160,11 @@ module _
     not_refused (Stop name) tells allowed = let none : None ≡ Some t.origin.name = tells.named in cc
 
     -- a core that is out of numbers at the name is the trace's
-    spent_here : (name : Name) (told : Stimulus Frame) → IsSpentAt PlumIsSpent m.world.group name told → Some name ≡ Some t.origin.name → Some told ≡ Some s.stimulus → PlumIsSpent runs.core s.stimulus
+    spent_here : (name : Name) (told : Stimulus Frame) →
+        IsSpentAt PlumIsSpent m.world.group name told →
+        Some name ≡ Some t.origin.name →
+        Some told ≡ Some s.stimulus →
+        PlumIsSpent runs.core s.stimulus
     spent_here name told spent is by =
         let same : name ≡ t.origin.name = cc in
         let tells : told ≡ s.stimulus = cc in
@@ -155,10 +174,14 @@ module _
         let core : spent.core ≡ runs.core = cc in
         subst (λ c. PlumIsSpent c s.stimulus) core (subst (λ x. PlumIsSpent spent.core x) tells spent.spent)
 
-    spent_by : (event : Event) → Tells m.world.group event t.origin.name s.stimulus → IsSpentBy PlumIsSpent m.world.group event → PlumIsSpent runs.core s.stimulus
+    spent_by : (event : Event) →
+        Tells m.world.group event t.origin.name s.stimulus →
+        IsSpentBy PlumIsSpent m.world.group event →
+        PlumIsSpent runs.core s.stimulus
     spent_by (Broadcast name payload) tells spent = spent_here name (stimulus.Broadcast payload) spent tells.named tells.tells
     spent_by (Arrive place dice) tells (packet, at_place, spent) =
-        spent_here packet.to (stimulus.Arrive packet.sender packet.note dice) spent (sym (ap receiver at_place) ∙ tells.named) (sym (ap (λ p. arrival p dice) at_place) ∙ tells.tells)
+        spent_here packet.to (stimulus.Arrive packet.sender packet.note dice) spent
+        (sym (ap receiver at_place) ∙ tells.named) (sym (ap (λ p. arrival p dice) at_place) ∙ tells.tells)
     spent_by (Start name incarnation peers contact) tells spent = absurd spent
     spent_by (Lose place) tells spent = absurd spent
     spent_by (Again number) tells spent = absurd spent
@@ -170,7 +193,10 @@ module _
     spent_by (Stop name) tells spent = absurd spent
 
     -- one that is refused
-    pub step_refused : (event : Event) (e : WorldError) → e ≢ OutOfMemory → Tells m.world.group event t.origin.name s.stimulus → IsRefusal PlumIsSpent limits m.world.group event e →
+    pub step_refused : (event : Event) (e : WorldError) →
+        e ≢ OutOfMemory →
+        Tells m.world.group event t.origin.name s.stimulus →
+        IsRefusal PlumIsSpent limits m.world.group event e →
         AreShort (sent_within (suc k) t) → AreFew s.out.deliveries → (last : Plum) → Replays PlumStarts PlumSteps limits (cut (suc k) t) last → ⊥
     step_refused event e other tells is short few last r =
         let done : PlumSteps runs.core s.stimulus s.out.sends s.out.deliveries last = must last r in

@@ -21,11 +21,17 @@ each_from_one_of P [] f = tt
 each_from_one_of {X} P (x ∷ xs) f = (f x (inl refl), each_from_one_of P xs (λ y one. f y (inr one)))
 
 -- no trace has sent a frame that is not found
-pub unsent_from_none : (limits : Limits) (traces : List (Trace Frame)) (m : Merge) → IsMerging limits traces m → (s : Origin) (n : ℕ) → lookup (same_frame_id (record { sender = s; number = n })) m.frames ≡ None → IsUnsent traces m.places s n
+pub unsent_from_none : (limits : Limits) (traces : List (Trace Frame)) (m : Merge) →
+    IsMerging limits traces m →
+    (s : Origin) (n : ℕ) →
+    lookup (same_frame_id (record { sender = s; number = n })) m.frames ≡ None →
+    IsUnsent traces m.places s n
 unsent_from_none limits traces m merging s n none j k t listed placed its =
-    each_from_one_of (λ (send : Name × Frame). send.1.number ≢ n) (sent_within k t) (λ (send : Name × Frame) (one : IsOneOf send (sent_within k t)) (numbered : send.1.number ≡ n).
+    each_from_one_of (λ (send : Name × Frame). send.1.number ≢ n) (sent_within k t)
+    (λ (send : Name × Frame) (one : IsOneOf send (sent_within k t)) (numbered : send.1.number ≡ n).
     let packet : Packet Frame = record { sender = t.origin; to = send.0; note = send.1 } in
     let known : IsSome (lookup (same_frame_id (id_of packet)) m.frames) = merging.found.found packet (merging.in_sent j k t send listed placed one) in
     let same : id_of packet ≡ record { sender = s; number = n } = (λ i. record { sender = its i; number = numbered i }) in
-    let there : IsSome (lookup (same_frame_id (record { sender = s; number = n })) m.frames) = subst (λ (id : FrameId). IsSome (lookup (same_frame_id id) m.frames)) same known in
+    let there : IsSome (lookup (same_frame_id (record { sender = s; number = n })) m.frames) =
+    subst (λ (id : FrameId). IsSome (lookup (same_frame_id id) m.frames)) same known in
     false≢true (subst (λ (o : Option ℕ). IsSome o) none there))

@@ -29,4 +29,6 @@ id_of packet = record { sender = packet.sender; number = packet.note.number }
 -- The frames of all these packets are found, and the number that is found is that of the packet with the frame.
 pub record AreFound (sent : List (Packet Frame)) (numbers : List (FrameId × ℕ)) : Type 0 where
   pub found : (packet : Packet Frame) → IsOneOf packet sent → IsSome (lookup (same_frame_id (id_of packet)) numbers)
-  pub told : (id : FrameId) (n : ℕ) → lookup (same_frame_id id) numbers ≡ Some n → (packet : Packet Frame) × (slice_get sent n ≡ Some packet) × (id_of packet ≡ id)
+  pub told : (id : FrameId) (n : ℕ) →
+      lookup (same_frame_id id) numbers ≡ Some n →
+      (packet : Packet Frame) × (slice_get sent n ≡ Some packet) × (id_of packet ≡ id)

@@ -20,7 +20,8 @@ use Rattle.world.specs.Run.{Applied, Run}
 use Rattle.world.specs.declared.node_state.NodeState.{NodeState}
 use Rattle.world.specs.declared.packet.Packet.{Packet}
 use Rattle.world.specs.declared.error.WorldError.{WorldError}
-use Rattle.world.specs.declared.error.WorldError.TheVariants.{UnknownNode, NotRunning, StaleIncarnation, BadPeers, NoPacket, PayloadTooLong, SeqSpent, OutOfMemory as NoMemory}
+use Rattle.world.specs.declared.error.WorldError.TheVariants.{UnknownNode, NotRunning, StaleIncarnation, BadPeers}
+use Rattle.world.specs.declared.error.WorldError.TheVariants.{NoPacket, PayloadTooLong, SeqSpent, OutOfMemory as NoMemory}
 use Rattle.world.specs.declared.event.EventOf.TheVariants.{Start, Broadcast, Arrive, Lose, Again, Fire, Flush, Down, Shuffle, Join, Stop}
 use Rattle.frames.specs.Content.{frame_content}
 use Rattle.frames.specs.Frame.{Frame}
@@ -149,9 +150,19 @@ pub record IsMerging (limits : Limits) (traces : List (Trace Frame)) (m : Merge)
   pub started : Each (λ (event : Event). (o : Origin) → IsStartOf o event → HasTrace traces o) m.events
   pub counted : length m.places ≡ length traces
   pub stands : (i : ℕ) (t : Trace Frame) → slice_get traces i ≡ Some t → Stands limits m.world t (place_at m.places i)
-  pub later : (i j k : ℕ) (s t : Trace Frame) → slice_get traces i ≡ Some s → slice_get traces j ≡ Some t → s.origin.name ≡ t.origin.name → place_at m.places i ≡ None → place_at m.places j ≡ Some k → t.origin.incarnation.0 < s.origin.incarnation.0
+  pub later : (i j k : ℕ) (s t : Trace Frame) →
+      slice_get traces i ≡ Some s →
+      slice_get traces j ≡ Some t →
+      s.origin.name ≡ t.origin.name →
+      place_at m.places i ≡ None →
+      place_at m.places j ≡ Some k →
+      t.origin.incarnation.0 < s.origin.incarnation.0
   pub known : (name : Name) (node : NodeState Plum) → node_of name m.world.group.nodes ≡ Some node → IsStarted traces m.places (origin_of node)
-  pub in_sent : (i k : ℕ) (t : Trace Frame) (send : Name × Frame) → slice_get traces i ≡ Some t → place_at m.places i ≡ Some k → IsOneOf send (sent_within k t) → IsOneOf (record { sender = t.origin; to = send.0; note = send.1 }) m.world.group.sent
+  pub in_sent : (i k : ℕ) (t : Trace Frame) (send : Name × Frame) →
+      slice_get traces i ≡ Some t →
+      place_at m.places i ≡ Some k →
+      IsOneOf send (sent_within k t) →
+      IsOneOf (record { sender = t.origin; to = send.0; note = send.1 }) m.world.group.sent
   pub sent_by : (packet : Packet Frame) → IsOneOf packet m.world.group.sent → IsSentBy traces m.places packet
   pub found : AreFound m.world.group.sent m.frames
 
@@ -166,7 +177,8 @@ start_of t = Start t.origin.name t.origin.incarnation t.peers t.contact
 
 -- All earlier runs of the name are played out.
 abbrev pub IsReady : List (Trace Frame) → List (Option ℕ) → Origin → Type 0
-IsReady traces places o = (i : ℕ) (u : Trace Frame) → slice_get traces i ≡ Some u → u.origin.name ≡ o.name → u.origin.incarnation.0 < o.incarnation.0 → IsOut u (place_at places i)
+IsReady traces places o =
+    (i : ℕ) (u : Trace Frame) → slice_get traces i ≡ Some u → u.origin.name ≡ o.name → u.origin.incarnation.0 < o.incarnation.0 → IsOut u (place_at places i)
 
 -- The event is played, and is the last.
 pub record Plays (event : Event) (old new : Merge) : Type 0 where
@@ -223,7 +235,11 @@ remaining (t ∷ traces) (p ∷ places) = left t p + remaining traces places
 -- No trace has, as far as it is played, sent a frame of this number under this origin.
 abbrev pub IsUnsent : List (Trace Frame) → List (Option ℕ) → Origin → ℕ → Type 0
 IsUnsent traces places sender number =
-    (j k : ℕ) (t : Trace Frame) → slice_get traces j ≡ Some t → place_at places j ≡ Some k → t.origin ≡ sender → Each (λ send. send.1.number ≢ number) (sent_within k t)
+    (j k : ℕ) (t : Trace Frame) →
+    slice_get traces j ≡ Some t →
+    place_at places j ≡ Some k →
+    t.origin ≡ sender →
+    Each (λ send. send.1.number ≢ number) (sent_within k t)
 
 -- The step is the arrival of a frame that is not sent.
 abbrev pub AwaitsBy : List (Trace Frame) → List (Option ℕ) → Stimulus Frame → Type 0

@@ -1,5 +1,6 @@
 -- What one run of a node did, extracted from a group's history. A history is the log's entries, the newest first.
-use Rattle.std.specs.Prelude.{◌-◌, ◌&&◌, ℕ, Bool, false, List, [], ◌∷◌, ◌++◌, Option, Some, None, drop, length, map, nat_eq, option_map, reverse, take, if◌then◌else◌}
+use Rattle.std.specs.Prelude.{◌-◌, ◌&&◌, ℕ, Bool, false, List, [], ◌∷◌, ◌++◌, Option, Some, None}
+use Rattle.std.specs.Prelude.{drop, length, map, nat_eq, option_map, reverse, take, if◌then◌else◌}
 use Rattle.node_names.specs.NodeName.{Name}
 use Rattle.node_names.specs.Same.{same_name, same_origin}
 use Rattle.node_names.specs.declared.ids.Incarnation.{Incarnation}
@@ -68,7 +69,9 @@ stepped_on {N} is_its told out trace = if is_its then option_map (λ (t : Trace 
 -- the trace after an event that may be the run's start
 abbrev pub started_on : {N : Type 0} → Origin → Event → Output N → Option (Trace N) → Option (Trace N)
 started_on o (Start name incarnation peers contact) out trace =
-    if same_origin o (record { name = name; incarnation = incarnation }) then Some (record { origin = o; peers = peers; contact = contact; opening = out; steps = [] }) else trace
+    if same_origin o (record { name = name; incarnation = incarnation })
+    then Some (record { origin = o; peers = peers; contact = contact; opening = out; steps = [] })
+    else trace
 started_on o (Broadcast name payload) out trace = trace
 started_on o (Arrive place dice) out trace = trace
 started_on o (Lose place) out trace = trace
@@ -85,7 +88,8 @@ started_on o (Stop name) out trace = trace
 abbrev pub traced_on : {N : Type 0} → Origin → Option Incarnation → List (Packet N) → Entry → ℕ → Option (Trace N) → Option (Trace N)
 traced_on o last sent entry end trace =
     let out = output_of entry end sent in
-    started_on o entry.event out (stepped_on (is_last o last && is_name o.name (stepped_name sent entry.event entry.packet)) (stimulus_by sent entry.event entry.packet) out trace)
+    started_on o entry.event out
+    (stepped_on (is_last o last && is_name o.name (stepped_name sent entry.event entry.packet)) (stimulus_by sent entry.event entry.packet) out trace)
 
 -- the run's trace in a history after which `end` packets had been sent; `None` if the run was never started
 abbrev pub projection : {N : Type 0} → Origin → List (Packet N) → ℕ → List Entry → Option (Trace N)

@@ -34,7 +34,9 @@ impl<A: Allocator + Copy> Merging<A> {
 
     /// Whether the packet of this number carries this frame and goes to this name.
     fn has_sent(&self, number: usize, to: &NodeName, note: &Frame<A>) -> bool
-        ensures { (packet : Sent Said) → slice_get self.now.world.group.sent number ≡ Some packet → Decides result ((packet.to ≡ to.now) × (packet.note ≡ note.now)) }
+        ensures { (packet : Sent Said)
+            → slice_get self.now.world.group.sent number ≡ Some packet
+            → Decides result ((packet.to ≡ to.now) × (packet.note ≡ note.now)) }
     {
         match self.world.sent().get(number) {
             Some(packet) => is_its(packet, to, note),
@@ -61,7 +63,8 @@ impl<A: Allocator + Copy> Merging<A> {
         requires taken { slice_get trace.now.steps place ≡ Some step.now }
         requires arrives { step.now.stimulus ≡ StimulusOf.Arrive sender note.now dice }
         ensures played { result ≡ Ok true → GoesOn traces.now at (suc place) self.old self.new }
-        ensures waits { result ≡ Ok false → (self.new ≡ self.old) × IsUnsent traces.now self.old.places sender note.now.number }
+        ensures waits { result ≡ Ok false
+            → (self.new ≡ self.old) × IsUnsent traces.now self.old.places sender note.now.number }
         ensures err { IfErr result (Refuses self.old.world.limits traces.now) }
     {
         let number = note.number();

@@ -41,7 +41,8 @@ impl<A: Allocator + Copy> FrameIndex<A> {
 
     /// Adds a packet.
     pub(crate) fn insert(&mut self, id: FrameId, number: usize) -> Result<(), AllocError>
-        ensures { OnOk result ((other : Id) → lookup (same_frame_id other) self.new.numbers.entries ≡ (if same_frame_id id other then Some number else lookup (same_frame_id other) self.old.numbers.entries)) }
+        ensures { OnOk result ((other : Id) → lookup (same_frame_id other) self.new.numbers.entries
+            ≡ (if same_frame_id id other then Some number else lookup (same_frame_id other) self.old.numbers.entries)) }
     {
         self.numbers.insert(id, number)?;
         Ok(())

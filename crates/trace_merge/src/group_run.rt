@@ -34,7 +34,8 @@ impl<A: Allocator + Copy> Merging<A> {
     /// A group into which nothing of so many traces is played.
     fn new(alloc: A, limits: Limits, count: usize) -> Result<Merging<A>, AllocError>
         ensures limits { IfOk result (λ m. m.world.limits ≡ limits) }
-        ensures merging { IfOk result (λ m. (traces : List (Traced Said)) → length traces ≡ count → IsMerging limits traces m) }
+        ensures merging { IfOk result
+            (λ m. (traces : List (Traced Said)) → length traces ≡ count → IsMerging limits traces m) }
     {
         Ok(Merging {
             world: World::new(alloc, limits),

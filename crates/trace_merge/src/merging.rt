@@ -39,7 +39,12 @@ impl<A: Allocator + Copy> Model for Merging<A> {
 
     ghost coded = { Prim.hlevel (codes, set.code {R = id_cmp} id.the_row.coded) };
 
-    ghost view = { λ m. record { world = m.world; events = m.events.items; places = m.places.items; frames = m.frames.numbers.entries } };
+    ghost view = { λ m. record {
+      world = m.world;
+      events = m.events.items;
+      places = m.places.items;
+      frames = m.frames.numbers.entries;
+    } };
 }
 
 /// Adds the packets from this number on to the index.
@@ -70,10 +75,12 @@ fn play<A: Allocator + Copy>(
     event: Event<A>,
 ) -> Result<(), WorldError>
     requires { AreFound world.old.group.sent frames.old.numbers.entries }
-    ensures played { OnOk result ((given : List Delivered) × Applied plum_state PlumStarts PlumSteps event given world.old world.new) }
+    ensures played { OnOk result
+        ((given : List Delivered) × Applied plum_state PlumStarts PlumSteps event given world.old world.new) }
     ensures pushed { OnOk result (events.new.items ≡ events.old.items ++ event ∷ []) }
     ensures found { OnOk result (AreFound world.new.group.sent frames.new.numbers.entries) }
-    ensures refused { IfErr result (λ e. (e ≡ WorldError.OutOfMemory) ⊎ IsRefusal PlumIsSpent world.old.limits world.old.group event e) }
+    ensures refused { IfErr result
+        (λ e. (e ≡ WorldError.OutOfMemory) ⊎ IsRefusal PlumIsSpent world.old.limits world.old.group event e) }
 {
     let first = world.sent().len();
     events.reserve(1)?;
@@ -88,7 +95,8 @@ impl<A: Allocator + Copy> Merging<A> {
     pub(crate) fn play(&mut self, event: Event<A>) -> Result<(), WorldError>
         requires { AreFound self.old.world.group.sent self.old.frames }
         ensures ok { OnOk result (Plays event self.old self.new) }
-        ensures refused { IfErr result (λ e. (e ≡ WorldError.OutOfMemory) ⊎ IsRefusal PlumIsSpent self.old.world.limits self.old.world.group event e) }
+        ensures refused { IfErr result (λ e.
+            (e ≡ WorldError.OutOfMemory) ⊎ IsRefusal PlumIsSpent self.old.world.limits self.old.world.group event e) }
     {
         play(&mut self.world, &mut self.events, &mut self.frames, event)
     }

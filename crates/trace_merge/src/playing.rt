@@ -301,8 +301,8 @@ impl<A: Allocator + Copy> Merging<A> {
         Ok(moved)
     }
 
-    /// Plays the traces until none can be played any further. Only whom to visit next rests on what the traces wait for:
-    /// that none can be played is what a last pass over all of them finds.
+    /// Plays the traces until none can be played any further. Only whom to visit next rests on what the traces wait
+    /// for: that none can be played is what a last pass over all of them finds.
     pub(crate) fn play_all(
         &mut self,
         alloc: A,

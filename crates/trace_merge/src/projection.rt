@@ -3,7 +3,8 @@ ghost use Rattle.std.specs.Prelude.{◌≡◌, ◌⊎◌, Some, None, IfOk, IfEr
 ghost use Rattle.world.specs.History.{started_by};
 ghost use Rattle.world.specs.Plan.{stimulus_by};
 ghost use Rattle.world.specs.Refusals.{sent_under};
-ghost use Rattle.trace_merge.specs.Projection.{first_number, is_last, is_name, output_of, projection, projection_in, started_on, stepped_name, stepped_on, traced_on, with_step};
+ghost use Rattle.trace_merge.specs.Projection.{first_number, is_last, is_name, output_of, projection, projection_in};
+ghost use Rattle.trace_merge.specs.Projection.{started_on, stepped_name, stepped_on, traced_on, with_step};
 
 use crate::fault::ProjectFault;
 use crate::outputs::output_of;
@@ -105,7 +106,8 @@ fn push_step<A: Allocator + Copy>(
     entry: &Entry<A>,
     end: usize,
 ) -> Result<(), AllocError>
-    ensures { OnOk result (trace.new ≡ with_step (stimulus_by sent.now entry.now.event entry.now.packet) (output_of entry.now end sent.now) trace.old) }
+    ensures { OnOk result (trace.new ≡ with_step (stimulus_by sent.now entry.now.event entry.now.packet)
+        (output_of entry.now end sent.now) trace.old) }
 {
     let Some(stimulus) = stimulus_of(sent, &entry.event, entry.packet)? else {
         return Ok(());
@@ -123,7 +125,8 @@ fn step_on<A: Allocator + Copy>(
     entry: &Entry<A>,
     end: usize,
 ) -> Result<(), AllocError>
-    ensures { OnOk result (trace.new ≡ stepped_on is_its (stimulus_by sent.now entry.now.event entry.now.packet) (output_of entry.now end sent.now) trace.old) }
+    ensures { OnOk result (trace.new ≡ stepped_on is_its
+        (stimulus_by sent.now entry.now.event entry.now.packet) (output_of entry.now end sent.now) trace.old) }
 {
     if !is_its {
         return Ok(());
@@ -203,7 +206,8 @@ impl<A: Allocator + Copy> Found<A> {
     ) -> Result<(), AllocError>
         ensures origin { OnOk result (self.new.origin ≡ self.old.origin) }
         ensures last { OnOk result (self.new.last ≡ started_by self.old.origin.name entry.now.event self.old.last) }
-        ensures trace { OnOk result (self.new.trace ≡ traced_on self.old.origin self.old.last sent.now entry.now end self.old.trace) }
+        ensures trace { OnOk result
+            (self.new.trace ≡ traced_on self.old.origin self.old.last sent.now entry.now end self.old.trace) }
     {
         let is_its = is_last(&self.origin, self.last)
             && is_name(&self.origin.name, stepped_name(sent, entry));
@@ -255,7 +259,8 @@ pub fn project<A: Allocator + Copy>(
     origin: Origin,
 ) -> Result<Trace<Frame<A>, A>, ProjectFault>
     ensures ok { IfOk result (λ trace. projection_in origin world.now ≡ Some trace) }
-    ensures refused { IfErr result (λ fault. (fault ≡ ProjectFault.OutOfMemory) ⊎ ((fault ≡ ProjectFault.UnknownOrigin) × (projection_in origin world.now ≡ None))) }
+    ensures refused { IfErr result (λ fault. (fault ≡ ProjectFault.OutOfMemory)
+        ⊎ ((fault ≡ ProjectFault.UnknownOrigin) × (projection_in origin world.now ≡ None))) }
 {
     match find(alloc, origin, world.sent(), world.log())? {
         Some(trace) => Ok(trace),

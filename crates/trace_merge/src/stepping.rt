@@ -1,5 +1,6 @@
 //! Plays a step of a trace.
-ghost use Rattle.std.specs.Prelude.{◌≡◌, ◌<◌, ◌≤◌, ◌++◌, [], ◌∷◌, List, suc, Some, IfErr, IfSome, OnOk, length, map, set, slice_get};
+ghost use Rattle.std.specs.Prelude.{◌≡◌, ◌<◌, ◌≤◌, ◌++◌, [], ◌∷◌, List, suc, Some};
+ghost use Rattle.std.specs.Prelude.{IfErr, IfSome, OnOk, length, map, set, slice_get};
 ghost use Rattle.std.specs.Bool.{Decides};
 ghost use Rattle.world.specs.Entry.{Entry as Kept};
 ghost use Rattle.trace_merge.specs.Merging.{AreDistinct, IsMerging, Refuses, Tells, place_at, sent_within};

@@ -50,7 +50,8 @@ impl<A: Allocator + Copy> Unfinished<A> {
     /// Takes a run out.
     pub(crate) fn remove(&mut self, origin: &Origin)
         ensures updates { Updates origin_cmp self.old.runs self.new.runs origin.now None }
-        ensures len { btree_map_len self.new.runs + (if is_some (get origin_cmp self.old.runs origin.now) then 1 else 0) ≡ btree_map_len self.old.runs }
+        ensures len { btree_map_len self.new.runs + (if is_some (get origin_cmp self.old.runs origin.now) then 1 else 0)
+            ≡ btree_map_len self.old.runs }
     {
         self.runs.remove(origin);
     }

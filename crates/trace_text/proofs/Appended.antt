@@ -9,7 +9,11 @@ use Rattle.trace_text.specs.Collected.{text_at}
 use Rattle.trace_text.proofs.Countings.{fails}
 
 -- where a message has more than it had and each other message what it had, the text of that message was appended to
-pub appended : (old new : List (MsgId × List ℕ)) (id : MsgId) (text more : List ℕ) → text ≡ text_at id old ++ more → ((q : MsgId) → lookup (same_id q) new ≡ cond (same_id id q) (Some text) (lookup (same_id q) old)) → (q : MsgId) → text_at q new ≡ text_at q old ++ (if same_id q id then more else [])
+pub appended : (old new : List (MsgId × List ℕ)) (id : MsgId) (text more : List ℕ) →
+    text ≡ text_at id old ++ more →
+    ((q : MsgId) → lookup (same_id q) new ≡ cond (same_id id q) (Some text) (lookup (same_id q) old)) →
+    (q : MsgId) →
+    text_at q new ≡ text_at q old ++ (if same_id q id then more else [])
 appended old new id text more is updates q = ap (λ o. unwrap_or o []) (updates q) ∙ go (same_id id q) refl
   where
     go : (b : Bool) → same_id id q ≡ b → unwrap_or (cond b (Some text) (lookup (same_id q) old)) [] ≡ text_at q old ++ (if same_id q id then more else [])

@@ -10,7 +10,12 @@ use Rattle.node_names.specs.declared.ids.MsgId.{MsgId}
 use Rattle.trace_text.specs.Counts.{count_at}
 
 -- a sum to which the next item's share is added
-pub sum-more : {X : Type 0} (f : X → ℕ) (xs : List X) (i : ℕ) (x : X) (now next : ℕ) → i < length xs → x ≡ get_or xs i x → now ≡ sum_by f (take i xs) → next ≡ now + f x → next ≡ sum_by f (take (i + 1) xs)
+pub sum-more : {X : Type 0} (f : X → ℕ) (xs : List X) (i : ℕ) (x : X) (now next : ℕ) →
+    i < length xs →
+    x ≡ get_or xs i x →
+    now ≡ sum_by f (take i xs) →
+    next ≡ now + f x →
+    next ≡ sum_by f (take (i + 1) xs)
 sum-more {X} f xs i x now next within at before after =
     let same : take (i + 1) xs ≡ take i xs ++ x ∷ [] = take_more xs i x within ∙ ap (λ (y : X). take i xs ++ y ∷ []) (sym at) in
     let sums : sum_by f (take (i + 1) xs) ≡ sum_by f (take i xs) + sum_by f (x ∷ []) = ap (sum_by f) same ∙ sum_by-append f (take i xs) (x ∷ []) in
@@ -27,7 +32,11 @@ fails true never = absurd (never refl)
 fails false never = refl
 
 -- where a message has one more than it had and each other message what it had, the message was counted once more
-pub counted : (old new : List (MsgId × ℕ)) (id : MsgId) (n : ℕ) → n ≡ count_at id old + 1 → ((q : MsgId) → lookup (same_id q) new ≡ cond (same_id id q) (Some n) (lookup (same_id q) old)) → (q : MsgId) → count_at q new ≡ count_at q old + cond (same_id q id) 1 0
+pub counted : (old new : List (MsgId × ℕ)) (id : MsgId) (n : ℕ) →
+    n ≡ count_at id old + 1 →
+    ((q : MsgId) → lookup (same_id q) new ≡ cond (same_id id q) (Some n) (lookup (same_id q) old)) →
+    (q : MsgId) →
+    count_at q new ≡ count_at q old + cond (same_id q id) 1 0
 counted old new id n is updates q = ap (λ o. unwrap_or o 0) (updates q) ∙ go (same_id id q) refl
   where
     go : (b : Bool) → same_id id q ≡ b → unwrap_or (cond b (Some n) (lookup (same_id q) old)) 0 ≡ count_at q old + cond (same_id q id) 1 0

@@ -68,7 +68,8 @@ count_at id counts = unwrap_or (lookup (same_id id) counts) 0
 
 -- how often a message was carried and announced
 abbrev pub spread_line : MsgId → ℕ → ℕ → List ℕ
-spread_line id copies announcements = codes "  " ++ (msg_id_text id ++ (codes " copies " ++ (decimal copies ++ (codes " announcements " ++ decimal announcements))))
+spread_line id copies announcements =
+    codes "  " ++ (msg_id_text id ++ (codes " copies " ++ (decimal copies ++ (codes " announcements " ++ decimal announcements))))
 
 -- how a message spread, except for its tree
 abbrev pub spread_text : MsgId → List (Packet Frame) → List ℕ
@@ -76,7 +77,9 @@ spread_text id sent = spread_line id (copies_of id sent) (announcements_of id se
 
 -- the depth of a tree: the greatest one, and the mean in hundredths
 abbrev pub depth_text : ℕ → ℕ → List ℕ
-depth_text greatest mean = codes " depth " ++ (decimal greatest ++ (codes " mean " ++ (decimal (mean / 100) ++ (codes "." ++ (decimal (mean / 10 % 10) ++ (decimal (mean % 10) ++ codes "\n"))))))
+depth_text greatest mean =
+    codes " depth "
+    ++ (decimal greatest ++ (codes " mean " ++ (decimal (mean / 100) ++ (codes "." ++ (decimal (mean / 10 % 10) ++ (decimal (mean % 10) ++ codes "\n"))))))
 
 module _ (sent : List (Packet Frame)) where
   -- The text says how a message spread, and gives some depth.

@@ -23,7 +23,9 @@ use Rattle.trace_text.specs.Parts.{Parts, parts_in}
 
 -- a start in words
 abbrev pub start_words : Name → Incarnation → List Name → Option Name → List ℕ
-start_words name incarnation peers contact = codes "start " ++ (name ++ (codes "/" ++ (decimal incarnation.0 ++ (codes " | peers:" ++ (names_text peers ++ (codes " | contact:" ++ maybe_name contact))))))
+start_words name incarnation peers contact =
+    codes "start "
+    ++ (name ++ (codes "/" ++ (decimal incarnation.0 ++ (codes " | peers:" ++ (names_text peers ++ (codes " | contact:" ++ maybe_name contact))))))
 
 -- the words, the place or number by which the event names a packet, and that packet, by its place among all packets
 -- ever sent

@@ -7,7 +7,8 @@ use Rattle.node_names.specs.declared.ids.MsgId.{MsgId}
 use Rattle.world.specs.declared.packet.Packet.{Packet}
 use Rattle.frames.specs.Body.{Body}
 use Rattle.frames.specs.Frame.{Frame}
-use Rattle.frames.specs.declared.body.BodyOf.TheVariants.{Join, ForwardJoin, Neighbor, NeighborReply, Disconnect, Shuffle, ShuffleReply, Gossip, IHave, Graft, Prune, GraftPeer}
+use Rattle.frames.specs.declared.body.BodyOf.TheVariants.{Join, ForwardJoin, Neighbor, NeighborReply, Disconnect}
+use Rattle.frames.specs.declared.body.BodyOf.TheVariants.{Shuffle, ShuffleReply, Gossip, IHave, Graft, Prune, GraftPeer}
 use Rattle.trace_text.specs.Names.{names_text}
 
 -- an announcement: the id and its round
@@ -55,7 +56,9 @@ body_text GraftPeer = codes "GRAFT_PEER"
 -- a packet: its place among all packets ever sent, the run that sent it, its receiver, the number of its frame, and its
 -- contents
 abbrev pub packet_text : ℕ → Packet Frame → List ℕ
-packet_text place packet = codes "packet " ++ (decimal place ++ (codes " " ++ (origin_text packet.sender ++ (codes " -> " ++ (packet.to ++ (codes " #" ++ (decimal packet.note.number ++ (codes " " ++ body_text packet.note.body))))))))
+packet_text place packet =
+    codes "packet " ++ (decimal place ++ (codes " " ++ (origin_text packet.sender
+    ++ (codes " -> " ++ (packet.to ++ (codes " #" ++ (decimal packet.note.number ++ (codes " " ++ body_text packet.note.body))))))))
 
 -- a packet after a space
 abbrev pub packet_item : ℕ → Packet Frame → List ℕ

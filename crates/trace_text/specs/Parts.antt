@@ -67,7 +67,9 @@ parts_from active passive members queued wants timers =
 
 -- the parts of a running node
 abbrev pub parts_of : Plum → Parts
-parts_of core = parts_from (plum_state core).active (plum_state core).passive core.gossip.peers.members (plum_state core).queued (plum_state core).wants (plum_state core).timers
+parts_of core =
+    parts_from (plum_state core).active (plum_state core).passive core.gossip.peers.members
+    (plum_state core).queued (plum_state core).wants (plum_state core).timers
 
 -- the parts of a node; the lists are empty if it does not run
 abbrev pub parts_in : Option Plum → Parts
@@ -84,4 +86,6 @@ changed old new = if bytes_eq old new then [] else new
 
 -- the parts whose texts have changed
 abbrev pub changes_text : Parts → Parts → List ℕ
-changes_text old new = changed old.active new.active ++ (changed old.passive new.passive ++ (changed old.eager new.eager ++ (changed old.lazy new.lazy ++ (changed old.queue new.queue ++ (changed old.wants new.wants ++ changed old.timers new.timers)))))
+changes_text old new =
+    changed old.active new.active ++ (changed old.passive new.passive ++ (changed old.eager new.eager
+    ++ (changed old.lazy new.lazy ++ (changed old.queue new.queue ++ (changed old.wants new.wants ++ changed old.timers new.timers)))))

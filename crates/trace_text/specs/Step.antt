@@ -16,7 +16,8 @@ use Rattle.trace_text.specs.Parts.{Parts, changes_text, parts_of}
 
 -- the line of a delivery: the run that delivered, the message's id, and the length of its payload
 abbrev pub delivery_line : Delivery → List ℕ
-delivery_line d = codes "  deliver " ++ (origin_text d.node ++ (codes " " ++ (msg_id_text d.id ++ (codes " length " ++ (decimal (length d.payload) ++ codes "\n")))))
+delivery_line d =
+    codes "  deliver " ++ (origin_text d.node ++ (codes " " ++ (msg_id_text d.id ++ (codes " length " ++ (decimal (length d.payload) ++ codes "\n")))))
 
 -- the lines of deliveries, in their order
 abbrev pub delivery_lines : List Delivery → List ℕ

@@ -68,7 +68,8 @@ pub fn append<A: Allocator + Copy>(
     id: &MsgId,
     more: &str,
 ) -> Result<(), AllocError>
-    ensures { OnOk result ((q : MsgId) → text_at q texts.new.entries ≡ text_at q texts.old.entries ++ (if same_id q id.now then more.now else [])) }
+    ensures { OnOk result ((q : MsgId)
+        → text_at q texts.new.entries ≡ text_at q texts.old.entries ++ (if same_id q id.now then more.now else [])) }
 {
     match texts.get_mut(id) {
         Some(text) => text.push_str(more),

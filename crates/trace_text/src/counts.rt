@@ -79,7 +79,8 @@ fn count_copy<A: Allocator + Copy>(
     packet: &Packet<Frame<A>>,
 ) -> Result<(), AllocError>
     requires { (id : MsgId) → count_at id counts.old.entries + 1 < 2 ^ 128 }
-    ensures { OnOk result ((id : MsgId) → count_at id counts.new.entries ≡ count_at id counts.old.entries + cond (is_carried id (frame_content packet.now.note).carried) 1 0) }
+    ensures { OnOk result ((id : MsgId) → count_at id counts.new.entries
+        ≡ count_at id counts.old.entries + cond (is_carried id (frame_content packet.now.note).carried) 1 0) }
 {
     match packet.note.carried() {
         Some((id, _)) => count(counts, &id),
@@ -93,7 +94,8 @@ fn count_entries<A: Allocator + Copy>(
     entries: &[(MsgId, u32)],
 ) -> Result<(), AllocError>
     requires { (id : MsgId) → count_at id counts.old.entries + length entries.now < 2 ^ 128 }
-    ensures { OnOk result ((id : MsgId) → count_at id counts.new.entries ≡ count_at id counts.old.entries + announcements_in id entries.now) }
+    ensures { OnOk result ((id : MsgId)
+        → count_at id counts.new.entries ≡ count_at id counts.old.entries + announcements_in id entries.now) }
 {
     for entry in entries {
         count(counts, &entry.0)?;
@@ -104,7 +106,8 @@ fn count_entries<A: Allocator + Copy>(
 /// Counts a message once more.
 fn count<A: Allocator + Copy>(counts: &mut Counts<A>, id: &MsgId) -> Result<(), AllocError>
     requires { count_at id.now counts.old.entries + 1 < 2 ^ 128 }
-    ensures { OnOk result ((q : MsgId) → count_at q counts.new.entries ≡ count_at q counts.old.entries + cond (same_id q id.now) 1 0) }
+    ensures { OnOk result
+        ((q : MsgId) → count_at q counts.new.entries ≡ count_at q counts.old.entries + cond (same_id q id.now) 1 0) }
 {
     let count = count_of(counts, id) + 1;
     counts.insert(*id, count)?;

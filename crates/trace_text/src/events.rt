@@ -63,7 +63,8 @@ fn push_naming<A: Allocator>(
     sent: &[Packet<Frame<A>>],
     number: Option<usize>,
 ) -> Result<(), AllocError>
-    ensures { OnOk result (string_bytes text.new ≡ string_bytes text.old ++ naming_words words.now said sent.now number) }
+    ensures { OnOk result
+        (string_bytes text.new ≡ string_bytes text.old ++ naming_words words.now said sent.now number) }
 {
     text.push_str(words)?;
     write!(text, "{said}:")?;
@@ -78,7 +79,8 @@ fn push_start<A: Allocator>(
     peers: &[NodeName],
     contact: &Option<NodeName>,
 ) -> Result<(), AllocError>
-    ensures { OnOk result (string_bytes text.new ≡ string_bytes text.old ++ start_words name.now incarnation peers.now contact.now) }
+    ensures { OnOk result
+        (string_bytes text.new ≡ string_bytes text.old ++ start_words name.now incarnation peers.now contact.now) }
 {
     write!(text, "start {name}/{incarnation} | peers:")?;
     push_names(text, peers)?;

@@ -31,7 +31,8 @@ pub fn push_messages<A: Allocator + Copy>(
     unrest: &Unrest<A>,
     forest: &Forest<A>,
 ) -> Result<(), AllocError>
-    ensures { OnOk result (string_bytes text.new ≡ string_bytes text.old ++ messages_text world.now unrest.now forest.now ids.now) }
+    ensures { OnOk result
+        (string_bytes text.new ≡ string_bytes text.old ++ messages_text world.now unrest.now forest.now ids.now) }
 {
     let texts = under_way(*text.allocator(), world)?;
     for id in ids {
@@ -57,7 +58,8 @@ fn push_message<A: Allocator + Copy>(
     branches: &[Branch],
     about: &str,
 ) -> Result<(), AllocError>
-    ensures { OnOk result (string_bytes text.new ≡ string_bytes text.old ++ (rest_line id.now is_resting ++ (lacking_lines branches.now world.now.group.nodes ++ about.now))) }
+    ensures { OnOk result (string_bytes text.new ≡ string_bytes text.old
+        ++ (rest_line id.now is_resting ++ (lacking_lines branches.now world.now.group.nodes ++ about.now))) }
 {
     push_rest(text, id, is_resting)?;
     push_lacking(text, branches, world.nodes())?;
@@ -108,7 +110,8 @@ fn push_lacking_line<A: Allocator>(
     node: &NodeState<PlumCore<A>>,
     has_delivered: bool,
 ) -> Result<(), AllocError>
-    ensures { OnOk result (string_bytes text.new ≡ string_bytes text.old ++ lacking_unless has_delivered (origin_of node.now) node.now.core) }
+    ensures { OnOk result (string_bytes text.new
+        ≡ string_bytes text.old ++ lacking_unless has_delivered (origin_of node.now) node.now.core) }
 {
     if node.core.is_none() || has_delivered {
         return Ok(());
@@ -127,7 +130,8 @@ fn push_lacks<A: Allocator>(text: &mut String<A>, node: &Origin) -> Result<(), A
 
 /// The runs that made deliveries.
 fn runs_of<A: Allocator + Copy>(alloc: A, branches: &[Branch]) -> Result<Runs<A>, AllocError>
-    ensures { IfOk result (λ runs. (run : Origin) → list_any (same_origin run) runs.keys ≡ list_any (λ b. same_origin b.node run) branches.now) }
+    ensures { IfOk result (λ runs.
+        (run : Origin) → list_any (same_origin run) runs.keys ≡ list_any (λ b. same_origin b.node run) branches.now) }
 {
     let mut runs = IndexSet::new(alloc);
     for branch in branches {

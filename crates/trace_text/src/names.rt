@@ -42,7 +42,8 @@ pub fn push_end<A: Allocator>(text: &mut String<A>) -> Result<(), AllocError>
 
 /// Appends a dash if the text is no longer than `start`, that is, if the list that was appended has no items.
 pub fn push_dash_at<A: Allocator>(text: &mut String<A>, start: usize) -> Result<(), AllocError>
-    ensures { OnOk result (string_bytes text.new ≡ string_bytes text.old ++ (if nat_eq (length (string_bytes text.old)) start then codes " -" else [])) }
+    ensures { OnOk result (string_bytes text.new
+        ≡ string_bytes text.old ++ (if nat_eq (length (string_bytes text.old)) start then codes " -" else [])) }
 {
     if text.len() == start {
         return text.push_str(" -");

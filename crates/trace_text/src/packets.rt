@@ -1,7 +1,9 @@
 //! Prints packets and their contents.
 ghost use Rattle.std.specs.Prelude.{◌≡◌, ◌++◌, drop, OnOk, Some, string_bytes};
 ghost use Rattle.frames.specs.declared.body.BodyOf.TheVariants as body;
-ghost use Rattle.trace_text.specs.Packets.{announcement_item, announcement_items, announcement_text, body_text, gossip_text, packet_at, packet_item, packet_text, priority_word, reply_word, sent_line, sent_lines};
+ghost use Rattle.trace_text.specs.Packets.{announcement_item, announcement_items, announcement_text};
+ghost use Rattle.trace_text.specs.Packets.{body_text, gossip_text, packet_at, packet_item, packet_text};
+ghost use Rattle.trace_text.specs.Packets.{priority_word, reply_word, sent_line, sent_lines};
 
 use crate::names::{push_id, push_names, push_origin};
 use frames::{Body, BodyOf, Frame};
@@ -95,7 +97,8 @@ fn push_shuffle<A: Allocator>(
     ttl: u8,
     names: &[NodeName],
 ) -> Result<(), AllocError>
-    ensures { OnOk result (string_bytes text.new ≡ string_bytes text.old ++ body_text (body.Shuffle origin.now ttl names.now)) }
+    ensures { OnOk result
+        (string_bytes text.new ≡ string_bytes text.old ++ body_text (body.Shuffle origin.now ttl names.now)) }
 {
     write!(text, "SHUFFLE of {origin} ttl {ttl} names")?;
     push_names(text, names)

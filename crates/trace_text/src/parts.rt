@@ -2,7 +2,8 @@
 ghost use Rattle.std.specs.Prelude.{◌≡◌, ◌++◌, OnOk, IfOk, string_bytes, codes};
 ghost use Rattle.node_names.specs.Slots.{somes};
 ghost use Rattle.trace_text.specs.Names.{id_items, name_items, or_dash};
-ghost use Rattle.trace_text.specs.Parts.{changed, is_of, member_item, member_items, queue_item, queue_items, want_item, want_items};
+ghost use Rattle.trace_text.specs.Parts.{changed, is_of, member_item, member_items};
+ghost use Rattle.trace_text.specs.Parts.{queue_item, queue_items, want_item, want_items};
 
 use crate::names::{push_dash_at, push_id_item, push_name_item, push_names};
 use crate::packets::push_announcement;
@@ -251,7 +252,8 @@ pub fn push_changed<A: Allocator>(
     old: &String<A>,
     new: &String<A>,
 ) -> Result<(), AllocError>
-    ensures { OnOk result (string_bytes text.new ≡ string_bytes text.old ++ changed (string_bytes old.now) (string_bytes new.now)) }
+    ensures { OnOk result
+        (string_bytes text.new ≡ string_bytes text.old ++ changed (string_bytes old.now) (string_bytes new.now)) }
 {
     if old.as_bytes() == new.as_bytes() {
         return Ok(());

@@ -1,7 +1,8 @@
 //! Prints a step of a run: an event and its effects.
 ghost use Rattle.std.specs.Prelude.{◌≡◌, ◌++◌, OnOk, Some, string_bytes};
 ghost use Rattle.world.specs.Group.{core_of};
-ghost use Rattle.trace_text.specs.Step.{change_line, change_under, delivery_line, delivery_lines, flight_item, flight_items, flight_line, line_of_changes, step_text};
+ghost use Rattle.trace_text.specs.Step.{change_line, change_under, delivery_line, delivery_lines};
+ghost use Rattle.trace_text.specs.Step.{flight_item, flight_items, flight_line, line_of_changes, step_text};
 
 use crate::events::push_event;
 use crate::names::{push_id, push_origin};
@@ -68,7 +69,8 @@ fn push_change_under<A: Allocator + Copy>(
     after: &World<PlumCore<A>, A>,
     name: &Option<NodeName>,
 ) -> Result<(), AllocError>
-    ensures { OnOk result (string_bytes text.new ≡ string_bytes text.old ++ change_under before.now name.now after.now.group.nodes) }
+    ensures { OnOk result
+        (string_bytes text.new ≡ string_bytes text.old ++ change_under before.now name.now after.now.group.nodes) }
 {
     match name {
         Some(name) => push_change_at(alloc, text, before, after, name),
@@ -84,7 +86,8 @@ fn push_change_at<A: Allocator + Copy>(
     after: &World<PlumCore<A>, A>,
     name: &NodeName,
 ) -> Result<(), AllocError>
-    ensures { OnOk result (string_bytes text.new ≡ string_bytes text.old ++ change_line before.now (core_of name.now after.now.group.nodes)) }
+    ensures { OnOk result (string_bytes text.new
+        ≡ string_bytes text.old ++ change_line before.now (core_of name.now after.now.group.nodes)) }
 {
     match after.core(name) {
         Some(core) => push_change(alloc, text, before, core),

@@ -1,6 +1,7 @@
 //! Prints what a run cost: how many packets of each kind were sent, and how each message spread.
 ghost use Rattle.std.specs.Prelude.{◌≡◌, ◌++◌, ℕ, List, OnOk, string_bytes};
-ghost use Rattle.trace_text.specs.Counts.{count_item, depth_text, gossip_items, kind_count, kinds_line, membership_items, spread_line, TellsSpreads, TellsSummary};
+ghost use Rattle.trace_text.specs.Counts.{count_item, depth_text, gossip_items, kind_count, kinds_line};
+ghost use Rattle.trace_text.specs.Counts.{membership_items, spread_line, TellsSpreads, TellsSummary};
 
 use crate::counts::{announcements, copies, count_kind, count_of};
 use crate::depths::depth_of;
@@ -21,7 +22,9 @@ pub fn push_summary<A: Allocator + Copy>(
     ids: &[MsgId],
     forest: &Forest<A>,
 ) -> Result<(), AllocError>
-    ensures { OnOk result ((summary : List ℕ) × TellsSummary world.now ids.now summary × (string_bytes text.new ≡ string_bytes text.old ++ summary)) }
+    ensures { OnOk result ((summary : List ℕ)
+        × TellsSummary world.now ids.now summary
+        × (string_bytes text.new ≡ string_bytes text.old ++ summary)) }
 {
     push_kinds(text, world.sent())?;
     push_spreads(text, world.sent(), ids, forest)
@@ -34,7 +37,9 @@ fn push_spreads<A: Allocator + Copy>(
     ids: &[MsgId],
     forest: &Forest<A>,
 ) -> Result<(), AllocError>
-    ensures { OnOk result ((told : List ℕ) × TellsSpreads sent.now ids.now told × (string_bytes text.new ≡ string_bytes text.old ++ told)) }
+    ensures { OnOk result ((told : List ℕ)
+        × TellsSpreads sent.now ids.now told
+        × (string_bytes text.new ≡ string_bytes text.old ++ told)) }
 {
     let alloc = *text.allocator();
     let copies = copies(alloc, sent)?;
@@ -55,7 +60,8 @@ fn push_message<A: Allocator + Copy>(
     announcements: u128,
     branches: &[Branch],
 ) -> Result<(), AllocError>
-    ensures { OnOk result ((greatest : ℕ) × (mean : ℕ) × (string_bytes text.new ≡ string_bytes text.old ++ (spread_line id.now copies announcements ++ depth_text greatest mean))) }
+    ensures { OnOk result ((greatest : ℕ) × (mean : ℕ) × (string_bytes text.new
+        ≡ string_bytes text.old ++ (spread_line id.now copies announcements ++ depth_text greatest mean))) }
 {
     push_spread(text, id, copies, announcements)?;
     push_depth(text, branches)
@@ -111,7 +117,8 @@ fn push_kind<A: Allocator>(
     kind: u8,
     sent: &[Packet<Frame<A>>],
 ) -> Result<(), AllocError>
-    ensures { OnOk result (string_bytes text.new ≡ string_bytes text.old ++ count_item word.now (kind_count kind sent.now)) }
+    ensures { OnOk result
+        (string_bytes text.new ≡ string_bytes text.old ++ count_item word.now (kind_count kind sent.now)) }
 {
     let count = count_kind(sent, kind);
     if count == 0 {
@@ -140,7 +147,8 @@ fn push_depth<A: Allocator + Copy>(
     text: &mut String<A>,
     branches: &[Branch],
 ) -> Result<(), AllocError>
-    ensures { OnOk result ((greatest : ℕ) × (mean : ℕ) × (string_bytes text.new ≡ string_bytes text.old ++ depth_text greatest mean)) }
+    ensures { OnOk result
+        ((greatest : ℕ) × (mean : ℕ) × (string_bytes text.new ≡ string_bytes text.old ++ depth_text greatest mean)) }
 {
     let depth = depth_of(*text.allocator(), branches)?;
     push_depth_text(text, depth.greatest, depth.mean)

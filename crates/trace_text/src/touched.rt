@@ -35,7 +35,15 @@ impl<A: Allocator> Model for Touched<A> {
 
     ghost Value = { Parts };
 
-    ghost view = { λ t. record { active = string_bytes t.active; passive = string_bytes t.passive; eager = string_bytes t.eager; lazy = string_bytes t.lazy; queue = string_bytes t.queue; wants = string_bytes t.wants; timers = string_bytes t.timers } };
+    ghost view = { λ t. record {
+      active = string_bytes t.active;
+      passive = string_bytes t.passive;
+      eager = string_bytes t.eager;
+      lazy = string_bytes t.lazy;
+      queue = string_bytes t.queue;
+      wants = string_bytes t.wants;
+      timers = string_bytes t.timers;
+    } };
 }
 
 impl<A: Allocator + Copy> Touched<A> {
@@ -113,7 +121,8 @@ impl<A: Allocator + Copy> Touched<A> {
         wants: &[Option<(MsgId, NodeName, u32)>],
         timers: &[Option<MsgId>],
     ) -> Result<Touched<A>, AllocError>
-        ensures { IfOk result (λ touched. touched ≡ parts_from active.now passive.now members.now queued.now (somes wants.now) (somes timers.now)) }
+        ensures { IfOk result (λ touched.
+            touched ≡ parts_from active.now passive.now members.now queued.now (somes wants.now) (somes timers.now)) }
     {
         Ok(Touched {
             active: names_part(alloc, " | active:", active)?,

@@ -8,7 +8,9 @@ ghost use Rattle.world.specs.Group.{origin_of};
 ghost use Rattle.frames.specs.Content.{frame_content};
 ghost use Rattle.at_rest.specs.Silence.{is_announced, is_silent};
 ghost use Rattle.trace_text.specs.Collected.{text_at};
-ghost use Rattle.trace_text.specs.Ends.{flying_at, flying_line, flying_lines, in_flight_line, queued_at, queued_by, queued_line, queued_lines, timer_line, timer_lines, timers_at, timers_by, under_way_lines};
+ghost use Rattle.trace_text.specs.Ends.{flying_at, flying_line, flying_lines, in_flight_line};
+ghost use Rattle.trace_text.specs.Ends.{queued_at, queued_by, queued_line, queued_lines, timer_line};
+ghost use Rattle.trace_text.specs.Ends.{timer_lines, timers_at, timers_by, under_way_lines};
 
 use crate::collected::{Texts, append};
 use crate::names::{push_end, push_origin};
@@ -43,7 +45,8 @@ fn add_flying<A: Allocator + Copy>(
     sent: &[Packet<Frame<A>>],
     flight: &[usize],
 ) -> Result<(), AllocError>
-    ensures { OnOk result ((id : MsgId) → text_at id texts.new.entries ≡ text_at id texts.old.entries ++ flying_lines id sent.now flight.now) }
+    ensures { OnOk result ((id : MsgId)
+        → text_at id texts.new.entries ≡ text_at id texts.old.entries ++ flying_lines id sent.now flight.now) }
 {
     for place in flight {
         add_flying_at(alloc, texts, sent, *place)?;
@@ -59,7 +62,8 @@ fn add_flying_at<A: Allocator + Copy>(
     sent: &[Packet<Frame<A>>],
     place: usize,
 ) -> Result<(), AllocError>
-    ensures { OnOk result ((id : MsgId) → text_at id texts.new.entries ≡ text_at id texts.old.entries ++ flying_at id sent.now place) }
+    ensures { OnOk result
+        ((id : MsgId) → text_at id texts.new.entries ≡ text_at id texts.old.entries ++ flying_at id sent.now place) }
 {
     match sent.get(place) {
         Some(packet) => add_packet(alloc, texts, place, packet),
@@ -74,7 +78,8 @@ fn add_packet<A: Allocator + Copy>(
     place: usize,
     packet: &Packet<Frame<A>>,
 ) -> Result<(), AllocError>
-    ensures { OnOk result ((id : MsgId) → text_at id texts.new.entries ≡ text_at id texts.old.entries ++ flying_line id place packet.now) }
+    ensures { OnOk result ((id : MsgId)
+        → text_at id texts.new.entries ≡ text_at id texts.old.entries ++ flying_line id place packet.now) }
 {
     let mut line = String::new(alloc);
     push_in_flight(&mut line, place, packet)?;
@@ -100,7 +105,8 @@ fn add_line<A: Allocator + Copy>(
     note: &Frame<A>,
     line: &str,
 ) -> Result<(), AllocError>
-    ensures { OnOk result ((id : MsgId) → text_at id texts.new.entries ≡ text_at id texts.old.entries ++ (if is_silent id (frame_content note.now) then [] else line.now)) }
+    ensures { OnOk result ((id : MsgId) → text_at id texts.new.entries
+        ≡ text_at id texts.old.entries ++ (if is_silent id (frame_content note.now) then [] else line.now)) }
 {
     match note.body() {
         BodyOf::Gossip { id, .. } => append(texts, id, line),
@@ -116,7 +122,8 @@ fn add_announced<A: Allocator + Copy>(
     entries: &[(MsgId, u32)],
     line: &str,
 ) -> Result<(), AllocError>
-    ensures { OnOk result ((id : MsgId) → text_at id texts.new.entries ≡ text_at id texts.old.entries ++ (if is_announced id entries.now then line.now else [])) }
+    ensures { OnOk result ((id : MsgId) → text_at id texts.new.entries
+        ≡ text_at id texts.old.entries ++ (if is_announced id entries.now then line.now else [])) }
 {
     for place in 0..entries.len() {
         add_first(texts, &entries[..place], &entries[place].0, line)?;
@@ -131,7 +138,8 @@ fn add_first<A: Allocator + Copy>(
     id: &MsgId,
     line: &str,
 ) -> Result<(), AllocError>
-    ensures { OnOk result ((q : MsgId) → text_at q texts.new.entries ≡ text_at q texts.old.entries ++ (if same_id q id.now && not (is_announced q before.now) then line.now else [])) }
+    ensures { OnOk result ((q : MsgId) → text_at q texts.new.entries ≡ text_at q texts.old.entries
+        ++ (if same_id q id.now && not (is_announced q before.now) then line.now else [])) }
 {
     if is_announced(before, id) {
         return Ok(());
@@ -152,7 +160,8 @@ fn add_queued<A: Allocator + Copy>(
     texts: &mut Texts<A>,
     nodes: &[NodeState<PlumCore<A>>],
 ) -> Result<(), AllocError>
-    ensures { OnOk result ((id : MsgId) → text_at id texts.new.entries ≡ text_at id texts.old.entries ++ queued_lines id nodes.now) }
+    ensures { OnOk result
+        ((id : MsgId) → text_at id texts.new.entries ≡ text_at id texts.old.entries ++ queued_lines id nodes.now) }
 {
     for node in nodes {
         add_queued_at(alloc, texts, node)?;
@@ -166,7 +175,8 @@ fn add_queued_at<A: Allocator + Copy>(
     texts: &mut Texts<A>,
     node: &NodeState<PlumCore<A>>,
 ) -> Result<(), AllocError>
-    ensures { OnOk result ((id : MsgId) → text_at id texts.new.entries ≡ text_at id texts.old.entries ++ queued_at id (origin_of node.now) node.now.core) }
+    ensures { OnOk result ((id : MsgId) → text_at id texts.new.entries
+        ≡ text_at id texts.old.entries ++ queued_at id (origin_of node.now) node.now.core) }
 {
     let run = run_of(node);
     match &node.core {
@@ -182,7 +192,8 @@ fn add_queued_by<A: Allocator + Copy>(
     node: &Origin,
     queued: &[(NodeName, MsgId, u32)],
 ) -> Result<(), AllocError>
-    ensures { OnOk result ((id : MsgId) → text_at id texts.new.entries ≡ text_at id texts.old.entries ++ queued_by id node.now queued.now) }
+    ensures { OnOk result ((id : MsgId)
+        → text_at id texts.new.entries ≡ text_at id texts.old.entries ++ queued_by id node.now queued.now) }
 {
     for entry in queued {
         add_queued_entry(alloc, texts, node, entry)?;
@@ -197,7 +208,8 @@ fn add_queued_entry<A: Allocator + Copy>(
     node: &Origin,
     entry: &(NodeName, MsgId, u32),
 ) -> Result<(), AllocError>
-    ensures { OnOk result ((id : MsgId) → text_at id texts.new.entries ≡ text_at id texts.old.entries ++ queued_line id node.now entry.now) }
+    ensures { OnOk result ((id : MsgId)
+        → text_at id texts.new.entries ≡ text_at id texts.old.entries ++ queued_line id node.now entry.now) }
 {
     let mut line = String::new(alloc);
     push_queued(&mut line, node, &entry.0)?;
@@ -210,7 +222,8 @@ fn push_queued<A: Allocator>(
     node: &Origin,
     receiver: &NodeName,
 ) -> Result<(), AllocError>
-    ensures { OnOk result (string_bytes text.new ≡ string_bytes text.old ++ (codes "  queued " ++ (origin_text node.now ++ (codes " -> " ++ (receiver.now ++ codes "\n"))))) }
+    ensures { OnOk result (string_bytes text.new ≡ string_bytes text.old
+        ++ (codes "  queued " ++ (origin_text node.now ++ (codes " -> " ++ (receiver.now ++ codes "\n"))))) }
 {
     text.push_str("  queued ")?;
     push_origin(text, node)?;
@@ -225,7 +238,8 @@ fn add_timers<A: Allocator + Copy>(
     texts: &mut Texts<A>,
     nodes: &[NodeState<PlumCore<A>>],
 ) -> Result<(), AllocError>
-    ensures { OnOk result ((id : MsgId) → text_at id texts.new.entries ≡ text_at id texts.old.entries ++ timer_lines id nodes.now) }
+    ensures { OnOk result
+        ((id : MsgId) → text_at id texts.new.entries ≡ text_at id texts.old.entries ++ timer_lines id nodes.now) }
 {
     for node in nodes {
         add_timers_at(alloc, texts, node)?;
@@ -239,7 +253,8 @@ fn add_timers_at<A: Allocator + Copy>(
     texts: &mut Texts<A>,
     node: &NodeState<PlumCore<A>>,
 ) -> Result<(), AllocError>
-    ensures { OnOk result ((id : MsgId) → text_at id texts.new.entries ≡ text_at id texts.old.entries ++ timers_at id (origin_of node.now) node.now.core) }
+    ensures { OnOk result ((id : MsgId) → text_at id texts.new.entries
+        ≡ text_at id texts.old.entries ++ timers_at id (origin_of node.now) node.now.core) }
 {
     let run = run_of(node);
     match &node.core {
@@ -255,7 +270,8 @@ fn add_timers_by<A: Allocator + Copy>(
     node: &Origin,
     timers: &[Option<MsgId>],
 ) -> Result<(), AllocError>
-    ensures { OnOk result ((id : MsgId) → text_at id texts.new.entries ≡ text_at id texts.old.entries ++ timers_by id node.now (somes timers.now)) }
+    ensures { OnOk result ((id : MsgId)
+        → text_at id texts.new.entries ≡ text_at id texts.old.entries ++ timers_by id node.now (somes timers.now)) }
 {
     for timer in timers {
         if let Some(timed) = timer {
@@ -272,7 +288,8 @@ fn add_timer<A: Allocator + Copy>(
     node: &Origin,
     timed: &MsgId,
 ) -> Result<(), AllocError>
-    ensures { OnOk result ((id : MsgId) → text_at id texts.new.entries ≡ text_at id texts.old.entries ++ timer_line id node.now timed.now) }
+    ensures { OnOk result ((id : MsgId)
+        → text_at id texts.new.entries ≡ text_at id texts.old.entries ++ timer_line id node.now timed.now) }
 {
     let mut line = String::new(alloc);
     push_timer(&mut line, node)?;
@@ -281,7 +298,8 @@ fn add_timer<A: Allocator + Copy>(
 
 /// Appends the line of a timer of a run of a node.
 fn push_timer<A: Allocator>(text: &mut String<A>, node: &Origin) -> Result<(), AllocError>
-    ensures { OnOk result (string_bytes text.new ≡ string_bytes text.old ++ (codes "  timer " ++ (origin_text node.now ++ codes "\n"))) }
+    ensures { OnOk result
+        (string_bytes text.new ≡ string_bytes text.old ++ (codes "  timer " ++ (origin_text node.now ++ codes "\n"))) }
 {
     text.push_str("  timer ")?;
     push_origin(text, node)?;

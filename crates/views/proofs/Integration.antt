@@ -1,5 +1,6 @@
 -- An integration keeps the views sound.
-use Rattle.std.proofs.Common.{◌≡◌, ◌≤◌, ◌<◌, ◌+◌, ◌%◌, Bool, true, false, cond, if◌then◌else◌, List, [], ◌∷◌, length, refl, sym, ap, subst, ◌∙◌, arith, Option, None, Some, nat_lt}
+use Rattle.std.proofs.Common.{◌≡◌, ◌≤◌, ◌<◌, ◌+◌, ◌%◌, Bool, true, false, cond, if◌then◌else◌, List, []}
+use Rattle.std.proofs.Common.{◌∷◌, length, refl, sym, ap, subst, ◌∙◌, arith, Option, None, Some, nat_lt}
 use Rattle.std.specs.Option.{option_map_or}
 use Rattle.std.specs.Prelude.{find, fold}
 use Rattle.std.proofs.lemmas.Bool.Decides.{nat_tests}
@@ -68,7 +69,12 @@ module _ (sent : List Name) (dice : Dice) (i : Integration) where
   roomy b = if b then i else clear_place sent dice i
 
   -- the name that comes has room, and is still unknown
-  placed : AreSound i.views → (name : Name) → knows i.views name ≡ false → (b : Bool) → nat_lt (length i.views.passive) i.views.limits.passive ≡ b → AreSound (put_passive name (roomy b).views)
+  placed : AreSound i.views →
+      (name : Name) →
+      knows i.views name ≡ false →
+      (b : Bool) →
+      nat_lt (length i.views.passive) i.views.limits.passive ≡ b →
+      AreSound (put_passive name (roomy b).views)
   placed sound name new true is = sound-put_passive i.views sound name new (grind (arith, nat_tests, is))
   placed sound name new false is =
       let full : i.views.limits.passive ≤ length i.views.passive = grind (arith, nat_tests, is) in
@@ -83,7 +89,11 @@ module _ (sent : List Name) (dice : Dice) (i : Integration) where
   sound-integrate_one : (name : Name) → AreSound i.views → AreSound (integrate_one sent dice i name).views
   sound-integrate_one name sound = by (knows i.views name) refl
     where
-      by : (b : Bool) → knows i.views name ≡ b → AreSound (if b then i else (let room = roomy (nat_lt (length i.views.passive) i.views.limits.passive) in record room { views = put_passive name room.views })).views
+      by : (b : Bool) →
+          knows i.views name ≡ b →
+          AreSound (if b
+          then i
+          else (let room = roomy (nat_lt (length i.views.passive) i.views.limits.passive) in record room { views = put_passive name room.views })).views
       by true known = sound
       by false new = placed sound name new (nat_lt (length i.views.passive) i.views.limits.passive) refl
 

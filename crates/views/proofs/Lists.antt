@@ -1,5 +1,6 @@
 -- What removing a name from a list, or adding one, does to the names in it.
-use Rattle.std.proofs.Common.{◌≡◌, ◌≤◌, ◌+◌, ℕ, zero, suc, Bool, true, false, cond, ◌||◌, ◌⊎◌, inl, inr, List, [], ◌∷◌, ◌++◌, length, refl, sym, ap, ◌∙◌, true≢false, arith}
+use Rattle.std.proofs.Common.{◌≡◌, ◌≤◌, ◌+◌, ℕ, zero, suc, Bool, true, false, cond, ◌||◌, ◌⊎◌, inl}
+use Rattle.std.proofs.Common.{inr, List, [], ◌∷◌, ◌++◌, length, refl, sym, ap, ◌∙◌, true≢false, arith}
 use Rattle.std.specs.Prelude.{remove}
 use Rattle.std.specs.List.{IsDistinct, list_any, AllByRecursion}
 use Rattle.std.specs.Set.{remove_key}
@@ -81,7 +82,8 @@ pub IsDistinct-remove : {K : Type 0} (e : K → K → Bool) (ks : List K) (i : �
 IsDistinct-remove e [] zero h = h
 IsDistinct-remove e [] (suc i) h = h
 IsDistinct-remove e (k ∷ ks) zero h = IsDistinct-tail e k ks h
-IsDistinct-remove e (k ∷ ks) (suc i) h = IsDistinct-cons e k _ (all-remove (λ y. e k y ≡ false) ks i (IsDistinct-head e k ks h)) (IsDistinct-remove e ks i (IsDistinct-tail e k ks h))
+IsDistinct-remove e (k ∷ ks) (suc i) h =
+    IsDistinct-cons e k _ (all-remove (λ y. e k y ≡ false) ks i (IsDistinct-head e k ks h)) (IsDistinct-remove e ks i (IsDistinct-tail e k ks h))
 
 -- they are no more
 pub length-remove_key-le : {K : Type 0} (gone : K → Bool) (ks : List K) → length (remove_key gone ks) ≤ length ks
@@ -93,12 +95,17 @@ length-remove_key-le gone (k ∷ ks) = by (gone k) (length-remove_key-le gone ks
     by false rest = omega arith
 
 -- none that differs from x is like x
-none : {K : Type 0} {e : K → K → Bool} (laws : IsEquivalence e) (k x : K) (ys : List K) → e k x ≡ true → AllByRecursion (λ y. e x y ≡ false) ys → list_any (e k) ys ≡ false
+none : {K : Type 0} {e : K → K → Bool} (laws : IsEquivalence e) (k x : K) (ys : List K) →
+    e k x ≡ true →
+    AllByRecursion (λ y. e x y ≡ false) ys →
+    list_any (e k) ys ≡ false
 none laws k x [] same all = refl
 none {K} {e} laws k x (y ∷ ys) same all = or_both (e k y) _ (laws.congr k x y same ∙ all.0) (none laws k x ys same all.1)
 
 -- what is removed from distinct ones is gone
-pub lacks-removed : {K : Type 0} {e : K → K → Bool} (laws : IsEquivalence e) (k : K) (ks : List K) → IsDistinct e ks → list_any (e k) (remove_key (e k) ks) ≡ false
+pub lacks-removed : {K : Type 0} {e : K → K → Bool} (laws : IsEquivalence e) (k : K) (ks : List K) →
+    IsDistinct e ks →
+    list_any (e k) (remove_key (e k) ks) ≡ false
 lacks-removed laws k [] h = refl
 lacks-removed {K} {e} laws k (x ∷ xs) h = by (e k x) refl (lacks-removed laws k xs (IsDistinct-tail e x xs h))
   where

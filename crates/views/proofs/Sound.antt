@@ -1,5 +1,6 @@
 -- Each change of the views keeps them sound.
-use Rattle.std.proofs.Common.{◌≡◌, ◌≤◌, ◌<◌, ◌+◌, ◌%◌, ℕ, Bool, true, false, if◌then◌else◌, inl, inr, List, [], ◌∷◌, ◌++◌, length, length-append, refl, sym, ap, subst, ◌∙◌, true≢false, arith, Option, None, Some, nat_lt}
+use Rattle.std.proofs.Common.{◌≡◌, ◌≤◌, ◌<◌, ◌+◌, ◌%◌, ℕ, Bool, true, false, if◌then◌else◌, inl, inr, List, [], ◌∷◌, ◌++◌}
+use Rattle.std.proofs.Common.{length, length-append, refl, sym, ap, subst, ◌∙◌, true≢false, arith, Option, None, Some, nat_lt}
 use Rattle.std.specs.Option.{option_map_or}
 use Rattle.std.specs.List.{IsDistinct}
 use Rattle.std.proofs.lemmas.Bool.Decides.{nat_tests}
@@ -13,14 +14,20 @@ use Rattle.node_names.specs.Limits.{Limits}
 use Rattle.node_names.specs.Same.{same_name, has_name, same_name-laws}
 use Rattle.node_names.specs.declared.dice.Dice.{Dice}
 use Rattle.views.specs.Names.{word, chosen, without, without_chosen, with_room}
-use Rattle.views.specs.Views.{Views, AreSound, knows, has_room, add_passive, demote, drop_active, make_room, is_settled, forget_passive, put_active, put_passive, add_active, forget}
-use Rattle.views.proofs.Lists.{or_left, or_right, or_both, true_of_whole, lacks-remove_key, lacks-remove, lacks-push, has-push, IsDistinct-remove_key, IsDistinct-remove, length-remove_key-le, lacks-removed, shorter-remove}
+use Rattle.views.specs.Views.{Views, AreSound, knows, has_room, add_passive, demote, drop_active, make_room}
+use Rattle.views.specs.Views.{is_settled, forget_passive, put_active, put_passive, add_active, forget}
+use Rattle.views.proofs.Lists.{or_left, or_right, or_both, true_of_whole, lacks-remove_key, lacks-remove, lacks-push, has-push}
+use Rattle.views.proofs.Lists.{IsDistinct-remove_key, IsDistinct-remove, length-remove_key-le, lacks-removed, shorter-remove}
 
 -- ---- a name leaves a view
 
 module _ (v : Views) (sound : AreSound v) where
   -- fewer names in the active view
-  pub sound-fewer_active : (names : List Name) → length names ≤ length v.active → IsDistinct same_name names → ((q : Name) → has_name v.active q ≡ false → has_name names q ≡ false) → AreSound (record v { active = names })
+  pub sound-fewer_active : (names : List Name) →
+      length names ≤ length v.active →
+      IsDistinct same_name names →
+      ((q : Name) → has_name v.active q ≡ false → has_name names q ≡ false) →
+      AreSound (record v { active = names })
   sound-fewer_active names short distinct fewer =
       record {
         allowed = sound.allowed;
@@ -34,7 +41,11 @@ module _ (v : Views) (sound : AreSound v) where
       }
 
   -- fewer names in the passive view
-  pub sound-fewer_passive : (names : List Name) → length names ≤ length v.passive → IsDistinct same_name names → ((q : Name) → has_name v.passive q ≡ false → has_name names q ≡ false) → AreSound (record v { passive = names })
+  pub sound-fewer_passive : (names : List Name) →
+      length names ≤ length v.passive →
+      IsDistinct same_name names →
+      ((q : Name) → has_name v.passive q ≡ false → has_name names q ≡ false) →
+      AreSound (record v { passive = names })
   sound-fewer_passive names short distinct fewer =
       record {
         allowed = sound.allowed;
@@ -48,10 +59,14 @@ module _ (v : Views) (sound : AreSound v) where
       }
 
   pub sound-leave_active : (name : Name) → AreSound (record v { active = without name v.active })
-  sound-leave_active name = sound-fewer_active (without name v.active) (length-remove_key-le (same_name name) v.active) (IsDistinct-remove_key same_name (same_name name) v.active sound.active_distinct) (λ q. lacks-remove_key (same_name q) (same_name name) v.active)
+  sound-leave_active name =
+      sound-fewer_active (without name v.active) (length-remove_key-le (same_name name) v.active)
+      (IsDistinct-remove_key same_name (same_name name) v.active sound.active_distinct) (λ q. lacks-remove_key (same_name q) (same_name name) v.active)
 
   pub sound-forget_passive : (name : Name) → AreSound (forget_passive name v)
-  sound-forget_passive name = sound-fewer_passive (without name v.passive) (length-remove_key-le (same_name name) v.passive) (IsDistinct-remove_key same_name (same_name name) v.passive sound.passive_distinct) (λ q. lacks-remove_key (same_name q) (same_name name) v.passive)
+  sound-forget_passive name =
+      sound-fewer_passive (without name v.passive) (length-remove_key-le (same_name name) v.passive)
+      (IsDistinct-remove_key same_name (same_name name) v.passive sound.passive_distinct) (λ q. lacks-remove_key (same_name q) (same_name name) v.passive)
 
 -- ---- a name comes into a view
 
@@ -87,8 +102,11 @@ module _ (v : Views) (sound : AreSound v) (name : Name) (new : knows v name ≡ 
         active_distinct = sound.active_distinct;
         passive_distinct = IsDistinct-push same_name-laws v.passive name sound.passive_distinct (unknown_not_passive v name new);
         active_of_others = sound.active_of_others;
-        passive_of_others = lacks-push (same_name v.owner) v.passive name sound.passive_of_others (same_name-laws.symm v.owner name ∙ unknown_is_other v name new);
-        disjoint = λ q there. lacks-push (same_name q) v.passive name (sound.disjoint q there) (same_name-laws.symm q name ∙ apart v.active name q (unknown_not_active v name new) there);
+        passive_of_others =
+            lacks-push (same_name v.owner) v.passive name sound.passive_of_others (same_name-laws.symm v.owner name ∙ unknown_is_other v name new);
+        disjoint =
+            λ q there. lacks-push (same_name q) v.passive name (sound.disjoint q there)
+            (same_name-laws.symm q name ∙ apart v.active name q (unknown_not_active v name new) there);
       }
 
   pub sound-put_active : length v.active < v.limits.active → AreSound (put_active name v)
@@ -101,7 +119,11 @@ module _ (v : Views) (sound : AreSound v) (name : Name) (new : knows v name ≡ 
         passive_distinct = sound.passive_distinct;
         active_of_others = lacks-push (same_name v.owner) v.active name sound.active_of_others (same_name-laws.symm v.owner name ∙ unknown_is_other v name new);
         passive_of_others = sound.passive_of_others;
-        disjoint = λ q there. elim (has-push (same_name q) v.active name there) [ inl was ↦ sound.disjoint q was | inr same ↦ like v.passive q name same ∙ unknown_not_passive v name new ];
+        disjoint =
+            λ q there. elim (has-push (same_name q) v.active name there) [
+              | inl was ↦ sound.disjoint q was
+              | inr same ↦ like v.passive q name same ∙ unknown_not_passive v name new
+            ];
       }
 
 -- ---- a place is made free
@@ -167,7 +189,9 @@ module _ (dice : Dice) (name : Name) (v : Views) where
     where
       by : (b : Bool) → knows v name ≡ b → AreSound (if b then v else put_passive name roomy)
       by true known = sound
-      by false new = sound-put_passive roomy (roomy-sound sound) name (roomy-unknown name new) (room-fits v.limits.passive (word dice 3) v.passive sound.allowed.passive_from sound.passive_within)
+      by false new =
+          sound-put_passive roomy (roomy-sound sound) name (roomy-unknown name new)
+          (room-fits v.limits.passive (word dice 3) v.passive sound.allowed.passive_from sound.passive_within)
 
   -- no other name becomes known
   pub unknown-add_passive : (q : Name) → knows v q ≡ false → same_name q name ≡ false → knows (add_passive dice name v) q ≡ false
@@ -232,7 +256,8 @@ module _ (dice : Dice) (name : Name) (v : Views) where
   lacks-demote q lacks = by (has_name v.active name)
     where
       by : (b : Bool) → has_name (if b then add_passive dice name left else v).active q ≡ false
-      by true = subst (λ names. has_name names q ≡ false) (sym (active-add_passive dice name left)) (lacks-remove_key (same_name q) (same_name name) v.active lacks)
+      by true =
+          subst (λ names. has_name names q ≡ false) (sym (active-add_passive dice name left)) (lacks-remove_key (same_name q) (same_name name) v.active lacks)
       by false = lacks
 
   -- an active name leaves it
@@ -301,7 +326,9 @@ module _ (dice : Dice) (v : Views) where
   -- one leaves, where there is one
   pub shorter-drop_active : 0 < length v.active → length (drop_active dice v).active + 1 ≡ length v.active
   shorter-drop_active some = elim (slice_get_cases v.active (word dice 0 % length v.active)).1 [
-    | inl at ↦ subst (λ o. length (dropped o).active + 1 ≡ length v.active) (sym at.2) (shorter-demote dice at.0 v (any_passes_from_place (same_name at.0) v.active (word dice 0 % length v.active) at.0 at.2 (same_name-laws.refl at.0)))
+    | inl at ↦
+        subst (λ o. length (dropped o).active + 1 ≡ length v.active) (sym at.2)
+        (shorter-demote dice at.0 v (any_passes_from_place (same_name at.0) v.active (word dice 0 % length v.active) at.0 at.2 (same_name-laws.refl at.0)))
     | inr past ↦ absurd (omega (arith, past.0, some))
   ]
 
@@ -376,7 +403,8 @@ module _ (dice : Dice) (name : Name) (v : Views) where
           let kept = sound-forget_passive v sound name in
           sound-put_active (make_room dice forgotten) (sound-make_room dice forgotten kept) name
           (unknown-make_room dice forgotten name (forgotten-unknown sound new))
-          (subst (λ (limits : Limits). length (make_room dice forgotten).active < limits.active) (sym (limits-make_room dice forgotten)) (fits-make_room dice forgotten kept))
+          (subst (λ (limits : Limits). length (make_room dice forgotten).active < limits.active)
+          (sym (limits-make_room dice forgotten)) (fits-make_room dice forgotten kept))
 
   pub owner-add_active : (add_active dice name v).owner ≡ v.owner
   owner-add_active = by (is_settled v name)

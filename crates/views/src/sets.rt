@@ -4,7 +4,9 @@ ghost use Rattle.indexmap.specs.IndexSet.{spare};
 ghost use Rattle.node_names.specs.Same.{has_name};
 ghost use Rattle.views.specs.Names.{chosen, evicted, word};
 ghost use Rattle.views.specs.Sets.{views_of};
-ghost use Rattle.views.specs.Views.{ArePeers, add_active, add_passive, clear_place, demote, drop_active, dropped_for, evicted_for, forget, fresh, has_either, integrate, integrate_one, is_settled, knows, make_room};
+ghost use Rattle.views.specs.Views.{ArePeers, add_active, add_passive, clear_place, demote};
+ghost use Rattle.views.specs.Views.{drop_active, dropped_for, evicted_for, forget, fresh, has_either};
+ghost use Rattle.views.specs.Views.{integrate, integrate_one, is_settled, knows, make_room};
 
 use crate::name_set::{chosen, make_room, put_last, take_chosen};
 use indexmap::IndexSet;
@@ -182,7 +184,8 @@ impl<A: Allocator> Sets<A> {
         requires few { evictions.old + 1 < 2 ^ 64 }
         requires room { 0 < spare self.old.passive }
         ensures integrated { record { views = views_of self.new; evictions = evictions.new }
-            ≡ integrate_one sent.now dice.now (record { views = views_of self.old; evictions = evictions.old }) name.now }
+            ≡ integrate_one sent.now dice.now
+            (record { views = views_of self.old; evictions = evictions.old }) name.now }
         ensures counted { evictions.new ≤ evictions.old + 1 }
         ensures room { spare self.old.passive ≤ spare self.new.passive + 1 }
     {

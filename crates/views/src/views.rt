@@ -1,6 +1,7 @@
 //! The two views of a node.
 ghost use Rattle.std.specs.Prelude.{◌≡◌, ◌≤◌, [], ◌∷◌, OnOk, OnErr, IfOk, length, take};
-ghost use Rattle.views.specs.Views.{AreSound, ArePeers, add_active, add_passive, demote, drop_active, dropped_for, evicted_for, forget, fresh, has_either, integrate};
+ghost use Rattle.views.specs.Views.{AreSound, ArePeers, add_active, add_passive, demote, drop_active};
+ghost use Rattle.views.specs.Views.{dropped_for, evicted_for, forget, fresh, has_either, integrate};
 ghost use Rattle.node_names.specs.Same.{has_name};
 ghost use Rattle.views.specs.Names.{chosen, others, sample, word};
 
@@ -61,7 +62,8 @@ impl<A: Allocator + Copy> Views<A> {
         words: &[u64],
     ) -> Result<Vec<NodeName, A>, AllocError>
         requires { count ≤ length words.now }
-        ensures { IfOk result (λ drawn. drawn.items ≡ sample (take count words.now) (others (except ∷ []) self.now.active)) }
+        ensures { IfOk result
+            (λ drawn. drawn.items ≡ sample (take count words.now) (others (except ∷ []) self.now.active)) }
     {
         let alloc = *self.sets.active.allocator();
         let candidates = others(alloc, &[except], self.sets.active.as_slice())?;

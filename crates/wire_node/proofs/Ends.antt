@@ -19,7 +19,11 @@ pub least : (a b c : ℕ) → c ≡ min a b → (c ≤ a) × (c ≤ b)
 least a b c e = (subst (λ n. n ≤ a) (sym e) (min-le_left a b), subst (λ n. n ≤ b) (sym e) (min-le_right a b))
 
 -- a text at the end
-pub copied : (text more new : List ℕ) (insets : List Inset) (tail len tail' len' : ℕ) → IsWoven text insets tail len → new ≡ text ++ more → tail' ≡ tail + length more → len' ≡ len + length more
+pub copied : (text more new : List ℕ) (insets : List Inset) (tail len tail' len' : ℕ) →
+    IsWoven text insets tail len →
+    new ≡ text ++ more →
+    tail' ≡ tail + length more →
+    len' ≡ len + length more
     → Leads new insets tail' len' (woven text insets ++ more)
 copied text more new insets tail len tail' len' w e t l =
     let same : woven new insets ≡ woven text insets ++ more = ap (λ s. woven s insets) e ∙ woven_more text more insets (omega (arith, w.within)) in (
@@ -32,7 +36,11 @@ copied text more new insets tail len tail' len' w e t l =
     )
 
 -- an inset at the end
-pub set_in : (text : List ℕ) (insets new : List Inset) (tail len len' : ℕ) (more : List ℕ) → IsWoven text insets tail len → new ≡ insets ++ (tail, more) ∷ [] → 0 < length more → len' ≡ len + length more
+pub set_in : (text : List ℕ) (insets new : List Inset) (tail len len' : ℕ) (more : List ℕ) →
+    IsWoven text insets tail len →
+    new ≡ insets ++ (tail, more) ∷ [] →
+    0 < length more →
+    len' ≡ len + length more
     → Leads text new 0 len' (woven text insets ++ more)
 set_in text insets new tail len len' more w e h l =
     let same : woven text new ≡ woven text insets ++ more = ap (woven text) e ∙ woven_last text insets tail more w.within in (
@@ -55,14 +63,19 @@ back_of : (bytes new : List ℕ) (cut : ℕ) → new ≡ take (length bytes - cu
 back_of bytes new cut e = sym (take-append-drop (length bytes - cut) bytes) ∙ ap (λ t. t ++ drop (length bytes - cut) bytes) (sym e)
 
 -- text goes from the end
-pub text_cut : (text new : List ℕ) (insets : List Inset) (tail len cut at : ℕ) → IsWoven text insets tail len → cut ≤ tail → at ≡ length text → new ≡ take (at - cut) text
+pub text_cut : (text new : List ℕ) (insets : List Inset) (tail len cut at : ℕ) →
+    IsWoven text insets tail len →
+    cut ≤ tail →
+    at ≡ length text →
+    new ≡ take (at - cut) text
     → Leads new insets (tail - cut) (len - cut) (take (length (woven text insets) - cut) (woven text insets))
 text_cut text new insets tail len cut at w few here taken =
     let e : new ≡ take (length text - cut) text = taken ∙ ap (λ n. take (n - cut) text) here in
     let back = drop (length text - cut) text in
     let size : length back ≡ cut = omega (arith, length-drop (length text - cut) text, w.within, few) in
     let long : length new ≡ length text - cut = omega (arith, ap length (back_of text new cut e), length-append new back, size) in
-    let whole : woven text insets ≡ woven new insets ++ back = ap (λ t. woven t insets) (back_of text new cut e) ∙ woven_more new back insets (omega (arith, w.within, few, long)) in (
+    let whole : woven text insets ≡ woven new insets ++ back =
+    ap (λ t. woven t insets) (back_of text new cut e) ∙ woven_more new back insets (omega (arith, w.within, few, long)) in (
       record {
         within = omega (arith, w.within, few, long);
         some = w.some;
@@ -72,7 +85,11 @@ text_cut text new insets tail len cut at w few here taken =
     )
 
 -- a part of the last inset goes
-pub inset_cut : (text : List ℕ) (insets rest new : List Inset) (before : ℕ) (last last' : List ℕ) (tail len cut at : ℕ) → IsWoven text insets tail len → tail ≡ 0 → insets ≡ rest ++ (before, last) ∷ [] → cut < length last
+pub inset_cut : (text : List ℕ) (insets rest new : List Inset) (before : ℕ) (last last' : List ℕ) (tail len cut at : ℕ) →
+    IsWoven text insets tail len →
+    tail ≡ 0 →
+    insets ≡ rest ++ (before, last) ∷ [] →
+    cut < length last
     → at ≡ length last → last' ≡ take (at - cut) last → new ≡ rest ++ (before, last') ∷ []
     → Leads text new tail (len - cut) (take (length (woven text insets) - cut) (woven text insets))
 inset_cut text insets rest new before last last' tail len cut at w none e part here taken n =
@@ -86,14 +103,20 @@ inset_cut text insets rest new before last last' tail len cut at w none e part h
     ∙ sym (append_assoc (woven text rest) last' back) ∙ ap (λ t. t ++ back) (sym (ap (woven text) n ∙ woven_last text rest before last' place)) in (
       record {
         within = omega (arith, place, none, ap before_last n, before_more rest before last');
-        some = All-same IsSome new (rest ++ (before, last') ∷ []) n (All-push IsSome rest (before, last') (All-pop IsSome insets rest (Some (before, last)) e w.some).0 (omega (arith, long, part)));
+        some =
+            All-same IsSome new (rest ++ (before, last') ∷ []) n
+            (All-push IsSome rest (before, last') (All-pop IsSome insets rest (Some (before, last)) e w.some).0 (omega (arith, long, part)));
         whole = omega (arith, ap length whole, length-append (woven text new) back, size, w.whole);
       },
       front_of (woven text insets) (woven text new) back cut whole size,
     )
 
 -- the last inset goes
-pub inset_gone : (text : List ℕ) (insets rest : List Inset) (before : ℕ) (last : List ℕ) (tail len cut : ℕ) → IsWoven text insets tail len → tail ≡ 0 → insets ≡ rest ++ (before, last) ∷ [] → cut ≡ length last
+pub inset_gone : (text : List ℕ) (insets rest : List Inset) (before : ℕ) (last : List ℕ) (tail len cut : ℕ) →
+    IsWoven text insets tail len →
+    tail ≡ 0 →
+    insets ≡ rest ++ (before, last) ∷ [] →
+    cut ≡ length last
     → Leads text rest before (len - cut) (take (length (woven text insets) - cut) (woven text insets))
 inset_gone text insets rest before last tail len cut w none e all =
     let place : before_last rest + before ≡ length text = omega (arith, w.within, none, ap before_last e, before_more rest before last) in
@@ -112,7 +135,8 @@ none_left text insets tail len w e none =
     omega (arith, ap (λ i. length (woven text i)) e, ap before_last e, w.within, none)
 
 -- text goes from the front, where there are no insets
-pub text_goes : (text new : List ℕ) (insets left : List Inset) (tail len n : ℕ) → IsWoven text insets tail len → insets ≡ [] → left ≡ [] → n ≤ tail → new ≡ drop n text
+pub text_goes :
+    (text new : List ℕ) (insets left : List Inset) (tail len n : ℕ) → IsWoven text insets tail len → insets ≡ [] → left ≡ [] → n ≤ tail → new ≡ drop n text
     → Leads new left (tail - n) (len - n) (drop n (woven text insets))
 text_goes text new insets left tail len n w e f few d = (
   record {
@@ -124,7 +148,10 @@ text_goes text new insets left tail len n w e f few d = (
 )
 
 -- text before the first inset goes
-pub text_before_goes : (text new : List ℕ) (insets rest left : List Inset) (before : ℕ) (first : List ℕ) (tail len n : ℕ) → IsWoven text insets tail len → insets ≡ (before, first) ∷ rest → n ≤ before
+pub text_before_goes : (text new : List ℕ) (insets rest left : List Inset) (before : ℕ) (first : List ℕ) (tail len n : ℕ) →
+    IsWoven text insets tail len →
+    insets ≡ (before, first) ∷ rest →
+    n ≤ before
     → new ≡ drop n text → left ≡ (before - n, first) ∷ rest
     → Leads new left tail (len - n) (drop n (woven text insets))
 text_before_goes text new insets rest left before first tail len n w e few d l =
@@ -134,14 +161,20 @@ text_before_goes text new insets rest left before first tail len n w e few d l =
     let all : All IsSome ((before, first) ∷ rest) = All-same IsSome ((before, first) ∷ rest) insets (sym e) w.some in (
       record {
         within = omega (arith, w.within, ap before_last e, ap before_last l, ap length d, length-drop n text, few);
-        some = All-same IsSome left ((before - n, first) ∷ rest) l (All-cons IsSome (before - n, first) rest (All-head IsSome (before, first) rest all) (All-tail IsSome (before, first) rest all));
+        some =
+            All-same IsSome left ((before - n, first) ∷ rest) l
+            (All-cons IsSome (before - n, first) rest (All-head IsSome (before, first) rest all) (All-tail IsSome (before, first) rest all));
         whole = omega (arith, ap length same, length-drop n (woven text insets), w.whole);
       },
       same,
     )
 
 -- a part of the first inset goes
-pub inset_goes : (text : List ℕ) (insets rest left : List Inset) (before : ℕ) (first first' : List ℕ) (tail len n : ℕ) → IsWoven text insets tail len → insets ≡ (before, first) ∷ rest → before ≡ 0 → n < length first
+pub inset_goes : (text : List ℕ) (insets rest left : List Inset) (before : ℕ) (first first' : List ℕ) (tail len n : ℕ) →
+    IsWoven text insets tail len →
+    insets ≡ (before, first) ∷ rest →
+    before ≡ 0 →
+    n < length first
     → first' ≡ drop n first → left ≡ (0, first') ∷ rest
     → Leads text left tail (len - n) (drop n (woven text insets))
 inset_goes text insets rest left before first first' tail len n w e zero few d l =
@@ -160,7 +193,11 @@ inset_goes text insets rest left before first first' tail len n w e zero few d l
     )
 
 -- the first inset goes
-pub inset_went : (text : List ℕ) (insets rest : List Inset) (before : ℕ) (first : List ℕ) (tail len n : ℕ) → IsWoven text insets tail len → insets ≡ (before, first) ∷ rest → before ≡ 0 → n ≡ length first
+pub inset_went : (text : List ℕ) (insets rest : List Inset) (before : ℕ) (first : List ℕ) (tail len n : ℕ) →
+    IsWoven text insets tail len →
+    insets ≡ (before, first) ∷ rest →
+    before ≡ 0 →
+    n ≡ length first
     → Leads text rest tail (len - n) (drop n (woven text insets))
 inset_went text insets rest before first tail len n w e zero all' =
     let at : insets ≡ (0, first) ∷ rest = e ∙ ap (λ b. (b, first) ∷ rest) zero in

@@ -11,7 +11,10 @@ take_sum a b bytes =
 -- the first bytes, and then others
 pub filled_twice : (left bytes one two : List ℕ) (a b : ℕ) → one ≡ left ++ take a bytes → two ≡ one ++ take b (drop a bytes) → two ≡ left ++ take (a + b) bytes
 filled_twice left bytes one two a b e f =
-    f ∙ ap (λ (t : List ℕ). t ++ take b (drop a bytes)) e ∙ append_assoc left (take a bytes) (take b (drop a bytes)) ∙ ap (λ (t : List ℕ). left ++ t) (take_sum a b bytes)
+    f
+    ∙ ap (λ (t : List ℕ). t ++ take b (drop a bytes)) e
+    ∙ append_assoc left (take a bytes) (take b (drop a bytes))
+    ∙ ap (λ (t : List ℕ). left ++ t) (take_sum a b bytes)
 
 -- what was put behind goes
 pub cut_back : {X : Type 0} (left more now : List X) (len : ℕ) → now ≡ left ++ more → len ≡ length left → take len now ≡ left

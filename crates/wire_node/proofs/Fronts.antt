@@ -7,21 +7,34 @@ use Rattle.wire_node.specs.Weave.{Inset, IsWoven, woven}
 use Rattle.wire_node.proofs.Ends.{IsSome}
 
 -- the text before the first inset is there
-pub first_within : (text : List ℕ) (insets : List Inset) (tail len : ℕ) (s : Inset) → IsWoven text insets tail len → 0 < length insets → s ≡ get_or insets 0 s → s.0 ≤ length text
+pub first_within : (text : List ℕ) (insets : List Inset) (tail len : ℕ) (s : Inset) →
+    IsWoven text insets tail len →
+    0 < length insets →
+    s ≡ get_or insets 0 s →
+    s.0 ≤ length text
 first_within text [] tail len s w some is = absurd (omega arith)
 first_within text (x ∷ xs) tail len s w some is = omega (arith, w.within, ap (λ (i : Inset). i.0) is)
 
 -- and that before the second
-pub second_within : (text : List ℕ) (insets : List Inset) (tail len : ℕ) (s t : Inset) → IsWoven text insets tail len → 1 < length insets → s ≡ get_or insets 0 s → t ≡ get_or insets 1 t → t.0 ≤ length (drop s.0 text)
+pub second_within : (text : List ℕ) (insets : List Inset) (tail len : ℕ) (s t : Inset) →
+    IsWoven text insets tail len →
+    1 < length insets →
+    s ≡ get_or insets 0 s →
+    t ≡ get_or insets 1 t →
+    t.0 ≤ length (drop s.0 text)
 second_within text [] tail len s t w some is it = absurd (omega arith)
 second_within text (x ∷ []) tail len s t w some is it = absurd (omega arith)
-second_within text (x ∷ (y ∷ rest)) tail len s t w some is it = omega (arith, w.within, ap (λ (i : Inset). i.0) is, ap (λ (i : Inset). i.0) it, length-drop s.0 text)
+second_within text (x ∷ (y ∷ rest)) tail len s t w some is it =
+    omega (arith, w.within, ap (λ (i : Inset). i.0) is, ap (λ (i : Inset). i.0) it, length-drop s.0 text)
 
 no_inset : (text : List ℕ) (insets : List Inset) → length insets ≡ 0 → woven text insets ≡ text
 no_inset text [] none = refl
 no_inset text (x ∷ xs) none = absurd (omega arith)
 
-one_inset : (text : List ℕ) (insets : List Inset) (s : Inset) → length insets ≡ 1 → s ≡ get_or insets 0 s → woven text insets ≡ take s.0 text ++ (s.1 ++ drop s.0 text)
+one_inset : (text : List ℕ) (insets : List Inset) (s : Inset) →
+    length insets ≡ 1 →
+    s ≡ get_or insets 0 s →
+    woven text insets ≡ take s.0 text ++ (s.1 ++ drop s.0 text)
 one_inset text [] s one is = absurd (omega arith)
 one_inset text (x ∷ []) s one is = ap (λ (i : Inset). take i.0 text ++ (i.1 ++ drop i.0 text)) (sym is)
 one_inset text (x ∷ (y ∷ rest)) s one is = absurd (omega arith)
@@ -47,7 +60,10 @@ all_first slices all e = (([], append-nil slices ∙ e), λ some. omega (arith, 
 pub first_none : (text : List ℕ) (insets : List Inset) → length insets ≡ 0 → ComeFirst (text ++ []) (woven text insets)
 first_none text insets none = all_first (text ++ []) (woven text insets) (append-nil text ∙ sym (no_inset text insets none))
 
-pub first_one : (text : List ℕ) (insets : List Inset) (s : Inset) → length insets ≡ 1 → s ≡ get_or insets 0 s → ComeFirst (take s.0 text ++ (s.1 ++ (drop s.0 text ++ []))) (woven text insets)
+pub first_one : (text : List ℕ) (insets : List Inset) (s : Inset) →
+    length insets ≡ 1 →
+    s ≡ get_or insets 0 s →
+    ComeFirst (take s.0 text ++ (s.1 ++ (drop s.0 text ++ []))) (woven text insets)
 first_one text insets s one is =
     all_first (take s.0 text ++ (s.1 ++ (drop s.0 text ++ []))) (woven text insets)
     (ap (λ (t : List ℕ). take s.0 text ++ (s.1 ++ t)) (append-nil (drop s.0 text)) ∙ sym (one_inset text insets s one is))
@@ -58,7 +74,11 @@ four a b c d r =
     ∙ append_assoc a (b ++ (c ++ d)) r
     ∙ ap (λ (t : List ℕ). a ++ t) (append_assoc b (c ++ d) r ∙ ap (λ (t : List ℕ). b ++ t) (append_assoc c d r))
 
-pub first_two : (text : List ℕ) (insets : List Inset) (tail len : ℕ) (s t : Inset) → IsWoven text insets tail len → 1 < length insets → s ≡ get_or insets 0 s → t ≡ get_or insets 1 t
+pub first_two : (text : List ℕ) (insets : List Inset) (tail len : ℕ) (s t : Inset) →
+    IsWoven text insets tail len →
+    1 < length insets →
+    s ≡ get_or insets 0 s →
+    t ≡ get_or insets 1 t
     → ComeFirst (take s.0 text ++ (s.1 ++ (take t.0 (drop s.0 text) ++ (t.1 ++ [])))) (woven text insets)
 first_two text insets tail len s t w two is it =
     let found = two_insets text insets s t two is it in
@@ -74,18 +94,28 @@ first_two text insets tail len s t w two is it =
 pub none_first : (text : List ℕ) (insets : List Inset) (a : List ℕ) → length insets ≡ 0 → a ≡ text → ComeFirst (a ++ []) (woven text insets)
 none_first text insets a none e = subst (λ (t : List ℕ). ComeFirst (t ++ []) (woven text insets)) (sym e) (first_none text insets none)
 
-pub one_first : (text : List ℕ) (insets : List Inset) (s : Inset) (a b c : List ℕ) → length insets ≡ 1 → s ≡ get_or insets 0 s → a ≡ take s.0 text → b ≡ s.1 → c ≡ drop s.0 text
+pub one_first : (text : List ℕ) (insets : List Inset) (s : Inset) (a b c : List ℕ) →
+    length insets ≡ 1 →
+    s ≡ get_or insets 0 s →
+    a ≡ take s.0 text →
+    b ≡ s.1 →
+    c ≡ drop s.0 text
     → ComeFirst (a ++ (b ++ (c ++ []))) (woven text insets)
 one_first text insets s a b c one is ea eb ec =
     subst (λ (t : List ℕ). ComeFirst (t ++ (b ++ (c ++ []))) (woven text insets)) (sym ea)
     (subst (λ (t : List ℕ). ComeFirst (take s.0 text ++ (t ++ (c ++ []))) (woven text insets)) (sym eb)
     (subst (λ (t : List ℕ). ComeFirst (take s.0 text ++ (s.1 ++ (t ++ []))) (woven text insets)) (sym ec) (first_one text insets s one is)))
 
-pub two_first : (text : List ℕ) (insets : List Inset) (tail len : ℕ) (s t : Inset) (a b c d : List ℕ) → IsWoven text insets tail len → 1 < length insets → s ≡ get_or insets 0 s → t ≡ get_or insets 1 t
+pub two_first : (text : List ℕ) (insets : List Inset) (tail len : ℕ) (s t : Inset) (a b c d : List ℕ) →
+    IsWoven text insets tail len →
+    1 < length insets →
+    s ≡ get_or insets 0 s →
+    t ≡ get_or insets 1 t
     → a ≡ take s.0 text → b ≡ s.1 → c ≡ take t.0 (drop s.0 text) → d ≡ t.1
     → ComeFirst (a ++ (b ++ (c ++ (d ++ [])))) (woven text insets)
 two_first text insets tail len s t a b c d w two is it ea eb ec ed =
     subst (λ (x : List ℕ). ComeFirst (x ++ (b ++ (c ++ (d ++ [])))) (woven text insets)) (sym ea)
     (subst (λ (x : List ℕ). ComeFirst (take s.0 text ++ (x ++ (c ++ (d ++ [])))) (woven text insets)) (sym eb)
     (subst (λ (x : List ℕ). ComeFirst (take s.0 text ++ (s.1 ++ (x ++ (d ++ [])))) (woven text insets)) (sym ec)
-    (subst (λ (x : List ℕ). ComeFirst (take s.0 text ++ (s.1 ++ (take t.0 (drop s.0 text) ++ (x ++ [])))) (woven text insets)) (sym ed) (first_two text insets tail len s t w two is it))))
+    (subst (λ (x : List ℕ). ComeFirst (take s.0 text ++ (s.1 ++ (take t.0 (drop s.0 text) ++ (x ++ [])))) (woven text insets))
+    (sym ed) (first_two text insets tail len s t w two is it))))

@@ -14,7 +14,10 @@ use Rattle.wire_node.proofs.Taking.{moves_one, moves_then}
 pub relieves_none : (old : Machine) (lost : List Name) (dice : Dice) → Relieves old lost dice old lost
 relieves_none old lost dice = record { names = []; downs = refl; noted = sym (append-nil lost) }
 
-down_more : (old : Machine) (names : List Name) (dice : Dice) (mid : Machine) (name : Name) (new : Machine) → GoDown old names dice mid → GoesDown mid name dice new → GoDown old (names ++ name ∷ []) dice new
+down_more : (old : Machine) (names : List Name) (dice : Dice) (mid : Machine) (name : Name) (new : Machine) →
+    GoDown old names dice mid →
+    GoesDown mid name dice new →
+    GoDown old (names ++ name ∷ []) dice new
 down_more old [] dice mid name new downs down = (new, subst (λ m. GoesDown m name dice new) (sym downs) down, refl)
 down_more old (n ∷ names) dice mid name new downs down = (downs.0, downs.1, down_more downs.0 names dice mid name new downs.2 down)
 
@@ -28,9 +31,14 @@ relieves_more old lost dice mid lost' name new lost'' r down noted = record {
 }
 
 -- one more timer fires
-pub fires_more : (old : Engine) (dice : Dice) (ids : List MsgId) (i : ℕ) (id : MsgId) (mid new : Engine) → i < length ids → id ≡ get_or ids i id → MovesAll old (map (firing dice) (take i ids)) mid → Moves mid (Fire id) dice new
+pub fires_more : (old : Engine) (dice : Dice) (ids : List MsgId) (i : ℕ) (id : MsgId) (mid new : Engine) →
+    i < length ids →
+    id ≡ get_or ids i id →
+    MovesAll old (map (firing dice) (take i ids)) mid →
+    Moves mid (Fire id) dice new
     → MovesAll old (map (firing dice) (take (i + 1) ids)) new
 fires_more old dice ids i id mid new within at run step =
     subst (λ (moves : List Move). MovesAll old moves new)
-    (sym (ap (λ (some : List MsgId). map (firing dice) some) (take_more ids i id within ∙ ap (λ x. take i ids ++ x ∷ []) (sym at)) ∙ map-append (firing dice) (take i ids) (id ∷ [])))
+    (sym (ap (λ (some : List MsgId). map (firing dice) some) (take_more ids i id within ∙ ap (λ x. take i ids ++ x ∷ []) (sym at))
+    ∙ map-append (firing dice) (take i ids) (id ∷ [])))
     (moves_then old (map (firing dice) (take i ids)) (firing dice id ∷ []) mid new run (moves_one mid (firing dice id) new step))

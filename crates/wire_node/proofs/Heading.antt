@@ -29,19 +29,30 @@ module _ (s : Origin) (n : ℕ) (i : MsgId) (r : ℕ) where
   spelled_gossip p = spelled_then before (payload p ∷ []) ∙ ap (λ (t : List ℕ). spelled before ++ t) (append-nil (to_be_bytes w32 (length p) ++ p))
 
   -- what is spelled with no payload
-  empty_is : (bytes : List ℕ) → IsSpelling (gossip []) bytes → bytes ≡ to_be_bytes w32 (length (spelled (layout (gossip [])))) ++ (spelled before ++ to_be_bytes w32 0)
-  empty_is bytes e = e.parts ∙ ap (λ (t : List ℕ). to_be_bytes w32 (length (spelled (layout (gossip [])))) ++ t) (spelled_gossip [] ∙ ap (λ (t : List ℕ). spelled before ++ t) (append-nil (to_be_bytes w32 0)))
+  empty_is : (bytes : List ℕ) →
+      IsSpelling (gossip []) bytes →
+      bytes ≡ to_be_bytes w32 (length (spelled (layout (gossip [])))) ++ (spelled before ++ to_be_bytes w32 0)
+  empty_is bytes e =
+      e.parts
+      ∙ ap (λ (t : List ℕ). to_be_bytes w32 (length (spelled (layout (gossip [])))) ++ t)
+      (spelled_gossip [] ∙ ap (λ (t : List ℕ). spelled before ++ t) (append-nil (to_be_bytes w32 0)))
 
   pub empty_long : (bytes : List ℕ) → IsSpelling (gossip []) bytes → 8 ≤ length bytes
   empty_long bytes e =
-      omega (arith, ap length (empty_is bytes e), length-append (to_be_bytes w32 (length (spelled (layout (gossip []))))) (spelled before ++ to_be_bytes w32 0), length-append (spelled before) (to_be_bytes w32 0))
+      omega (
+        arith,
+        ap length (empty_is bytes e),
+        length-append (to_be_bytes w32 (length (spelled (layout (gossip []))))) (spelled before ++ to_be_bytes w32 0),
+        length-append (spelled before) (to_be_bytes w32 0),
+      )
 
   fields_are : (bytes fields : List ℕ) → IsSpelling (gossip []) bytes → fields ≡ take (length bytes - 8) (drop 4 bytes) → fields ≡ spelled before
   fields_are bytes fields e f =
       let its = empty_is bytes e in
       let front = to_be_bytes w32 (length (spelled (layout (gossip [])))) in
       let rest = spelled before ++ to_be_bytes w32 0 in
-      let long : length bytes - 8 ≡ length (spelled before) = omega (arith, ap length its, length-append front rest, length-append (spelled before) (to_be_bytes w32 0)) in
+      let long : length bytes - 8 ≡ length (spelled before) =
+      omega (arith, ap length its, length-append front rest, length-append (spelled before) (to_be_bytes w32 0)) in
       f ∙ ap (λ k. take k (drop 4 bytes)) long ∙ ap (λ (b : List ℕ). take (length (spelled before)) (drop 4 b)) its
       ∙ ap (take (length (spelled before))) (drop_at front rest 4 (omega arith))
       ∙ take_at (spelled before) (to_be_bytes w32 0) (length (spelled before)) refl

@@ -17,7 +17,8 @@ with_none (Some n) = ap (λ (steps : List (Step Frame)). Some (record { opening 
 
 with_both : (n : Option Noted) (ss ts : List (Step Frame)) → with_steps (with_steps n ss) ts ≡ with_steps n (ss ++ ts)
 with_both None ss ts = refl
-with_both (Some n) ss ts = ap (λ (steps : List (Step Frame)). Some (record { opening = n.opening; first = n.first; steps = steps })) (append_assoc n.steps ss ts)
+with_both (Some n) ss ts =
+    ap (λ (steps : List (Step Frame)). Some (record { opening = n.opening; first = n.first; steps = steps })) (append_assoc n.steps ss ts)
 
 leads_both : (old : Plum) (ss ts : List (Step Frame)) (mid new : Plum) → Leads old ss mid → Leads mid ts new → Leads old (ss ++ ts) new
 leads_both old [] ts mid new a b = subst (λ (c : Plum). Leads c ts new) (sym a) b
@@ -48,7 +49,8 @@ on_downs old [] dice new g = subst (λ (m : Machine). LeadsOn old m) g (on_none 
 on_downs old (name ∷ names) dice new g = on_then old g.0 new (on_down old name dice g.0 g.1) (on_downs g.0 names dice new g.2)
 
 on_moves : (old : Engine) (m : Move) (new : Engine) → Moves old m.0 m.1 new → LeadsOn old.machine new.machine
-on_moves old m new h = on_then old.machine h.stepped new.machine (on_acts old.machine m.0 h.stepped h.acts) (on_downs h.stepped h.relieves.names m.1 new.machine h.relieves.downs)
+on_moves old m new h =
+    on_then old.machine h.stepped new.machine (on_acts old.machine m.0 h.stepped h.acts) (on_downs h.stepped h.relieves.names m.1 new.machine h.relieves.downs)
 
 pub moved : (old : Engine) (moves : List Move) (new : Engine) → MovesAll old moves new → LeadsOn old.machine new.machine
 moved old [] new h = subst (λ (e : Engine). LeadsOn old.machine e.machine) h (on_none old.machine)

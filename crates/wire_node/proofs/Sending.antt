@@ -17,7 +17,10 @@ pub less_settled : (n : ℕ) (w : Waiting) → undrafted w ≡ w → undrafted (
 less_settled n w rest = ap (with_less n) rest
 
 -- what waits for a name that has an entry
-pub waits_at : (ws : List Waiting) (name : Name) (i : ℕ) (d : Waiting) → i < length ws → same_name name (get_or ws i d).name ≡ true → ((k : ℕ) → k < i → same_name name (get_or ws k d).name ≡ false)
+pub waits_at : (ws : List Waiting) (name : Name) (i : ℕ) (d : Waiting) →
+    i < length ws →
+    same_name name (get_or ws i d).name ≡ true →
+    ((k : ℕ) → k < i → same_name name (get_or ws k d).name ≡ false)
     → settled_for ws name ≡ (get_or ws i d).settled
 waits_at [] name i d within same first = absurd (omega arith)
 waits_at (w ∷ ws) name zero d within same first = ap (λ (b : Bool). if b then w.settled else settled_for ws name) same
@@ -47,7 +50,10 @@ settled_set (w ∷ ws) (suc i) new rest its =
     ∙ ap (λ (l : List Waiting). w ∷ l) (settled_set ws i new (ap (drop 1) rest) its)
 
 -- bytes went out of an entry: for its name they are gone, and for each other all stays
-pub gone_at : (ws : List Waiting) (name : Name) (i : ℕ) (d : Waiting) (n : ℕ) (other : Name) → i < length ws → same_name name (get_or ws i d).name ≡ true → ((k : ℕ) → k < i → same_name name (get_or ws k d).name ≡ false)
+pub gone_at : (ws : List Waiting) (name : Name) (i : ℕ) (d : Waiting) (n : ℕ) (other : Name) →
+    i < length ws →
+    same_name name (get_or ws i d).name ≡ true →
+    ((k : ℕ) → k < i → same_name name (get_or ws k d).name ≡ false)
     → settled_for (set ws i (with_less n (get_or ws i d))) other ≡ (if same_name other name then drop n (settled_for ws other) else settled_for ws other)
 gone_at [] name i d n other within same first = absurd (omega arith)
 gone_at (w ∷ ws) name zero d n other within same first =
@@ -70,7 +76,9 @@ gone_at (w ∷ ws) name (suc i) d n other within same first =
     go false e more = more
 
 -- none went out where none waited
-pub gone_none : (ws : List Waiting) (name : Name) (n : ℕ) (other : Name) → All (IsOther name) ws → settled_for ws other ≡ (if same_name other name then drop n (settled_for ws other) else settled_for ws other)
+pub gone_none : (ws : List Waiting) (name : Name) (n : ℕ) (other : Name) →
+    All (IsOther name) ws →
+    settled_for ws other ≡ (if same_name other name then drop n (settled_for ws other) else settled_for ws other)
 gone_none ws name n other all = go (same_name other name) refl
   where
     go : (b : Bool) → same_name other name ≡ b → settled_for ws other ≡ (if b then drop n (settled_for ws other) else settled_for ws other)
@@ -80,7 +88,11 @@ gone_none ws name n other all = go (same_name other name) refl
     go false e = refl
 
 -- the entry, with what went out gone
-pub less_of : (count : ℕ) (now e new : Waiting) (taken : ℕ) → now ≡ e → taken ≡ min count (length e.settled) → new ≡ made now.name (drop taken now.settled) now.drafted → new ≡ with_less count e
+pub less_of : (count : ℕ) (now e new : Waiting) (taken : ℕ) →
+    now ≡ e →
+    taken ≡ min count (length e.settled) →
+    new ≡ made now.name (drop taken now.settled) now.drafted →
+    new ≡ with_less count e
 less_of count now e new taken is few made_so =
     made_so ∙ ap (with_less taken) is ∙ ap (λ (s : List ℕ). made e.name s e.drafted) (ap (λ (t : ℕ). drop t e.settled) few ∙ drop_min count e.settled)
 
@@ -89,7 +101,10 @@ gone_all : (ws : List Waiting) (name : Name) → settled_for (without name ws) n
 gone_all [] name = refl
 gone_all (w ∷ ws) name = go (same_name name w.name) refl (gone_all ws name)
   where
-    go : (b : Bool) → same_name name w.name ≡ b → settled_for (without name ws) name ≡ [] → settled_for (if not b then w ∷ without name ws else without name ws) name ≡ []
+    go : (b : Bool) →
+        same_name name w.name ≡ b →
+        settled_for (without name ws) name ≡ [] →
+        settled_for (if not b then w ∷ without name ws else without name ws) name ≡ []
     go true e more = more
     go false e more = ap (λ (t : Bool). if t then w.settled else settled_for (without name ws) name) e ∙ more
 
@@ -98,8 +113,14 @@ others_stay : (ws : List Waiting) (name other : Name) → same_name other name �
 others_stay [] name other apart = refl
 others_stay (w ∷ ws) name other apart = go (same_name name w.name) refl (others_stay ws name other apart)
   where
-    go : (b : Bool) → same_name name w.name ≡ b → settled_for (without name ws) other ≡ settled_for ws other → settled_for (if not b then w ∷ without name ws else without name ws) other ≡ (if same_name other w.name then w.settled else settled_for ws other)
-    go true e more = more ∙ sym (ap (λ (m : Name). if same_name other m then w.settled else settled_for ws other) (sym ((same_name-Decides name w.name).0 e)) ∙ ap (λ (t : Bool). if t then w.settled else settled_for ws other) apart)
+    go : (b : Bool) →
+        same_name name w.name ≡ b →
+        settled_for (without name ws) other ≡ settled_for ws other →
+        settled_for (if not b then w ∷ without name ws else without name ws) other ≡ (if same_name other w.name then w.settled else settled_for ws other)
+    go true e more =
+        more
+        ∙ sym (ap (λ (m : Name). if same_name other m then w.settled else settled_for ws other) (sym ((same_name-Decides name w.name).0 e))
+        ∙ ap (λ (t : Bool). if t then w.settled else settled_for ws other) apart)
     go false e more = ap (λ (l : List ℕ). if same_name other w.name then w.settled else l) more
 
 -- where nothing waits for a name, all stays without its entries

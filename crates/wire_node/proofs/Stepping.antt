@@ -1,5 +1,6 @@
 -- A step, put together.
-use Rattle.std.specs.Prelude.{◌≡◌, Bool, true, false, List, [], ◌∷◌, ◌++◌, Option, None, Result, Ok, Err, OnErr, OnOk, get_or, is_err, map, not, drop, refl, if◌then◌else◌}
+use Rattle.std.specs.Prelude.{◌≡◌, Bool, true, false, List, [], ◌∷◌, ◌++◌, Option, None, Result, Ok}
+use Rattle.std.specs.Prelude.{Err, OnErr, OnOk, get_or, is_err, map, not, drop, refl, if◌then◌else◌}
 use Rattle.std.proofs.Common.{◌∙◌, ap, subst, sym}
 use Rattle.std.proofs.lemmas.List.{append-nil}
 use Rattle.node_names.specs.NodeName.{Name}
@@ -30,25 +31,35 @@ pub at_err : {X E : Type 0} (P : Type 0) (r : Result X E) → is_err r ≡ true 
 at_err P (Ok x) e h = absurd cc
 at_err P (Err x) e h = h
 
-same_out : (out : Output Frame) (sends : List (Name × Frame)) (given : List Delivery) → out.sends ≡ sends → out.deliveries ≡ given → out ≡ record { sends = sends; deliveries = given }
+same_out : (out : Output Frame) (sends : List (Name × Frame)) (given : List Delivery) →
+    out.sends ≡ sends →
+    out.deliveries ≡ given →
+    out ≡ record { sends = sends; deliveries = given }
 same_out out sends given a b =
-    ap (λ (s : List (Name × Frame)). record { sends = s; deliveries = out.deliveries }) a ∙ ap (λ (g : List Delivery). record { sends = sends; deliveries = g }) b
+    ap (λ (s : List (Name × Frame)). record { sends = s; deliveries = out.deliveries }) a
+    ∙ ap (λ (g : List Delivery). record { sends = sends; deliveries = g }) b
 
 -- what the core's step gave waits now, and its news are told
-pub step_acts : (core core' after : Plum) (olds news : List Waiting) (pending pending' : List Delivery) (noted noted' : Option Noted) (telling telling' : Telling) (s s' : Stimulus Frame) (none out : Output Frame)
+pub step_acts : (core core' after : Plum) (olds news : List Waiting) (pending pending' : List Delivery)
+    (noted noted' : Option Noted) (telling telling' : Telling) (s s' : Stimulus Frame) (none out : Output Frame)
     → Stepped PlumSteps core s' none after out → s' ≡ s → none.sends ≡ [] → none.deliveries ≡ [] → core' ≡ after
     → AreSettled olds → news ≡ map settled (all_drafted olds out.sends) → pending' ≡ pending ++ out.deliveries
     → noted' ≡ with_step noted (record { stimulus = s; out = out })
     → TellsOf s telling (plum_state core).active telling' (plum_state after).active
     → Acts (machine core olds pending noted telling) s (machine core' news pending' noted' telling')
-step_acts core core' after olds news pending pending' noted noted' telling telling' s s' none out st its no_sends no_deliveries advanced rest waits delivers notes tells =
+step_acts core core' after olds news pending pending' noted noted' telling telling' s
+    s' none out st its no_sends no_deliveries advanced rest waits delivers notes tells =
     let sent : out.sends ≡ st.sends = st.sent ∙ ap (λ (t : List (Name × Frame)). t ++ st.sends) no_sends in
     let given : out.deliveries ≡ st.given = st.delivered ∙ ap (λ (t : List Delivery). t ++ st.given) no_deliveries in
-    let its_tells : TellsOf s telling (plum_state core).active telling' (plum_state core').active = subst (λ (c : Plum). TellsOf s telling (plum_state core).active telling' (plum_state c).active) (sym advanced) tells in
+    let its_tells : TellsOf s telling (plum_state core).active telling' (plum_state core').active =
+    subst (λ (c : Plum). TellsOf s telling (plum_state core).active telling' (plum_state c).active) (sym advanced) tells in
     record {
       out = record { sends = st.sends; deliveries = st.given };
       stepped = subst (λ c. PlumSteps core s st.sends st.given c) (sym advanced) (subst (λ t. PlumSteps core t st.sends st.given after) its st.stepped);
-      waits = λ name. ap (λ (ws : List Waiting). settled_for ws name) waits ∙ waits_more olds out.sends name rest ∙ ap (λ (t : List (Name × Frame)). settled_for olds name ++ mail_for t name) sent;
+      waits =
+          λ name. ap (λ (ws : List Waiting). settled_for ws name) waits
+          ∙ waits_more olds out.sends name rest
+          ∙ ap (λ (t : List (Name × Frame)). settled_for olds name ++ mail_for t name) sent;
       delivers = delivers ∙ ap (λ (t : List Delivery). pending ++ t) given;
       notes = notes ∙ ap (λ (o : Output Frame). with_step noted (record { stimulus = s; out = o })) (same_out out st.sends st.given sent given);
       tells = its_tells.tells;
@@ -56,7 +67,8 @@ step_acts core core' after olds news pending pending' noted noted' telling telli
     }
 
 -- the same machine, once news are worked out
-pub settled_machine : (core : Plum) (waiting : List Waiting) (pending : List Delivery) (noted : Option Noted) (old new : Telling) → new ≡ record { tells = old.tells; news = all_news old (plum_state core).active; last = None }
+pub settled_machine : (core : Plum) (waiting : List Waiting) (pending : List Delivery) (noted : Option Noted) (old new : Telling) →
+    new ≡ record { tells = old.tells; news = all_news old (plum_state core).active; last = None }
     → machine core waiting pending noted new ≡ machine core waiting pending noted old
 settled_machine core waiting pending noted old new is =
     ap (λ (t : Telling). machine core waiting pending noted t) is
@@ -64,7 +76,8 @@ settled_machine core waiting pending noted old new is =
 
 -- the same machine, where each part is the same
 pub same_machine : (core core' : Plum) (olds news : List Waiting) (pending pending' : List Delivery) (noted noted' : Option Noted) (telling telling' : Telling)
-    → (core' ≡ core) × (news ≡ olds) × (pending' ≡ pending) × (noted' ≡ noted) × (telling' ≡ telling) → machine core' news pending' noted' telling' ≡ machine core olds pending noted telling
+    → (core' ≡ core) × (news ≡ olds) × (pending' ≡ pending) × (noted' ≡ noted) × (telling' ≡ telling)
+    → machine core' news pending' noted' telling' ≡ machine core olds pending noted telling
 same_machine core core' olds news pending pending' noted noted' telling telling' same =
     ap (λ (c : Plum). machine c news pending' noted' telling') same.0
     ∙ ap (λ (w : List Waiting). machine core w pending' noted' telling') same.1
@@ -82,6 +95,9 @@ settled_without name [] rest = refl
 settled_without name (w ∷ ws) rest =
     go (not (same_name name w.name)) (ap (λ (l : List Waiting). get_or l 0 w) rest) (settled_without name ws (ap (drop 1) rest))
   where
-    go : (b : Bool) → undrafted w ≡ w → AreSettled (without name ws) → map undrafted (if b then w ∷ without name ws else without name ws) ≡ (if b then w ∷ without name ws else without name ws)
+    go : (b : Bool) →
+        undrafted w ≡ w →
+        AreSettled (without name ws) →
+        map undrafted (if b then w ∷ without name ws else without name ws) ≡ (if b then w ∷ without name ws else without name ws)
     go true its more = ap (λ (u : Waiting). u ∷ map undrafted (without name ws)) its ∙ ap (λ (t : List Waiting). w ∷ t) more
     go false its more = more

@@ -1,5 +1,6 @@
 -- Frames that are taken one after the other.
-use Rattle.std.proofs.Common.{◌≡◌, inl, inr, ◌<◌, ◌+◌, ℕ, List, [], ◌∷◌, ◌++◌, length, map, take, drop, Option, Some, None, refl, ap, sym, subst, ◌∙◌, append_assoc, arith}
+use Rattle.std.proofs.Common.{◌≡◌, inl, inr, ◌<◌, ◌+◌, ℕ, List, [], ◌∷◌, ◌++◌, length, map, take, drop}
+use Rattle.std.proofs.Common.{Option, Some, None, refl, ap, sym, subst, ◌∙◌, append_assoc, arith}
 use Rattle.std.specs.Int.{w32, to_be_bytes}
 use Rattle.std.specs.Prelude.{IfNone, IfSome}
 use Rattle.std.proofs.lemmas.List.{append-nil, drop-drop, drop_all, length-append, map-append, take-append-drop}
@@ -47,7 +48,8 @@ pub takes_none : (old : Engine) (p : Option Name) (bytes : List ℕ) → Takes o
 takes_none old p bytes = record { taken = []; stream = refl; moves = refl; its_peer = peer_none p }
 
 -- frames and then others
-pub takes_then : (old : Engine) (p : Option Name) (bytes : List ℕ) (mid : Engine) (q : Option Name) (rest : List ℕ) (new : Engine) (r : Option Name) (after : List ℕ)
+pub takes_then : (old : Engine) (p : Option Name) (bytes : List ℕ) (mid : Engine)
+    (q : Option Name) (rest : List ℕ) (new : Engine) (r : Option Name) (after : List ℕ)
     → Takes old p bytes mid q rest → Takes mid q rest new r after → Takes old p bytes new r after
 takes_then old p bytes mid q rest new r after a b = record {
   taken = a.taken ++ b.taken;
@@ -63,7 +65,8 @@ takes_then old p bytes mid q rest new r after a b = record {
 -- one frame
 pub takes_one : (old : Engine) (p : Option Name) (bytes : List ℕ) (new : Engine) (q : Option Name) (rest : List ℕ) (f : Frame)
     → Cuts f bytes rest → (dice : Dice) × Moves old (arrival (f, dice)).0 dice new × (q ≡ peer_of p ((f, dice) ∷ [])) → Takes old p bytes new q rest
-takes_one old p bytes new q rest f c a = record { taken = (f, a.0) ∷ []; stream = (rest, c, refl); moves = moves_one old (arrival (f, a.0)) new a.1; its_peer = a.2 }
+takes_one old p bytes new q rest f c a =
+    record { taken = (f, a.0) ∷ []; stream = (rest, c, refl); moves = moves_one old (arrival (f, a.0)) new a.1; its_peer = a.2 }
 
 -- a frame at a place
 pub cuts_at : (f : Frame) (bytes : List ℕ) (at len : ℕ) → IsSpelling f (take len (drop at bytes)) → Cuts f (drop at bytes) (drop (at + len) bytes)
@@ -95,16 +98,24 @@ none_at P o is h = subst (λ p. IfNone p P) is h
 -- ---- a frame that was cut
 
 -- it is completed with the first of the bytes
-pub completed : (f : Frame) (left bytes whole now : List ℕ) (count len : ℕ) → whole ≡ left ++ take count bytes → IsSpelling f (take len whole) → now ≡ drop len whole → Cuts f (left ++ bytes) (now ++ drop count bytes)
+pub completed : (f : Frame) (left bytes whole now : List ℕ) (count len : ℕ) →
+    whole ≡ left ++ take count bytes →
+    IsSpelling f (take len whole) →
+    now ≡ drop len whole →
+    Cuts f (left ++ bytes) (now ++ drop count bytes)
 completed f left bytes whole now count len e s n =
     let parts : whole ++ drop count bytes ≡ left ++ bytes =
-    ap (λ (t : List ℕ). t ++ drop count bytes) e ∙ append_assoc left (take count bytes) (drop count bytes) ∙ ap (λ (t : List ℕ). left ++ t) (take-append-drop count bytes) in
+    ap (λ (t : List ℕ). t ++ drop count bytes) e
+    ∙ append_assoc left (take count bytes) (drop count bytes)
+    ∙ ap (λ (t : List ℕ). left ++ t) (take-append-drop count bytes) in
     subst (λ (t : List ℕ). Cuts f t (now ++ drop count bytes)) parts
     (subst (λ (t : List ℕ). Cuts f (whole ++ drop count bytes) (t ++ drop count bytes)) (sym n) (cuts_before f whole (drop count bytes) len s))
 
 module _ (mid new : Engine) (p q : Option Name) (left now bytes rest : List ℕ) (at : ℕ) (from : rest ≡ drop at bytes) where
   -- and others follow from its place on
-  pub resumed : (count : ℕ) → Takes mid p (left ++ rest) new q (now ++ drop count rest) → Takes mid p (left ++ drop at bytes) new q (now ++ drop (at + count) bytes)
+  pub resumed : (count : ℕ) →
+      Takes mid p (left ++ rest) new q (now ++ drop count rest) →
+      Takes mid p (left ++ drop at bytes) new q (now ++ drop (at + count) bytes)
   resumed count t =
       subst (λ (b : List ℕ). Takes mid p (left ++ drop at bytes) new q (now ++ b)) (drop-drop count at bytes)
       (subst (λ (b : List ℕ). Takes mid p (left ++ b) new q (now ++ drop count b)) from t)
@@ -112,11 +123,15 @@ module _ (mid new : Engine) (p q : Option Name) (left now bytes rest : List ℕ)
   -- all that came is kept
   pub kept_all : Takes mid p (left ++ rest) new q now → Takes mid p (left ++ drop at bytes) new q (now ++ drop (length bytes) bytes)
   kept_all t =
-      subst (λ (b : List ℕ). Takes mid p (left ++ drop at bytes) new q b) (sym (append-nil now) ∙ ap (λ (b : List ℕ). now ++ b) (sym (drop_all (length bytes) bytes (omega arith))))
+      subst (λ (b : List ℕ). Takes mid p (left ++ drop at bytes) new q b)
+      (sym (append-nil now) ∙ ap (λ (b : List ℕ). now ++ b) (sym (drop_all (length bytes) bytes (omega arith))))
       (subst (λ (b : List ℕ). Takes mid p (left ++ b) new q now) from t)
 
   -- nothing was left of a frame
-  pub from_none : (count : ℕ) → left ≡ [] → Takes mid p rest new q (drop count rest) → Takes mid p (left ++ drop at bytes) new q (left ++ drop (at + count) bytes)
+  pub from_none : (count : ℕ) →
+      left ≡ [] →
+      Takes mid p rest new q (drop count rest) →
+      Takes mid p (left ++ drop at bytes) new q (left ++ drop (at + count) bytes)
   from_none count none t =
       subst (λ (l : List ℕ). Takes mid p (l ++ drop at bytes) new q (l ++ drop (at + count) bytes)) (sym none)
       (subst (λ (b : List ℕ). Takes mid p (drop at bytes) new q b) (drop-drop count at bytes)

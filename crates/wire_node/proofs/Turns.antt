@@ -18,10 +18,15 @@ asked_is : (b : Bool) (a mid : Asking) → mid ≡ (if b then begun a else a) �
 asked_is true a mid h = ap (λ (x : Asking). x.asked) h
 asked_is false a mid h = ap (λ (x : Asking). x.asked) h
 
-waits_is : (b turn is_over : Bool) (a mid : Asking) (timers waited : List MsgId) → b ≡ turn → mid ≡ (if b then begun a else a) → waited ≡ (if b && is_over then timers else mid.waited)
+waits_is : (b turn is_over : Bool) (a mid : Asking) (timers waited : List MsgId) →
+    b ≡ turn →
+    mid ≡ (if b then begun a else a) →
+    waited ≡ (if b && is_over then timers else mid.waited)
     → waited ≡ (if turn then (if is_over then timers else []) else a.waited)
 waits_is true turn is_over a mid timers waited e h w =
-    w ∙ ap (λ (l : List MsgId). if is_over then timers else l) (ap (λ (x : Asking). x.waited) h) ∙ ap (λ (t : Bool). if t then (if is_over then timers else []) else a.waited) e
+    w
+    ∙ ap (λ (l : List MsgId). if is_over then timers else l) (ap (λ (x : Asking). x.waited) h)
+    ∙ ap (λ (t : Bool). if t then (if is_over then timers else []) else a.waited) e
 waits_is false turn is_over a mid timers waited e h w =
     w ∙ ap (λ (x : Asking). x.waited) h ∙ ap (λ (t : Bool). if t then (if is_over then timers else []) else a.waited) e
 

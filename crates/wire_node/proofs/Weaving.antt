@@ -1,6 +1,7 @@
 -- What becomes of a woven text at its two ends.
 use Rattle.std.proofs.Common.{◌≡◌, ◌≤◌, ◌+◌, ◌-◌, ℕ, List, [], ◌∷◌, ◌++◌, length, take, drop, refl, ap, sym, ◌∙◌, append_assoc, arith}
-use Rattle.std.proofs.lemmas.List.{append-nil, drop-append-le, drop-drop, drop-take, length-append, length-drop, length-take, take-append-le, take_all, drop_at, drop_all}
+use Rattle.std.proofs.lemmas.List.{append-nil, drop-append-le, drop-drop, drop-take, length-append}
+use Rattle.std.proofs.lemmas.List.{length-drop, length-take, take-append-le, take_all, drop_at, drop_all}
 use Rattle.wire_node.specs.Weave.{Inset, before_last, woven}
 
 -- the text is part of it
@@ -8,7 +9,14 @@ pub longer : (text : List ℕ) (insets : List Inset) → length text ≤ length 
 longer text [] = omega arith
 longer text (inset ∷ insets) =
     let rest = woven (drop inset.0 text) insets in
-    omega (arith, length-append (take inset.0 text) (inset.1 ++ rest), length-append inset.1 rest, length-take inset.0 text, length-drop inset.0 text, longer (drop inset.0 text) insets)
+    omega (
+      arith,
+      length-append (take inset.0 text) (inset.1 ++ rest),
+      length-append inset.1 rest,
+      length-take inset.0 text,
+      length-drop inset.0 text,
+      longer (drop inset.0 text) insets,
+    )
 
 -- more text
 pub woven_more : (text more : List ℕ) (insets : List Inset) → before_last insets ≤ length text → woven (text ++ more) insets ≡ woven text insets ++ more
@@ -24,7 +32,9 @@ woven_more text more (inset ∷ insets) h =
     ∙ sym (append_assoc (take inset.0 text) (inset.1 ++ rest) more)
 
 -- one more inset, behind all of the text
-pub woven_last : (text : List ℕ) (insets : List Inset) (before : ℕ) (last : List ℕ) → before_last insets + before ≡ length text → woven text (insets ++ (before, last) ∷ []) ≡ woven text insets ++ last
+pub woven_last : (text : List ℕ) (insets : List Inset) (before : ℕ) (last : List ℕ) →
+    before_last insets + before ≡ length text →
+    woven text (insets ++ (before, last) ∷ []) ≡ woven text insets ++ last
 woven_last text [] before last h =
     ap (λ t. t ++ (last ++ drop before text)) (take_all before text (omega (arith, h)))
     ∙ ap (λ t. text ++ (last ++ t)) (drop_all before text (omega (arith, h)))
@@ -48,7 +58,8 @@ woven_text_goes text n before first insets few within =
     let rest = first ++ woven (drop before text) insets in
     let parts : n + (before - n) ≡ before = omega (arith, few) in
     let size : n ≤ length (take before text) = omega (arith, length-take before text, few, within) in
-    ap (λ (t : List ℕ). t ++ (first ++ woven (drop (before - n) (drop n text)) insets)) (sym (drop-take n (before - n) text) ∙ ap (λ (m : ℕ). drop n (take m text)) parts)
+    ap (λ (t : List ℕ). t ++ (first ++ woven (drop (before - n) (drop n text)) insets))
+    (sym (drop-take n (before - n) text) ∙ ap (λ (m : ℕ). drop n (take m text)) parts)
     ∙ ap (λ (t : List ℕ). drop n (take before text) ++ (first ++ woven t insets)) (drop-drop (before - n) n text ∙ ap (λ (m : ℕ). drop m text) parts)
     ∙ sym (drop-append-le n (take before text) rest size)
 

@@ -1,5 +1,6 @@
 -- A node of bytes, and what its calls do to it.
-use Rattle.std.specs.Prelude.{◌≡◌, ◌&&◌, ◌||◌, ℕ, Bool, false, List, [], Option, None, Some, MatchBool, filter, length, nat_eq, nat_lt, not, slice_get, slice_set}
+use Rattle.std.specs.Prelude.{◌≡◌, ◌&&◌, ◌||◌, ℕ, Bool, false, List, [], Option, None, Some}
+use Rattle.std.specs.Prelude.{MatchBool, filter, length, nat_eq, nat_lt, not, slice_get, slice_set}
 use Rattle.std.specs.List.{list_any}
 use Rattle.node_names.specs.NodeName.{Name}
 use Rattle.node_names.specs.Limits.{Limits}

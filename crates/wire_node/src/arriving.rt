@@ -19,7 +19,9 @@ pub(crate) fn take_frame<A: Allocator + Copy, R: Record<A> + Drop, D: DiceSource
     frame: Frame<A>,
     source: &mut D,
 ) -> Result<(), CoreError>
-    ensures ok { OnOk result ((dice : Drawn) × Moves engine.old (arrival (frame, dice)).0 dice engine.new × (peer.new ≡ peer_of peer.old ((frame, dice) ∷ []))) }
+    ensures ok { OnOk result ((dice : Drawn)
+        × Moves engine.old (arrival (frame, dice)).0 dice engine.new
+        × (peer.new ≡ peer_of peer.old ((frame, dice) ∷ []))) }
     ensures err { OnErr result ((engine.new ≡ engine.old) × (peer.new ≡ peer.old)) }
 {
     let name = frame.sender().name;

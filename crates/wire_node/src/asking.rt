@@ -1,5 +1,6 @@
 //! What a node asks for: messages that were announced and did not come.
-ghost use Rattle.std.specs.Prelude.{◌≡◌, ◌<◌, ◌≤◌, ◌&&◌, ℕ, List, [], IfOk, OnErr, OnOk, length, map, nat_eq, take, if◌then◌else◌};
+ghost use Rattle.std.specs.Prelude.{◌≡◌, ◌<◌, ◌≤◌, ◌&&◌, ℕ, List, [], IfOk, OnErr};
+ghost use Rattle.std.specs.Prelude.{OnOk, length, map, nat_eq, take, if◌then◌else◌};
 ghost use Rattle.node_names.specs.declared.ids.MsgId.{MsgId as Id};
 ghost use Rattle.wire_node.specs.Moving.{MovesAll, firing};
 ghost use Rattle.wire_node.specs.Ticking.{Asks, AsksAt, AsksOn, armed_of, awaited_at, is_turn, lacked_of};
@@ -117,7 +118,8 @@ fn fire_each<A: Allocator + Copy, R: Record<A> + Drop>(
     dice: &Dice,
 ) -> Result<(), CoreError>
     ensures ok { OnOk result (MovesAll engine.old (map (firing dice.now) ids.now) engine.new) }
-    ensures err { OnErr result ((count : ℕ) × MovesAll engine.old (map (firing dice.now) (take count ids.now)) engine.new) }
+    ensures err { OnErr result
+        ((count : ℕ) × MovesAll engine.old (map (firing dice.now) (take count ids.now)) engine.new) }
 {
     for id in ids {
         engine.step(&StimulusOf::Fire(*id), dice)?;
@@ -133,7 +135,8 @@ fn ask_front<A: Allocator + Copy, R: Record<A> + Drop>(
     asked: &mut Vec<MsgId, A>,
     dice: &Dice,
 ) -> Result<(), CoreError>
-    ensures ok { OnOk result (Asks engine.old due.old.items asked.old.items dice.now engine.new due.new.items asked.new.items) }
+    ensures ok { OnOk result
+        (Asks engine.old due.old.items asked.old.items dice.now engine.new due.new.items asked.new.items) }
     ensures err { OnErr result ((ids : List Id) × MovesAll engine.old (map (firing dice.now) ids) engine.new) }
 {
     let most = MOST_ASKED.saturating_sub(asked.len());
@@ -157,7 +160,8 @@ fn is_turn<A: Allocator>(asking: &Asking<A>, ticks: u64) -> bool
 
 /// As a turn begins, what waited since the last one is due.
 fn begin<A: Allocator + Copy>(alloc: A, asking: &mut Asking<A>, is_turn: bool)
-    ensures { asking.new ≡ (if is_turn then record { waited = []; due = asking.old.waited; asked = asking.old.asked } else asking.old) }
+    ensures { asking.new
+        ≡ (if is_turn then record { waited = []; due = asking.old.waited; asked = asking.old.asked } else asking.old) }
 {
     if is_turn {
         asking.due = mem::replace(&mut asking.waited, Vec::new(alloc));
@@ -170,7 +174,11 @@ fn end<A: Allocator + Copy, R: Record<A> + Drop>(
     asking: &mut Asking<A>,
     is_turn: bool,
 ) -> Result<(), AllocError>
-    ensures { OnOk result (asking.new ≡ record asking.old { waited = (if is_turn && nat_eq (length asking.old.due) 0 then engine.now.machine.core.gossip.missing.timers else asking.old.waited) }) }
+    ensures { OnOk result (asking.new ≡ record asking.old {
+      waited = (if is_turn && nat_eq (length asking.old.due) 0
+          then engine.now.machine.core.gossip.missing.timers
+          else asking.old.waited);
+    }) }
 {
     if is_turn && asking.due.is_empty() {
         asking.waited = engine.armed()?;
@@ -186,7 +194,8 @@ fn ask_for<A: Allocator + Copy, R: Record<A> + Drop>(
     ticks: u64,
     dice: &Dice,
 ) -> Result<(), CoreError>
-    ensures ok { OnOk result (Asks engine.old asking.old.due (awaited_at engine.old asking.old.asked ticks) dice.now engine.new asking.new.due asking.new.asked) }
+    ensures ok { OnOk result (Asks engine.old asking.old.due
+        (awaited_at engine.old asking.old.asked ticks) dice.now engine.new asking.new.due asking.new.asked) }
     ensures rest { OnOk result (asking.new.waited ≡ asking.old.waited) }
     ensures err { OnErr result ((ids : List Id) × MovesAll engine.old (map (firing dice.now) ids) engine.new) }
 {

@@ -44,8 +44,8 @@ impl<A: Allocator + Copy, R: Record<A> + Drop> WireNode<A, R> {
         Ok(())
     }
 
-    /// Has the node join by the contact, as at a start: JOIN goes there, unless the contact is the node itself or active.
-    /// A name for whom too much waits then goes down.
+    /// Has the node join by the contact, as at a start: JOIN goes there, unless the contact is the node itself or
+    /// active. A name for whom too much waits then goes down.
     pub fn join(&mut self, contact: NodeName, dice: &Dice) -> Result<(), WireError>
         ensures ok { OnOk result (Moves self.old.engine (StimulusOf.Join contact) dice.now self.new.engine) }
         ensures rest { self.new ≡ record self.old { engine = self.new.engine } }
@@ -62,8 +62,8 @@ impl<A: Allocator + Copy, R: Record<A> + Drop> WireNode<A, R> {
     ///
     /// A turn of asking begins at a fifth tick, for what was announced before the turn before ended and did not come.
     /// At most 128 messages that were asked for may be on their way, so that the answers fit into what may wait for a
-    /// name; the others follow at the next ticks, as these come, or by `ask_on`. At every 25th tick what did not come is
-    /// taken for lost.
+    /// name; the others follow at the next ticks, as these come, or by `ask_on`. At every 25th tick what did not come
+    /// is taken for lost.
     ///
     /// If a step is refused, those before it are made, and the tick does not count: call again.
     pub fn tick(&mut self, dice: &Dice) -> Result<(), WireError>
@@ -93,7 +93,8 @@ impl<A: Allocator + Copy, R: Record<A> + Drop> WireNode<A, R> {
     pub fn ask_on(&mut self, dice: &Dice) -> Result<(), WireError>
         ensures ok { OnOk result (AsksOn self.old.engine self.old.asking dice.now self.new.engine self.new.asking) }
         ensures rest { self.new ≡ record self.old { engine = self.new.engine; asking = self.new.asking } }
-        ensures made { OnErr result ((ids : List Id) × MovesAll self.old.engine (map (firing dice.now) ids) self.new.engine) }
+        ensures made { OnErr result
+            ((ids : List Id) × MovesAll self.old.engine (map (firing dice.now) ids) self.new.engine) }
     {
         if let Err(error) = ask_on(&mut self.engine, &mut self.asking, dice) {
             return Err(WireError::of_core(error));

@@ -116,8 +116,8 @@ fn fill<A: Allocator>(left: &mut Vec<u8, A>, len: usize, bytes: &[u8]) -> Result
     Ok(count)
 }
 
-/// Appends the first of the bytes: as many as the frame lacks that was cut, and one at least where there is one and room
-/// in the longest frame. Returns how many.
+/// Appends the first of the bytes: as many as the frame lacks that was cut, and one at least where there is one and
+/// room in the longest frame. Returns how many.
 pub(crate) fn top_up<A: Allocator>(left: &mut Vec<u8, A>, bytes: &[u8]) -> Result<usize, AllocError>
     requires { length left.old.items ≤ MAX_FRAME }
     ensures within { IfOk result (λ count. count ≤ length bytes.now) }

@@ -1,5 +1,6 @@
 //! The connections of a node of bytes.
-ghost use Rattle.std.specs.Prelude.{◌≡◌, ◌⊎◌, ◌∷◌, ◌++◌, [], None, filter, length, nat_eq, not, position, IfErr, IfOk, OnErr, OnOk};
+ghost use Rattle.std.specs.Prelude.{◌≡◌, ◌⊎◌, ◌∷◌, ◌++◌, [], None, filter, length};
+ghost use Rattle.std.specs.Prelude.{nat_eq, not, position, IfErr, IfOk, OnErr, OnOk};
 ghost use Rattle.wire_node.specs.Node.{Closes, EndsPeer, Hears, has_other};
 ghost use Rattle.wire_node.specs.Receiving.{IsPartial, Receives};
 
@@ -90,7 +91,9 @@ fn forget_link<A: Allocator>(connections: &mut Vec<Connection<A>, A>, number: u6
 impl<A: Allocator + Copy, R: Record<A> + Drop> WireNode<A, R> {
     /// Accepts a connection, over which bytes may come from now on.
     pub fn accept(&mut self) -> Result<ConnectionId, WireError>
-        ensures ok { IfOk result (λ id. self.new ≡ record self.old { connections = self.old.connections ++ record { number = id.0; left = []; peer = None } ∷ [] }) }
+        ensures ok { IfOk result (λ id. self.new ≡ record self.old {
+          connections = self.old.connections ++ record { number = id.0; left = []; peer = None } ∷ [];
+        }) }
         ensures err { OnErr result (self.new ≡ self.old) }
     {
         let Some(number) = self.numbered.checked_add(1) else {
@@ -115,8 +118,10 @@ impl<A: Allocator + Copy, R: Record<A> + Drop> WireNode<A, R> {
         bytes: &[u8],
         source: &mut D,
     ) -> Result<(), ReceiveError>
-        ensures ok { OnOk result ((hears : Hears self.old id.0 bytes.now (length bytes.now) self.new) × IsPartial hears.link'.left) }
-        ensures err { IfErr result (λ failed. Hears self.old id.0 bytes.now failed.taken self.new ⊎ ((self.new ≡ self.old) × (failed ≡ record { taken = 0; error = WireError.NoConnection }))) }
+        ensures ok { OnOk result
+            ((hears : Hears self.old id.0 bytes.now (length bytes.now) self.new) × IsPartial hears.link'.left) }
+        ensures err { IfErr result (λ failed. Hears self.old id.0 bytes.now failed.taken self.new
+            ⊎ ((self.new ≡ self.old) × (failed ≡ record { taken = 0; error = WireError.NoConnection }))) }
     {
         let Some(place) = place_of(&self.connections, id) else {
             return Err(ReceiveError {

@@ -40,10 +40,13 @@ pub(crate) fn take_down<A: Allocator + Copy, R: Record<A>>(
     dice: &Dice,
 ) -> Result<(), CoreError>
     requires { AreSettled entries.old.items }
-    ensures down { OnOk result (GoesDown (machine core.old entries.old.items pending.old (R.noted notes.old) telling.old) name dice.now (machine core.new entries.new.items pending.new (R.noted notes.new) telling.new)) }
+    ensures down { OnOk result
+        (GoesDown (machine core.old entries.old.items pending.old (R.noted notes.old) telling.old) name dice.now
+        (machine core.new entries.new.items pending.new (R.noted notes.new) telling.new)) }
     ensures lost { OnOk result (lost.new ≡ lost.old ++ name ∷ []) }
     ensures settled { AreSettled entries.new.items }
-    ensures err { OnErr result ((machine core.new entries.new.items pending.new (R.noted notes.new) telling.new ≡ machine core.old entries.old.items pending.old (R.noted notes.old) telling.old) × (lost.new ≡ lost.old)) }
+    ensures err { OnErr result ((machine core.new entries.new.items pending.new (R.noted notes.new) telling.new
+        ≡ machine core.old entries.old.items pending.old (R.noted notes.old) telling.old) × (lost.new ≡ lost.old)) }
     ensures too_long { IsErrOf result CoreError.PayloadTooLong → IsTooLong {N = Sent} (StimulusOf.Down name dice.now) }
     ensures spent { IsErrOf result CoreError.SeqSpent → PlumIsSpent core.old (StimulusOf.Down name dice.now) }
 {
@@ -93,7 +96,8 @@ pub(crate) fn relieve<A: Allocator + Copy, R: Record<A>>(
     dice: &Dice,
 )
     requires { AreSettled entries.old.items }
-    ensures relieved { Relieves (machine core.old entries.old.items pending.old (R.noted notes.old) telling.old) lost.old dice.now (machine core.new entries.new.items pending.new (R.noted notes.new) telling.new) lost.new }
+    ensures relieved { Relieves (machine core.old entries.old.items pending.old (R.noted notes.old) telling.old)
+        lost.old dice.now (machine core.new entries.new.items pending.new (R.noted notes.new) telling.new) lost.new }
     ensures settled { AreSettled entries.new.items }
 {
     for _ in 0..entries.len() {

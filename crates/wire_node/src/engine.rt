@@ -167,8 +167,10 @@ impl<A: Allocator + Copy, R: Record<A> + Drop> Engine<A, R> {
     pub(crate) fn broadcast(&mut self, payload: Bytes<A>) -> Result<MsgId, CoreError>
         ensures ok { IfOk result (λ id. Broadcasts self.old payload id self.new) }
         ensures err { OnErr result (self.new ≡ self.old) }
-        ensures too_long { IsErrOf result CoreError.PayloadTooLong → IsTooLong {N = Sent} (StimulusOf.Broadcast payload) }
-        ensures spent { IsErrOf result CoreError.SeqSpent → PlumIsSpent self.old.machine.core (StimulusOf.Broadcast payload) }
+        ensures too_long { IsErrOf result CoreError.PayloadTooLong
+            → IsTooLong {N = Sent} (StimulusOf.Broadcast payload) }
+        ensures spent { IsErrOf result CoreError.SeqSpent
+            → PlumIsSpent self.old.machine.core (StimulusOf.Broadcast payload) }
     {
         make_step(
             &mut self.core,
@@ -198,8 +200,10 @@ impl<A: Allocator + Copy, R: Record<A> + Drop> Engine<A, R> {
     pub(crate) fn take_down(&mut self, name: NodeName, dice: &Dice) -> Result<(), CoreError>
         ensures ok { OnOk result (GoesAway self.old name dice.now self.new) }
         ensures err { OnErr result (self.new ≡ self.old) }
-        ensures too_long { IsErrOf result CoreError.PayloadTooLong → IsTooLong {N = Sent} (StimulusOf.Down name dice.now) }
-        ensures spent { IsErrOf result CoreError.SeqSpent → PlumIsSpent self.old.machine.core (StimulusOf.Down name dice.now) }
+        ensures too_long { IsErrOf result CoreError.PayloadTooLong
+            → IsTooLong {N = Sent} (StimulusOf.Down name dice.now) }
+        ensures spent { IsErrOf result CoreError.SeqSpent
+            → PlumIsSpent self.old.machine.core (StimulusOf.Down name dice.now) }
     {
         take_down(
             &mut self.core,

@@ -74,7 +74,8 @@ impl<A: Allocator + Copy> Entry<A> {
     /// Drops the first `count` of the bytes that wait: they went out.
     pub(crate) fn advance(&mut self, count: usize)
         requires { count ≤ length self.old.settled }
-        ensures { self.new ≡ record { name = self.old.name; settled = drop count self.old.settled; drafted = self.old.drafted } }
+        ensures { self.new
+            ≡ record { name = self.old.name; settled = drop count self.old.settled; drafted = self.old.drafted } }
     {
         self.bytes.advance(count);
         self.kept -= count;

@@ -12,14 +12,32 @@ use std::alloc::Allocator;
 impl<A: Allocator + Copy> Engine<A, Recorded<A>> {
     /// Takes the steps that are kept.
     pub(crate) fn take_steps(&mut self) -> Segment<Frame<A>, A>
-        ensures { (noted : Noted) × (self.old.machine.noted ≡ Some noted) × (result ≡ record { first = noted.first; steps = noted.steps }) × (self.new ≡ record self.old { machine = record self.old.machine { noted = Some (record { opening = noted.opening; first = noted.first + length noted.steps; steps = [] }) } }) }
+        ensures { (noted : Noted)
+            × (self.old.machine.noted ≡ Some noted)
+            × (result ≡ record { first = noted.first; steps = noted.steps })
+            × (self.new ≡ record self.old {
+              machine = record self.old.machine {
+                noted = Some (record { opening = noted.opening; first = noted.first + length noted.steps; steps = [] });
+              };
+            }) }
     {
         self.record.take_steps()
     }
 
     /// Takes what the start sent.
     pub(crate) fn take_opening(&mut self) -> Out<Frame<A>, A>
-        ensures { (noted : Noted) × (self.old.machine.noted ≡ Some noted) × (result ≡ noted.opening) × (self.new ≡ record self.old { machine = record self.old.machine { noted = Some (record { opening = record { sends = []; deliveries = [] }; first = noted.first; steps = noted.steps }) } }) }
+        ensures { (noted : Noted)
+            × (self.old.machine.noted ≡ Some noted)
+            × (result ≡ noted.opening)
+            × (self.new ≡ record self.old {
+              machine = record self.old.machine {
+                noted = Some (record {
+                  opening = record { sends = []; deliveries = [] };
+                  first = noted.first;
+                  steps = noted.steps;
+                });
+              };
+            }) }
     {
         self.record.take_opening()
     }
@@ -30,7 +48,17 @@ impl<A: Allocator + Copy> WireNode<A, Recorded<A>> {
     /// says how many were handed out before. Its first step was made by the core as it was at that call, or at the
     /// start.
     pub fn take_steps(&mut self) -> Segment<Frame<A>, A>
-        ensures { (noted : Noted) × (self.old.engine.machine.noted ≡ Some noted) × (result ≡ record { first = noted.first; steps = noted.steps }) × (self.new ≡ record self.old { engine = record self.old.engine { machine = record self.old.engine.machine { noted = Some (record { opening = noted.opening; first = noted.first + length noted.steps; steps = [] }) } } }) }
+        ensures { (noted : Noted)
+            × (self.old.engine.machine.noted ≡ Some noted)
+            × (result ≡ record { first = noted.first; steps = noted.steps })
+            × (self.new ≡ record self.old {
+              engine = record self.old.engine {
+                machine = record self.old.engine.machine {
+                  noted =
+                      Some (record { opening = noted.opening; first = noted.first + length noted.steps; steps = [] });
+                };
+              };
+            }) }
     {
         self.engine.take_steps()
     }
@@ -38,7 +66,20 @@ impl<A: Allocator + Copy> WireNode<A, Recorded<A>> {
     /// Hands out what the start of the node sent, and keeps it no longer: with the steps, the peers and the contact it
     /// is the node's trace.
     pub fn take_opening(&mut self) -> Out<Frame<A>, A>
-        ensures { (noted : Noted) × (self.old.engine.machine.noted ≡ Some noted) × (result ≡ noted.opening) × (self.new ≡ record self.old { engine = record self.old.engine { machine = record self.old.engine.machine { noted = Some (record { opening = record { sends = []; deliveries = [] }; first = noted.first; steps = noted.steps }) } } }) }
+        ensures { (noted : Noted)
+            × (self.old.engine.machine.noted ≡ Some noted)
+            × (result ≡ noted.opening)
+            × (self.new ≡ record self.old {
+              engine = record self.old.engine {
+                machine = record self.old.engine.machine {
+                  noted = Some (record {
+                    opening = record { sends = []; deliveries = [] };
+                    first = noted.first;
+                    steps = noted.steps;
+                  });
+                };
+              };
+            }) }
     {
         self.engine.take_opening()
     }

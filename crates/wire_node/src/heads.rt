@@ -37,7 +37,8 @@ pub(crate) fn head_of<A: Allocator + Copy>(
     round: u32,
     len: usize,
 ) -> Result<Vec<u8, A>, AllocError>
-    ensures { IfOk result (λ head. (payload : List ℕ) → length payload ≡ len → head.items ++ payload ≡ spelling (record { sender = sender; number = number; body = Gossip id round payload })) }
+    ensures { IfOk result (λ head. (payload : List ℕ) → length payload ≡ len → head.items ++ payload
+        ≡ spelling (record { sender = sender; number = number; body = Gossip id round payload })) }
 {
     let body = BodyOf::Gossip {
         id,

@@ -44,7 +44,8 @@ impl<A: Allocator, R: Record<A> + Drop> Model for WireNode<A, R> {
 
     ghost coded = { Prim.hlevel (codes, set.code {R = id_cmp} id.the_row.coded) };
 
-    ghost view = { λ n. record { engine = n.engine; connections = n.connections.items; ticks = n.ticks; asking = n.asking } };
+    ghost view = { λ n.
+        record { engine = n.engine; connections = n.connections.items; ticks = n.ticks; asking = n.asking } };
 }
 
 impl<A: Allocator + Copy, R: Record<A> + Drop> WireNode<A, R> {

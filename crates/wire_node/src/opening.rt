@@ -59,7 +59,8 @@ pub(crate) fn first_mail<A: Allocator + Copy, R: Record<A>>(
     out: &Out<Frame<A>, A>,
     notes: &mut R,
 ) -> Result<Vec<Entry<A>, A>, WireError>
-    ensures waits { IfOk result (λ entries. (name : Name) → settled_for entries.items name ≡ mail_for out.now.sends name) }
+    ensures waits { IfOk result
+        (λ entries. (name : Name) → settled_for entries.items name ≡ mail_for out.now.sends name) }
     ensures settled { IfOk result (λ entries. AreSettled entries.items) }
     ensures notes { OnOk result (R.noted notes.new ≡ opened (R.noted notes.old) out.now) }
 {

@@ -1,4 +1,5 @@
-//! What a node of bytes has for its driver: bytes by the name that they go to, deliveries, news, and names that are down.
+//! What a node of bytes has for its driver: bytes by the name that they go to, deliveries, news, and names that are
+//! down.
 ghost use Rattle.std.specs.Prelude.{◌≡◌, ◌<◌, ◌++◌, ◌∷◌, ℕ, List, [], IfOk, OnErr, OnOk, drop, length, if◌then◌else◌};
 ghost use Rattle.bytes.specs.Unread.{concat_slices};
 ghost use Rattle.node_names.specs.NodeName.{Name};
@@ -64,7 +65,11 @@ fn front_of<'a, A: Allocator + Copy>(
 fn take_front<A: Allocator + Copy>(entries: &mut Vec<Entry<A>, A>, name: &NodeName, count: usize)
     requires { AreSettled entries.old.items }
     ensures settled { AreSettled entries.new.items }
-    ensures gone { (other : Name) → settled_for entries.new.items other ≡ (if same_name other name.now then drop count (settled_for entries.old.items other) else settled_for entries.old.items other) }
+    ensures gone { (other : Name)
+        → settled_for entries.new.items other
+        ≡ (if same_name other name.now
+        then drop count (settled_for entries.old.items other)
+        else settled_for entries.old.items other) }
 {
     let Some(place) = place_of(entries, name) else {
         return;
@@ -84,7 +89,11 @@ fn take_and_sweep<A: Allocator + Copy>(
 ) -> usize
     requires { AreSettled entries.old.items }
     ensures settled { AreSettled entries.new.items }
-    ensures gone { (other : Name) → settled_for entries.new.items other ≡ (if same_name other name.now then drop count (settled_for entries.old.items other) else settled_for entries.old.items other) }
+    ensures gone { (other : Name)
+        → settled_for entries.new.items other
+        ≡ (if same_name other name.now
+        then drop count (settled_for entries.old.items other)
+        else settled_for entries.old.items other) }
 {
     take_front(entries, name, count);
     if entries.len() <= names {
@@ -105,7 +114,8 @@ impl<A: Allocator + Copy, R: Record<A> + Drop> Engine<A, R> {
     /// The first of the bytes that wait for the name, in up to four slices. Where any wait, the first two slices are
     /// not both empty.
     pub(crate) fn transmit(&self, name: &NodeName) -> [&[u8]; 4]
-        ensures front { (rest : List ℕ) × (concat_slices result ++ rest ≡ settled_for self.now.machine.waiting name.now) }
+        ensures front { (rest : List ℕ)
+            × (concat_slices result ++ rest ≡ settled_for self.now.machine.waiting name.now) }
         ensures some { 0 < length (settled_for self.now.machine.waiting name.now) → 0 < length (concat_slices result) }
     {
         front_of(&self.entries, name)
@@ -113,8 +123,13 @@ impl<A: Allocator + Copy, R: Record<A> + Drop> Engine<A, R> {
 
     /// Takes the first `count` of the bytes that wait for the name. Where fewer wait, takes all.
     pub(crate) fn transmitted(&mut self, name: &NodeName, count: usize)
-        ensures rest { self.new ≡ record self.old { machine = record self.old.machine { waiting = self.new.machine.waiting } } }
-        ensures gone { (other : Name) → settled_for self.new.machine.waiting other ≡ (if same_name other name.now then drop count (settled_for self.old.machine.waiting other) else settled_for self.old.machine.waiting other) }
+        ensures rest { self.new
+            ≡ record self.old { machine = record self.old.machine { waiting = self.new.machine.waiting } } }
+        ensures gone { (other : Name)
+            → settled_for self.new.machine.waiting other
+            ≡ (if same_name other name.now
+            then drop count (settled_for self.old.machine.waiting other)
+            else settled_for self.old.machine.waiting other) }
     {
         self.names = take_and_sweep(
             &mut self.entries,
@@ -179,16 +194,26 @@ impl<A: Allocator + Copy, R: Record<A> + Drop> WireNode<A, R> {
     /// The first of the bytes that wait for the name, in up to four slices. Where any wait, the first two slices are
     /// not both empty. What of them went out is told by `transmitted`.
     pub fn transmit(&self, name: &NodeName) -> [&[u8]; 4]
-        ensures front { (rest : List ℕ) × (concat_slices result ++ rest ≡ settled_for self.now.engine.machine.waiting name.now) }
-        ensures some { 0 < length (settled_for self.now.engine.machine.waiting name.now) → 0 < length (concat_slices result) }
+        ensures front { (rest : List ℕ)
+            × (concat_slices result ++ rest ≡ settled_for self.now.engine.machine.waiting name.now) }
+        ensures some { 0 < length (settled_for self.now.engine.machine.waiting name.now)
+            → 0 < length (concat_slices result) }
     {
         self.engine.transmit(name)
     }
 
     /// Takes the first `count` of the bytes that wait for the name: they went out. Where fewer wait, takes all.
     pub fn transmitted(&mut self, name: &NodeName, count: usize)
-        ensures rest { self.new ≡ record self.old { engine = record self.old.engine { machine = record self.old.engine.machine { waiting = self.new.engine.machine.waiting } } } }
-        ensures gone { (other : Name) → settled_for self.new.engine.machine.waiting other ≡ (if same_name other name.now then drop count (settled_for self.old.engine.machine.waiting other) else settled_for self.old.engine.machine.waiting other) }
+        ensures rest { self.new ≡ record self.old {
+          engine = record self.old.engine {
+            machine = record self.old.engine.machine { waiting = self.new.engine.machine.waiting };
+          };
+        } }
+        ensures gone { (other : Name)
+            → settled_for self.new.engine.machine.waiting other
+            ≡ (if same_name other name.now
+            then drop count (settled_for self.old.engine.machine.waiting other)
+            else settled_for self.old.engine.machine.waiting other) }
     {
         self.engine.transmitted(name, count);
     }
@@ -196,7 +221,9 @@ impl<A: Allocator + Copy, R: Record<A> + Drop> WireNode<A, R> {
     /// Returns the deliveries that were not taken yet, in order. This call takes them.
     pub fn take_deliveries(&mut self) -> Vec<Delivery<A>, A>
         ensures given { result.items ≡ self.old.engine.machine.pending }
-        ensures rest { self.new ≡ record self.old { engine = record self.old.engine { machine = record self.old.engine.machine { pending = [] } } } }
+        ensures rest { self.new ≡ record self.old {
+          engine = record self.old.engine { machine = record self.old.engine.machine { pending = [] } };
+        } }
     {
         self.engine.take_deliveries()
     }
@@ -204,16 +231,20 @@ impl<A: Allocator + Copy, R: Record<A> + Drop> WireNode<A, R> {
     /// Has the next steps be told of: which names of the active view came and went. Where it is so, take the news now
     /// and then: they are kept until they are taken. A node that starts tells nothing. News that were not taken stay.
     pub fn tell_news(&mut self, tells: bool)
-        ensures { self.new ≡ record self.old { engine = record self.old.engine { machine = record self.old.engine.machine { tells = tells } } } }
+        ensures { self.new ≡ record self.old {
+          engine = record self.old.engine { machine = record self.old.engine.machine { tells = tells } };
+        } }
     {
         self.engine.tell_news(tells);
     }
 
-    /// Returns the news that were not taken yet, each once and in order. This call takes them, unless memory is refused:
-    /// then nothing changes.
+    /// Returns the news that were not taken yet, each once and in order. This call takes them, unless memory is
+    /// refused: then nothing changes.
     pub fn take_news(&mut self) -> Result<Vec<News, A>, AllocError>
         ensures given { IfOk result (λ news. news.items ≡ self.old.engine.machine.news) }
-        ensures rest { OnOk result (self.new ≡ record self.old { engine = record self.old.engine { machine = record self.old.engine.machine { news = [] } } }) }
+        ensures rest { OnOk result (self.new ≡ record self.old {
+          engine = record self.old.engine { machine = record self.old.engine.machine { news = [] } };
+        }) }
         ensures err { OnErr result (self.new ≡ self.old) }
     {
         self.engine.take_news()

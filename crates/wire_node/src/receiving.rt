@@ -1,5 +1,6 @@
 //! Taking frames off the bytes that come over a connection, by one step each.
-ghost use Rattle.std.specs.Prelude.{◌≡◌, ◌<◌, ◌≤◌, ◌+◌, ◌++◌, [], true, false, drop, length, IfNone, IfOk, IfSome, OnErr, OnOk};
+ghost use Rattle.std.specs.Prelude.{◌≡◌, ◌<◌, ◌≤◌, ◌+◌, ◌++◌, [], true, false, drop};
+ghost use Rattle.std.specs.Prelude.{length, IfNone, IfOk, IfSome, OnErr, OnOk};
 ghost use Rattle.frames.specs.declared.TheConstants.{MAX_FRAME as FrameMost};
 ghost use Rattle.wire_node.specs.Receiving.{IsPartial, Takes};
 
@@ -68,9 +69,13 @@ fn complete<A: Allocator + Copy, R: Record<A> + Drop, D: DiceSource>(
     source: &mut D,
 ) -> Result<Option<usize>, WireError>
     requires { length left.old.items ≤ FrameMost }
-    ensures within { IfOk result (λ r. IfSome r (λ count. (count ≤ length bytes.now) × (length left.new.items < length left.old.items + (count + count)))) }
-    ensures some { IfOk result (λ r. IfSome r (λ count. Takes engine.old peer.old (left.old.items ++ bytes.now) engine.new peer.new (left.new.items ++ drop count bytes.now))) }
-    ensures none { IfOk result (λ r. IfNone r (Takes engine.old peer.old (left.old.items ++ bytes.now) engine.new peer.new left.new.items × IsPartial left.new.items)) }
+    ensures within { IfOk result (λ r. IfSome r
+        (λ count. (count ≤ length bytes.now) × (length left.new.items < length left.old.items + (count + count)))) }
+    ensures some { IfOk result (λ r. IfSome r (λ count. Takes engine.old peer.old
+        (left.old.items ++ bytes.now) engine.new peer.new (left.new.items ++ drop count bytes.now))) }
+    ensures none { IfOk result
+        (λ r. IfNone r (Takes engine.old peer.old (left.old.items ++ bytes.now) engine.new peer.new left.new.items
+        × IsPartial left.new.items)) }
     ensures few { length left.new.items ≤ FrameMost }
     ensures err { OnErr result ((engine.new ≡ engine.old) × (peer.new ≡ peer.old) × (left.new.items ≡ left.old.items)) }
 {
@@ -103,9 +108,13 @@ fn finish_cut<A: Allocator + Copy, R: Record<A> + Drop, D: DiceSource>(
 ) -> (usize, Result<bool, WireError>)
     requires { length left.old.items ≤ FrameMost }
     ensures within { result.0 ≤ length bytes.now }
-    ensures taken { Takes engine.old peer.old (left.old.items ++ bytes.now) engine.new peer.new (left.new.items ++ drop result.0 bytes.now) }
+    ensures taken { Takes engine.old peer.old
+        (left.old.items ++ bytes.now)
+        engine.new peer.new
+        (left.new.items ++ drop result.0 bytes.now) }
     ensures whole { IfOk result.1 (λ finished. finished ≡ true → left.new.items ≡ []) }
-    ensures partial { IfOk result.1 (λ finished. finished ≡ false → (result.0 ≡ length bytes.now) × IsPartial left.new.items) }
+    ensures partial { IfOk result.1
+        (λ finished. finished ≡ false → (result.0 ≡ length bytes.now) × IsPartial left.new.items) }
     ensures few { length left.new.items ≤ FrameMost }
 {
     let mut at: usize = 0;
@@ -146,7 +155,10 @@ pub(crate) fn receive_on<A: Allocator + Copy, R: Record<A> + Drop, D: DiceSource
 ) -> (usize, Result<(), WireError>)
     requires { length left.old.items ≤ FrameMost }
     ensures within { result.0 ≤ length bytes.now }
-    ensures taken { Takes engine.old peer.old (left.old.items ++ bytes.now) engine.new peer.new (left.new.items ++ drop result.0 bytes.now) }
+    ensures taken { Takes engine.old peer.old
+        (left.old.items ++ bytes.now)
+        engine.new peer.new
+        (left.new.items ++ drop result.0 bytes.now) }
     ensures partial { OnOk result.1 ((result.0 ≡ length bytes.now) × IsPartial left.new.items) }
     ensures few { length left.new.items ≤ FrameMost }
 {

@@ -24,12 +24,15 @@ pub trait Record<A: Allocator> {
         stimulus: &Stimulus<Frame<A>, A>,
         out: &Out<Frame<A>, A>,
     ) -> Result<(), AllocError>
-        ensures ok { OnOk result (noted self.new ≡ with_step (noted self.old) (record { stimulus = stimulus.now; out = out.now })) }
+        ensures ok { OnOk result
+            (noted self.new ≡ with_step (noted self.old) (record { stimulus = stimulus.now; out = out.now })) }
         ensures err { OnErr result (noted self.new ≡ noted self.old) };
 
     /// Takes back the step that was noted last: the node had no memory to make it.
     fn take_back(&mut self)
-        ensures { (before : Option Noted) (step : Step Plain) → noted self.old ≡ with_step before step → noted self.new ≡ before };
+        ensures { (before : Option Noted) (step : Step Plain)
+            → noted self.old ≡ with_step before step
+            → noted self.new ≡ before };
 }
 
 /// Notes nothing.

@@ -47,7 +47,8 @@ impl<A: Allocator + Copy> Recorded<A> {
     /// Takes the steps that are kept. The segment says how many were taken before.
     pub fn take_steps(&mut self) -> Segment<Frame<A>, A>
         ensures taken { result ≡ record { first = self.old.first; steps = self.old.steps } }
-        ensures rest { self.new ≡ record { opening = self.old.opening; first = self.old.first + length self.old.steps; steps = [] } }
+        ensures rest { self.new
+            ≡ record { opening = self.old.opening; first = self.old.first + length self.old.steps; steps = [] } }
     {
         let alloc = *self.steps.allocator();
         let first = self.first;
@@ -59,7 +60,11 @@ impl<A: Allocator + Copy> Recorded<A> {
     /// Takes what the start sent.
     pub fn take_opening(&mut self) -> Out<Frame<A>, A>
         ensures taken { result ≡ self.old.opening }
-        ensures rest { self.new ≡ record { opening = record { sends = []; deliveries = [] }; first = self.old.first; steps = self.old.steps } }
+        ensures rest { self.new ≡ record {
+          opening = record { sends = []; deliveries = [] };
+          first = self.old.first;
+          steps = self.old.steps;
+        } }
     {
         let alloc = *self.steps.allocator();
         mem::replace(&mut self.opening, Out::new(alloc))

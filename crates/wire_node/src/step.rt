@@ -53,9 +53,12 @@ fn note_and_draft<A: Allocator + Copy, R: Record<A>>(
     requires { AreSettled entries.old.items }
     ensures drafted { OnOk result (entries.new.items ≡ all_drafted entries.old.items out.sends) }
     ensures delivered { OnOk result (pending.new ≡ pending.old ++ out.deliveries) }
-    ensures noted { OnOk result (R.noted notes.new ≡ with_step (R.noted notes.old) (record { stimulus = stimulus.now; out = out })) }
+    ensures noted { OnOk result
+        (R.noted notes.new ≡ with_step (R.noted notes.old) (record { stimulus = stimulus.now; out = out })) }
     ensures kept { KeepsSettled entries.old.items entries.new.items }
-    ensures err { OnErr result ((entries.new.items ≡ entries.old.items) × (pending.new ≡ pending.old) × (R.noted notes.new ≡ R.noted notes.old)) }
+    ensures err { OnErr result ((entries.new.items ≡ entries.old.items)
+        × (pending.new ≡ pending.old)
+        × (R.noted notes.new ≡ R.noted notes.old)) }
 {
     notes.note(stimulus, &out)?;
     match draft_out(entries, pending, out) {
@@ -79,9 +82,14 @@ fn make_next<A: Allocator + Copy, R: Record<A>>(
 ) -> Result<(), CoreError>
     requires settled { AreSettled entries.old.items }
     requires told { telling.old.last ≡ None }
-    ensures acts { OnOk result (Acts (machine core.old entries.old.items pending.old (R.noted notes.old) telling.old) stimulus.now (machine core.new entries.new.items pending.new (R.noted notes.new) telling.new)) }
+    ensures acts { OnOk result (Acts (machine core.old entries.old.items pending.old (R.noted notes.old) telling.old)
+        stimulus.now (machine core.new entries.new.items pending.new (R.noted notes.new) telling.new)) }
     ensures settled { AreSettled entries.new.items }
-    ensures err { OnErr result ((core.new ≡ core.old) × (entries.new.items ≡ entries.old.items) × (pending.new ≡ pending.old) × (R.noted notes.new ≡ R.noted notes.old) × (telling.new ≡ telling.old)) }
+    ensures err { OnErr result ((core.new ≡ core.old)
+        × (entries.new.items ≡ entries.old.items)
+        × (pending.new ≡ pending.old)
+        × (R.noted notes.new ≡ R.noted notes.old)
+        × (telling.new ≡ telling.old)) }
     ensures too_long { IsErrOf result CoreError.PayloadTooLong → IsTooLong stimulus.now }
     ensures spent { IsErrOf result CoreError.SeqSpent → PlumIsSpent core.old stimulus.now }
 {
@@ -113,9 +121,11 @@ pub(crate) fn make_step<A: Allocator + Copy, R: Record<A>>(
     stimulus: &Stimulus<Frame<A>, A>,
 ) -> Result<(), CoreError>
     requires { AreSettled entries.old.items }
-    ensures acts { OnOk result (Acts (machine core.old entries.old.items pending.old (R.noted notes.old) telling.old) stimulus.now (machine core.new entries.new.items pending.new (R.noted notes.new) telling.new)) }
+    ensures acts { OnOk result (Acts (machine core.old entries.old.items pending.old (R.noted notes.old) telling.old)
+        stimulus.now (machine core.new entries.new.items pending.new (R.noted notes.new) telling.new)) }
     ensures settled { AreSettled entries.new.items }
-    ensures err { OnErr result (machine core.new entries.new.items pending.new (R.noted notes.new) telling.new ≡ machine core.old entries.old.items pending.old (R.noted notes.old) telling.old) }
+    ensures err { OnErr result (machine core.new entries.new.items pending.new (R.noted notes.new) telling.new
+        ≡ machine core.old entries.old.items pending.old (R.noted notes.old) telling.old) }
     ensures too_long { IsErrOf result CoreError.PayloadTooLong → IsTooLong stimulus.now }
     ensures spent { IsErrOf result CoreError.SeqSpent → PlumIsSpent core.old stimulus.now }
 {

@@ -48,11 +48,17 @@ carried_such content id note is = go (content note).carried refl is
         (carried.1, at ∙ ap (λ i. Some (i, carried.1)) (sym here))
 
 -- where a packet to the name is counted as carrying the message, there is one
-pub carrying_one : {N : Type 0} (content : N → Content) (id : MsgId) (name : Name) (sends : List (Name × N)) → 1 ≤ packets_carrying content id name sends → (note : N) × IsOneOf (name, note) sends × CarriesIt id (content note)
+pub carrying_one : {N : Type 0} (content : N → Content) (id : MsgId) (name : Name) (sends : List (Name × N)) →
+    1 ≤ packets_carrying content id name sends →
+    (note : N) × IsOneOf (name, note) sends × CarriesIt id (content note)
 carrying_one {N} content id name sends some =
     let found = one_counted (λ (send : Name × N). same_name name send.0 && is_carried id (content send.1).carried) sends some in
-    let to : name ≡ found.0.0 = (same_name-Decides name found.0.0).0 (and_left (same_name name found.0.0) (is_carried id (content found.0.1).carried) found.2) in
-    (found.0.1, subst (λ n. IsOneOf (n, found.0.1) sends) (sym to) found.1, carried_such content id found.0.1 (and_right (same_name name found.0.0) (is_carried id (content found.0.1).carried) found.2))
+    let to : name ≡ found.0.0 =
+    (same_name-Decides name found.0.0).0 (and_left (same_name name found.0.0) (is_carried id (content found.0.1).carried) found.2) in (
+      found.0.1,
+      subst (λ n. IsOneOf (n, found.0.1) sends) (sym to) found.1,
+      carried_such content id found.0.1 (and_right (same_name name found.0.0) (is_carried id (content found.0.1).carried) found.2),
+    )
 
 -- where an entry of the message is counted as queued for the name, there is one
 pub queued_one : (core : CoreState) (id : MsgId) (name : Name) → 1 ≤ entries_queued id name core.queued → IsQueued core id name
@@ -75,11 +81,17 @@ either_some zero b some = inr (omega arith)
 either_some (suc a) b some = inl (omega arith)
 
 -- where one to the name is counted, a packet to it announces the message
-announced_one : {N : Type 0} (content : N → Content) (name : Name) (id : MsgId) (round : ℕ) (sends : List (Name × N)) → 1 ≤ announcements content name id round sends → (note : N) × IsOneOf (name, note) sends × AnnouncesIt id (content note)
+announced_one : {N : Type 0} (content : N → Content) (name : Name) (id : MsgId) (round : ℕ) (sends : List (Name × N)) →
+    1 ≤ announcements content name id round sends →
+    (note : N) × IsOneOf (name, note) sends × AnnouncesIt id (content note)
 announced_one content name id round [] some = absurd (omega arith)
 announced_one {N} content name id round (send ∷ sends) some = go (same_name name send.0) refl some (announced_one content name id round sends)
   where
-    go : (b : Bool) → same_name name send.0 ≡ b → 1 ≤ cond b (times_announced id round (content send.1).announced) 0 + announcements content name id round sends → (1 ≤ announcements content name id round sends → (note : N) × IsOneOf (name, note) sends × AnnouncesIt id (content note)) → (note : N) × IsOneOf (name, note) (send ∷ sends) × AnnouncesIt id (content note)
+    go : (b : Bool) →
+        same_name name send.0 ≡ b →
+        1 ≤ cond b (times_announced id round (content send.1).announced) 0 + announcements content name id round sends →
+        (1 ≤ announcements content name id round sends → (note : N) × IsOneOf (name, note) sends × AnnouncesIt id (content note)) →
+        (note : N) × IsOneOf (name, note) (send ∷ sends) × AnnouncesIt id (content note)
     go false apart counted later =
         let more : 1 ≤ announcements content name id round sends = omega arith in
         let found = later more in
@@ -91,7 +103,9 @@ announced_one {N} content name id round (send ∷ sends) some = go (same_name na
         ]
 
 -- a queued entry is counted
-times_some : (name : Name) (id : MsgId) (round : ℕ) (queued : List (Name × MsgId × ℕ)) → IsOneOf (name, id, round) queued → 1 ≤ times_queued name id round queued
+times_some : (name : Name) (id : MsgId) (round : ℕ) (queued : List (Name × MsgId × ℕ)) →
+    IsOneOf (name, id, round) queued →
+    1 ≤ times_queued name id round queued
 times_some name id round queued one =
     counts_one (λ (entry : Name × MsgId × ℕ). same_name name entry.0 && (same_id id entry.1 && (round == entry.2))) queued (name, id, round) one
     (both (same_name name name) (same_id id id) (round == round) (name_is name) ((same_id-Decides id id).1 refl) (eq-eqb round round refl))
@@ -109,7 +123,13 @@ each_id P (d ∷ given) id h one = elim one [ inl here ↦ subst P (sym here) h.
 
 -- Each packet of this message was sent by a name whose running core has it.
 abbrev pub SendersHave : {C N : Type 0} → (C → CoreState) → (N → Content) → Group C N → MsgId → Type 0
-SendersHave {C} {N} state content group id = (number : ℕ) (packet : Packet N) → slice_get group.sent number ≡ Some packet → CarriesIt id (content packet.note) → (core : C) → Runs group packet.sender.name core → (state core).has id ≡ true
+SendersHave {C} {N} state content group id =
+    (number : ℕ) (packet : Packet N) →
+    slice_get group.sent number ≡ Some packet →
+    CarriesIt id (content packet.note) →
+    (core : C) →
+    Runs group packet.sender.name core →
+    (state core).has id ≡ true
 
 -- The message's origin runs and has it, and so does whoever sent it; and it is carried on.
 pub record Carries {C N : Type 0} (state : C → CoreState) (content : N → Content) (group : Group C N) (id : MsgId) : Type 0 where
@@ -152,7 +172,8 @@ module _
     -- who runs afterwards is the core that stepped, or ran under another name before
     runs_after : (other : Name) (core : C) → Runs after other core → ((other ≡ name) × (step.acts.new ≡ core)) ⊎ ((other ≡ name → ⊥) × Runs before other core)
     runs_after other core runs =
-        elim (put_cases other (record step.acts.node { core = Some step.acts.new }) runs.0 before.nodes (subst (λ ns. node_of other ns ≡ Some runs.0) step.acts.nodes runs.1)) [
+        elim (put_cases other (record step.acts.node { core = Some step.acts.new }) runs.0 before.nodes
+        (subst (λ ns. node_of other ns ≡ Some runs.0) step.acts.nodes runs.1)) [
           | inl here ↦ inl (here.0 ∙ sym named, (let e : Some step.acts.new ≡ Some core = ap (λ (n : NodeState C). n.core) here.1 ∙ runs.2 in cc))
           | inr there ↦ inr ((λ e. there.0 (e ∙ named)), (runs.0, there.1, runs.2))
         ]
@@ -172,7 +193,8 @@ module _
     runs_on other core differs runs = (
       runs.0,
       subst (λ ns. node_of other ns ≡ Some runs.0) (sym step.acts.nodes)
-          (put_other other (record step.acts.node { core = Some step.acts.new }) before.nodes (tells_apart other step.acts.node.name (λ e. differs (e ∙ sym named))) ∙ runs.1),
+          (put_other other (record step.acts.node { core = Some step.acts.new }) before.nodes
+          (tells_apart other step.acts.node.name (λ e. differs (e ∙ sym named))) ∙ runs.1),
       runs.2,
     )
 
@@ -189,14 +211,22 @@ module _
         go true is = absurd (false≢true (sym lacks ∙ keeps i is))
 
     -- what a step sends is in flight
-    sends_fly : (Such : Content → Type 0) (to : Name) (note : N) → IsOneOf (to, note) step.acts.sends → Such (content note) → IsInFlight content after.sent after.flight Such name to
+    sends_fly : (Such : Content → Type 0) (to : Name) (note : N) →
+        IsOneOf (to, note) step.acts.sends →
+        Such (content note) →
+        IsInFlight content after.sent after.flight Such name to
     sends_fly Such to note one such =
-        let sent : IsSent before.sent (origin_of step.acts.node) step.acts.sends (to, note) = is_sent before.sent (origin_of step.acts.node) step.acts.sends (to, note) one in
+        let sent : IsSent before.sent (origin_of step.acts.node) step.acts.sends (to, note) =
+        is_sent before.sent (origin_of step.acts.node) step.acts.sends (to, note) one in
         record {
           number = sent.number;
           packet = record { sender = origin_of step.acts.node; to = to; note = note };
-          flies = subst (λ ks. IsOneOf sent.number ks) (sym step.acts.sending.flight) (one-right step.staying (places (length before.sent) (length step.acts.sends)) sent.number sent.flies);
-          was_sent = subst (λ ps. slice_get ps sent.number ≡ Some (record { sender = origin_of step.acts.node; to = to; note = note })) (sym step.acts.sending.sent) sent.stands;
+          flies =
+              subst (λ ks. IsOneOf sent.number ks) (sym step.acts.sending.flight)
+              (one-right step.staying (places (length before.sent) (length step.acts.sends)) sent.number sent.flies);
+          was_sent =
+              subst (λ ps. slice_get ps sent.number ≡ Some (record { sender = origin_of step.acts.node; to = to; note = note }))
+              (sym step.acts.sending.sent) sent.stands;
           sender = sym named;
           receiver = refl;
           is_such = such;
@@ -213,14 +243,20 @@ module _
       is_such : Such (content note)
 
     -- what was in flight still is, or arrives
-    flies_on : (Such : Content → Type 0) (from to : Name) → IsInFlight content before.sent before.flight Such from to → IsInFlight content after.sent after.flight Such from to ⊎ Comes Such from to
+    flies_on : (Such : Content → Type 0) (from to : Name) →
+        IsInFlight content before.sent before.flight Such from to →
+        IsInFlight content after.sent after.flight Such from to ⊎ Comes Such from to
     flies_on Such from to flight =
         elim (step.stays flight.number flight.flies) [
           | inl stays ↦ inl (record {
             number = flight.number;
             packet = flight.packet;
-            flies = subst (λ ks. IsOneOf flight.number ks) (sym step.acts.sending.flight) (one-left step.staying (places (length before.sent) (length step.acts.sends)) flight.number stays);
-            was_sent = subst (λ ps. slice_get ps flight.number ≡ Some flight.packet) (sym step.acts.sending.sent) (get-append before.sent (packets (origin_of step.acts.node) step.acts.sends) flight.number flight.packet flight.was_sent);
+            flies =
+                subst (λ ks. IsOneOf flight.number ks) (sym step.acts.sending.flight)
+                (one-left step.staying (places (length before.sent) (length step.acts.sends)) flight.number stays);
+            was_sent =
+                subst (λ ps. slice_get ps flight.number ≡ Some flight.packet) (sym step.acts.sending.sent)
+                (get-append before.sent (packets (origin_of step.acts.node) step.acts.sends) flight.number flight.packet flight.was_sent);
             sender = flight.sender;
             receiver = flight.receiver;
             is_such = flight.is_such;
@@ -240,11 +276,18 @@ module _
         ]
 
     -- a packet for another name flies on
-    flies_elsewhere : (Such : Content → Type 0) (from to : Name) → (to ≡ name → ⊥) → IsInFlight content before.sent before.flight Such from to → IsInFlight content after.sent after.flight Such from to
+    flies_elsewhere : (Such : Content → Type 0) (from to : Name) →
+        (to ≡ name → ⊥) →
+        IsInFlight content before.sent before.flight Such from to →
+        IsInFlight content after.sent after.flight Such from to
     flies_elsewhere Such from to elsewhere flight = elim (flies_on Such from to flight) [ inl on ↦ on | inr comes ↦ absurd (elsewhere (sym comes.here)) ]
 
     -- between two others all goes on
-    bystanders : (one two : Name) (first second : CoreState) → (one ≡ name → ⊥) → (two ≡ name → ⊥) → IsUnderWay content before.sent before.flight id one two first second → IsUnderWay content after.sent after.flight id one two first second
+    bystanders : (one two : Name) (first second : CoreState) →
+        (one ≡ name → ⊥) →
+        (two ≡ name → ⊥) →
+        IsUnderWay content before.sent before.flight id one two first second →
+        IsUnderWay content after.sent after.flight id one two first second
     bystanders one two first second not_one not_two (Carried flight) = Carried (flies_elsewhere (CarriesIt id) one two not_two flight)
     bystanders one two first second not_one not_two (Queued queued) = Queued queued
     bystanders one two first second not_one not_two (Announced flight) = Announced (flies_elsewhere (AnnouncesIt id) one two not_two flight)
@@ -254,7 +297,10 @@ module _
     -- ---- the one that steps has the message
 
     -- an entry for an active member stays queued, or a packet announces it
-    queue_goes_on : (peer : Name) → has_name new.active peer ≡ true → IsQueued old id peer → IsQueued new id peer ⊎ ((note : N) × IsOneOf (peer, note) step.acts.sends × AnnouncesIt id (content note))
+    queue_goes_on : (peer : Name) →
+        has_name new.active peer ≡ true →
+        IsQueued old id peer →
+        IsQueued new id peer ⊎ ((note : N) × IsOneOf (peer, note) step.acts.sends × AnnouncesIt id (content note))
     queue_goes_on peer member queued = go by step.lawful.queue.leaves
       where
         keeps_queue : KeepsQueue old new → IsQueued new id peer ⊎ ((note : N) × IsOneOf (peer, note) step.acts.sends × AnnouncesIt id (content note))
@@ -264,7 +310,9 @@ module _
               | inr gone ↦ absurd (false≢true (sym gone ∙ member))
             ]
 
-        go : (s : Stimulus N) → FlushesQueue content old s step.acts.sends new → IsQueued new id peer ⊎ ((note : N) × IsOneOf (peer, note) step.acts.sends × AnnouncesIt id (content note))
+        go : (s : Stimulus N) →
+            FlushesQueue content old s step.acts.sends new →
+            IsQueued new id peer ⊎ ((note : N) × IsOneOf (peer, note) step.acts.sends × AnnouncesIt id (content note))
         go Flush leaves =
             let some : 1 ≤ times_queued peer id queued.0 old.queued = times_some peer id queued.0 old.queued queued.1 in
             inr (announced_one content peer id queued.0 step.acts.sends (subst (λ n. 1 ≤ n) (sym (leaves.0 peer id queued.0)) some))
@@ -276,14 +324,22 @@ module _
         go (Join contact) leaves = keeps_queue leaves.1
 
     -- who asks for it gets it, where it is held
-    answered : (peer : Name) → IsSome (old.payload id) → Comes (AsksForIt id) peer name → (note : N) × IsOneOf (peer, note) step.acts.sends × CarriesIt id (content note)
+    answered : (peer : Name) →
+        IsSome (old.payload id) →
+        Comes (AsksForIt id) peer name →
+        (note : N) × IsOneOf (peer, note) step.acts.sends × CarriesIt id (content note)
     answered peer held comes =
         let asked : IsAskedBy content by id peer = subst (λ s. IsAskedBy content s id peer) (sym comes.arrives) (comes.is_such, sym comes.of_sender) in
         let once : packets_carrying content id peer step.acts.sends ≡ 1 = (step.lawful.holds.answers id peer asked held).0 in
         carrying_one content id peer step.acts.sends (omega arith)
 
     -- so what is under way from it to another stays under way
-    sender_moves : (peer : Name) (other : CoreState) → (peer ≡ name → ⊥) → has_name new.active peer ≡ true → IsSome (old.payload id) → IsUnderWay content before.sent before.flight id name peer old other → IsUnderWay content after.sent after.flight id name peer new other
+    sender_moves : (peer : Name) (other : CoreState) →
+        (peer ≡ name → ⊥) →
+        has_name new.active peer ≡ true →
+        IsSome (old.payload id) →
+        IsUnderWay content before.sent before.flight id name peer old other →
+        IsUnderWay content after.sent after.flight id name peer new other
     sender_moves peer other differs member held (Carried flight) = Carried (flies_elsewhere (CarriesIt id) name peer differs flight)
     sender_moves peer other differs member held (Queued queued) =
         elim (queue_goes_on peer member queued) [
@@ -299,7 +355,14 @@ module _
         ]
 
     -- a message that it delivers gets under way to each other active member that did not send it
-    spreads : (peer : Name) (other : C) → has_name new.active peer ≡ true → old.has id ≡ false → new.has id ≡ true → (state other).has id ≡ false → Runs before peer other → SendersHave state content before id → IsUnderWay content after.sent after.flight id name peer new (state other)
+    spreads : (peer : Name) (other : C) →
+        has_name new.active peer ≡ true →
+        old.has id ≡ false →
+        new.has id ≡ true →
+        (state other).has id ≡ false →
+        Runs before peer other →
+        SendersHave state content before id →
+        IsUnderWay content after.sent after.flight id name peer new (state other)
     spreads peer other member lacks has other_lacks runs senders = go (is_from peer by) refl
       where
         given : IsOneOf id (ids entry.given)
@@ -313,7 +376,8 @@ module _
             let sent = step.was_sent sender note dice e in
             let who : sent.1.sender.name ≡ peer = ap (λ (o : Origin). o.name) sent.3 ∙ sym ((same_name-Decides peer sender.name).0 same) in
             let carries : CarriesIt id (content note) = delivered_carries (content note).carried refl delivers in
-            false≢true (sym other_lacks ∙ senders sent.0 sent.1 sent.2 (subst (λ k. CarriesIt id (content k)) (sym sent.4) carries) other (subst (λ n. Runs before n other) (sym who) runs))
+            false≢true (sym other_lacks
+            ∙ senders sent.0 sent.1 sent.2 (subst (λ k. CarriesIt id (content k)) (sym sent.4) carries) other (subst (λ n. Runs before n other) (sym who) runs))
           where
             delivered_carries : (o : Option (MsgId × List ℕ)) → (content note).carried ≡ o → DeliversNews old o (ids entry.given) → CarriesIt id (content note)
             delivered_carries None at none = let no_such : IsOneOf id [] = subst (λ is. IsOneOf id is) none given in absurd no_such
@@ -345,7 +409,8 @@ module _
     -- a packet that carries it delivers it, unless it is its own
     takes : (from : Name) → (id.origin ≡ old.me → ⊥) → old.has id ≡ false → Comes (CarriesIt id) from name → new.has id ≡ true
     takes from foreign lacks comes =
-        let exact : DeliversNews old (content comes.note).carried (ids entry.given) = subst (λ s. Delivers content old s (ids entry.given)) comes.arrives step.lawful.deliveries.exact in
+        let exact : DeliversNews old (content comes.note).carried (ids entry.given) =
+        subst (λ s. Delivers content old s (ids entry.given)) comes.arrives step.lawful.deliveries.exact in
         let news : DeliversNews old (Some (id, comes.is_such.0)) (ids entry.given) = subst (λ o. DeliversNews old o (ids entry.given)) comes.is_such.1 exact in
         elim news [
           | inl now ↦ (step.lawful.deliveries.grows id).1 (inr (subst (λ is. IsOneOf id is) (sym now.1) (inl refl)))
@@ -353,13 +418,25 @@ module _
         ]
 
     -- a packet that announces it makes it wanted
-    wants_it : (from : Name) → (id.origin ≡ old.me → ⊥) → has_name new.active from ≡ true → new.has id ≡ false → Comes (AnnouncesIt id) from name → IsWanted new id from
+    wants_it : (from : Name) →
+        (id.origin ≡ old.me → ⊥) →
+        has_name new.active from ≡ true →
+        new.has id ≡ false →
+        Comes (AnnouncesIt id) from name →
+        IsWanted new id from
     wants_it from foreign member lacks comes =
-        let announces : Announces content by from id comes.is_such.0 = subst (λ s. Announces content s from id comes.is_such.0) (sym comes.arrives) (sym comes.of_sender, comes.is_such.1) in
+        let announces : Announces content by from id comes.is_such.0 =
+        subst (λ s. Announces content s from id comes.is_such.0) (sym comes.arrives) (sym comes.of_sender, comes.is_such.1) in
         step.lawful.wants.taken from id comes.is_such.0 announces member foreign lacks
 
     -- so what is under way to it stays under way
-    receiver_moves : (from : Name) (other : CoreState) → (from ≡ name → ⊥) → (id.origin ≡ old.me → ⊥) → has_name new.active from ≡ true → new.has id ≡ false → IsUnderWay content before.sent before.flight id from name other old → IsUnderWay content after.sent after.flight id from name other new
+    receiver_moves : (from : Name) (other : CoreState) →
+        (from ≡ name → ⊥) →
+        (id.origin ≡ old.me → ⊥) →
+        has_name new.active from ≡ true →
+        new.has id ≡ false →
+        IsUnderWay content before.sent before.flight id from name other old →
+        IsUnderWay content after.sent after.flight id from name other new
     receiver_moves from other differs foreign member lacks (Carried flight) =
         elim (flies_on (CarriesIt id) from name flight) [
           | inl on ↦ Carried on
@@ -372,7 +449,9 @@ module _
           | inr comes ↦ Wanted (wants_it from foreign member lacks comes)
         ]
     receiver_moves from other differs foreign member lacks (Wanted wanted) =
-        elim (each_one (λ e. IsOneOf e new.wants ⊎ IsOneOf e.0 (ids entry.given) ⊎ AsksFor content by step.acts.sends e.0 e.1 ⊎ (has_name new.active e.1 ≡ false)) old.wants (id, from, wanted.0) step.lawful.asks.entry_stays wanted.1) [
+        elim (each_one
+        (λ e. IsOneOf e new.wants ⊎ IsOneOf e.0 (ids entry.given) ⊎ AsksFor content by step.acts.sends e.0 e.1 ⊎ (has_name new.active e.1 ≡ false)) old.wants
+        (id, from, wanted.0) step.lawful.asks.entry_stays wanted.1) [
           | inl still ↦ Wanted (wanted.0, still)
           | inr rest ↦ elim rest [
             | inl now ↦ absurd (false≢true (sym lacks ∙ (step.lawful.deliveries.grows id).1 (inr now)))
@@ -390,20 +469,26 @@ module _
     member_is_other : (peer : Name) → has_name new.active peer ≡ true → peer ≡ name → ⊥
     member_is_other peer member same =
         let me : new.me.name ≡ name = ap (λ (o : Origin). o.name) step.lawful.identity ∙ sym step.mine in
-        let none : has_name new.active name ≡ false = subst (λ n. has_name new.active n ≡ false) me (laws.always limits step.acts.new step.sound).views.active_of_others in
+        let none : has_name new.active name ≡ false =
+        subst (λ n. has_name new.active n ≡ false) me (laws.always limits step.acts.new step.sound).views.active_of_others in
         false≢true (sym none ∙ subst (λ n. has_name new.active n ≡ true) same member)
 
     -- whoever sent the message has it
     senders_after : SendersHave state content before id → SendersHave state content after id
     senders_after senders number packet at carries core runs =
-        elim (sent_or_new before.sent (origin_of step.acts.node) step.acts.sends number packet (subst (λ ps. slice_get ps number ≡ Some packet) step.acts.sending.sent at)) [
+        elim (sent_or_new before.sent (origin_of step.acts.node) step.acts.sends number packet
+        (subst (λ ps. slice_get ps number ≡ Some packet) step.acts.sending.sent at)) [
           | inl then ↦ elim (runs_after packet.sender.name core runs) [
-            | inl here ↦ subst (λ c. (state c).has id ≡ true) here.1 (keeps id (senders number packet then carries step.acts.old (subst (λ n. Runs before n step.acts.old) (sym here.0) runs_old)))
+            | inl here ↦
+                subst (λ c. (state c).has id ≡ true) here.1
+                (keeps id (senders number packet then carries step.acts.old (subst (λ n. Runs before n step.acts.old) (sym here.0) runs_old)))
             | inr there ↦ senders number packet then carries core there.1
           ]
           | inr now ↦ (
               let who : packet.sender.name ≡ name = ap (λ (o : Origin). o.name) now.1 ∙ sym named in
-              let had : new.has id ≡ true = each_one (λ (send : Name × N). (i : MsgId) (p : List ℕ) → (content send.1).carried ≡ Some (i, p) → new.has i ≡ true) step.acts.sends (packet.to, packet.note) step.lawful.payloads.sender_has now.0 id carries.0 carries.1 in
+              let had : new.has id ≡ true =
+              each_one (λ (send : Name × N). (i : MsgId) (p : List ℕ) → (content send.1).carried ≡ Some (i, p) → new.has i ≡ true) step.acts.sends
+              (packet.to, packet.note) step.lawful.payloads.sender_has now.0 id carries.0 carries.1 in
               elim (runs_after packet.sender.name core runs) [
                 | inl here ↦ subst (λ c. (state c).has id ≡ true) here.1 had
                 | inr there ↦ absurd (there.0 who)
@@ -411,40 +496,67 @@ module _
         ]
 
     -- what was carried on is carried on, where the step moves no active view
-    carried_after : (old.has id ≡ true → IsSome (old.payload id)) → entry.moved ≡ false → ((core : C) → Runs before id.origin.name core → (state core).has id ≡ true) → SendersHave state content before id → IsCarriedOn state content before id → IsCarriedOn state content after id
-    carried_after held calm origin senders carried one two first second runs_first runs_second member back has lacks = go (runs_after one first runs_first) (runs_after two second runs_second)
+    carried_after : (old.has id ≡ true → IsSome (old.payload id)) →
+        entry.moved ≡ false →
+        ((core : C) → Runs before id.origin.name core → (state core).has id ≡ true) →
+        SendersHave state content before id →
+        IsCarriedOn state content before id →
+        IsCarriedOn state content after id
+    carried_after held calm origin senders carried one two first second runs_first runs_second member back has lacks =
+        go (runs_after one first runs_first) (runs_after two second runs_second)
       where
         same : SameNames old.active new.active
         same = step.acts.moved.0 calm
 
-        sender : one ≡ name → step.acts.new ≡ first → (two ≡ name → ⊥) → Runs before two second → IsUnderWay content after.sent after.flight id one two (state first) (state second)
+        sender : one ≡ name →
+            step.acts.new ≡ first →
+            (two ≡ name → ⊥) →
+            Runs before two second →
+            IsUnderWay content after.sent after.flight id one two (state first) (state second)
         sender here this differs runs = by_has (old.has id) refl
           where
             member_new : has_name new.active two ≡ true
             member_new = subst (λ c. has_name (state c).active two ≡ true) (sym this) member
 
-            moved : IsUnderWay content after.sent after.flight id name two new (state second) → IsUnderWay content after.sent after.flight id one two (state first) (state second)
-            moved under = subst (λ n. IsUnderWay content after.sent after.flight id n two (state first) (state second)) (sym here) (subst (λ c. IsUnderWay content after.sent after.flight id name two (state c) (state second)) this under)
+            moved : IsUnderWay content after.sent after.flight id name two new (state second) →
+                IsUnderWay content after.sent after.flight id one two (state first) (state second)
+            moved under =
+                subst (λ n. IsUnderWay content after.sent after.flight id n two (state first) (state second)) (sym here)
+                (subst (λ c. IsUnderWay content after.sent after.flight id name two (state c) (state second)) this under)
 
             by_has : (b : Bool) → old.has id ≡ b → IsUnderWay content after.sent after.flight id one two (state first) (state second)
             by_has true had =
                 moved (sender_moves two (state second) differs member_new (held had)
-                (carried name two step.acts.old second runs_old runs (same two ∙ member_new) (subst (λ n. has_name (state second).active n ≡ true) here back) had lacks))
+                (carried name two step.acts.old second runs_old runs (same two ∙ member_new)
+                (subst (λ n. has_name (state second).active n ≡ true) here back) had lacks))
             by_has false had = moved (spreads two second member_new had (subst (λ c. (state c).has id ≡ true) (sym this) has) lacks runs senders)
 
-        receiver : two ≡ name → step.acts.new ≡ second → (one ≡ name → ⊥) → Runs before one first → IsUnderWay content after.sent after.flight id one two (state first) (state second)
+        receiver : two ≡ name →
+            step.acts.new ≡ second →
+            (one ≡ name → ⊥) →
+            Runs before one first →
+            IsUnderWay content after.sent after.flight id one two (state first) (state second)
         receiver here this differs runs =
             let back_new : has_name new.active one ≡ true = subst (λ c. has_name (state c).active one ≡ true) (sym this) back in
             let lacks_new : new.has id ≡ false = subst (λ c. (state c).has id ≡ false) (sym this) lacks in
-            let foreign : id.origin ≡ old.me → ⊥ = λ own. false≢true (sym (lacked id lacks_new) ∙ origin step.acts.old (subst (λ n. Runs before n step.acts.old) (step.mine ∙ sym (ap (λ (o : Origin). o.name) own)) runs_old)) in
-            let under : IsUnderWay content before.sent before.flight id one name (state first) old = carried one name first step.acts.old runs runs_old (subst (λ n. has_name (state first).active n ≡ true) here member) (same one ∙ back_new) has (lacked id lacks_new) in
-            subst (λ n. IsUnderWay content after.sent after.flight id one n (state first) (state second)) (sym here) (subst (λ c. IsUnderWay content after.sent after.flight id one name (state first) (state c)) this (receiver_moves one (state first) differs foreign back_new lacks_new under))
+            let foreign : id.origin ≡ old.me → ⊥ =
+            λ own. false≢true (sym (lacked id lacks_new)
+            ∙ origin step.acts.old (subst (λ n. Runs before n step.acts.old) (step.mine ∙ sym (ap (λ (o : Origin). o.name) own)) runs_old)) in
+            let under : IsUnderWay content before.sent before.flight id one name (state first) old =
+            carried one name first step.acts.old runs runs_old
+            (subst (λ n. has_name (state first).active n ≡ true) here member) (same one ∙ back_new) has (lacked id lacks_new) in
+            subst (λ n. IsUnderWay content after.sent after.flight id one n (state first) (state second)) (sym here)
+            (subst (λ c. IsUnderWay content after.sent after.flight id one name (state first) (state c)) this
+            (receiver_moves one (state first) differs foreign back_new lacks_new under))
 
-        go : ((one ≡ name) × (step.acts.new ≡ first)) ⊎ ((one ≡ name → ⊥) × Runs before one first) → ((two ≡ name) × (step.acts.new ≡ second)) ⊎ ((two ≡ name → ⊥) × Runs before two second) → IsUnderWay content after.sent after.flight id one two (state first) (state second)
+        go : ((one ≡ name) × (step.acts.new ≡ first)) ⊎ ((one ≡ name → ⊥) × Runs before one first) →
+            ((two ≡ name) × (step.acts.new ≡ second)) ⊎ ((two ≡ name → ⊥) × Runs before two second) →
+            IsUnderWay content after.sent after.flight id one two (state first) (state second)
         go (inl here) (inl there) = absurd (member_is_other two (subst (λ c. has_name (state c).active two ≡ true) (sym here.1) member) there.0)
         go (inl here) (inr there) = sender here.0 here.1 there.0 there.1
         go (inr here) (inl there) = receiver there.0 there.1 here.0 here.1
-        go (inr here) (inr there) = bystanders one two (state first) (state second) here.0 there.0 (carried one two first second here.1 there.1 member back has lacks)
+        go (inr here) (inr there) =
+            bystanders one two (state first) (state second) here.0 there.0 (carried one two first second here.1 there.1 member back has lacks)
 
     -- so a step that moves no active view carries the message on, where the core that steps holds it once it has it
     pub step_carries : (old.has id ≡ true → IsSome (old.payload id)) → entry.moved ≡ false → Carries state content before id → Carries state content after id
@@ -452,7 +564,9 @@ module _
         record {
           origin_runs = origin_runs (same_name id.origin.name name) refl;
           origin_has = λ core runs. elim (runs_after id.origin.name core runs) [
-            | inl here ↦ subst (λ k. (state k).has id ≡ true) here.1 (keeps id (c.origin_has step.acts.old (subst (λ n. Runs before n step.acts.old) (sym here.0) runs_old)))
+            | inl here ↦
+                subst (λ k. (state k).has id ≡ true) here.1
+                (keeps id (c.origin_has step.acts.old (subst (λ n. Runs before n step.acts.old) (sym here.0) runs_old)))
             | inr there ↦ c.origin_has core there.1
           ];
           senders_have = senders_after c.senders_have;
@@ -478,18 +592,28 @@ module _
             | inr there ↦ absurd (there.0 mine)
           ];
           senders_have = senders_after senders;
-          carried_on = λ one two first second runs_first runs_second member back one_has lacks. go one two first second member lacks one_has (runs_after one first runs_first) (runs_after two second runs_second);
+          carried_on =
+              λ one two first second runs_first runs_second member back one_has lacks.
+              go one two first second member lacks one_has (runs_after one first runs_first) (runs_after two second runs_second);
         }
       where
         senders : SendersHave state content before id
         senders number packet at carries = absurd (none_carries number packet at carries)
 
-        go : (one two : Name) (first second : C) → has_name (state first).active two ≡ true → (state second).has id ≡ false → (state first).has id ≡ true → ((one ≡ name) × (step.acts.new ≡ first)) ⊎ ((one ≡ name → ⊥) × Runs before one first) → ((two ≡ name) × (step.acts.new ≡ second)) ⊎ ((two ≡ name → ⊥) × Runs before two second) → IsUnderWay content after.sent after.flight id one two (state first) (state second)
-        go one two first second member lacks one_has (inl here) (inl there) = absurd (member_is_other two (subst (λ c. has_name (state c).active two ≡ true) (sym here.1) member) there.0)
+        go : (one two : Name) (first second : C) →
+            has_name (state first).active two ≡ true →
+            (state second).has id ≡ false →
+            (state first).has id ≡ true →
+            ((one ≡ name) × (step.acts.new ≡ first)) ⊎ ((one ≡ name → ⊥) × Runs before one first) →
+            ((two ≡ name) × (step.acts.new ≡ second)) ⊎ ((two ≡ name → ⊥) × Runs before two second) →
+            IsUnderWay content after.sent after.flight id one two (state first) (state second)
+        go one two first second member lacks one_has (inl here) (inl there) =
+            absurd (member_is_other two (subst (λ c. has_name (state c).active two ≡ true) (sym here.1) member) there.0)
         go one two first second member lacks one_has (inl here) (inr there) =
             subst (λ n. IsUnderWay content after.sent after.flight id n two (state first) (state second)) (sym here.0)
             (subst (λ c. IsUnderWay content after.sent after.flight id name two (state c) (state second)) here.1
-            (spreads two second (subst (λ c. has_name (state c).active two ≡ true) (sym here.1) member) (none_has name step.acts.old runs_old) has lacks there.1 senders))
+            (spreads two second (subst (λ c. has_name (state c).active two ≡ true) (sym here.1) member)
+            (none_has name step.acts.old runs_old) has lacks there.1 senders))
         go one two first second member lacks one_has (inr here) there = absurd (false≢true (sym (none_has one first here.1) ∙ one_has))
 
 -- an event in which nothing but the flight grows carries the message on
@@ -509,8 +633,12 @@ flies_carries {C} {N} state content entry before after id more flies grows c =
     record {
       origin_runs = (c.origin_runs.0, on id.origin.name c.origin_runs.0 c.origin_runs.1);
       origin_has = λ core runs. c.origin_has core (back id.origin.name core runs);
-      senders_have = λ number packet at carries core runs. c.senders_have number packet (subst (λ ps. slice_get ps number ≡ Some packet) flies.sent at) carries core (back packet.sender.name core runs);
-      carried_on = λ one two first second runs_first runs_second member other has lacks. go (c.carried_on one two first second (back one first runs_first) (back two second runs_second) member other has lacks);
+      senders_have =
+          λ number packet at carries core runs. c.senders_have number packet
+          (subst (λ ps. slice_get ps number ≡ Some packet) flies.sent at) carries core (back packet.sender.name core runs);
+      carried_on =
+          λ one two first second runs_first runs_second member other has lacks.
+          go (c.carried_on one two first second (back one first runs_first) (back two second runs_second) member other has lacks);
     }
   where
     back : (name : Name) (core : C) → Runs after name core → Runs before name core
@@ -519,7 +647,9 @@ flies_carries {C} {N} state content entry before after id more flies grows c =
     on : (name : Name) (core : C) → Runs before name core → Runs after name core
     on name core runs = (runs.0, subst (λ ns. node_of name ns ≡ Some runs.0) (sym flies.nodes) runs.1, runs.2)
 
-    flight_on : (Such : Content → Type 0) (from to : Name) → IsInFlight content before.sent before.flight Such from to → IsInFlight content after.sent after.flight Such from to
+    flight_on : (Such : Content → Type 0) (from to : Name) →
+        IsInFlight content before.sent before.flight Such from to →
+        IsInFlight content after.sent after.flight Such from to
     flight_on Such from to flight =
         record {
           number = flight.number;
@@ -531,7 +661,9 @@ flies_carries {C} {N} state content entry before after id more flies grows c =
           is_such = flight.is_such;
         }
 
-    go : {one two : Name} {first second : CoreState} → IsUnderWay content before.sent before.flight id one two first second → IsUnderWay content after.sent after.flight id one two first second
+    go : {one two : Name} {first second : CoreState} →
+        IsUnderWay content before.sent before.flight id one two first second →
+        IsUnderWay content after.sent after.flight id one two first second
     go {one} {two} (Carried flight) = Carried (flight_on (CarriesIt id) one two flight)
     go (Queued queued) = Queued queued
     go {one} {two} (Announced flight) = Announced (flight_on (AnnouncesIt id) one two flight)

@@ -25,29 +25,43 @@ tells_apart name other differ = go (same_name name other) refl
     go true is = absurd (differ ((same_name-Decides name other).0 is))
 
 -- the node that is put is found under its name
-pub put_same : {C : Type 0} (name : Name) (node : NodeState C) (nodes : List (NodeState C)) → same_name name node.name ≡ true → node_of name (put_node node nodes) ≡ Some node
+pub put_same : {C : Type 0} (name : Name) (node : NodeState C) (nodes : List (NodeState C)) →
+    same_name name node.name ≡ true →
+    node_of name (put_node node nodes) ≡ Some node
 put_same name node [] is = ap (λ b. cond b (Some node) None) is
 put_same {C} name node (other ∷ others) is = go (same_name node.name other.name) refl (put_same name node others is)
   where
-    go : (b : Bool) → same_name node.name other.name ≡ b → node_of name (put_node node others) ≡ Some node → node_of name (if b then node ∷ others else other ∷ put_node node others) ≡ Some node
+    go : (b : Bool) →
+        same_name node.name other.name ≡ b →
+        node_of name (put_node node others) ≡ Some node →
+        node_of name (if b then node ∷ others else other ∷ put_node node others) ≡ Some node
     go true at later = ap (λ b. cond b (Some node) (node_of name others)) is
     go false at later =
-        let apart : same_name name other.name ≡ false = tells_apart name other.name (λ e. names_differ node.name other.name at (sym ((same_name-Decides name node.name).0 is) ∙ e)) in
+        let apart : same_name name other.name ≡ false =
+        tells_apart name other.name (λ e. names_differ node.name other.name at (sym ((same_name-Decides name node.name).0 is) ∙ e)) in
         ap (λ b. cond b (Some other) (node_of name (put_node node others))) apart ∙ later
 
 -- and under every other name what was found before
-pub put_other : {C : Type 0} (name : Name) (node : NodeState C) (nodes : List (NodeState C)) → same_name name node.name ≡ false → node_of name (put_node node nodes) ≡ node_of name nodes
+pub put_other : {C : Type 0} (name : Name) (node : NodeState C) (nodes : List (NodeState C)) →
+    same_name name node.name ≡ false →
+    node_of name (put_node node nodes) ≡ node_of name nodes
 put_other name node [] is = ap (λ b. cond b (Some node) None) is
 put_other {C} name node (other ∷ others) is = go (same_name node.name other.name) refl (put_other name node others is)
   where
-    go : (b : Bool) → same_name node.name other.name ≡ b → node_of name (put_node node others) ≡ node_of name others → node_of name (if b then node ∷ others else other ∷ put_node node others) ≡ node_of name (other ∷ others)
+    go : (b : Bool) →
+        same_name node.name other.name ≡ b →
+        node_of name (put_node node others) ≡ node_of name others →
+        node_of name (if b then node ∷ others else other ∷ put_node node others) ≡ node_of name (other ∷ others)
     go true at later =
-        let apart : same_name name other.name ≡ false = tells_apart name other.name (λ e. names_differ name node.name is (e ∙ sym ((same_name-Decides node.name other.name).0 at))) in
+        let apart : same_name name other.name ≡ false =
+        tells_apart name other.name (λ e. names_differ name node.name is (e ∙ sym ((same_name-Decides node.name other.name).0 at))) in
         ap (λ b. cond b (Some node) (node_of name others)) is ∙ sym (ap (λ b. cond b (Some other) (node_of name others)) apart)
     go false at later = ap (λ o. cond (same_name name other.name) (Some other) o) later
 
 -- what is found is the node that was put, or was found before under another name
-pub put_cases : {C : Type 0} (name : Name) (node found : NodeState C) (nodes : List (NodeState C)) → node_of name (put_node node nodes) ≡ Some found → ((name ≡ node.name) × (node ≡ found)) ⊎ ((name ≡ node.name → ⊥) × (node_of name nodes ≡ Some found))
+pub put_cases : {C : Type 0} (name : Name) (node found : NodeState C) (nodes : List (NodeState C)) →
+    node_of name (put_node node nodes) ≡ Some found →
+    ((name ≡ node.name) × (node ≡ found)) ⊎ ((name ≡ node.name → ⊥) × (node_of name nodes ≡ Some found))
 put_cases {C} name node found nodes e = go (same_name name node.name) refl
   where
     go : (b : Bool) → same_name name node.name ≡ b → ((name ≡ node.name) × (node ≡ found)) ⊎ ((name ≡ node.name → ⊥) × (node_of name nodes ≡ Some found))
@@ -59,12 +73,19 @@ pub found_name : {C : Type 0} (name : Name) (nodes : List (NodeState C)) (found 
 found_name name [] found e = let no : None ≡ Some found = e in cc
 found_name {C} name (other ∷ others) found e = go (same_name name other.name) refl e (found_name name others found)
   where
-    go : (b : Bool) → same_name name other.name ≡ b → cond b (Some other) (node_of name others) ≡ Some found → (node_of name others ≡ Some found → name ≡ found.name) → name ≡ found.name
-    go true is f later = let same : Some other ≡ Some found = f in let this : other ≡ found = cc in (same_name-Decides name other.name).0 is ∙ ap (λ (n : NodeState C). n.name) this
+    go : (b : Bool) →
+        same_name name other.name ≡ b →
+        cond b (Some other) (node_of name others) ≡ Some found →
+        (node_of name others ≡ Some found → name ≡ found.name) →
+        name ≡ found.name
+    go true is f later =
+        let same : Some other ≡ Some found = f in
+        let this : other ≡ found = cc in (same_name-Decides name other.name).0 is ∙ ap (λ (n : NodeState C). n.name) this
     go false is f later = later f
 
 -- what holds of each node and of the one that is put holds of each then
-pub each-put_node : {C : Type 0} (P : NodeState C → Type 0) (node : NodeState C) (nodes : List (NodeState C)) → Each P nodes → P node → Each P (put_node node nodes)
+pub each-put_node :
+    {C : Type 0} (P : NodeState C → Type 0) (node : NodeState C) (nodes : List (NodeState C)) → Each P nodes → P node → Each P (put_node node nodes)
 each-put_node P node [] h p = (p, tt)
 each-put_node {C} P node (other ∷ others) h p = go (same_name node.name other.name) (each-put_node P node others h.1 p)
   where
@@ -73,7 +94,10 @@ each-put_node {C} P node (other ∷ others) h p = go (same_name node.name other.
     go false later = (h.0, later)
 
 -- what holds of each node holds of one that is found
-pub each-found : {C : Type 0} (P : NodeState C → Type 0) (name : Name) (nodes : List (NodeState C)) (found : NodeState C) → Each P nodes → node_of name nodes ≡ Some found → P found
+pub each-found : {C : Type 0} (P : NodeState C → Type 0) (name : Name) (nodes : List (NodeState C)) (found : NodeState C) →
+    Each P nodes →
+    node_of name nodes ≡ Some found →
+    P found
 each-found P name [] found h e = let no : None ≡ Some found = e in cc
 each-found {C} P name (other ∷ others) found h e = go (same_name name other.name) e (each-found P name others found h.1)
   where

@@ -108,7 +108,9 @@ pub record IsSent {N : Type 0} (sent : List (Packet N)) (sender : Origin) (sends
   pub stands : slice_get (sent ++ packets sender sends) number ≡ Some (record { sender = sender; to = send.0; note = send.1 })
 
 -- each send has a place among its step's packets
-place_of : {N : Type 0} (sender : Origin) (sends : List (Name × N)) (send : Name × N) → IsOneOf send sends → (k : ℕ) × (suc k ≤ length sends) × (slice_get (packets sender sends) k ≡ Some (record { sender = sender; to = send.0; note = send.1 }))
+place_of : {N : Type 0} (sender : Origin) (sends : List (Name × N)) (send : Name × N) →
+    IsOneOf send sends →
+    (k : ℕ) × (suc k ≤ length sends) × (slice_get (packets sender sends) k ≡ Some (record { sender = sender; to = send.0; note = send.1 }))
 place_of sender [] send one = absurd one
 place_of {N} sender (first ∷ sends) send one =
     elim one [
@@ -117,7 +119,8 @@ place_of {N} sender (first ∷ sends) send one =
     ]
 
 -- so each send is in flight
-pub is_sent : {N : Type 0} (sent : List (Packet N)) (sender : Origin) (sends : List (Name × N)) (send : Name × N) → IsOneOf send sends → IsSent sent sender sends send
+pub is_sent :
+    {N : Type 0} (sent : List (Packet N)) (sender : Origin) (sends : List (Name × N)) (send : Name × N) → IsOneOf send sends → IsSent sent sender sends send
 is_sent sent sender sends send one =
     let found = place_of sender sends send one in
     record {
@@ -127,7 +130,9 @@ is_sent sent sender sends send one =
     }
 
 -- what stands among the old packets and the new ones is an old one, or one of the sends
-one_of_sends : {N : Type 0} (sender : Origin) (sends : List (Name × N)) (packet : Packet N) → IsOneOf packet (packets sender sends) → IsOneOf (packet.to, packet.note) sends × (packet.sender ≡ sender)
+one_of_sends : {N : Type 0} (sender : Origin) (sends : List (Name × N)) (packet : Packet N) →
+    IsOneOf packet (packets sender sends) →
+    IsOneOf (packet.to, packet.note) sends × (packet.sender ≡ sender)
 one_of_sends sender [] packet one = absurd one
 one_of_sends {N} sender (send ∷ sends) packet one =
     elim one [
@@ -135,7 +140,9 @@ one_of_sends {N} sender (send ∷ sends) packet one =
       | inr later ↦ (let found = one_of_sends sender sends packet later in (inr found.0, found.1))
     ]
 
-pub sent_or_new : {N : Type 0} (sent : List (Packet N)) (sender : Origin) (sends : List (Name × N)) (number : ℕ) (packet : Packet N) → slice_get (sent ++ packets sender sends) number ≡ Some packet → (slice_get sent number ≡ Some packet) ⊎ (IsOneOf (packet.to, packet.note) sends × (packet.sender ≡ sender))
+pub sent_or_new : {N : Type 0} (sent : List (Packet N)) (sender : Origin) (sends : List (Name × N)) (number : ℕ) (packet : Packet N) →
+    slice_get (sent ++ packets sender sends) number ≡ Some packet →
+    (slice_get sent number ≡ Some packet) ⊎ (IsOneOf (packet.to, packet.note) sends × (packet.sender ≡ sender))
 sent_or_new [] sender sends number packet e = inr (one_of_sends sender sends packet (one_at (packets sender sends) number packet e))
 sent_or_new (first ∷ sent) sender sends zero packet e = inl e
 sent_or_new (first ∷ sent) sender sends (suc number) packet e = sent_or_new sent sender sends number packet e

@@ -13,10 +13,15 @@ use Rattle.world.specs.Honest.{AreOnce}
 -- what two lists together have, one of them has
 pub given_either : (xs ys : List Delivery) (node : Origin) (id : MsgId) → HasDelivery (xs ++ ys) node id → HasDelivery xs node id ⊎ HasDelivery ys node id
 given_either [] ys node id h = inr h
-given_either (x ∷ xs) ys node id h = elim h [ inl here ↦ inl (inl here) | inr later ↦ elim (given_either xs ys node id later) [ inl a ↦ inl (inr a) | inr b ↦ inr b ] ]
+given_either (x ∷ xs) ys node id h =
+    elim h [ inl here ↦ inl (inl here) | inr later ↦ elim (given_either xs ys node id later) [ inl a ↦ inl (inr a) | inr b ↦ inr b ] ]
 
 -- two lists that share nothing, each of which has all once, have all once together
-pub once-append : (xs ys : List Delivery) → AreOnce xs → AreOnce ys → ((node : Origin) (id : MsgId) → HasDelivery xs node id → HasDelivery ys node id → ⊥) → AreOnce (xs ++ ys)
+pub once-append : (xs ys : List Delivery) →
+    AreOnce xs →
+    AreOnce ys →
+    ((node : Origin) (id : MsgId) → HasDelivery xs node id → HasDelivery ys node id → ⊥) →
+    AreOnce (xs ++ ys)
 once-append [] ys a b apart = b
 once-append (x ∷ xs) ys a b apart = (
   (λ h. elim (given_either xs ys x.node x.id h) [ inl before ↦ a.0 before | inr later ↦ apart x.node x.id (inl (refl, refl)) later ]),
@@ -39,7 +44,8 @@ given_here me [] node id here h = absurd h
 given_here me (d ∷ given) node id here h = elim h [ inl this ↦ sym this.0 ∙ here.0 | inr later ↦ given_here me given node id here.1 later ]
 
 -- what was delivered was lacked, where all deliveries were
-pub given_fresh : (has : MsgId → Bool) (given : List Delivery) (node : Origin) (id : MsgId) → Each (λ d. has d.id ≡ false) given → HasDelivery given node id → has id ≡ false
+pub given_fresh :
+    (has : MsgId → Bool) (given : List Delivery) (node : Origin) (id : MsgId) → Each (λ d. has d.id ≡ false) given → HasDelivery given node id → has id ≡ false
 given_fresh has [] node id fresh h = absurd h
 given_fresh has (d ∷ given) node id fresh h = elim h [ inl this ↦ ap has (sym this.1) ∙ fresh.0 | inr later ↦ given_fresh has given node id fresh.1 later ]
 

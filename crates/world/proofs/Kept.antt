@@ -30,7 +30,8 @@ pub record IsStarted (history : List Entry) (origin : Origin) : Type 0 where
 
 -- The core is sound and is its node's, counts the broadcasts of the name, holds only what was said, and has what it
 -- delivered.
-pub record KeepsCore {C : Type 0} (state : C → CoreState) (is_sound : Limits → C → Type 0) (limits : Limits) (history : List Entry) (node : NodeState C) (core : C) : Type 0 where
+pub record KeepsCore {C : Type 0} (state : C → CoreState) (is_sound : Limits → C → Type 0)
+    (limits : Limits) (history : List Entry) (node : NodeState C) (core : C) : Type 0 where
   pub sound : is_sound limits core
   pub is_me : (state core).me ≡ origin_of node
   pub counts : (state core).count ≡ broadcasts_of node.name history
@@ -43,9 +44,13 @@ pub record KeepsPacket {N : Type 0} (content : N → Content) (history : List En
   pub carries : (id : MsgId) (p : List ℕ) → (content packet.note).carried ≡ Some (id, p) → Said history id p
 
 -- What every run keeps of its history, its nodes and the packets that were sent.
-pub record Keeps {C N : Type 0} (state : C → CoreState) (content : N → Content) (is_sound : Limits → C → Type 0) (limits : Limits) (history : List Entry) (nodes : List (NodeState C)) (sent : List (Packet N)) : Type 0 where
+pub record Keeps {C N : Type 0} (state : C → CoreState) (content : N → Content) (is_sound : Limits → C → Type 0)
+    (limits : Limits) (history : List Entry) (nodes : List (NodeState C)) (sent : List (Packet N)) : Type 0 where
   pub highest : (name : Name) → highest_of name nodes ≡ incarnation_of name history
-  pub cores : (name : Name) (node : NodeState C) (core : C) → node_of name nodes ≡ Some node → node.core ≡ Some core → KeepsCore state is_sound limits history node core
+  pub cores : (name : Name) (node : NodeState C) (core : C) →
+      node_of name nodes ≡ Some node →
+      node.core ≡ Some core →
+      KeepsCore state is_sound limits history node core
   pub sound : Each (λ node. IfSome node.core (λ core. is_sound limits core)) nodes
   pub packets : Each (λ packet. KeepsPacket content history packet) sent
   pub below : (origin : Origin) (id : MsgId) → Delivered history origin id → IsStarted history origin
@@ -53,7 +58,8 @@ pub record Keeps {C N : Type 0} (state : C → CoreState) (content : N → Conte
   pub once : Once history
 
 -- the last incarnation of each name, after a node was put
-pub highest_of-put : {C : Type 0} (name : Name) (node : NodeState C) (nodes : List (NodeState C)) → highest_of name (put_node node nodes) ≡ cond (same_name name node.name) (Some node.highest) (highest_of name nodes)
+pub highest_of-put : {C : Type 0} (name : Name) (node : NodeState C) (nodes : List (NodeState C)) →
+    highest_of name (put_node node nodes) ≡ cond (same_name name node.name) (Some node.highest) (highest_of name nodes)
 highest_of-put {C} name node nodes = go (same_name name node.name) refl
   where
     go : (b : Bool) → same_name name node.name ≡ b → highest_of name (put_node node nodes) ≡ cond b (Some node.highest) (highest_of name nodes)
@@ -61,7 +67,9 @@ highest_of-put {C} name node nodes = go (same_name name node.name) refl
     go false is = ap (λ o. option_map (λ (n : NodeState C). n.highest) o) (put_other name node nodes is)
 
 -- the last incarnation of the name of a node that is found
-pub highest_of-found : {C : Type 0} (name : Name) (nodes : List (NodeState C)) (node : NodeState C) → node_of name nodes ≡ Some node → highest_of name nodes ≡ Some node.highest
+pub highest_of-found : {C : Type 0} (name : Name) (nodes : List (NodeState C)) (node : NodeState C) →
+    node_of name nodes ≡ Some node →
+    highest_of name nodes ≡ Some node.highest
 highest_of-found {C} name nodes node e = ap (λ o. option_map (λ (n : NodeState C). n.highest) o) e
 
 -- a start that is fresh among the nodes is of a greater incarnation than the name's last one

@@ -14,10 +14,15 @@ places-push first zero = ap (λ m. m ∷ []) (sym (add-zero first))
 places-push first (suc n) = ap (λ ms. first ∷ ms) (places-push (suc first) n ∙ ap (λ m. places (suc first) n ++ m ∷ []) (omega arith))
 
 -- a position that is found is the first place where the test passes
-pub position_is : {X : Type 0} (p : X → Bool) (xs : List X) (at : ℕ) → position p xs ≡ Some at → (position_or_len p xs ≡ at) × (position_or_len p xs < length xs)
+pub position_is : {X : Type 0} (p : X → Bool) (xs : List X) (at : ℕ) →
+    position p xs ≡ Some at →
+    (position_or_len p xs ≡ at) × (position_or_len p xs < length xs)
 position_is {X} p xs at e = go (nat_lt (position_or_len p xs) (length xs)) refl e
   where
-    go : (b : Bool) → nat_lt (position_or_len p xs) (length xs) ≡ b → cond b (Some (position_or_len p xs)) None ≡ Some at → (position_or_len p xs ≡ at) × (position_or_len p xs < length xs)
+    go : (b : Bool) →
+        nat_lt (position_or_len p xs) (length xs) ≡ b →
+        cond b (Some (position_or_len p xs)) None ≡ Some at →
+        (position_or_len p xs ≡ at) × (position_or_len p xs < length xs)
     go true is f = let same : Some (position_or_len p xs) ≡ Some at = f in (cc, (Decides-ltb (position_or_len p xs) (length xs)).0 is)
     go false is f = let none : None ≡ Some at = f in cc
 
@@ -30,30 +35,48 @@ no_position {X} p xs e = go (nat_lt (position_or_len p xs) (length xs)) refl e
     go false is f = grind (arith, nat_tests, is)
 
 -- a node that is found by its name is put in its place
-pub put_node-found : {C : Type 0} (node : NodeState C) (nodes : List (NodeState C)) → position_or_len (λ other. same_name node.name other.name) nodes < length nodes → slice_set nodes (position_or_len (λ other. same_name node.name other.name) nodes) node ≡ put_node node nodes
+pub put_node-found : {C : Type 0} (node : NodeState C) (nodes : List (NodeState C)) →
+    position_or_len (λ other. same_name node.name other.name) nodes < length nodes →
+    slice_set nodes (position_or_len (λ other. same_name node.name other.name) nodes) node ≡ put_node node nodes
 put_node-found node [] h = absurd (omega arith)
-put_node-found {C} node (other ∷ others) h = go (same_name node.name other.name) (position_or_len (λ (n : NodeState C). same_name node.name n.name) others) (put_node-found node others) h
+put_node-found {C} node (other ∷ others) h =
+    go (same_name node.name other.name) (position_or_len (λ (n : NodeState C). same_name node.name n.name) others) (put_node-found node others) h
   where
-    go : (b : Bool) (k : ℕ) → (k < length others → slice_set others k node ≡ put_node node others) → cond (not b) (1 + k) 0 < length (other ∷ others) → slice_set (other ∷ others) (cond (not b) (1 + k) 0) node ≡ (if b then node ∷ others else other ∷ put_node node others)
+    go : (b : Bool) (k : ℕ) →
+        (k < length others → slice_set others k node ≡ put_node node others) →
+        cond (not b) (1 + k) 0 < length (other ∷ others) →
+        slice_set (other ∷ others) (cond (not b) (1 + k) 0) node ≡ (if b then node ∷ others else other ∷ put_node node others)
     go true k later h = refl
     go false k later h =
         let one : 1 + k ≡ suc k = omega arith in
         rw one (ap (λ ns. other ∷ ns) (later (omega arith)))
 
 -- one that is not found is put last
-pub put_node-absent : {C : Type 0} (node : NodeState C) (nodes : List (NodeState C)) → length nodes ≤ position_or_len (λ other. same_name node.name other.name) nodes → nodes ++ node ∷ [] ≡ put_node node nodes
+pub put_node-absent : {C : Type 0} (node : NodeState C) (nodes : List (NodeState C)) →
+    length nodes ≤ position_or_len (λ other. same_name node.name other.name) nodes →
+    nodes ++ node ∷ [] ≡ put_node node nodes
 put_node-absent node [] h = refl
-put_node-absent {C} node (other ∷ others) h = go (same_name node.name other.name) (position_or_len (λ (n : NodeState C). same_name node.name n.name) others) (put_node-absent node others) h
+put_node-absent {C} node (other ∷ others) h =
+    go (same_name node.name other.name) (position_or_len (λ (n : NodeState C). same_name node.name n.name) others) (put_node-absent node others) h
   where
-    go : (b : Bool) (k : ℕ) → (length others ≤ k → others ++ node ∷ [] ≡ put_node node others) → length (other ∷ others) ≤ cond (not b) (1 + k) 0 → other ∷ (others ++ node ∷ []) ≡ (if b then node ∷ others else other ∷ put_node node others)
+    go : (b : Bool) (k : ℕ) →
+        (length others ≤ k → others ++ node ∷ [] ≡ put_node node others) →
+        length (other ∷ others) ≤ cond (not b) (1 + k) 0 →
+        other ∷ (others ++ node ∷ []) ≡ (if b then node ∷ others else other ∷ put_node node others)
     go true k later h = absurd (omega arith)
     go false k later h = ap (λ ns. other ∷ ns) (later (omega arith))
 
 -- both, by what a search for the place answers
-pub put_node-at : {C : Type 0} (node : NodeState C) (nodes : List (NodeState C)) (at : ℕ) → position (λ other. same_name node.name other.name) nodes ≡ Some at → slice_set nodes at node ≡ put_node node nodes
+pub put_node-at : {C : Type 0} (node : NodeState C) (nodes : List (NodeState C)) (at : ℕ) →
+    position (λ other. same_name node.name other.name) nodes ≡ Some at →
+    slice_set nodes at node ≡ put_node node nodes
 put_node-at {C} node nodes at e =
-    let found : (position_or_len (λ (n : NodeState C). same_name node.name n.name) nodes ≡ at) × (position_or_len (λ (n : NodeState C). same_name node.name n.name) nodes < length nodes) = position_is (λ (n : NodeState C). same_name node.name n.name) nodes at e in
+    let found : (position_or_len (λ (n : NodeState C). same_name node.name n.name) nodes ≡ at)
+    × (position_or_len (λ (n : NodeState C). same_name node.name n.name) nodes < length nodes) =
+    position_is (λ (n : NodeState C). same_name node.name n.name) nodes at e in
     subst (λ k. slice_set nodes k node ≡ put_node node nodes) found.0 (put_node-found node nodes found.1)
 
-pub put_node-last : {C : Type 0} (node : NodeState C) (nodes : List (NodeState C)) → position (λ other. same_name node.name other.name) nodes ≡ None → nodes ++ node ∷ [] ≡ put_node node nodes
+pub put_node-last : {C : Type 0} (node : NodeState C) (nodes : List (NodeState C)) →
+    position (λ other. same_name node.name other.name) nodes ≡ None →
+    nodes ++ node ∷ [] ≡ put_node node nodes
 put_node-last {C} node nodes e = put_node-absent node nodes (no_position (λ (n : NodeState C). same_name node.name n.name) nodes e)

@@ -28,11 +28,19 @@ use Rattle.world.specs.declared.node_state.NodeState.{NodeState}
 use Rattle.world.specs.declared.packet.Packet.{Packet}
 
 -- a running node is not absent
-pub not_absent : {C : Type 0} (name : Name) (nodes : List (NodeState C)) (node : NodeState C) (core : C) → node_of name nodes ≡ Some node → node.core ≡ Some core → absent (node_of name nodes) ≡ None
+pub not_absent : {C : Type 0} (name : Name) (nodes : List (NodeState C)) (node : NodeState C) (core : C) →
+    node_of name nodes ≡ Some node →
+    node.core ≡ Some core →
+    absent (node_of name nodes) ≡ None
 not_absent name nodes node core known running = rw known (rw running refl)
 
 -- a broadcast of a short payload by a running node is not refused
-pub broadcast_accepted : {C N : Type 0} (limits : Limits) (group : Group C N) (name : Name) (payload : List ℕ) (event : Event) (node : NodeState C) (core : C) → event ≡ Broadcast name payload → node_of name group.nodes ≡ Some node → node.core ≡ Some core → length payload ≤ MAX_PAYLOAD → refusal limits group event ≡ None
+pub broadcast_accepted : {C N : Type 0} (limits : Limits) (group : Group C N) (name : Name) (payload : List ℕ) (event : Event) (node : NodeState C) (core : C) →
+    event ≡ Broadcast name payload →
+    node_of name group.nodes ≡ Some node →
+    node.core ≡ Some core →
+    length payload ≤ MAX_PAYLOAD →
+    refusal limits group event ≡ None
 broadcast_accepted limits group name payload event node core is known running short =
     let fits : nat_le (length payload) MAX_PAYLOAD ≡ true = grind (arith, nat_tests) in
     rw is (rw (not_absent name group.nodes node core known running) (rw fits refl))
@@ -64,7 +72,9 @@ tells_arrival state starts steps limits event before entry after place dice numb
     record {
       of_event = of_event;
       first_sent = first;
-      effect = subst (λ e. Effect state starts steps limits before entry after e) (sym is) (record { number = number; packet = packet; in_flight = in_flight; sent = sent; named = named; acts = acts });
+      effect =
+          subst (λ e. Effect state starts steps limits before entry after e) (sym is)
+          (record { number = number; packet = packet; in_flight = in_flight; sent = sent; named = named; acts = acts });
     }
 
 -- a start that is not refused, with what the core sent, tells its event
@@ -88,25 +98,37 @@ pub tells_start :
     IsTrue (are_peers limits name peers contact) →
     starts (record { name = name; incarnation = incarnation }) limits peers contact sends core →
     made ≡ packets (record { name = name; incarnation = incarnation }) sends →
-    Tells state starts steps limits event before (record { event = event; packet = None; first_sent = length before.sent; moved = false; given = [] }) (group_after before (Some (record { name = name; highest = incarnation; core = Some core })) made None None)
+    Tells state starts steps limits event before
+    (record { event = event; packet = None; first_sent = length before.sent; moved = false; given = [] })
+    (group_after before (Some (record { name = name; highest = incarnation; core = Some core })) made None None)
 tells_start {C} {N} state starts steps limits event before name incarnation peers contact sends made core is fresh fit started are =
     record {
       of_event = refl;
       first_sent = refl;
-      effect = subst (λ e. Effect state starts steps limits before (record { event = event; packet = None; first_sent = length before.sent; moved = false; given = [] }) (group_after before (Some (record { name = name; highest = incarnation; core = Some core })) made None None) e) (sym is) (
-        refl,
-        record {
-          core = core;
-          sends = sends;
-          fresh = is_fresher (node_of name before.nodes) fresh;
-          fit = fit;
-          started = started;
-          nodes = refl;
-          sending = record { sent = ap (λ ps. before.sent ++ ps) are; flight = ap (λ n. before.flight ++ places (length before.sent) n) (ap length are ∙ length-map sends (λ (send : Name × N). record { sender = record { name = name; incarnation = incarnation }; to = send.0; note = send.1 })) };
-          nothing_given = refl;
-          nothing_moved = refl;
-        },
-      );
+      effect = subst (λ e. Effect state starts steps limits before
+          (record { event = event; packet = None; first_sent = length before.sent; moved = false; given = [] })
+          (group_after before (Some (record { name = name; highest = incarnation; core = Some core })) made None None)
+          e)
+          (sym is) (
+            refl,
+            record {
+              core = core;
+              sends = sends;
+              fresh = is_fresher (node_of name before.nodes) fresh;
+              fit = fit;
+              started = started;
+              nodes = refl;
+              sending =
+                  record {
+                    sent = ap (λ ps. before.sent ++ ps) are;
+                    flight =
+                        ap (λ n. before.flight ++ places (length before.sent) n) (ap length are ∙ length-map sends
+                        (λ (send : Name × N). record { sender = record { name = name; incarnation = incarnation }; to = send.0; note = send.1 }));
+                  };
+              nothing_given = refl;
+              nothing_moved = refl;
+            },
+          );
     }
   where
     is_fresher : (o : Option (NodeState C)) → stale o incarnation ≡ None → IfSome o (λ node. node.highest.0 < incarnation.0)

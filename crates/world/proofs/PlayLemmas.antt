@@ -1,5 +1,6 @@
 -- A list of events that is played may be played on by one more.
-use Rattle.std.proofs.Common.{◌≡◌, ◌+◌, ◌<◌, ℕ, List, [], ◌∷◌, ◌++◌, length, take, get_or, suc, sym, ◌∙◌, ap, refl, subst, arith, append_assoc, add-zero, length-take}
+use Rattle.std.proofs.Common.{◌≡◌, ◌+◌, ◌<◌, ℕ, List, [], ◌∷◌, ◌++◌, length, take, get_or, suc, sym}
+use Rattle.std.proofs.Common.{◌∙◌, ap, refl, subst, arith, append_assoc, add-zero, length-take}
 use Rattle.std.specs.Prelude.{Option}
 use Rattle.std.proofs.lemmas.List.{append-nil, take_more}
 use Rattle.node_names.specs.NodeName.{Name}
@@ -20,7 +21,10 @@ module _
     (steps : C → Stimulus N → List (Name × N) → List Delivery → C → Type 0)
   where
     -- the event behind all events
-    pub Plays-push : (at : ℕ) (events : List Event) (event : Event) (given : List Given) (first : List Delivery) (old between new : Logged C N) → Plays state starts steps at events given old between → Applied state starts steps event first between new → Plays state starts steps at (events ++ event ∷ []) (given ++ given_at (at + length events) first) old new
+    pub Plays-push : (at : ℕ) (events : List Event) (event : Event) (given : List Given) (first : List Delivery) (old between new : Logged C N) →
+        Plays state starts steps at events given old between →
+        Applied state starts steps event first between new →
+        Plays state starts steps at (events ++ event ∷ []) (given ++ given_at (at + length events) first) old new
     Plays-push at [] event given first old between new played applied = (
       new,
       first,
@@ -35,14 +39,21 @@ module _
           gave,
           later ++ given_at (suc at + length events) first,
           now,
-          ap (λ gs. gs ++ given_at (at + length (e ∷ events)) first) are ∙ append_assoc (given_at at gave) later (given_at (at + length (e ∷ events)) first) ∙ ap (λ k. given_at at gave ++ (later ++ given_at k first)) longer,
+          ap (λ gs. gs ++ given_at (at + length (e ∷ events)) first) are
+              ∙ append_assoc (given_at at gave) later (given_at (at + length (e ∷ events)) first)
+              ∙ ap (λ k. given_at at gave ++ (later ++ given_at k first)) longer,
           Plays-push (suc at) events event later first mid between new rest applied,
         )
 
     -- one more event of a list
-    pub Plays_more : (events : List Event) (k : ℕ) (d : Event) (given more : List Given) (old between new : Logged C N) → k < length events → Plays state starts steps 0 (take k events) given old between → PlaysOn state starts steps k (get_or events k d) given between more new → Plays state starts steps 0 (take (k + 1) events) more old new
+    pub Plays_more : (events : List Event) (k : ℕ) (d : Event) (given more : List Given) (old between new : Logged C N) →
+        k < length events →
+        Plays state starts steps 0 (take k events) given old between →
+        PlaysOn state starts steps k (get_or events k d) given between more new →
+        Plays state starts steps 0 (take (k + 1) events) more old new
     Plays_more events k d given more old between new within played on =
         let count : 0 + length (take k events) ≡ k = simp length-take (omega arith) in
         subst (λ es. Plays state starts steps 0 es more old new) (sym (take_more events k d within))
-        (subst (λ gs. Plays state starts steps 0 (take k events ++ get_or events k d ∷ []) gs old new) (sym (on.noted ∙ ap (λ n. given ++ given_at n on.delivered) (sym count)))
+        (subst (λ gs. Plays state starts steps 0 (take k events ++ get_or events k d ∷ []) gs old new)
+        (sym (on.noted ∙ ap (λ n. given ++ given_at n on.delivered) (sym count)))
         (Plays-push 0 (take k events) (get_or events k d) given on.delivered old between new played on.applied))

@@ -46,19 +46,29 @@ module _
             has = λ id d. before.has id (delivered_before past entry (state core).me id none d);
           };
           sound = kept.sound;
-          packets = each-weaken (λ packet. KeepsPacket content past packet) (λ packet. KeepsPacket content (entry ∷ past) packet) sent (λ packet h. record { from_other = h.from_other; carries = λ id p e. inr (h.carries id p e) }) kept.packets;
-          below = λ origin id d. let was : IsStarted past origin = kept.below origin id (delivered_before past entry origin id none d) in record { last = was.last; started = starts_none origin.name (incarnation_of origin.name past) ∙ was.started; not_later = was.not_later };
+          packets =
+              each-weaken (λ packet. KeepsPacket content past packet) (λ packet. KeepsPacket content (entry ∷ past) packet) sent
+              (λ packet h. record { from_other = h.from_other; carries = λ id p e. inr (h.carries id p e) }) kept.packets;
+          below =
+              λ origin id d.
+              let was : IsStarted past origin = kept.below origin id (delivered_before past entry origin id none d) in
+              record { last = was.last; started = starts_none origin.name (incarnation_of origin.name past) ∙ was.started; not_later = was.not_later };
           honest = (each_given (λ (d : Delivery). Said (entry ∷ past) d.id d.payload) entry.given none, kept.honest);
           once = once_before past entry none kept.once;
         }
 
     -- a node that stops
-    pub stop_keeps : (history : List Entry) (node : NodeState C) → Keeps state content is_sound limits history nodes sent → node_of node.name nodes ≡ Some node → Keeps state content is_sound limits history (put_node (record node { core = None }) nodes) sent
+    pub stop_keeps : (history : List Entry) (node : NodeState C) →
+        Keeps state content is_sound limits history nodes sent →
+        node_of node.name nodes ≡ Some node →
+        Keeps state content is_sound limits history (put_node (record node { core = None }) nodes) sent
     stop_keeps history node kept known =
         record {
           highest = λ name. highest_stays name (record node { core = None }) node nodes known refl ∙ kept.highest name;
           cores = λ name found core at runs. elim (put_cases name (record node { core = None }) found nodes at) [
-            | inl here ↦ subst (λ (n : NodeState C). n.core ≡ Some core → KeepsCore state is_sound limits history n core) here.1 (λ e. let no : None ≡ Some core = e in cc) runs
+            | inl here ↦
+                subst (λ (n : NodeState C). n.core ≡ Some core → KeepsCore state is_sound limits history n core) here.1
+                (λ e. let no : None ≡ Some core = e in cc) runs
             | inr there ↦ kept.cores name found core there.1 runs
           ];
           sound = each-put_node (λ (n : NodeState C). IfSome n.core (λ k. is_sound limits k)) (record node { core = None }) nodes kept.sound tt;

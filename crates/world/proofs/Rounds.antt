@@ -30,7 +30,11 @@ often_without : (r s : ℕ) (xs : List ℕ) → 1 ≤ often r xs → often s xs 
 often_without r s [] some = absurd (omega arith)
 often_without r s (x ∷ xs) some = go (r == x) refl some (often_without r s xs)
   where
-    go : (b : Bool) → (r == x) ≡ b → 1 ≤ cond {A = ℕ} b 1 0 + often r xs → (1 ≤ often r xs → often s xs ≡ cond {A = ℕ} (s == r) 1 0 + often s (without r xs)) → cond {A = ℕ} (s == x) 1 0 + often s xs ≡ cond {A = ℕ} (s == r) 1 0 + often s (cond b xs (x ∷ without r xs))
+    go : (b : Bool) →
+        (r == x) ≡ b →
+        1 ≤ cond {A = ℕ} b 1 0 + often r xs →
+        (1 ≤ often r xs → often s xs ≡ cond {A = ℕ} (s == r) 1 0 + often s (without r xs)) →
+        cond {A = ℕ} (s == x) 1 0 + often s xs ≡ cond {A = ℕ} (s == r) 1 0 + often s (cond b xs (x ∷ without r xs))
     go true same more later = let is : x ≡ r = sym (eqb-true r x same) in ap (λ y. cond {A = ℕ} (s == y) 1 0 + often s xs) is
     go false apart more later =
         let some_left : 1 ≤ often r xs = omega arith in
@@ -43,7 +47,10 @@ length_without : (r : ℕ) (xs : List ℕ) → 1 ≤ often r xs → length xs �
 length_without r [] some = absurd (omega arith)
 length_without r (x ∷ xs) some = go (r == x) some (length_without r xs)
   where
-    go : (b : Bool) → 1 ≤ cond {A = ℕ} b 1 0 + often r xs → (1 ≤ often r xs → length xs ≡ suc (length (without r xs))) → length (x ∷ xs) ≡ suc (length (cond b xs (x ∷ without r xs)))
+    go : (b : Bool) →
+        1 ≤ cond {A = ℕ} b 1 0 + often r xs →
+        (1 ≤ often r xs → length xs ≡ suc (length (without r xs))) →
+        length (x ∷ xs) ≡ suc (length (cond b xs (x ∷ without r xs)))
     go true more later = refl
     go false more later = let some_left : 1 ≤ often r xs = omega arith in ap suc (later some_left)
 
@@ -80,17 +87,23 @@ rounds id (entry ∷ entries) = cond (same_id id entry.0) (entry.1 ∷ rounds id
 
 rounds_often : (id : MsgId) (r : ℕ) (entries : List (MsgId × ℕ)) → often r (rounds id entries) ≡ times_announced id r entries
 rounds_often id r [] = refl
-rounds_often id r (entry ∷ entries) = go (same_id id entry.0) (rounds_often id r entries) ∙ sym (sum_by-cons (λ (e : MsgId × ℕ). cond {A = ℕ} (same_id id e.0 && (r == e.1)) 1 0) entry entries)
+rounds_often id r (entry ∷ entries) =
+    go (same_id id entry.0) (rounds_often id r entries) ∙ sym (sum_by-cons (λ (e : MsgId × ℕ). cond {A = ℕ} (same_id id e.0 && (r == e.1)) 1 0) entry entries)
   where
-    go : (b : Bool) → often r (rounds id entries) ≡ times_announced id r entries → often r (cond b (entry.1 ∷ rounds id entries) (rounds id entries)) ≡ cond {A = ℕ} (b && (r == entry.1)) 1 0 + times_announced id r entries
+    go : (b : Bool) →
+        often r (rounds id entries) ≡ times_announced id r entries →
+        often r (cond b (entry.1 ∷ rounds id entries) (rounds id entries)) ≡ cond {A = ℕ} (b && (r == entry.1)) 1 0 + times_announced id r entries
     go true later = ap (λ n. cond {A = ℕ} (r == entry.1) 1 0 + n) later
     go false later = let same : often r (rounds id entries) ≡ 0 + times_announced id r entries = omega arith in same
 
 rounds_length : (id : MsgId) (entries : List (MsgId × ℕ)) → length (rounds id entries) ≡ entries_announced id entries
 rounds_length id [] = refl
-rounds_length id (entry ∷ entries) = go (same_id id entry.0) (rounds_length id entries) ∙ sym (sum_by-cons (λ (e : MsgId × ℕ). cond {A = ℕ} (same_id id e.0) 1 0) entry entries)
+rounds_length id (entry ∷ entries) =
+    go (same_id id entry.0) (rounds_length id entries) ∙ sym (sum_by-cons (λ (e : MsgId × ℕ). cond {A = ℕ} (same_id id e.0) 1 0) entry entries)
   where
-    go : (b : Bool) → length (rounds id entries) ≡ entries_announced id entries → length (cond b (entry.1 ∷ rounds id entries) (rounds id entries)) ≡ cond {A = ℕ} b 1 0 + entries_announced id entries
+    go : (b : Bool) →
+        length (rounds id entries) ≡ entries_announced id entries →
+        length (cond b (entry.1 ∷ rounds id entries) (rounds id entries)) ≡ cond {A = ℕ} b 1 0 + entries_announced id entries
     go true later = let same : suc (length (rounds id entries)) ≡ 1 + entries_announced id entries = omega arith in same
     go false later = let same : length (rounds id entries) ≡ 0 + entries_announced id entries = omega arith in same
 
@@ -103,11 +116,16 @@ abbrev sent_rounds : {N : Type 0} → (N → Content) → MsgId → Name → Lis
 sent_rounds content id to [] = []
 sent_rounds content id to (send ∷ sends) = cond (same_name to send.0) (rounds id (content send.1).announced) [] ++ sent_rounds content id to sends
 
-sent_often : {N : Type 0} (content : N → Content) (id : MsgId) (to : Name) (r : ℕ) (sends : List (Name × N)) → often r (sent_rounds content id to sends) ≡ announcements content to id r sends
+sent_often : {N : Type 0} (content : N → Content) (id : MsgId) (to : Name) (r : ℕ) (sends : List (Name × N)) →
+    often r (sent_rounds content id to sends) ≡ announcements content to id r sends
 sent_often content id to r [] = refl
 sent_often {N} content id to r (send ∷ sends) =
-    let both : often r (sent_rounds content id to (send ∷ sends)) ≡ often r (cond (same_name to send.0) (rounds id (content send.1).announced) []) + often r (sent_rounds content id to sends) = often_both r (cond (same_name to send.0) (rounds id (content send.1).announced) []) (sent_rounds content id to sends) in
-    let here : often r (cond (same_name to send.0) (rounds id (content send.1).announced) []) ≡ cond (same_name to send.0) (times_announced id r (content send.1).announced) 0 = go (same_name to send.0) in
+    let both : often r (sent_rounds content id to (send ∷ sends))
+    ≡ often r (cond (same_name to send.0) (rounds id (content send.1).announced) []) + often r (sent_rounds content id to sends) =
+    often_both r (cond (same_name to send.0) (rounds id (content send.1).announced) []) (sent_rounds content id to sends) in
+    let here : often r (cond (same_name to send.0) (rounds id (content send.1).announced) [])
+    ≡ cond (same_name to send.0) (times_announced id r (content send.1).announced) 0 =
+    go (same_name to send.0) in
     let later : often r (sent_rounds content id to sends) ≡ announcements content to id r sends = sent_often content id to r sends in
     both ∙ (λ i. here i + later i)
   where
@@ -115,11 +133,16 @@ sent_often {N} content id to r (send ∷ sends) =
     go true = rounds_often id r (content send.1).announced
     go false = refl
 
-sent_length : {N : Type 0} (content : N → Content) (id : MsgId) (to : Name) (sends : List (Name × N)) → length (sent_rounds content id to sends) ≡ announced_to content id to sends
+sent_length : {N : Type 0} (content : N → Content) (id : MsgId) (to : Name) (sends : List (Name × N)) →
+    length (sent_rounds content id to sends) ≡ announced_to content id to sends
 sent_length content id to [] = refl
 sent_length {N} content id to (send ∷ sends) =
-    let both : length (sent_rounds content id to (send ∷ sends)) ≡ length (cond (same_name to send.0) (rounds id (content send.1).announced) []) + length (sent_rounds content id to sends) = length-append (cond (same_name to send.0) (rounds id (content send.1).announced) []) (sent_rounds content id to sends) in
-    let here : length (cond (same_name to send.0) (rounds id (content send.1).announced) []) ≡ cond (same_name to send.0) (entries_announced id (content send.1).announced) 0 = go (same_name to send.0) in
+    let both : length (sent_rounds content id to (send ∷ sends))
+    ≡ length (cond (same_name to send.0) (rounds id (content send.1).announced) []) + length (sent_rounds content id to sends) =
+    length-append (cond (same_name to send.0) (rounds id (content send.1).announced) []) (sent_rounds content id to sends) in
+    let here : length (cond (same_name to send.0) (rounds id (content send.1).announced) [])
+    ≡ cond (same_name to send.0) (entries_announced id (content send.1).announced) 0 =
+    go (same_name to send.0) in
     let later : length (sent_rounds content id to sends) ≡ announced_to content id to sends = sent_length content id to sends in
     both ∙ (λ i. here i + later i) ∙ sym (sum_by-cons (λ (s : Name × N). cond (same_name to s.0) (entries_announced id (content s.1).announced) 0) send sends)
   where
@@ -130,30 +153,44 @@ sent_length {N} content id to (send ∷ sends) =
 -- the rounds at which the message is queued for the name
 abbrev queued_rounds : MsgId → Name → List (Name × MsgId × ℕ) → List ℕ
 queued_rounds id name [] = []
-queued_rounds id name (entry ∷ queued) = cond (same_name name entry.0 && same_id id entry.1) (entry.2 ∷ queued_rounds id name queued) (queued_rounds id name queued)
+queued_rounds id name (entry ∷ queued) =
+    cond (same_name name entry.0 && same_id id entry.1) (entry.2 ∷ queued_rounds id name queued) (queued_rounds id name queued)
 
 queued_often : (id : MsgId) (name : Name) (r : ℕ) (queued : List (Name × MsgId × ℕ)) → often r (queued_rounds id name queued) ≡ times_queued name id r queued
 queued_often id name r [] = refl
-queued_often id name r (entry ∷ queued) = go (same_name name entry.0) (same_id id entry.1) (queued_often id name r queued) ∙ sym (sum_by-cons (λ (e : Name × MsgId × ℕ). cond {A = ℕ} (same_name name e.0 && (same_id id e.1 && (r == e.2))) 1 0) entry queued)
+queued_often id name r (entry ∷ queued) =
+    go (same_name name entry.0) (same_id id entry.1) (queued_often id name r queued)
+    ∙ sym (sum_by-cons (λ (e : Name × MsgId × ℕ). cond {A = ℕ} (same_name name e.0 && (same_id id e.1 && (r == e.2))) 1 0) entry queued)
   where
-    go : (a b : Bool) → often r (queued_rounds id name queued) ≡ times_queued name id r queued → often r (cond (a && b) (entry.2 ∷ queued_rounds id name queued) (queued_rounds id name queued)) ≡ cond {A = ℕ} (a && (b && (r == entry.2))) 1 0 + times_queued name id r queued
+    go : (a b : Bool) →
+        often r (queued_rounds id name queued) ≡ times_queued name id r queued →
+        often r (cond (a && b) (entry.2 ∷ queued_rounds id name queued) (queued_rounds id name queued))
+        ≡ cond {A = ℕ} (a && (b && (r == entry.2))) 1 0 + times_queued name id r queued
     go true true later = ap (λ n. cond {A = ℕ} (r == entry.2) 1 0 + n) later
     go true false later = let same : often r (queued_rounds id name queued) ≡ 0 + times_queued name id r queued = omega arith in same
     go false b later = let same : often r (queued_rounds id name queued) ≡ 0 + times_queued name id r queued = omega arith in same
 
 queued_length : (id : MsgId) (name : Name) (queued : List (Name × MsgId × ℕ)) → length (queued_rounds id name queued) ≡ entries_queued id name queued
 queued_length id name [] = refl
-queued_length id name (entry ∷ queued) = go (same_name name entry.0 && same_id id entry.1) (queued_length id name queued) ∙ sym (sum_by-cons (λ (e : Name × MsgId × ℕ). cond {A = ℕ} (same_name name e.0 && same_id id e.1) 1 0) entry queued)
+queued_length id name (entry ∷ queued) =
+    go (same_name name entry.0 && same_id id entry.1) (queued_length id name queued)
+    ∙ sym (sum_by-cons (λ (e : Name × MsgId × ℕ). cond {A = ℕ} (same_name name e.0 && same_id id e.1) 1 0) entry queued)
   where
-    go : (b : Bool) → length (queued_rounds id name queued) ≡ entries_queued id name queued → length (cond b (entry.2 ∷ queued_rounds id name queued) (queued_rounds id name queued)) ≡ cond {A = ℕ} b 1 0 + entries_queued id name queued
+    go : (b : Bool) →
+        length (queued_rounds id name queued) ≡ entries_queued id name queued →
+        length (cond b (entry.2 ∷ queued_rounds id name queued) (queued_rounds id name queued)) ≡ cond {A = ℕ} b 1 0 + entries_queued id name queued
     go true later = let same : suc (length (queued_rounds id name queued)) ≡ 1 + entries_queued id name queued = omega arith in same
     go false later = let same : length (queued_rounds id name queued) ≡ 0 + entries_queued id name queued = omega arith in same
 
 -- so where each round is announced as often as it was queued, no more is announced than was queued
-pub announced_queued : {N : Type 0} (content : N → Content) (id : MsgId) (name : Name) (sends : List (Name × N)) (queued : List (Name × MsgId × ℕ)) → ((r : ℕ) → announcements content name id r sends ≡ times_queued name id r queued) → announced_to content id name sends ≤ entries_queued id name queued
+pub announced_queued : {N : Type 0} (content : N → Content) (id : MsgId) (name : Name) (sends : List (Name × N)) (queued : List (Name × MsgId × ℕ)) →
+    ((r : ℕ) → announcements content name id r sends ≡ times_queued name id r queued) →
+    announced_to content id name sends ≤ entries_queued id name queued
 announced_queued content id name sends queued same =
     let sent : length (sent_rounds content id name sends) ≡ announced_to content id name sends = sent_length content id name sends in
     let waited : length (queued_rounds id name queued) ≡ entries_queued id name queued = queued_length id name queued in
-    let less : length (sent_rounds content id name sends) ≤ length (queued_rounds id name queued) = as_many (sent_rounds content id name sends) (queued_rounds id name queued) (λ r. sent_often content id name r sends ∙ same r ∙ sym (queued_often id name r queued)) in
+    let less : length (sent_rounds content id name sends) ≤ length (queued_rounds id name queued) =
+    as_many (sent_rounds content id name sends) (queued_rounds id name queued)
+    (λ r. sent_often content id name r sends ∙ same r ∙ sym (queued_often id name r queued)) in
     let all : announced_to content id name sends ≤ entries_queued id name queued = omega arith in
     all

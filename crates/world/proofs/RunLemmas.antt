@@ -36,8 +36,10 @@ pub same_world :
     sent ≡ group.sent →
     flight ≡ group.flight →
     entries ≡ log →
-    ◌≡◌ {A = Logged C N} (record { limits = limits; group = record { nodes = nodes; sent = sent; flight = flight }; log = entries }) (record { limits = limits; group = group; log = log })
-same_world limits group log nodes sent flight entries p q r s = λ i. record { limits = limits; group = record { nodes = p i; sent = q i; flight = r i }; log = s i }
+    ◌≡◌ {A = Logged C N} (record { limits = limits; group = record { nodes = nodes; sent = sent; flight = flight }; log = entries })
+    (record { limits = limits; group = group; log = log })
+same_world limits group log nodes sent flight entries p q r s =
+    λ i. record { limits = limits; group = record { nodes = p i; sent = q i; flight = r i }; log = s i }
 
 -- what holds in any case holds after a refusal
 pub refused_anyway : {X E : Type 0} (result : Result X E) (P : Type 0) → P → OnErr result P
@@ -51,10 +53,17 @@ module _
     (steps : C → Stimulus N → List (Name × N) → List Delivery → C → Type 0)
   where
     -- one more entry that says what happened makes a longer run
-    pub run_goes_on : (limits : Limits) (log longer : List Entry) (before after : Group C N) (entry : Entry) → Run state starts steps limits (reverse log) before → Happens state starts steps limits before entry after → longer ≡ log ++ entry ∷ [] → Run state starts steps limits (reverse longer) after
+    pub run_goes_on : (limits : Limits) (log longer : List Entry) (before after : Group C N) (entry : Entry) →
+        Run state starts steps limits (reverse log) before →
+        Happens state starts steps limits before entry after →
+        longer ≡ log ++ entry ∷ [] →
+        Run state starts steps limits (reverse longer) after
     run_goes_on limits log longer before after entry run happens is =
         subst (λ history. Run state starts steps limits history after) (sym (ap reverse is ∙ reverse-append log (entry ∷ []))) (before, run, happens)
 
     -- an entry that tells an event says what happened
-    pub happens_as_told : (limits : Limits) (event : Event) (before after : Group C N) (entry : Entry) → Tells state starts steps limits event before entry after → Happens state starts steps limits before entry after
-    happens_as_told limits event before after entry told = (told.first_sent, subst (λ e. Effect state starts steps limits before entry after e) (sym told.of_event) told.effect)
+    pub happens_as_told : (limits : Limits) (event : Event) (before after : Group C N) (entry : Entry) →
+        Tells state starts steps limits event before entry after →
+        Happens state starts steps limits before entry after
+    happens_as_told limits event before after entry told =
+        (told.first_sent, subst (λ e. Effect state starts steps limits before entry after e) (sym told.of_event) told.effect)

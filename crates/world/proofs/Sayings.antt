@@ -56,10 +56,15 @@ more id last few many less is =
     }
 
 -- what was counted before an event is counted after it
-still : (id : MsgId) (past : List Entry) (event : Event) → IsFreshAfter past event → IsCounted id (incarnation_of id.origin.name past) (broadcasts_of id.origin.name past) → IsCounted id (started_by id.origin.name event (incarnation_of id.origin.name past)) (counted_by id.origin.name event (broadcasts_of id.origin.name past))
+still : (id : MsgId) (past : List Entry) (event : Event) →
+    IsFreshAfter past event →
+    IsCounted id (incarnation_of id.origin.name past) (broadcasts_of id.origin.name past) →
+    IsCounted id (started_by id.origin.name event (incarnation_of id.origin.name past)) (counted_by id.origin.name event (broadcasts_of id.origin.name past))
 still id past (Start name incarnation peers contact) fresh is = go (same_name id.origin.name name) refl
   where
-    go : (b : Bool) → same_name id.origin.name name ≡ b → IsCounted id (cond b (Some incarnation) (incarnation_of id.origin.name past)) (cond b 0 (broadcasts_of id.origin.name past))
+    go : (b : Bool) →
+        same_name id.origin.name name ≡ b →
+        IsCounted id (cond b (Some incarnation) (incarnation_of id.origin.name past)) (cond b 0 (broadcasts_of id.origin.name past))
     go false apart = is
     go true same =
         let here : id.origin.name ≡ name = (same_name-Decides id.origin.name name).0 same in
@@ -82,11 +87,15 @@ still id past (Join name contact) fresh is = is
 still id past (Stop name) fresh is = is
 
 -- what an event says is counted after it
-now : (id : MsgId) (p : List ℕ) (past : List Entry) (event : Event) → Says event past id p → IsCounted id (started_by id.origin.name event (incarnation_of id.origin.name past)) (counted_by id.origin.name event (broadcasts_of id.origin.name past))
+now : (id : MsgId) (p : List ℕ) (past : List Entry) (event : Event) →
+    Says event past id p →
+    IsCounted id (started_by id.origin.name event (incarnation_of id.origin.name past)) (counted_by id.origin.name event (broadcasts_of id.origin.name past))
 now id p past (Broadcast name payload) says =
     let here : same_name id.origin.name name ≡ true = (same_name-Decides id.origin.name name).1 says.0 in
     let seq : id.seq ≡ suc (broadcasts_of id.origin.name past) = says.2 ∙ ap (λ n. suc (broadcasts_of n past)) (sym says.0) in
-    let count : cond (same_name id.origin.name name) (suc (broadcasts_of id.origin.name past)) (broadcasts_of id.origin.name past) ≡ suc (broadcasts_of id.origin.name past) = ap (λ b. cond b (suc (broadcasts_of id.origin.name past)) (broadcasts_of id.origin.name past)) here in
+    let count : cond (same_name id.origin.name name) (suc (broadcasts_of id.origin.name past)) (broadcasts_of id.origin.name past)
+    ≡ suc (broadcasts_of id.origin.name past) =
+    ap (λ b. cond b (suc (broadcasts_of id.origin.name past)) (broadcasts_of id.origin.name past)) here in
     record {
       incarnation = id.origin.incarnation;
       started = subst (λ n. incarnation_of n past ≡ Some id.origin.incarnation) (sym says.0) says.1;
@@ -104,7 +113,10 @@ now id p past (Join name contact) says = absurd says
 now id p past (Stop name) says = absurd says
 
 -- so whatever was said is counted
-pub said_counted : (id : MsgId) (p : List ℕ) (history : List Entry) → AreFresh history → Said history id p → IsCounted id (incarnation_of id.origin.name history) (broadcasts_of id.origin.name history)
+pub said_counted : (id : MsgId) (p : List ℕ) (history : List Entry) →
+    AreFresh history →
+    Said history id p →
+    IsCounted id (incarnation_of id.origin.name history) (broadcasts_of id.origin.name history)
 said_counted id p [] fresh said = absurd said
 said_counted id p (entry ∷ past) fresh said =
     elim said [
@@ -113,9 +125,13 @@ said_counted id p (entry ∷ past) fresh said =
     ]
 
 -- and not said again
-pub not_again : (id : MsgId) (p : List ℕ) (past : List Entry) (event : Event) → Says event past id p → IsCounted id (incarnation_of id.origin.name past) (broadcasts_of id.origin.name past) → ⊥
+pub not_again : (id : MsgId) (p : List ℕ) (past : List Entry) (event : Event) →
+    Says event past id p →
+    IsCounted id (incarnation_of id.origin.name past) (broadcasts_of id.origin.name past) →
+    ⊥
 not_again id p past (Broadcast name payload) says is =
-    let started : incarnation_of id.origin.name past ≡ Some id.origin.incarnation = subst (λ n. incarnation_of n past ≡ Some id.origin.incarnation) (sym says.0) says.1 in
+    let started : incarnation_of id.origin.name past ≡ Some id.origin.incarnation =
+    subst (λ n. incarnation_of n past ≡ Some id.origin.incarnation) (sym says.0) says.1 in
     let same : Some id.origin.incarnation ≡ Some is.incarnation = sym started ∙ is.started in
     let this : id.origin.incarnation ≡ is.incarnation = cc in
     let equal : id.origin.incarnation.0 ≡ is.incarnation.0 = ap (λ (i : Incarnation). i.0) this in

@@ -24,7 +24,10 @@ use Rattle.world.proofs.GivenLemmas.{given_either, once-append}
 use Rattle.world.proofs.Kept.{IsStarted, Keeps, KeepsCore, KeepsPacket, each-append, each-both, each-weaken, greater_than-last, highest_of, highest_of-put}
 
 -- an entry that gives nothing adds no delivery
-pub delivered_before : (past : List Entry) (entry : Entry) (origin : Origin) (id : MsgId) → entry.given ≡ [] → Delivered (entry ∷ past) origin id → Delivered past origin id
+pub delivered_before : (past : List Entry) (entry : Entry) (origin : Origin) (id : MsgId) →
+    entry.given ≡ [] →
+    Delivered (entry ∷ past) origin id →
+    Delivered past origin id
 delivered_before past entry origin id none d =
     elim (given_either (deliveries past) entry.given origin id d) [
       | inl before ↦ before
@@ -87,21 +90,37 @@ module _
         }
 
     -- a core of another name
-    core_waits : (found : NodeState C) (other : C) → (found.name ≡ me.name → ⊥) → KeepsCore state is_sound limits past found other → KeepsCore state is_sound limits (entry ∷ past) found other
+    core_waits : (found : NodeState C) (other : C) →
+        (found.name ≡ me.name → ⊥) →
+        KeepsCore state is_sound limits past found other →
+        KeepsCore state is_sound limits (entry ∷ past) found other
     core_waits found other differs before =
         record {
           sound = before.sound;
           is_me = before.is_me;
-          counts = before.counts ∙ sym (resets found.name (broadcasts_of found.name past) ∙ ap (λ b. cond b 0 (broadcasts_of found.name past)) (tells_apart found.name me.name differs));
+          counts =
+              before.counts
+              ∙ sym
+              (resets found.name (broadcasts_of found.name past) ∙ ap (λ b. cond b 0 (broadcasts_of found.name past)) (tells_apart found.name me.name differs));
           holds = λ id p e. inr (before.holds id p e);
           has = λ id d. before.has id (delivered_before past entry (state other).me id none d);
         }
 
     -- every core
-    cores_start : (name : Name) (found : NodeState C) (other : C) → node_of name (put_node (record { name = me.name; highest = me.incarnation; core = Some new }) nodes) ≡ Some found → found.core ≡ Some other → KeepsCore state is_sound limits (entry ∷ past) found other
+    cores_start : (name : Name) (found : NodeState C) (other : C) →
+        node_of name (put_node (record { name = me.name; highest = me.incarnation; core = Some new }) nodes) ≡ Some found →
+        found.core ≡ Some other →
+        KeepsCore state is_sound limits (entry ∷ past) found other
     cores_start name found other at runs =
         elim (put_cases name (record { name = me.name; highest = me.incarnation; core = Some new }) found nodes at) [
-          | inl here ↦ subst (λ (n : NodeState C). n.core ≡ Some other → KeepsCore state is_sound limits (entry ∷ past) n other) here.1 (λ e. let same : Some new ≡ Some other = e in let is : new ≡ other = cc in subst (λ k. KeepsCore state is_sound limits (entry ∷ past) (record { name = me.name; highest = me.incarnation; core = Some new }) k) is core_started) runs
+          | inl here ↦
+              subst (λ (n : NodeState C). n.core ≡ Some other → KeepsCore state is_sound limits (entry ∷ past) n other) here.1
+              (λ e.
+              let same : Some new ≡ Some other = e in
+              let is : new ≡ other = cc in
+              subst
+              (λ k. KeepsCore state is_sound limits (entry ∷ past) (record { name = me.name; highest = me.incarnation; core = Some new }) k) is core_started)
+              runs
           | inr there ↦ core_waits found other (λ e. there.0 (found_name name nodes found there.1 ∙ e)) (kept.cores name found other there.1 runs)
         ]
 
@@ -109,9 +128,11 @@ module _
     packets_start : Each (λ packet. KeepsPacket content (entry ∷ past) packet) (sent ++ packets me sends)
     packets_start =
         each-append (λ packet. KeepsPacket content (entry ∷ past) packet) sent (packets me sends)
-        (each-weaken (λ packet. KeepsPacket content past packet) (λ packet. KeepsPacket content (entry ∷ past) packet) sent (λ packet h. record { from_other = h.from_other; carries = λ id p e. inr (h.carries id p e) }) kept.packets)
+        (each-weaken (λ packet. KeepsPacket content past packet) (λ packet. KeepsPacket content (entry ∷ past) packet) sent
+        (λ packet h. record { from_other = h.from_other; carries = λ id p e. inr (h.carries id p e) }) kept.packets)
         (each-map (λ (send : Name × N). record { sender = me; to = send.0; note = send.1 }) (λ packet. KeepsPacket content (entry ∷ past) packet) sends
-        (each-both (λ send. send.0 ≢ me.name) (λ send. IsSilent (content send.1)) (λ send. KeepsPacket content (entry ∷ past) (record { sender = me; to = send.0; note = send.1 })) sends
+        (each-both (λ send. send.0 ≢ me.name) (λ send. IsSilent (content send.1))
+        (λ send. KeepsPacket content (entry ∷ past) (record { sender = me; to = send.0; note = send.1 })) sends
         (λ send away silent. record { from_other = λ e. away (sym e); carries = λ id p e. let no : None ≡ Some (id, p) = sym silent.carries_nothing ∙ e in cc })
         law.sends_to_others law.sends_silent))
 
@@ -124,20 +145,36 @@ module _
             let here : origin.name ≡ me.name = (same_name-Decides origin.name me.name).0 is in
             let less : was.last.0 < me.incarnation.0 = greater was.last (subst (λ name. incarnation_of name past ≡ Some was.last) here was.started) in
             let earlier : origin.incarnation.0 ≤ was.last.0 = was.not_later in
-            record { last = me.incarnation; started = begins origin.name (incarnation_of origin.name past) ∙ ap (λ b. cond b (Some me.incarnation) (incarnation_of origin.name past)) is; not_later = omega arith }
-        go false is was = record { last = was.last; started = begins origin.name (incarnation_of origin.name past) ∙ ap (λ b. cond b (Some me.incarnation) (incarnation_of origin.name past)) is ∙ was.started; not_later = was.not_later }
+            record {
+              last = me.incarnation;
+              started = begins origin.name (incarnation_of origin.name past) ∙ ap (λ b. cond b (Some me.incarnation) (incarnation_of origin.name past)) is;
+              not_later = omega arith;
+            }
+        go false is was = record {
+          last = was.last;
+          started =
+              begins origin.name (incarnation_of origin.name past) ∙ ap (λ b. cond b (Some me.incarnation) (incarnation_of origin.name past)) is ∙ was.started;
+          not_later = was.not_later;
+        }
 
     -- the last start of each name
-    highest_start : (name : Name) → highest_of name (put_node (record { name = me.name; highest = me.incarnation; core = Some new }) nodes) ≡ incarnation_of name (entry ∷ past)
-    highest_start name = highest_of-put name (record { name = me.name; highest = me.incarnation; core = Some new }) nodes ∙ ap (λ last. cond (same_name name me.name) (Some me.incarnation) last) (kept.highest name) ∙ sym (begins name (incarnation_of name past))
+    highest_start : (name : Name) →
+        highest_of name (put_node (record { name = me.name; highest = me.incarnation; core = Some new }) nodes) ≡ incarnation_of name (entry ∷ past)
+    highest_start name =
+        highest_of-put name (record { name = me.name; highest = me.incarnation; core = Some new }) nodes
+        ∙ ap (λ last. cond (same_name name me.name) (Some me.incarnation) last) (kept.highest name)
+        ∙ sym (begins name (incarnation_of name past))
 
     -- all together
-    pub start_keeps : Keeps state content is_sound limits (entry ∷ past) (put_node (record { name = me.name; highest = me.incarnation; core = Some new }) nodes) (sent ++ packets me sends)
+    pub start_keeps : Keeps state content is_sound limits (entry ∷ past)
+        (put_node (record { name = me.name; highest = me.incarnation; core = Some new }) nodes) (sent ++ packets me sends)
     start_keeps =
         record {
           highest = highest_start;
           cores = cores_start;
-          sound = each-put_node (λ (n : NodeState C). IfSome n.core (λ k. is_sound limits k)) (record { name = me.name; highest = me.incarnation; core = Some new }) nodes kept.sound sound;
+          sound =
+              each-put_node (λ (n : NodeState C). IfSome n.core (λ k. is_sound limits k))
+              (record { name = me.name; highest = me.incarnation; core = Some new }) nodes kept.sound sound;
           packets = packets_start;
           below = below_start;
           honest = (each_given (λ (d : Delivery). Said (entry ∷ past) d.id d.payload) entry.given none, kept.honest);

@@ -30,7 +30,8 @@ use Rattle.world.proofs.Kept.{IsStarted, Keeps, KeepsCore, KeepsPacket, each-app
 
 -- The entry is of an event that is this stimulus to the core of the name: it starts nothing, counts as the core does,
 -- and what it brings is said by then.
-pub record IsStepOf {N : Type 0} (content : N → Content) (before : CoreState) (name : Name) (stimulus : Stimulus N) (entry : Entry) (past : List Entry) : Type 0 where
+pub record IsStepOf {N : Type 0} (content : N → Content) (before : CoreState) (name : Name) (stimulus : Stimulus N) (entry : Entry) (past : List Entry) :
+    Type 0 where
   pub starts_none : (other : Name) (last : Option Incarnation) → started_by other entry.event last ≡ last
   pub counts : (n : ℕ) → counted_by name entry.event n ≡ count_after n stimulus
   pub counts_no_other : (other : Name) (n : ℕ) → (other ≡ name → ⊥) → counted_by other entry.event n ≡ n
@@ -38,7 +39,9 @@ pub record IsStepOf {N : Type 0} (content : N → Content) (before : CoreState) 
   pub brings : (id : MsgId) (p : List ℕ) → Brings content before stimulus id p → Said (entry ∷ past) id p
 
 -- a step delivers at most one message
-pub few : {N : Type 0} (content : N → Content) (before : CoreState) (stimulus : Stimulus N) (xs : List MsgId) → Delivers content before stimulus xs → (xs ≡ []) ⊎ ((id : MsgId) × (xs ≡ id ∷ []))
+pub few : {N : Type 0} (content : N → Content) (before : CoreState) (stimulus : Stimulus N) (xs : List MsgId) →
+    Delivers content before stimulus xs →
+    (xs ≡ []) ⊎ ((id : MsgId) × (xs ≡ id ∷ []))
 few content before (Broadcast payload) xs e = inr (record { origin = before.me; seq = before.count + 1 }, e)
 few content before (Arrive sender note dice) xs e = few_news (content note).carried e
   where
@@ -52,7 +55,10 @@ few content before (Shuffle dice) xs e = inl e
 few content before (Join contact) xs e = inl e
 
 -- a node in the place of one of the same name and incarnation leaves the last incarnations
-pub highest_stays : {C : Type 0} (other : Name) (node found : NodeState C) (nodes : List (NodeState C)) → node_of node.name nodes ≡ Some found → found.highest ≡ node.highest → highest_of other (put_node node nodes) ≡ highest_of other nodes
+pub highest_stays : {C : Type 0} (other : Name) (node found : NodeState C) (nodes : List (NodeState C)) →
+    node_of node.name nodes ≡ Some found →
+    found.highest ≡ node.highest →
+    highest_of other (put_node node nodes) ≡ highest_of other nodes
 highest_stays {C} other node found nodes known same = highest_of-put other node nodes ∙ go (same_name other node.name) refl
   where
     go : (b : Bool) → same_name other node.name ≡ b → cond b (Some node.highest) (highest_of other nodes) ≡ highest_of other nodes
@@ -101,7 +107,10 @@ module _
         }
 
     -- a core of another name
-    core_stays : (found : NodeState C) (other : C) → (found.name ≡ node.name → ⊥) → KeepsCore state is_sound limits past found other → KeepsCore state is_sound limits (entry ∷ past) found other
+    core_stays : (found : NodeState C) (other : C) →
+        (found.name ≡ node.name → ⊥) →
+        KeepsCore state is_sound limits past found other →
+        KeepsCore state is_sound limits (entry ∷ past) found other
     core_stays found other differs before =
         record {
           sound = before.sound;
@@ -117,10 +126,18 @@ module _
         }
 
     -- every core
-    cores_step : (name : Name) (found : NodeState C) (other : C) → node_of name (put_node (record node { core = Some new }) nodes) ≡ Some found → found.core ≡ Some other → KeepsCore state is_sound limits (entry ∷ past) found other
+    cores_step : (name : Name) (found : NodeState C) (other : C) →
+        node_of name (put_node (record node { core = Some new }) nodes) ≡ Some found →
+        found.core ≡ Some other →
+        KeepsCore state is_sound limits (entry ∷ past) found other
     cores_step name found other at runs =
         elim (put_cases name (record node { core = Some new }) found nodes at) [
-          | inl here ↦ subst (λ (n : NodeState C). n.core ≡ Some other → KeepsCore state is_sound limits (entry ∷ past) n other) here.1 (λ e. let same : Some new ≡ Some other = e in let is : new ≡ other = cc in subst (λ k. KeepsCore state is_sound limits (entry ∷ past) (record node { core = Some new }) k) is core_stepped) runs
+          | inl here ↦
+              subst (λ (n : NodeState C). n.core ≡ Some other → KeepsCore state is_sound limits (entry ∷ past) n other) here.1
+              (λ e.
+              let same : Some new ≡ Some other = e in
+              let is : new ≡ other = cc in subst (λ k. KeepsCore state is_sound limits (entry ∷ past) (record node { core = Some new }) k) is core_stepped)
+              runs
           | inr there ↦ core_stays found other (λ e. there.0 (found_name name nodes found there.1 ∙ e)) (kept.cores name found other there.1 runs)
         ]
 
@@ -128,20 +145,35 @@ module _
     packets_step : Each (λ packet. KeepsPacket content (entry ∷ past) packet) (sent ++ packets (origin_of node) sends)
     packets_step =
         each-append (λ packet. KeepsPacket content (entry ∷ past) packet) sent (packets (origin_of node) sends)
-        (each-weaken (λ packet. KeepsPacket content past packet) (λ packet. KeepsPacket content (entry ∷ past) packet) sent (λ packet h. record { from_other = h.from_other; carries = λ id p e. inr (h.carries id p e) }) kept.packets)
-        (each-map (λ (send : Name × N). record { sender = origin_of node; to = send.0; note = send.1 }) (λ packet. KeepsPacket content (entry ∷ past) packet) sends
-        (each-both (λ send. send.0 ≢ (state old).me.name) (λ send. (id : MsgId) (p : List ℕ) → (content send.1).carried ≡ Some (id, p) → IsKnownPayload content (state old) stimulus id p) (λ send. KeepsPacket content (entry ∷ past) (record { sender = origin_of node; to = send.0; note = send.1 })) sends
-        (λ send away carried. record { from_other = λ e. away (sym e ∙ ap (λ (o : Origin). o.name) (sym core.is_me)); carries = λ id p e. known_said id p (carried id p e) })
+        (each-weaken (λ packet. KeepsPacket content past packet) (λ packet. KeepsPacket content (entry ∷ past) packet) sent
+        (λ packet h. record { from_other = h.from_other; carries = λ id p e. inr (h.carries id p e) }) kept.packets)
+        (each-map (λ (send : Name × N). record { sender = origin_of node; to = send.0; note = send.1 })
+        (λ packet. KeepsPacket content (entry ∷ past) packet) sends
+        (each-both (λ send. send.0 ≢ (state old).me.name)
+        (λ send. (id : MsgId) (p : List ℕ) → (content send.1).carried ≡ Some (id, p) → IsKnownPayload content (state old) stimulus id p)
+        (λ send. KeepsPacket content (entry ∷ past) (record { sender = origin_of node; to = send.0; note = send.1 }))
+        sends
+        (λ send away carried. record {
+          from_other = λ e. away (sym e ∙ ap (λ (o : Origin). o.name) (sym core.is_me));
+          carries = λ id p e. known_said id p (carried id p e);
+        })
         law.views law.payloads.sent))
 
     -- whoever delivered was started
     below_step : (origin : Origin) (id : MsgId) → Delivered (entry ∷ past) origin id → IsStarted (entry ∷ past) origin
     below_step origin id d =
         elim (given_either (deliveries past) entry.given origin id d) [
-          | inl before ↦ let was : IsStarted past origin = kept.below origin id before in record { last = was.last; started = step.starts_none origin.name (incarnation_of origin.name past) ∙ was.started; not_later = was.not_later }
+          | inl before ↦
+              let was : IsStarted past origin = kept.below origin id before in
+              record { last = was.last; started = step.starts_none origin.name (incarnation_of origin.name past) ∙ was.started; not_later = was.not_later }
           | inr now ↦
               let here : origin_of node ≡ origin = sym (given_here (state old).me entry.given origin id law.deliveries.here now ∙ core.is_me) in
-              subst (λ o. IsStarted (entry ∷ past) o) here (record { last = node.highest; started = step.starts_none node.name (incarnation_of node.name past) ∙ sym (kept.highest node.name) ∙ highest_of-found node.name nodes node known; not_later = omega arith })
+              subst (λ o. IsStarted (entry ∷ past) o) here (record {
+                last = node.highest;
+                started =
+                    step.starts_none node.name (incarnation_of node.name past) ∙ sym (kept.highest node.name) ∙ highest_of-found node.name nodes node known;
+                not_later = omega arith;
+              })
         ]
 
     -- nothing is delivered twice
@@ -155,14 +187,22 @@ module _
         false≢true (sym lacked ∙ had))
 
     -- all together
-    pub step_keeps : Keeps state content is_sound limits (entry ∷ past) (put_node (record node { core = Some new }) nodes) (sent ++ packets (origin_of node) sends)
+    pub step_keeps : Keeps state content is_sound limits (entry ∷ past)
+        (put_node (record node { core = Some new }) nodes) (sent ++ packets (origin_of node) sends)
     step_keeps =
         record {
-          highest = λ name. highest_stays name (record node { core = Some new }) node nodes known refl ∙ kept.highest name ∙ sym (step.starts_none name (incarnation_of name past));
+          highest =
+              λ name. highest_stays name (record node { core = Some new }) node nodes known refl
+              ∙ kept.highest name
+              ∙ sym (step.starts_none name (incarnation_of name past));
           cores = cores_step;
           sound = each-put_node (λ (n : NodeState C). IfSome n.core (λ k. is_sound limits k)) (record node { core = Some new }) nodes kept.sound sound;
           packets = packets_step;
           below = below_step;
-          honest = (each-weaken (λ (d : Delivery). IsKnownPayload content (state old) stimulus d.id d.payload) (λ (d : Delivery). Said (entry ∷ past) d.id d.payload) entry.given (λ d h. known_said d.id d.payload h) law.payloads.delivered, kept.honest);
+          honest = (
+            each-weaken (λ (d : Delivery). IsKnownPayload content (state old) stimulus d.id d.payload)
+                (λ (d : Delivery). Said (entry ∷ past) d.id d.payload) entry.given (λ d h. known_said d.id d.payload h) law.payloads.delivered,
+            kept.honest,
+          );
           once = once_step;
         }

@@ -57,7 +57,9 @@ module _
       pub stays : (number : ℕ) → IsOneOf number before.flight → IsOneOf number staying ⊎ IsArrivalOf before.sent name by number
       pub flew : (w : Packet N → ℕ) → flying_weight w before.sent before.flight ≡ arriving w name by + flying_weight w before.sent staying
       pub stayed : (number : ℕ) → IsOneOf number staying → IsOneOf number before.flight
-      pub was_sent : (sender : Origin) (note : N) (dice : Dice) → by ≡ stimulus.Arrive sender note dice → (number : ℕ) × (packet : Packet N) × (slice_get before.sent number ≡ Some packet) × (packet.sender ≡ sender) × (packet.note ≡ note)
+      pub was_sent : (sender : Origin) (note : N) (dice : Dice) →
+          by ≡ stimulus.Arrive sender note dice →
+          (number : ℕ) × (packet : Packet N) × (slice_get before.sent number ≡ Some packet) × (packet.sender ≡ sender) × (packet.note ≡ note)
 
     module _ (kept : Keeps state content is_sound limits past before.nodes before.sent) where
       -- a step of a running core by a stimulus that is not from itself
@@ -70,7 +72,9 @@ module _
           ((number : ℕ) → IsOneOf number before.flight → IsOneOf number staying ⊎ IsArrivalOf before.sent name by number) →
           ((w : Packet N → ℕ) → flying_weight w before.sent before.flight ≡ arriving w name by + flying_weight w before.sent staying) →
           ((number : ℕ) → IsOneOf number staying → IsOneOf number before.flight) →
-          ((sender : Origin) (note : N) (dice : Dice) → by ≡ stimulus.Arrive sender note dice → (number : ℕ) × (packet : Packet N) × (slice_get before.sent number ≡ Some packet) × (packet.sender ≡ sender) × (packet.note ≡ note)) →
+          ((sender : Origin) (note : N) (dice : Dice) →
+          by ≡ stimulus.Arrive sender note dice →
+          (number : ℕ) × (packet : Packet N) × (slice_get before.sent number ≡ Some packet) × (packet.sender ≡ sender) × (packet.note ≡ note)) →
           IsStep name by
       step_by staying name by acts from_other stays flew stayed was_sent =
           let core : KeepsCore state is_sound limits past acts.node acts.old = kept.cores name acts.node acts.old acts.known acts.running in
@@ -95,39 +99,70 @@ module _
       passed_by w = let same : flying_weight w before.sent before.flight ≡ 0 + flying_weight w before.sent before.flight = omega arith in same
 
       -- a broadcast
-      pub broadcast_step : (name : Name) (payload : List ℕ) → Acts state steps before before.flight name (stimulus.Broadcast payload) entry after → IsStep name (stimulus.Broadcast payload)
-      broadcast_step name payload acts = step_by before.flight name (stimulus.Broadcast payload) acts tt (λ number flies. inl flies) (λ w. passed_by w) (λ number stays. stays) (λ sender note dice e. let no : stimulus.Broadcast payload ≡ stimulus.Arrive sender note dice = e in cc)
+      pub broadcast_step : (name : Name) (payload : List ℕ) →
+          Acts state steps before before.flight name (stimulus.Broadcast payload) entry after →
+          IsStep name (stimulus.Broadcast payload)
+      broadcast_step name payload acts =
+          step_by before.flight name (stimulus.Broadcast payload) acts tt (λ number flies. inl flies) (λ w. passed_by w)
+          (λ number stays. stays) (λ sender note dice e. let no : stimulus.Broadcast payload ≡ stimulus.Arrive sender note dice = e in cc)
 
       -- a firing
       pub fire_step : (name : Name) (id : _) → Acts state steps before before.flight name (stimulus.Fire id) entry after → IsStep name (stimulus.Fire id)
-      fire_step name id acts = step_by before.flight name (stimulus.Fire id) acts tt (λ number flies. inl flies) (λ w. passed_by w) (λ number stays. stays) (λ sender note dice e. let no : stimulus.Fire id ≡ stimulus.Arrive sender note dice = e in cc)
+      fire_step name id acts =
+          step_by before.flight name (stimulus.Fire id) acts tt (λ number flies. inl flies) (λ w. passed_by w)
+          (λ number stays. stays) (λ sender note dice e. let no : stimulus.Fire id ≡ stimulus.Arrive sender note dice = e in cc)
 
       -- a flush
       pub flush_step : (name : Name) → Acts state steps before before.flight name stimulus.Flush entry after → IsStep name stimulus.Flush
-      flush_step name acts = step_by before.flight name stimulus.Flush acts tt (λ number flies. inl flies) (λ w. passed_by w) (λ number stays. stays) (λ sender note dice e. let no : stimulus.Flush ≡ stimulus.Arrive sender note dice = e in cc)
+      flush_step name acts =
+          step_by before.flight name stimulus.Flush acts tt (λ number flies. inl flies) (λ w. passed_by w)
+          (λ number stays. stays) (λ sender note dice e. let no : stimulus.Flush ≡ stimulus.Arrive sender note dice = e in cc)
 
       -- a failed link
-      pub down_step : (name peer : Name) (dice : Dice) → Acts state steps before before.flight name (stimulus.Down peer dice) entry after → IsStep name (stimulus.Down peer dice)
-      down_step name peer dice acts = step_by before.flight name (stimulus.Down peer dice) acts tt (λ number flies. inl flies) (λ w. passed_by w) (λ number stays. stays) (λ sender note other e. let no : stimulus.Down peer dice ≡ stimulus.Arrive sender note other = e in cc)
+      pub down_step : (name peer : Name) (dice : Dice) →
+          Acts state steps before before.flight name (stimulus.Down peer dice) entry after →
+          IsStep name (stimulus.Down peer dice)
+      down_step name peer dice acts =
+          step_by before.flight name (stimulus.Down peer dice) acts tt (λ number flies. inl flies) (λ w. passed_by w)
+          (λ number stays. stays) (λ sender note other e. let no : stimulus.Down peer dice ≡ stimulus.Arrive sender note other = e in cc)
 
       -- a tick
-      pub shuffle_step : (name : Name) (dice : Dice) → Acts state steps before before.flight name (stimulus.Shuffle dice) entry after → IsStep name (stimulus.Shuffle dice)
-      shuffle_step name dice acts = step_by before.flight name (stimulus.Shuffle dice) acts tt (λ number flies. inl flies) (λ w. passed_by w) (λ number stays. stays) (λ sender note other e. let no : stimulus.Shuffle dice ≡ stimulus.Arrive sender note other = e in cc)
+      pub shuffle_step : (name : Name) (dice : Dice) →
+          Acts state steps before before.flight name (stimulus.Shuffle dice) entry after →
+          IsStep name (stimulus.Shuffle dice)
+      shuffle_step name dice acts =
+          step_by before.flight name (stimulus.Shuffle dice) acts tt (λ number flies. inl flies) (λ w. passed_by w)
+          (λ number stays. stays) (λ sender note other e. let no : stimulus.Shuffle dice ≡ stimulus.Arrive sender note other = e in cc)
 
       -- a joining
-      pub join_step : (name contact : Name) → Acts state steps before before.flight name (stimulus.Join contact) entry after → IsStep name (stimulus.Join contact)
-      join_step name contact acts = step_by before.flight name (stimulus.Join contact) acts tt (λ number flies. inl flies) (λ w. passed_by w) (λ number stays. stays) (λ sender note dice e. let no : stimulus.Join contact ≡ stimulus.Arrive sender note dice = e in cc)
+      pub join_step : (name contact : Name) →
+          Acts state steps before before.flight name (stimulus.Join contact) entry after →
+          IsStep name (stimulus.Join contact)
+      join_step name contact acts =
+          step_by before.flight name (stimulus.Join contact) acts tt (λ number flies. inl flies) (λ w. passed_by w)
+          (λ number stays. stays) (λ sender note dice e. let no : stimulus.Join contact ≡ stimulus.Arrive sender note dice = e in cc)
 
       -- an arrival
-      pub arrive_step : (place : ℕ) (dice : Dice) (effect : Arrives state steps before place (λ packet. stimulus.Arrive packet.sender packet.note dice) entry after) → IsStep effect.packet.to (stimulus.Arrive effect.packet.sender effect.packet.note dice)
+      pub arrive_step : (place : ℕ) (dice : Dice)
+          (effect : Arrives state steps before place (λ packet. stimulus.Arrive packet.sender packet.note dice) entry after) →
+          IsStep effect.packet.to (stimulus.Arrive effect.packet.sender effect.packet.note dice)
       arrive_step place dice effect =
-          let packet : KeepsPacket content past effect.packet = each-at (λ p. KeepsPacket content past p) before.sent effect.number effect.packet kept.packets effect.sent in
+          let packet : KeepsPacket content past effect.packet =
+          each-at (λ p. KeepsPacket content past p) before.sent effect.number effect.packet kept.packets effect.sent in
           step_by (remove before.flight place) effect.packet.to (stimulus.Arrive effect.packet.sender effect.packet.note dice) effect.acts packet.from_other
           (λ number flies. elim (stays_or_leaves before.flight place effect.number number effect.in_flight flies) [
-            | inl arrives ↦ inr (record { packet = effect.packet; dice = dice; was_sent = subst (λ k. slice_get before.sent k ≡ Some effect.packet) (sym arrives) effect.sent; receiver = refl; arrives = refl })
+            | inl arrives ↦
+                inr (record {
+                  packet = effect.packet;
+                  dice = dice;
+                  was_sent = subst (λ k. slice_get before.sent k ≡ Some effect.packet) (sym arrives) effect.sent;
+                  receiver = refl;
+                  arrives = refl;
+                })
             | inr stays ↦ inl stays
           ])
-          (λ w. sum_removed (λ number. weight_of w (slice_get before.sent number)) before.flight place effect.number effect.in_flight ∙ ap (λ o. weight_of w o + flying_weight w before.sent (remove before.flight place)) effect.sent)
+          (λ w. sum_removed (λ number. weight_of w (slice_get before.sent number)) before.flight place effect.number effect.in_flight
+          ∙ ap (λ o. weight_of w o + flying_weight w before.sent (remove before.flight place)) effect.sent)
           (λ number stays. one_removed before.flight place number stays)
           (λ sender note other e.
           let this : stimulus.Arrive effect.packet.sender effect.packet.note dice ≡ stimulus.Arrive sender note other = e in

@@ -63,44 +63,62 @@ weighs_nothing w (packet ∷ sent) (suc number) none =
 pub flying_none : {N : Type 0} (w : Packet N → ℕ) (sent : List (Packet N)) (flight : List ℕ) → sum_by w sent ≡ 0 → flying_weight w sent flight ≡ 0
 flying_none w sent [] none = refl
 flying_none w sent (number ∷ flight) none =
-    let both : flying_weight w sent (number ∷ flight) ≡ weight_of w (slice_get sent number) + flying_weight w sent flight = sum_by-cons (λ n. weight_of w (slice_get sent n)) number flight in
+    let both : flying_weight w sent (number ∷ flight) ≡ weight_of w (slice_get sent number) + flying_weight w sent flight =
+    sum_by-cons (λ n. weight_of w (slice_get sent n)) number flight in
     let here : weight_of w (slice_get sent number) ≡ 0 = weighs_nothing w sent number none in
     let later : flying_weight w sent flight ≡ 0 = flying_none w sent flight none in
     let all : flying_weight w sent (number ∷ flight) ≡ 0 = omega arith in
     all
 
 -- what was in flight weighs the same when more was sent
-flying_same : {N : Type 0} (w : Packet N → ℕ) (sent more : List (Packet N)) (flight : List ℕ) → AreSent sent flight → flying_weight w (sent ++ more) flight ≡ flying_weight w sent flight
+flying_same : {N : Type 0} (w : Packet N → ℕ) (sent more : List (Packet N)) (flight : List ℕ) →
+    AreSent sent flight →
+    flying_weight w (sent ++ more) flight ≡ flying_weight w sent flight
 flying_same w sent more [] sound = refl
 flying_same w sent more (number ∷ flight) sound =
-    let all : flying_weight w (sent ++ more) (number ∷ flight) ≡ weight_of w (slice_get (sent ++ more) number) + flying_weight w (sent ++ more) flight = sum_by-cons (λ n. weight_of w (slice_get (sent ++ more) n)) number flight in
-    let before : flying_weight w sent (number ∷ flight) ≡ weight_of w (slice_get sent number) + flying_weight w sent flight = sum_by-cons (λ n. weight_of w (slice_get sent n)) number flight in
+    let all : flying_weight w (sent ++ more) (number ∷ flight) ≡ weight_of w (slice_get (sent ++ more) number) + flying_weight w (sent ++ more) flight =
+    sum_by-cons (λ n. weight_of w (slice_get (sent ++ more) n)) number flight in
+    let before : flying_weight w sent (number ∷ flight) ≡ weight_of w (slice_get sent number) + flying_weight w sent flight =
+    sum_by-cons (λ n. weight_of w (slice_get sent n)) number flight in
     let here : weight_of w (slice_get (sent ++ more) number) ≡ weight_of w (slice_get sent number) = ap (weight_of w) (get_left sent more number sound.0) in
     let later : flying_weight w (sent ++ more) flight ≡ flying_weight w sent flight = flying_same w sent more flight sound.1 in
     let same : flying_weight w (sent ++ more) (number ∷ flight) ≡ flying_weight w sent (number ∷ flight) = omega arith in
     same
 
 -- the packets at consecutive places weigh as much as the list of them
-places_weigh : {N : Type 0} (w : Packet N → ℕ) (all rest : List (Packet N)) (from : ℕ) → ((k : ℕ) → slice_get all (from + k) ≡ slice_get rest k) → flying_weight w all (places from (length rest)) ≡ sum_by w rest
+places_weigh : {N : Type 0} (w : Packet N → ℕ) (all rest : List (Packet N)) (from : ℕ) →
+    ((k : ℕ) → slice_get all (from + k) ≡ slice_get rest k) →
+    flying_weight w all (places from (length rest)) ≡ sum_by w rest
 places_weigh w all [] from there = refl
 places_weigh w all (packet ∷ rest) from there =
-    let whole : flying_weight w all (places from (length (packet ∷ rest))) ≡ weight_of w (slice_get all from) + flying_weight w all (places (suc from) (length rest)) = sum_by-cons (λ n. weight_of w (slice_get all n)) from (places (suc from) (length rest)) in
+    let whole : flying_weight w all (places from (length (packet ∷ rest)))
+    ≡ weight_of w (slice_get all from) + flying_weight w all (places (suc from) (length rest)) =
+    sum_by-cons (λ n. weight_of w (slice_get all n)) from (places (suc from) (length rest)) in
     let list : sum_by w (packet ∷ rest) ≡ w packet + sum_by w rest = sum_by-cons w packet rest in
     let at : from + 0 ≡ from = omega arith in
     let here : weight_of w (slice_get all from) ≡ w packet = ap (λ n. weight_of w (slice_get all n)) (sym at) ∙ ap (weight_of w) (there 0) in
-    let later : flying_weight w all (places (suc from) (length rest)) ≡ sum_by w rest = places_weigh w all rest (suc from) (λ k. let next : suc from + k ≡ from + suc k = omega arith in ap (λ n. slice_get all n) next ∙ there (suc k)) in
+    let later : flying_weight w all (places (suc from) (length rest)) ≡ sum_by w rest =
+    places_weigh w all rest (suc from) (λ k. let next : suc from + k ≡ from + suc k = omega arith in ap (λ n. slice_get all n) next ∙ there (suc k)) in
     let same : flying_weight w all (places from (length (packet ∷ rest))) ≡ sum_by w (packet ∷ rest) = omega arith in
     same
 
 -- what a step sends comes on top in flight
-pub flying_more : {N : Type 0} (w : Packet N → ℕ) (sent : List (Packet N)) (staying : List ℕ) (sender : Origin) (sends : List (Name × N)) → AreSent sent staying → flying_weight w (sent ++ packets sender sends) (staying ++ places (length sent) (length sends)) ≡ flying_weight w sent staying + sum_by w (packets sender sends)
+pub flying_more : {N : Type 0} (w : Packet N → ℕ) (sent : List (Packet N)) (staying : List ℕ) (sender : Origin) (sends : List (Name × N)) →
+    AreSent sent staying →
+    flying_weight w (sent ++ packets sender sends) (staying ++ places (length sent) (length sends))
+    ≡ flying_weight w sent staying + sum_by w (packets sender sends)
 flying_more {N} w sent staying sender sends sound =
     let many : length (packets sender sends) ≡ length sends = length-map sends (λ (send : Name × N). record { sender = sender; to = send.0; note = send.1 }) in
     let new : flying_weight w (sent ++ packets sender sends) (places (length sent) (length sends)) ≡ sum_by w (packets sender sends) =
-    subst (λ n. flying_weight w (sent ++ packets sender sends) (places (length sent) n) ≡ sum_by w (packets sender sends)) many (places_weigh w (sent ++ packets sender sends) (packets sender sends) (length sent) (get_appended sent (packets sender sends))) in
+    subst (λ n. flying_weight w (sent ++ packets sender sends) (places (length sent) n) ≡ sum_by w (packets sender sends)) many
+    (places_weigh w (sent ++ packets sender sends) (packets sender sends) (length sent) (get_appended sent (packets sender sends))) in
     let old : flying_weight w (sent ++ packets sender sends) staying ≡ flying_weight w sent staying = flying_same w sent (packets sender sends) staying sound in
-    let both : flying_weight w (sent ++ packets sender sends) (staying ++ places (length sent) (length sends)) ≡ flying_weight w (sent ++ packets sender sends) staying + flying_weight w (sent ++ packets sender sends) (places (length sent) (length sends)) = sum_by-append (λ n. weight_of w (slice_get (sent ++ packets sender sends) n)) staying (places (length sent) (length sends)) in
-    let all : flying_weight w (sent ++ packets sender sends) (staying ++ places (length sent) (length sends)) ≡ flying_weight w sent staying + sum_by w (packets sender sends) = omega arith in
+    let both : flying_weight w (sent ++ packets sender sends) (staying ++ places (length sent) (length sends))
+    ≡ flying_weight w (sent ++ packets sender sends) staying + flying_weight w (sent ++ packets sender sends) (places (length sent) (length sends)) =
+    sum_by-append (λ n. weight_of w (slice_get (sent ++ packets sender sends) n)) staying (places (length sent) (length sends)) in
+    let all : flying_weight w (sent ++ packets sender sends) (staying ++ places (length sent) (length sends))
+    ≡ flying_weight w sent staying + sum_by w (packets sender sends) =
+    omega arith in
     all
 
 -- a list weighs what leaves it and what stays
@@ -118,7 +136,8 @@ sum_removed f (y ∷ ys) (suc k) x at =
     all
 
 -- what a step sends, by its sends
-pub sum_packets : {N : Type 0} (w : Packet N → ℕ) (sender : Origin) (sends : List (Name × N)) → sum_by w (packets sender sends) ≡ sum_by (λ (send : Name × N). w (record { sender = sender; to = send.0; note = send.1 })) sends
+pub sum_packets : {N : Type 0} (w : Packet N → ℕ) (sender : Origin) (sends : List (Name × N)) →
+    sum_by w (packets sender sends) ≡ sum_by (λ (send : Name × N). w (record { sender = sender; to = send.0; note = send.1 })) sends
 sum_packets w sender [] = refl
 sum_packets {N} w sender (send ∷ sends) =
     sum_by-cons w (record { sender = sender; to = send.0; note = send.1 }) (packets sender sends)
@@ -153,7 +172,9 @@ sent_still sent more flight sound =
     each-weaken (λ number. number < length sent) (λ number. number < length (sent ++ more)) flight (λ number h. omega arith) sound
 
 -- and so is what a step sends
-pub sent_more : {N : Type 0} (sent : List (Packet N)) (staying : List ℕ) (sender : Origin) (sends : List (Name × N)) → AreSent sent staying → AreSent (sent ++ packets sender sends) (staying ++ places (length sent) (length sends))
+pub sent_more : {N : Type 0} (sent : List (Packet N)) (staying : List ℕ) (sender : Origin) (sends : List (Name × N)) →
+    AreSent sent staying →
+    AreSent (sent ++ packets sender sends) (staying ++ places (length sent) (length sends))
 sent_more {N} sent staying sender sends sound =
     let many : length (packets sender sends) ≡ length sends = length-map sends (λ (send : Name × N). record { sender = sender; to = send.0; note = send.1 }) in
     let both : length (sent ++ packets sender sends) ≡ length sent + length (packets sender sends) = length-append sent (packets sender sends) in

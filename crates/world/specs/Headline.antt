@@ -26,5 +26,10 @@ pub record Headline {C N : Type 0} (state : C → CoreState) (content : N → Co
   pub views : ViewsAreSound state world.limits world.group
   pub parents : HaveParents world.group.sent (reverse world.log)
   pub carried : (id : MsgId) → IsUndisturbed state world.limits.keep (reverse world.log) world.group id → IsCarriedOn state content world.group id
-  pub traffic : (id : MsgId) → IsUndisturbed state world.limits.keep (reverse world.log) world.group id → IsUnrepeated (reverse world.log) id → (name peer : Name) → name ≢ peer → CrossesOnce content world.group.sent id name peer
+  pub traffic : (id : MsgId) →
+      IsUndisturbed state world.limits.keep (reverse world.log) world.group id →
+      IsUnrepeated (reverse world.log) id →
+      (name peer : Name) →
+      name ≢ peer →
+      CrossesOnce content world.group.sent id name peer
   pub delivered : IsDeliveredInReach state content world.limits.keep (reverse world.log) world.group

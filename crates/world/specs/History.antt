@@ -52,7 +52,8 @@ broadcasts_of name (entry ∷ past) = counted_by name entry.event (broadcasts_of
 -- After this past the event says the message with this payload: it is the broadcast that the id numbers, by the name
 -- and under the incarnation of its last start.
 abbrev pub Says : Event → List Entry → MsgId → List ℕ → Type 0
-Says (Broadcast name payload) past id p = (id.origin.name ≡ name) × (incarnation_of name past ≡ Some id.origin.incarnation) × (id.seq ≡ suc (broadcasts_of name past)) × (p ≡ payload)
+Says (Broadcast name payload) past id p =
+    (id.origin.name ≡ name) × (incarnation_of name past ≡ Some id.origin.incarnation) × (id.seq ≡ suc (broadcasts_of name past)) × (p ≡ payload)
 Says (Start name incarnation peers contact) past id p = ⊥
 Says (Arrive place dice) past id p = ⊥
 Says (Lose place) past id p = ⊥

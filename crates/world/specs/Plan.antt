@@ -92,7 +92,8 @@ pub record RunsAt {C : Type 0} (name : Name) (nodes : List (NodeState C)) (at : 
 
 -- The node at this place runs and is the first of its name, and its core can make the step that was prepared for the
 -- entry.
-pub record CanStep {C N T : Type 0} (is_turn : C → Stimulus N → T → Type 0) (nodes : List (NodeState C)) (sent : List (Packet N)) (entry : Entry) (at : ℕ) (turn : T) : Type 0 where
+pub record CanStep {C N T : Type 0} (is_turn : C → Stimulus N → T → Type 0)
+    (nodes : List (NodeState C)) (sent : List (Packet N)) (entry : Entry) (at : ℕ) (turn : T) : Type 0 where
   pub node : NodeState C
   pub core : C
   pub told : Stimulus N

@@ -13,7 +13,8 @@ use Rattle.protocol.specs.declared.stimulus.StimulusOf.TheVariants as stimulus
 use Rattle.world.specs.Event.{Event}
 use Rattle.world.specs.Group.{Group, node_of}
 use Rattle.world.specs.declared.error.WorldError.{WorldError}
-use Rattle.world.specs.declared.error.WorldError.TheVariants.{UnknownNode, NotRunning, StaleIncarnation, BadPeers, NoPacket, PayloadTooLong, SeqSpent, OutOfMemory}
+use Rattle.world.specs.declared.error.WorldError.TheVariants.{UnknownNode, NotRunning, StaleIncarnation, BadPeers}
+use Rattle.world.specs.declared.error.WorldError.TheVariants.{NoPacket, PayloadTooLong, SeqSpent, OutOfMemory}
 use Rattle.world.specs.declared.event.EventOf.TheVariants.{Start, Broadcast, Arrive, Lose, Again, Fire, Flush, Down, Shuffle, Join, Stop}
 use Rattle.world.specs.declared.node_state.NodeState.{NodeState}
 use Rattle.world.specs.declared.packet.Packet.{Packet}
@@ -45,7 +46,8 @@ stale (Some node) incarnation = unless (nat_lt node.highest.0 incarnation.0) (St
 
 -- the refusal for a node that is to start under this origin, with these peers and this contact
 abbrev pub start_refusal : {C N : Type 0} → Limits → Group C N → Origin → List Name → Option Name → Option WorldError
-start_refusal limits group me peers contact = first_of (stale (node_of me.name group.nodes) me.incarnation) (unless (are_peers limits me.name peers contact) BadPeers)
+start_refusal limits group me peers contact =
+    first_of (stale (node_of me.name group.nodes) me.incarnation) (unless (are_peers limits me.name peers contact) BadPeers)
 
 -- the refusal for a packet that is to arrive: there is no such packet, or its receiver is unknown or does not run
 abbrev pub undeliverable : {C N : Type 0} → Group C N → Option (Packet N) → Option WorldError
@@ -88,7 +90,8 @@ module _ {C N : Type 0} (is_spent : C → Stimulus N → Type 0) (group : Group 
   abbrev pub IsSpentBy : Event → Type 0
   IsSpentBy (Start name incarnation peers contact) = ⊥
   IsSpentBy (Broadcast name payload) = IsSpentAt name (stimulus.Broadcast payload)
-  IsSpentBy (Arrive place dice) = (packet : Packet N) × (packet_at group place ≡ Some packet) × IsSpentAt packet.to (stimulus.Arrive packet.sender packet.note dice)
+  IsSpentBy (Arrive place dice) =
+      (packet : Packet N) × (packet_at group place ≡ Some packet) × IsSpentAt packet.to (stimulus.Arrive packet.sender packet.note dice)
   IsSpentBy (Lose place) = ⊥
   IsSpentBy (Again number) = ⊥
   IsSpentBy (Fire name id) = IsSpentAt name (stimulus.Fire id)
@@ -101,4 +104,5 @@ module _ {C N : Type 0} (is_spent : C → Stimulus N → Type 0) (group : Group 
 -- The event may be refused for this reason: it is the first refusal that applies, or, where none applies, a core's
 -- numbers are spent or an allocation is refused.
 abbrev pub IsRefusal : {C N : Type 0} → (C → Stimulus N → Type 0) → Limits → Group C N → Event → WorldError → Type 0
-IsRefusal is_spent limits group event e = (refusal limits group event ≡ Some e) ⊎ ((refusal limits group event ≡ None) × ((e ≡ OutOfMemory) ⊎ ((e ≡ SeqSpent) × IsSpentBy is_spent group event)))
+IsRefusal is_spent limits group event e =
+    (refusal limits group event ≡ Some e) ⊎ ((refusal limits group event ≡ None) × ((e ≡ OutOfMemory) ⊎ ((e ≡ SeqSpent) × IsSpentBy is_spent group event)))

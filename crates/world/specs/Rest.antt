@@ -72,7 +72,8 @@ pub record IsAtRest {C N : Type 0} (state : C → CoreState) (content : N → Co
 -- The event made the deliveries of the entry by the arrival of a packet from this sender, or, if no sender is given, by
 -- a broadcast.
 abbrev pub GaveFrom : {N : Type 0} → List (Packet N) → Event → Entry → Option Origin → Type 0
-GaveFrom {N} sent (Arrive place dice) entry (Some sender) = (number : ℕ) × (packet : Packet N) × (entry.packet ≡ Some number) × (slice_get sent number ≡ Some packet) × (packet.sender ≡ sender)
+GaveFrom {N} sent (Arrive place dice) entry (Some sender) =
+    (number : ℕ) × (packet : Packet N) × (entry.packet ≡ Some number) × (slice_get sent number ≡ Some packet) × (packet.sender ≡ sender)
 GaveFrom {N} sent (Broadcast name payload) entry None = Unit {0}
 GaveFrom {N} sent event entry parent = ⊥
 
@@ -83,9 +84,16 @@ IsParent sent (entry ∷ past) node id parent = (HasDelivery entry.given node id
 
 -- The name runs, and has delivered the message in the run that it is in. The log says so, and not what the core shows.
 abbrev pub DeliveredAt : {C N : Type 0} → Group C N → List Entry → Name → MsgId → Type 0
-DeliveredAt {C} group history name id = (node : NodeState C) × (core : C) × (node_of name group.nodes ≡ Some node) × (node.core ≡ Some core) × Delivered history (origin_of node) id
+DeliveredAt {C} group history name id =
+    (node : NodeState C) × (core : C) × (node_of name group.nodes ≡ Some node) × (node.core ≡ Some core) × Delivered history (origin_of node) id
 
 -- Wherever the run is undisturbed for a message and the group is at rest for it, every node in reach of its origin has
 -- delivered it.
 abbrev pub IsDeliveredInReach : {C N : Type 0} → (C → CoreState) → (N → Content) → ℕ → List Entry → Group C N → Type 0
-IsDeliveredInReach state content keep history group = (id : MsgId) → IsUndisturbed state keep history group id → IsAtRest state content group id → (name : Name) → Reaches state group id.origin.name name → DeliveredAt group history name id
+IsDeliveredInReach state content keep history group =
+    (id : MsgId) →
+    IsUndisturbed state keep history group id →
+    IsAtRest state content group id →
+    (name : Name) →
+    Reaches state group id.origin.name name →
+    DeliveredAt group history name id

@@ -128,8 +128,10 @@ module _
   where
     -- what the event of the entry does, by its kind
     abbrev pub Effect : Group C N → Entry → Group C N → Event → Type 0
-    Effect before entry after (Start name incarnation peers contact) = (entry.packet ≡ None) × Starts starts limits before (record { name = name; incarnation = incarnation }) peers contact entry after
-    Effect before entry after (Broadcast name payload) = (entry.packet ≡ None) × Acts state steps before before.flight name (stimulus.Broadcast payload) entry after
+    Effect before entry after (Start name incarnation peers contact) =
+        (entry.packet ≡ None) × Starts starts limits before (record { name = name; incarnation = incarnation }) peers contact entry after
+    Effect before entry after (Broadcast name payload) =
+        (entry.packet ≡ None) × Acts state steps before before.flight name (stimulus.Broadcast payload) entry after
     Effect before entry after (Arrive place dice) = Arrives state steps before place (λ packet. stimulus.Arrive packet.sender packet.note dice) entry after
     Effect before entry after (Lose place) = Loses before place entry after
     Effect before entry after (Again number) = Repeats before number entry after

@@ -41,7 +41,8 @@ IsQueued core id name = (round : ℕ) × IsOneOf (name, id, round) core.queued
 -- One of five is under way from a node that has the message to one that lacks it: a packet that carries it, an
 -- announcement in the first's queue, a packet that announces it, an entry by which the second wants it from the first,
 -- or a packet by which the second asks the first for it.
-pub data IsUnderWay {N : Type 0} (content : N → Content) (sent : List (Packet N)) (flight : List ℕ) (id : MsgId) (name peer : Name) (one other : CoreState) : Type 0 where
+pub data IsUnderWay {N : Type 0} (content : N → Content) (sent : List (Packet N)) (flight : List ℕ) (id : MsgId) (name peer : Name) (one other : CoreState) :
+    Type 0 where
   Carried : IsInFlight content sent flight (CarriesIt id) name peer → IsUnderWay content sent flight id name peer one other
   Queued : IsQueued one id peer → IsUnderWay content sent flight id name peer one other
   Announced : IsInFlight content sent flight (AnnouncesIt id) name peer → IsUnderWay content sent flight id name peer one other

@@ -1,5 +1,6 @@
 //! The playing of events: of one, or of a whole list.
-ghost use Rattle.std.specs.Prelude.{◌≡◌, ◌<◌, [], ◌∷◌, ◌++◌, List, Some, None, IfOk, IfErr, OnOk, OnErr, MatchResult, length, slice_get, take};
+ghost use Rattle.std.specs.Prelude.{◌≡◌, ◌<◌, [], ◌∷◌, ◌++◌, List, Some, None, IfOk, IfErr};
+ghost use Rattle.std.specs.Prelude.{OnOk, OnErr, MatchResult, length, slice_get, take};
 ghost use Rattle.std.specs.Option.{ForSome};
 ghost use Rattle.protocol.specs.Delivery.{Delivery as Delivered};
 ghost use Rattle.world.specs.Headline.{Headline};
@@ -22,10 +23,12 @@ impl<C: Core<A>, A: Allocator + Copy> World<C, A> {
     /// Carries out a plan entirely, or changes nothing if an allocation is refused. All room is reserved first, so the
     /// step of a core is the last action that can fail.
     fn commit(&mut self, plan: Plan<C, A>) -> Result<(), AllocError>
-        requires happens { Happens C.state C.starts C.steps self.old.limits self.old.group plan.entry (planned C.after self.old.group plan.entry plan.change plan.packets.items plan.leaving plan.again) }
+        requires happens { Happens C.state C.starts C.steps self.old.limits self.old.group plan.entry
+            (planned C.after self.old.group plan.entry plan.change plan.packets.items plan.leaving plan.again) }
         requires leaving { ForSome plan.leaving (λ place. place < length self.old.group.flight) }
         requires ready { IsReady C.is_turn self.old.group.nodes self.old.group.sent plan.entry plan.change }
-        ensures group { OnOk result (self.new.group ≡ planned C.after self.old.group plan.entry plan.change plan.packets.items plan.leaving plan.again) }
+        ensures group { OnOk result (self.new.group
+            ≡ planned C.after self.old.group plan.entry plan.change plan.packets.items plan.leaving plan.again) }
         ensures log { OnOk result (self.new.log ≡ self.old.log ++ plan.entry ∷ []) }
         ensures limits { self.new.limits ≡ self.old.limits }
         ensures err { OnErr result (self.new ≡ self.old) }
@@ -75,8 +78,10 @@ impl<C: Core<A>, A: Allocator + Copy> World<C, A> {
     ///
     /// On a fault the group is in the state after the events before the refused one; a caller may go on from there.
     pub fn run(&mut self, events: &[Event<A>]) -> Result<Vec<Given<A>, A>, RunFault<A>>
-        ensures played { IfOk result (λ given. Plays C.state C.starts C.steps 0 events.now given.items self.old self.new) }
-        ensures stopped { IfErr result (λ fault. Plays C.state C.starts C.steps 0 (take fault.at events.now) fault.given self.old self.new) }
+        ensures played { IfOk result
+            (λ given. Plays C.state C.starts C.steps 0 events.now given.items self.old self.new) }
+        ensures stopped { IfErr result
+            (λ fault. Plays C.state C.starts C.steps 0 (take fault.at events.now) fault.given self.old self.new) }
         ensures refused { IfErr result (λ fault. RefusesAt C.is_spent events.now fault self.new) }
         ensures headline { Headline C.state C.Note.content self.new }
     {
@@ -94,7 +99,8 @@ impl<C: Core<A>, A: Allocator + Copy> World<C, A> {
 
     /// Plays one event as `apply` does, but does not copy its deliveries, which are in the log's last entry.
     pub fn play(&mut self, event: &Event<A>) -> Result<(), WorldError>
-        ensures applied { OnOk result ((given : List Delivered) × Applied C.state C.starts C.steps event.now given self.old self.new) }
+        ensures applied { OnOk result
+            ((given : List Delivered) × Applied C.state C.starts C.steps event.now given self.old self.new) }
         ensures err { OnErr result (self.new ≡ self.old) }
         ensures refused { IfErr result (IsRefusal C.is_spent self.old.limits self.old.group event.now) }
         ensures accepted { OnOk result (refusal self.old.limits self.old.group event.now ≡ None) }
@@ -112,7 +118,8 @@ impl<C: Core<A>, A: Allocator + Copy> World<C, A> {
         event: &Event<A>,
         given: &mut Vec<Given<A>, A>,
     ) -> Result<(), WorldError>
-        ensures applied { OnOk result (PlaysOn C.state C.starts C.steps at event.now given.old.items self.old given.new.items self.new) }
+        ensures applied { OnOk result
+            (PlaysOn C.state C.starts C.steps at event.now given.old.items self.old given.new.items self.new) }
         ensures err { OnErr result ((self.new ≡ self.old) × (given.new.items ≡ given.old.items)) }
         ensures refused { IfErr result (IsRefusal C.is_spent self.old.limits self.old.group event.now) }
         ensures accepted { OnOk result (refusal self.old.limits self.old.group event.now ≡ None) }

@@ -1,11 +1,13 @@
 //! The changes that a plan makes, in room that is reserved beforehand.
-ghost use Rattle.std.specs.Prelude.{◌≡◌, ◌≤◌, ◌<◌, ◌+◌, ◌-◌, ◌++◌, ◌∷◌, [], false, Some, OnOk, OnErr, length, slice_get, vec_len, vec_capacity};
+ghost use Rattle.std.specs.Prelude.{◌≡◌, ◌≤◌, ◌<◌, ◌+◌, ◌-◌, ◌++◌, ◌∷◌, [], false, Some};
+ghost use Rattle.std.specs.Prelude.{OnOk, OnErr, length, slice_get, vec_len, vec_capacity};
 ghost use Rattle.std.specs.Option.{ForSome};
 ghost use Rattle.indexmap.specs.IndexSet.{spare};
 ghost use Rattle.node_names.specs.Same.{has_name};
 ghost use Rattle.world.specs.Flight.{flying};
 ghost use Rattle.world.specs.Group.{put_node};
-ghost use Rattle.world.specs.Plan.{CanStep, IsReady, changed, launched, names_of, nodes_after, staying, stepped_node, stimulus_by};
+ghost use Rattle.world.specs.Plan.{CanStep, IsReady, changed, launched, names_of};
+ghost use Rattle.world.specs.Plan.{nodes_after, staying, stepped_node, stimulus_by};
 
 use crate::entry::Entry;
 use crate::flight::Flight;
@@ -100,7 +102,9 @@ fn advance<C: Core<A>, A: Allocator + Copy>(
     turn: C::Turn,
 ) -> Result<(), AllocError>
     requires { CanStep C.is_turn nodes.old.items sent.now entry.now at turn }
-    ensures ok { OnOk result (nodes.new.items ≡ nodes_after (stepped_node C.after (slice_get nodes.old.items at) (stimulus_by sent.now entry.now.event entry.now.packet)) nodes.old.items) }
+    ensures ok { OnOk result (nodes.new.items ≡ nodes_after
+        (stepped_node C.after (slice_get nodes.old.items at) (stimulus_by sent.now entry.now.event entry.now.packet))
+        nodes.old.items) }
     ensures err { OnErr result (nodes.new.items ≡ nodes.old.items) }
     ensures names { names_of nodes.new.items ≡ names_of nodes.old.items }
 {
@@ -125,7 +129,8 @@ pub(crate) fn make_change<C: Core<A>, A: Allocator + Copy>(
     requires room { vec_len nodes.old < vec_capacity nodes.old }
     requires spare { 0 < spare names.old }
     requires ready { IsReady C.is_turn nodes.old.items sent.now entry.now change }
-    ensures ok { OnOk result (nodes.new.items ≡ nodes_after (changed C.after nodes.old.items sent.now entry.now change) nodes.old.items) }
+    ensures ok { OnOk result
+        (nodes.new.items ≡ nodes_after (changed C.after nodes.old.items sent.now entry.now change) nodes.old.items) }
     ensures err { OnErr result (nodes.new.items ≡ nodes.old.items) }
     ensures named { names.new.keys ≡ names_of nodes.new.items }
 {
@@ -154,7 +159,8 @@ pub(crate) fn post<N: Drop, A: Allocator>(
     requires places { vec_len flight.old.numbers + vec_len packets ≤ vec_capacity flight.old.numbers }
     requires place { vec_len flight.old.numbers < vec_capacity flight.old.numbers }
     ensures sent { sent.new.items ≡ sent.old.items ++ packets.items }
-    ensures flight { flying flight.new ≡ staying (flying flight.old) leaving ++ launched again (length sent.old.items) (length packets.items) }
+    ensures flight { flying flight.new
+        ≡ staying (flying flight.old) leaving ++ launched again (length sent.old.items) (length packets.items) }
     ensures whole { flight.new.gone ≤ vec_len flight.new.numbers }
 {
     let first = sent.len();

@@ -26,9 +26,21 @@ impl<A: Allocator> Model for Entry<A> {
 
     ghost Value = { Entry };
 
-    ghost view = { λ e. record { event = e.event; packet = e.packet; first_sent = e.first_sent; moved = e.moved; given = e.given } };
+    ghost view = { λ e. record {
+      event = e.event;
+      packet = e.packet;
+      first_sent = e.first_sent;
+      moved = e.moved;
+      given = e.given;
+    } };
 
-    ghost inverse = { λ e. record { event = e.event; packet = e.packet; first_sent = e.first_sent; moved = e.moved; given = e.given } };
+    ghost inverse = { λ e. record {
+      event = e.event;
+      packet = e.packet;
+      first_sent = e.first_sent;
+      moved = e.moved;
+      given = e.given;
+    } };
 
     ghost inverse_ok = { λ e held. refl };
 }

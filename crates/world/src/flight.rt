@@ -1,5 +1,6 @@
 //! The packets in flight, the oldest first.
-ghost use Rattle.std.specs.Prelude.{◌≡◌, ◌+◌, ◌-◌, ◌<◌, ◌≤◌, ◌++◌, [], ◌∷◌, OnOk, length, remove, vec_len, vec_capacity};
+ghost use Rattle.std.specs.Prelude.{◌≡◌, ◌+◌, ◌-◌, ◌<◌, ◌≤◌, ◌++◌, [], ◌∷◌};
+ghost use Rattle.std.specs.Prelude.{OnOk, length, remove, vec_len, vec_capacity};
 ghost use Rattle.protocol.specs.Lists.{places};
 ghost use Rattle.world.specs.Flight.{flying};
 

@@ -1,5 +1,6 @@
 //! The plan of what an event will do to a group, made before anything changes.
-ghost use Rattle.std.specs.Prelude.{◌≡◌, ◌≤◌, ◌<◌, ◌+◌, ◌⊎◌, ◌↔◌, ◌++◌, [], ◌∷◌, ℕ, false, true, Some, None, IsTrue, IfOk, IfErr, OnOk, IsErrOf, length, map, option_map, slice_get};
+ghost use Rattle.std.specs.Prelude.{◌≡◌, ◌≤◌, ◌<◌, ◌+◌, ◌⊎◌, ◌↔◌, ◌++◌, [], ◌∷◌, ℕ, false, true, Some, None};
+ghost use Rattle.std.specs.Prelude.{IsTrue, IfOk, IfErr, OnOk, IsErrOf, length, map, option_map, slice_get};
 ghost use Rattle.protocol.specs.IdentityLaw.{IsTooLong};
 ghost use Rattle.protocol.specs.Peers.{are_peers};
 ghost use Rattle.protocol.specs.SameNames.{SameNames};
@@ -106,8 +107,10 @@ pub(crate) fn prepare_step<C: Core<A>, A: Allocator + Copy>(
     stimulus: &StimulusRef<'_, C::Note, A>,
 ) -> Result<CoreStep<C, A>, CoreError>
     ensures turn { IfOk result (λ step. C.is_turn core.now (lent stimulus.now) step.turn) }
-    ensures stepped { IfOk result (λ step. C.steps core.now (lent stimulus.now) step.sends.items step.given.items (C.after core.now (lent stimulus.now))) }
-    ensures moved { IfOk result (λ step. (step.moved ≡ false) ↔ SameNames (C.state core.now).active (C.state (C.after core.now (lent stimulus.now))).active) }
+    ensures stepped { IfOk result (λ step.
+        C.steps core.now (lent stimulus.now) step.sends.items step.given.items (C.after core.now (lent stimulus.now))) }
+    ensures moved { IfOk result (λ step. (step.moved ≡ false)
+        ↔ SameNames (C.state core.now).active (C.state (C.after core.now (lent stimulus.now))).active) }
     ensures too_long { IsErrOf result CoreError.PayloadTooLong → IsTooLong (lent stimulus.now) }
     ensures spent { IsErrOf result CoreError.SeqSpent → C.is_spent core.now (lent stimulus.now) }
 {

@@ -23,9 +23,12 @@ use std::alloc::{AllocError, Allocator};
 impl<C: Core<A>, A: Allocator + Copy> World<C, A> {
     /// Plans an event. The group does not change.
     pub(crate) fn plan(&self, event: &Event<A>) -> Result<Plan<C, A>, WorldError>
-        ensures tells { IfOk result (λ plan. Tells C.state C.starts C.steps self.now.limits event.now self.now.group plan.entry (planned C.after self.now.group plan.entry plan.change plan.packets.items plan.leaving plan.again)) }
+        ensures tells { IfOk result
+            (λ plan. Tells C.state C.starts C.steps self.now.limits event.now self.now.group plan.entry
+            (planned C.after self.now.group plan.entry plan.change plan.packets.items plan.leaving plan.again)) }
         ensures leaving { IfOk result (λ plan. ForSome plan.leaving (λ place. place < length self.now.group.flight)) }
-        ensures ready { IfOk result (λ plan. IsReady C.is_turn self.now.group.nodes self.now.group.sent plan.entry plan.change) }
+        ensures ready { IfOk result
+            (λ plan. IsReady C.is_turn self.now.group.nodes self.now.group.sent plan.entry plan.change) }
         ensures refused { IfErr result (IsRefusal C.is_spent self.now.limits self.now.group event.now) }
         ensures accepted { OnOk result (refusal self.now.limits self.now.group event.now ≡ None) }
     {
@@ -52,7 +55,8 @@ impl<C: Core<A>, A: Allocator + Copy> World<C, A> {
     /// Rejects an origin whose incarnation does not exceed that of its name's last start.
     fn is_fresh(&self, me: &Origin) -> Result<(), WorldError>
         ensures ok { OnOk result (stale (node_of me.now.name self.now.group.nodes) me.now.incarnation ≡ None) }
-        ensures stale { IfErr result (λ e. stale (node_of me.now.name self.now.group.nodes) me.now.incarnation ≡ Some e) }
+        ensures stale { IfErr result
+            (λ e. stale (node_of me.now.name self.now.group.nodes) me.now.incarnation ≡ Some e) }
     {
         match node_of(&self.names, &self.nodes, &me.name) {
             Some(node) if node.highest >= me.incarnation => Err(WorldError::StaleIncarnation {
@@ -64,7 +68,8 @@ impl<C: Core<A>, A: Allocator + Copy> World<C, A> {
 
     /// Returns the node that runs under the name. Fails with `UnknownNode` or `NotRunning` if none does.
     fn find_running(&self, name: &NodeName) -> Result<Running<'_, C>, WorldError>
-        ensures found { IfOk result (λ found. RunsAt name.now self.now.group.nodes found.at found.node.now found.core.now) }
+        ensures found { IfOk result
+            (λ found. RunsAt name.now self.now.group.nodes found.at found.node.now found.core.now) }
         ensures absent { IfErr result (λ e. absent (node_of name.now self.now.group.nodes) ≡ Some e) }
     {
         find_running(&self.names, &self.nodes, name)
@@ -87,9 +92,16 @@ impl<C: Core<A>, A: Allocator + Copy> World<C, A> {
         ensures packet { IfOk result (λ plan. plan.entry.packet ≡ packet) }
         ensures first_sent { IfOk result (λ plan. plan.entry.first_sent ≡ length self.now.group.sent) }
         ensures leaving { IfOk result (λ plan. plan.leaving ≡ leaving) }
-        ensures acts { IfOk result (λ plan. Acts C.state C.steps self.now.group (staying self.now.group.flight leaving) name.now (lent stimulus.now) plan.entry (planned C.after self.now.group plan.entry plan.change plan.packets.items plan.leaving plan.again)) }
-        ensures ready { IfOk result (λ plan. IsReady C.is_turn self.now.group.nodes self.now.group.sent plan.entry plan.change) }
-        ensures refused { IfErr result (λ e. (e ≡ WorldError.OutOfMemory) ⊎ ((e ≡ WorldError.SeqSpent) × C.is_spent found.now.core.now (lent stimulus.now))) }
+        ensures acts { IfOk result (λ plan. Acts C.state C.steps self.now.group
+            (staying self.now.group.flight leaving)
+            name.now
+            (lent stimulus.now)
+            plan.entry
+            (planned C.after self.now.group plan.entry plan.change plan.packets.items plan.leaving plan.again)) }
+        ensures ready { IfOk result
+            (λ plan. IsReady C.is_turn self.now.group.nodes self.now.group.sent plan.entry plan.change) }
+        ensures refused { IfErr result (λ e. (e ≡ WorldError.OutOfMemory)
+            ⊎ ((e ≡ WorldError.SeqSpent) × C.is_spent found.now.core.now (lent stimulus.now))) }
     {
         let alloc = self.allocator();
         let sender = Origin {
@@ -126,9 +138,12 @@ impl<C: Core<A>, A: Allocator + Copy> World<C, A> {
         event: &Event<A>,
     ) -> Result<Plan<C, A>, WorldError>
         requires { event.now ≡ EventOf.Start name.now incarnation.now peers.now contact.now }
-        ensures tells { IfOk result (λ plan. Tells C.state C.starts C.steps self.now.limits event.now self.now.group plan.entry (planned C.after self.now.group plan.entry plan.change plan.packets.items plan.leaving plan.again)) }
+        ensures tells { IfOk result
+            (λ plan. Tells C.state C.starts C.steps self.now.limits event.now self.now.group plan.entry
+            (planned C.after self.now.group plan.entry plan.change plan.packets.items plan.leaving plan.again)) }
         ensures leaving { IfOk result (λ plan. ForSome plan.leaving (λ place. place < length self.now.group.flight)) }
-        ensures ready { IfOk result (λ plan. IsReady C.is_turn self.now.group.nodes self.now.group.sent plan.entry plan.change) }
+        ensures ready { IfOk result
+            (λ plan. IsReady C.is_turn self.now.group.nodes self.now.group.sent plan.entry plan.change) }
         ensures refused { IfErr result (IsRefusal C.is_spent self.now.limits self.now.group event.now) }
         ensures accepted { OnOk result (refusal self.now.limits self.now.group event.now ≡ None) }
     {
@@ -161,7 +176,13 @@ impl<C: Core<A>, A: Allocator + Copy> World<C, A> {
 
     /// Returns the log entry of an event that delivers nothing and changes no active view.
     fn quiet_entry(&self, event: &Event<A>, packet: Option<usize>) -> Result<Entry<A>, AllocError>
-        ensures { IfOk result (λ entry. entry ≡ record { event = event.now; packet = packet; first_sent = length self.now.group.sent; moved = false; given = [] }) }
+        ensures { IfOk result (λ entry. entry ≡ record {
+          event = event.now;
+          packet = packet;
+          first_sent = length self.now.group.sent;
+          moved = false;
+          given = [];
+        }) }
     {
         Ok(Entry {
             event: keep_event(self.allocator(), event)?,
@@ -180,9 +201,12 @@ impl<C: Core<A>, A: Allocator + Copy> World<C, A> {
         event: &Event<A>,
     ) -> Result<Plan<C, A>, WorldError>
         requires { event.now ≡ EventOf.Broadcast name.now payload.now }
-        ensures tells { IfOk result (λ plan. Tells C.state C.starts C.steps self.now.limits event.now self.now.group plan.entry (planned C.after self.now.group plan.entry plan.change plan.packets.items plan.leaving plan.again)) }
+        ensures tells { IfOk result
+            (λ plan. Tells C.state C.starts C.steps self.now.limits event.now self.now.group plan.entry
+            (planned C.after self.now.group plan.entry plan.change plan.packets.items plan.leaving plan.again)) }
         ensures leaving { IfOk result (λ plan. ForSome plan.leaving (λ place. place < length self.now.group.flight)) }
-        ensures ready { IfOk result (λ plan. IsReady C.is_turn self.now.group.nodes self.now.group.sent plan.entry plan.change) }
+        ensures ready { IfOk result
+            (λ plan. IsReady C.is_turn self.now.group.nodes self.now.group.sent plan.entry plan.change) }
         ensures refused { IfErr result (IsRefusal C.is_spent self.now.limits self.now.group event.now) }
         ensures accepted { OnOk result (refusal self.now.limits self.now.group event.now ≡ None) }
     {
@@ -203,9 +227,12 @@ impl<C: Core<A>, A: Allocator + Copy> World<C, A> {
         event: &Event<A>,
     ) -> Result<Plan<C, A>, WorldError>
         requires { event.now ≡ EventOf.Arrive place dice.now }
-        ensures tells { IfOk result (λ plan. Tells C.state C.starts C.steps self.now.limits event.now self.now.group plan.entry (planned C.after self.now.group plan.entry plan.change plan.packets.items plan.leaving plan.again)) }
+        ensures tells { IfOk result
+            (λ plan. Tells C.state C.starts C.steps self.now.limits event.now self.now.group plan.entry
+            (planned C.after self.now.group plan.entry plan.change plan.packets.items plan.leaving plan.again)) }
         ensures leaving { IfOk result (λ plan. ForSome plan.leaving (λ place. place < length self.now.group.flight)) }
-        ensures ready { IfOk result (λ plan. IsReady C.is_turn self.now.group.nodes self.now.group.sent plan.entry plan.change) }
+        ensures ready { IfOk result
+            (λ plan. IsReady C.is_turn self.now.group.nodes self.now.group.sent plan.entry plan.change) }
         ensures refused { IfErr result (IsRefusal C.is_spent self.now.limits self.now.group event.now) }
         ensures accepted { OnOk result (refusal self.now.limits self.now.group event.now ≡ None) }
     {
@@ -232,9 +259,12 @@ impl<C: Core<A>, A: Allocator + Copy> World<C, A> {
     /// Plans the loss of a packet.
     fn plan_lose(&self, place: usize, event: &Event<A>) -> Result<Plan<C, A>, WorldError>
         requires { event.now ≡ EventOf.Lose place }
-        ensures tells { IfOk result (λ plan. Tells C.state C.starts C.steps self.now.limits event.now self.now.group plan.entry (planned C.after self.now.group plan.entry plan.change plan.packets.items plan.leaving plan.again)) }
+        ensures tells { IfOk result
+            (λ plan. Tells C.state C.starts C.steps self.now.limits event.now self.now.group plan.entry
+            (planned C.after self.now.group plan.entry plan.change plan.packets.items plan.leaving plan.again)) }
         ensures leaving { IfOk result (λ plan. ForSome plan.leaving (λ place. place < length self.now.group.flight)) }
-        ensures ready { IfOk result (λ plan. IsReady C.is_turn self.now.group.nodes self.now.group.sent plan.entry plan.change) }
+        ensures ready { IfOk result
+            (λ plan. IsReady C.is_turn self.now.group.nodes self.now.group.sent plan.entry plan.change) }
         ensures refused { IfErr result (IsRefusal C.is_spent self.now.limits self.now.group event.now) }
         ensures accepted { OnOk result (refusal self.now.limits self.now.group event.now ≡ None) }
     {
@@ -253,9 +283,12 @@ impl<C: Core<A>, A: Allocator + Copy> World<C, A> {
     /// Plans to put a packet into flight once more.
     fn plan_again(&self, number: usize, event: &Event<A>) -> Result<Plan<C, A>, WorldError>
         requires { event.now ≡ EventOf.Again number }
-        ensures tells { IfOk result (λ plan. Tells C.state C.starts C.steps self.now.limits event.now self.now.group plan.entry (planned C.after self.now.group plan.entry plan.change plan.packets.items plan.leaving plan.again)) }
+        ensures tells { IfOk result
+            (λ plan. Tells C.state C.starts C.steps self.now.limits event.now self.now.group plan.entry
+            (planned C.after self.now.group plan.entry plan.change plan.packets.items plan.leaving plan.again)) }
         ensures leaving { IfOk result (λ plan. ForSome plan.leaving (λ place. place < length self.now.group.flight)) }
-        ensures ready { IfOk result (λ plan. IsReady C.is_turn self.now.group.nodes self.now.group.sent plan.entry plan.change) }
+        ensures ready { IfOk result
+            (λ plan. IsReady C.is_turn self.now.group.nodes self.now.group.sent plan.entry plan.change) }
         ensures refused { IfErr result (IsRefusal C.is_spent self.now.limits self.now.group event.now) }
         ensures accepted { OnOk result (refusal self.now.limits self.now.group event.now ≡ None) }
     {
@@ -279,9 +312,12 @@ impl<C: Core<A>, A: Allocator + Copy> World<C, A> {
         event: &Event<A>,
     ) -> Result<Plan<C, A>, WorldError>
         requires { event.now ≡ EventOf.Fire name.now id.now }
-        ensures tells { IfOk result (λ plan. Tells C.state C.starts C.steps self.now.limits event.now self.now.group plan.entry (planned C.after self.now.group plan.entry plan.change plan.packets.items plan.leaving plan.again)) }
+        ensures tells { IfOk result
+            (λ plan. Tells C.state C.starts C.steps self.now.limits event.now self.now.group plan.entry
+            (planned C.after self.now.group plan.entry plan.change plan.packets.items plan.leaving plan.again)) }
         ensures leaving { IfOk result (λ plan. ForSome plan.leaving (λ place. place < length self.now.group.flight)) }
-        ensures ready { IfOk result (λ plan. IsReady C.is_turn self.now.group.nodes self.now.group.sent plan.entry plan.change) }
+        ensures ready { IfOk result
+            (λ plan. IsReady C.is_turn self.now.group.nodes self.now.group.sent plan.entry plan.change) }
         ensures refused { IfErr result (IsRefusal C.is_spent self.now.limits self.now.group event.now) }
         ensures accepted { OnOk result (refusal self.now.limits self.now.group event.now ≡ None) }
     {
@@ -294,9 +330,12 @@ impl<C: Core<A>, A: Allocator + Copy> World<C, A> {
     /// Plans a flush of the queued announcements.
     fn plan_flush(&self, name: &NodeName, event: &Event<A>) -> Result<Plan<C, A>, WorldError>
         requires { event.now ≡ EventOf.Flush name.now }
-        ensures tells { IfOk result (λ plan. Tells C.state C.starts C.steps self.now.limits event.now self.now.group plan.entry (planned C.after self.now.group plan.entry plan.change plan.packets.items plan.leaving plan.again)) }
+        ensures tells { IfOk result
+            (λ plan. Tells C.state C.starts C.steps self.now.limits event.now self.now.group plan.entry
+            (planned C.after self.now.group plan.entry plan.change plan.packets.items plan.leaving plan.again)) }
         ensures leaving { IfOk result (λ plan. ForSome plan.leaving (λ place. place < length self.now.group.flight)) }
-        ensures ready { IfOk result (λ plan. IsReady C.is_turn self.now.group.nodes self.now.group.sent plan.entry plan.change) }
+        ensures ready { IfOk result
+            (λ plan. IsReady C.is_turn self.now.group.nodes self.now.group.sent plan.entry plan.change) }
         ensures refused { IfErr result (IsRefusal C.is_spent self.now.limits self.now.group event.now) }
         ensures accepted { OnOk result (refusal self.now.limits self.now.group event.now ≡ None) }
     {
@@ -315,9 +354,12 @@ impl<C: Core<A>, A: Allocator + Copy> World<C, A> {
         event: &Event<A>,
     ) -> Result<Plan<C, A>, WorldError>
         requires { event.now ≡ EventOf.Down name.now peer.now dice.now }
-        ensures tells { IfOk result (λ plan. Tells C.state C.starts C.steps self.now.limits event.now self.now.group plan.entry (planned C.after self.now.group plan.entry plan.change plan.packets.items plan.leaving plan.again)) }
+        ensures tells { IfOk result
+            (λ plan. Tells C.state C.starts C.steps self.now.limits event.now self.now.group plan.entry
+            (planned C.after self.now.group plan.entry plan.change plan.packets.items plan.leaving plan.again)) }
         ensures leaving { IfOk result (λ plan. ForSome plan.leaving (λ place. place < length self.now.group.flight)) }
-        ensures ready { IfOk result (λ plan. IsReady C.is_turn self.now.group.nodes self.now.group.sent plan.entry plan.change) }
+        ensures ready { IfOk result
+            (λ plan. IsReady C.is_turn self.now.group.nodes self.now.group.sent plan.entry plan.change) }
         ensures refused { IfErr result (IsRefusal C.is_spent self.now.limits self.now.group event.now) }
         ensures accepted { OnOk result (refusal self.now.limits self.now.group event.now ≡ None) }
     {
@@ -338,9 +380,12 @@ impl<C: Core<A>, A: Allocator + Copy> World<C, A> {
         event: &Event<A>,
     ) -> Result<Plan<C, A>, WorldError>
         requires { event.now ≡ EventOf.Shuffle name.now dice.now }
-        ensures tells { IfOk result (λ plan. Tells C.state C.starts C.steps self.now.limits event.now self.now.group plan.entry (planned C.after self.now.group plan.entry plan.change plan.packets.items plan.leaving plan.again)) }
+        ensures tells { IfOk result
+            (λ plan. Tells C.state C.starts C.steps self.now.limits event.now self.now.group plan.entry
+            (planned C.after self.now.group plan.entry plan.change plan.packets.items plan.leaving plan.again)) }
         ensures leaving { IfOk result (λ plan. ForSome plan.leaving (λ place. place < length self.now.group.flight)) }
-        ensures ready { IfOk result (λ plan. IsReady C.is_turn self.now.group.nodes self.now.group.sent plan.entry plan.change) }
+        ensures ready { IfOk result
+            (λ plan. IsReady C.is_turn self.now.group.nodes self.now.group.sent plan.entry plan.change) }
         ensures refused { IfErr result (IsRefusal C.is_spent self.now.limits self.now.group event.now) }
         ensures accepted { OnOk result (refusal self.now.limits self.now.group event.now ≡ None) }
     {
@@ -358,9 +403,12 @@ impl<C: Core<A>, A: Allocator + Copy> World<C, A> {
         event: &Event<A>,
     ) -> Result<Plan<C, A>, WorldError>
         requires { event.now ≡ EventOf.Join name.now contact.now }
-        ensures tells { IfOk result (λ plan. Tells C.state C.starts C.steps self.now.limits event.now self.now.group plan.entry (planned C.after self.now.group plan.entry plan.change plan.packets.items plan.leaving plan.again)) }
+        ensures tells { IfOk result
+            (λ plan. Tells C.state C.starts C.steps self.now.limits event.now self.now.group plan.entry
+            (planned C.after self.now.group plan.entry plan.change plan.packets.items plan.leaving plan.again)) }
         ensures leaving { IfOk result (λ plan. ForSome plan.leaving (λ place. place < length self.now.group.flight)) }
-        ensures ready { IfOk result (λ plan. IsReady C.is_turn self.now.group.nodes self.now.group.sent plan.entry plan.change) }
+        ensures ready { IfOk result
+            (λ plan. IsReady C.is_turn self.now.group.nodes self.now.group.sent plan.entry plan.change) }
         ensures refused { IfErr result (IsRefusal C.is_spent self.now.limits self.now.group event.now) }
         ensures accepted { OnOk result (refusal self.now.limits self.now.group event.now ≡ None) }
     {
@@ -373,9 +421,12 @@ impl<C: Core<A>, A: Allocator + Copy> World<C, A> {
     /// Plans a stop.
     fn plan_stop(&self, name: &NodeName, event: &Event<A>) -> Result<Plan<C, A>, WorldError>
         requires { event.now ≡ EventOf.Stop name.now }
-        ensures tells { IfOk result (λ plan. Tells C.state C.starts C.steps self.now.limits event.now self.now.group plan.entry (planned C.after self.now.group plan.entry plan.change plan.packets.items plan.leaving plan.again)) }
+        ensures tells { IfOk result
+            (λ plan. Tells C.state C.starts C.steps self.now.limits event.now self.now.group plan.entry
+            (planned C.after self.now.group plan.entry plan.change plan.packets.items plan.leaving plan.again)) }
         ensures leaving { IfOk result (λ plan. ForSome plan.leaving (λ place. place < length self.now.group.flight)) }
-        ensures ready { IfOk result (λ plan. IsReady C.is_turn self.now.group.nodes self.now.group.sent plan.entry plan.change) }
+        ensures ready { IfOk result
+            (λ plan. IsReady C.is_turn self.now.group.nodes self.now.group.sent plan.entry plan.change) }
         ensures refused { IfErr result (IsRefusal C.is_spent self.now.limits self.now.group event.now) }
         ensures accepted { OnOk result (refusal self.now.limits self.now.group event.now ≡ None) }
     {

@@ -37,9 +37,14 @@ impl<C: Core<A>, A: Allocator> Model for World<C, A> {
 
     ghost Value = { Logged C C.Note };
 
-    ghost view = { λ w. record { limits = w.limits; group = record { nodes = w.nodes.items; sent = w.sent.items; flight = flying w.flight }; log = w.log.items } };
+    ghost view = { λ w. record {
+      limits = w.limits;
+      group = record { nodes = w.nodes.items; sent = w.sent.items; flight = flying w.flight };
+      log = w.log.items;
+    } };
 
-    ghost invariant = { λ w. Run C.state C.starts C.steps w.limits (reverse w.log.items) (record { nodes = w.nodes.items; sent = w.sent.items; flight = flying w.flight })
+    ghost invariant = { λ w. Run C.state C.starts C.steps w.limits (reverse w.log.items)
+        (record { nodes = w.nodes.items; sent = w.sent.items; flight = flying w.flight })
         × (w.names.keys ≡ names_of w.nodes.items) × (w.flight.gone ≤ vec_len w.flight.numbers) };
 }
 

@@ -13,8 +13,8 @@ use wire_node::{News, Parting};
 /// How many turns are made between two ticks.
 const TURNS: usize = 5;
 
-/// Within how many ticks a node that is alone joins by a contact that is there, or notices that its only peer ended, and
-/// says so by its port.
+/// Within how many ticks a node that is alone joins by a contact that is there, or notices that its only peer ended,
+/// and says so by its port.
 const SOON: usize = 12;
 
 /// The news of a node that is joined by a peer, which ends.
@@ -170,8 +170,8 @@ impl<N: TestedNode> Pair<N> {
     }
 }
 
-/// Opens a port for the news of `a`, and has a peer join it and end. Appends the news. Returns whether messages come though
-/// nobody takes the news, and the node tells nothing more once the port is dropped.
+/// Opens a port for the news of `a`, and has a peer join it and end. Appends the news. Returns whether messages come
+/// though nobody takes the news, and the node tells nothing more once the port is dropped.
 fn tell<N: TestedNode, R: Net + AllocGlobal>(
     rt: &R,
     pair: &mut Pair<N>,

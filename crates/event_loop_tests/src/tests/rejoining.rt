@@ -15,8 +15,8 @@ const SOON: usize = 12;
 /// For how many ticks a contact is away.
 const AWAY: usize = 10;
 
-/// Within how many ticks a node joins once its contact came back: the pause that began meanwhile takes 16 ticks at most,
-/// and the next 32.
+/// Within how many ticks a node joins once its contact came back: the pause that began meanwhile takes 16 ticks at
+/// most, and the next 32.
 const LATER: usize = 48;
 
 /// Within how many ticks a message reaches each node of a group that is whole.
@@ -170,8 +170,8 @@ fn await_contact<N: TestedNode, R: Net + AllocGlobal>(
     Ok(was_alone && group.becomes_whole(rt, LATER)?)
 }
 
-/// Has two nodes join by a contact, which then restarts at its address as another run, and joins by them. Returns whether
-/// the three are a group within 48 ticks before, and within 12 ticks after.
+/// Has two nodes join by a contact, which then restarts at its address as another run, and joins by them. Returns
+/// whether the three are a group within 48 ticks before, and within 12 ticks after.
 fn restart_contact<N: TestedNode, R: Net + AllocGlobal>(
     rt: &R,
     group: &mut Group<N>,

@@ -9,12 +9,21 @@ use Rattle.protocol.specs.lawful.Held.{held_after_push}
 use Rattle.flood.specs.FloodCore.{HoldsCounted}
 
 -- a pushed message of another origin is not counted, and one of this origin with the next number is
-pub counts_others : (me : Origin) (held : List (MsgId × List ℕ)) (count : ℕ) (id : MsgId) (p : List ℕ) → HoldsCounted me held count → (id.origin ≡ me → ⊥) → HoldsCounted me (held ++ (id, p) ∷ []) count
-counts_others me held count id p counted other j is mine = elim (held_after_push held id p j is) [ inl was ↦ counted j was mine | inr same ↦ absurd (other (sym (ap (λ (i : MsgId). i.origin) same) ∙ mine)) ]
+pub counts_others : (me : Origin) (held : List (MsgId × List ℕ)) (count : ℕ) (id : MsgId) (p : List ℕ) →
+    HoldsCounted me held count →
+    (id.origin ≡ me → ⊥) →
+    HoldsCounted me (held ++ (id, p) ∷ []) count
+counts_others me held count id p counted other j is mine =
+    elim (held_after_push held id p j is) [ inl was ↦ counted j was mine | inr same ↦ absurd (other (sym (ap (λ (i : MsgId). i.origin) same) ∙ mine)) ]
 
-pub counts_next : (me : Origin) (held : List (MsgId × List ℕ)) (count : ℕ) (id : MsgId) (p : List ℕ) → HoldsCounted me held count → id.seq ≡ count + 1 → HoldsCounted me (held ++ (id, p) ∷ []) (count + 1)
+pub counts_next : (me : Origin) (held : List (MsgId × List ℕ)) (count : ℕ) (id : MsgId) (p : List ℕ) →
+    HoldsCounted me held count →
+    id.seq ≡ count + 1 →
+    HoldsCounted me (held ++ (id, p) ∷ []) (count + 1)
 counts_next me held count id p counted next j is mine =
     elim (held_after_push held id p j is) [
       | inl was ↦ let bounds : (0 < j.seq) × (j.seq ≤ count) = counted j was mine in (bounds.0, le_trans bounds.1 (le_of_lt (lt-add-one count)))
-      | inr same ↦ let seq : j.seq ≡ count + 1 = ap (λ (i : MsgId). i.seq) same ∙ next in (subst (λ n. 0 < n) (sym seq) (le-add_left 1 count), subst (λ n. n ≤ count + 1) (sym seq) (le_refl (count + 1)))
+      | inr same ↦
+          let seq : j.seq ≡ count + 1 = ap (λ (i : MsgId). i.seq) same ∙ next in
+          (subst (λ n. 0 < n) (sym seq) (le-add_left 1 count), subst (λ n. n ≤ count + 1) (sym seq) (le_refl (count + 1)))
     ]

@@ -16,11 +16,15 @@ none given is = let e : length given ≡ 0 = ap length is in omega arith
 one : {d : Delivery} (given : List Delivery) → given ≡ d ∷ [] → length given ≤ 1
 one given is = let e : length given ≡ 1 = ap length is in omega arith
 
-one_at_most : (old : Flooding) (stimulus : Stimulus Message) (sends : List (Name × Message)) (given : List Delivery) (new : Flooding) → FloodSteps old stimulus sends given new → length given ≤ 1
+one_at_most : (old : Flooding) (stimulus : Stimulus Message) (sends : List (Name × Message)) (given : List Delivery) (new : Flooding) →
+    FloodSteps old stimulus sends given new →
+    length given ≤ 1
 one_at_most old (Broadcast payload) sends given new s = one given s.1.delivers
 one_at_most old (Arrive sender note dice) sends given new s = go (is_news old note.id) s
   where
-    go : (b : Bool) → MatchBool b (Takes old note.id note.payload (others (Some sender.name) old.peers) old.count sends given new) (IsIdle old sends given new) → length given ≤ 1
+    go : (b : Bool) →
+        MatchBool b (Takes old note.id note.payload (others (Some sender.name) old.peers) old.count sends given new) (IsIdle old sends given new) →
+        length given ≤ 1
     go true t = one given t.delivers
     go false t = none given t.delivers_nothing
 one_at_most old (Fire id) sends given new s = none given s.delivers_nothing

@@ -17,10 +17,12 @@ use Rattle.protocol.specs.Stimulus.{Stimulus}
 use Rattle.flood.specs.FloodCore.{Flooding, Message, flood_state, note_content, note_to, others}
 
 -- among the packets to these names, a name gets one for each time that it is there
-carries_to_each : (id : MsgId) (payload : List ℕ) (name : Name) (names : List Name) → packets_carrying note_content id name (map (note_to id payload) names) ≡ count_by (same_name name) names
+carries_to_each : (id : MsgId) (payload : List ℕ) (name : Name) (names : List Name) →
+    packets_carrying note_content id name (map (note_to id payload) names) ≡ count_by (same_name name) names
 carries_to_each id payload name [] = refl
 carries_to_each id payload name (other ∷ names) =
-    sum_by-cons (λ send. cond (same_name name send.0 && is_carried id (note_content send.1).carried) 1 0) (note_to id payload other) (map (note_to id payload) names)
+    sum_by-cons (λ send. cond (same_name name send.0 && is_carried id (note_content send.1).carried) 1 0)
+    (note_to id payload other) (map (note_to id payload) names)
     ∙ ap (λ b. cond (same_name name other && b) 1 0 + packets_carrying note_content id name (map (note_to id payload) names)) (same_id-refl id)
     ∙ ap (λ b. cond b 1 0 + packets_carrying note_content id name (map (note_to id payload) names)) (and_true (same_name name other))
     ∙ ap (λ n. cond (same_name name other) 1 0 + n) (carries_to_each id payload name names)
@@ -29,25 +31,37 @@ carries_to_each id payload name (other ∷ names) =
 -- a name that is first among distinct ones is not there once more
 lacks_the_first : (name other : Name) (names : List Name) → IsDistinct same_name (other ∷ names) → same_name name other ≡ true → has_name names name ≡ false
 lacks_the_first name other names distinct same =
-    lacks_from_each name names (subst (λ n. Each (λ later. same_name n later ≡ false) names) (sym ((same_name-Decides name other).0 same)) (IsDistinct-head same_name other names distinct))
+    lacks_from_each name names (subst (λ n. Each (λ later. same_name n later ≡ false) names)
+    (sym ((same_name-Decides name other).0 same)) (IsDistinct-head same_name other names distinct))
 
 -- among distinct names a name is once or not at all
 counts_once : (name : Name) (names : List Name) → IsDistinct same_name names → count_by (same_name name) names ≡ cond (has_name names name) 1 0
 counts_once name [] distinct = refl
-counts_once name (other ∷ names) distinct = sum_by-cons (λ x. cond (same_name name x) 1 0) other names ∙ go (same_name name other) (has_name names name) (lacks_the_first name other names distinct) (counts_once name names (IsDistinct-tail same_name other names distinct))
+counts_once name (other ∷ names) distinct =
+    sum_by-cons (λ x. cond (same_name name x) 1 0) other names
+    ∙ go (same_name name other) (has_name names name) (lacks_the_first name other names distinct)
+    (counts_once name names (IsDistinct-tail same_name other names distinct))
   where
-    go : (same has : Bool) → (same ≡ true → has ≡ false) → count_by (same_name name) names ≡ cond has 1 0 → cond same 1 0 + count_by (same_name name) names ≡ cond (same || has) 1 0
+    go : (same has : Bool) →
+        (same ≡ true → has ≡ false) →
+        count_by (same_name name) names ≡ cond has 1 0 →
+        cond same 1 0 + count_by (same_name name) names ≡ cond (same || has) 1 0
     go true true apart counted = absurd (true≢false (apart refl))
     go true false apart counted = ap (λ n. 1 + n) counted
     go false has apart counted = zero-add (count_by (same_name name) names) ∙ counted
 
 -- the names but for the one that is left out have each other name as before
-has_others : (left_out : Option Name) (names : List Name) (name : Name) → has_name (others left_out names) name ≡ (not (is_left_out left_out name) && has_name names name)
-has_others left_out names name = any-filter_same (same_name name) (λ other. not (is_left_out left_out other)) (not (is_left_out left_out name)) (λ other same. ap (λ n. not (is_left_out left_out n)) (sym ((same_name-Decides name other).0 same))) names
+has_others : (left_out : Option Name) (names : List Name) (name : Name) →
+    has_name (others left_out names) name ≡ (not (is_left_out left_out name) && has_name names name)
+has_others left_out names name =
+    any-filter_same (same_name name) (λ other. not (is_left_out left_out other)) (not (is_left_out left_out name))
+    (λ other same. ap (λ n. not (is_left_out left_out n)) (sym ((same_name-Decides name other).0 same))) names
 
 module _ (id : MsgId) (payload : List ℕ) (left_out : Option Name) (core : Flooding) (distinct : IsDistinct same_name core.peers) where
   -- each name gets one packet if it is a peer and not left out, and else none
-  counts_packets : (name : Name) → packets_carrying note_content id name (map (note_to id payload) (others left_out core.peers)) + entries_queued id name [] ≡ cond (not (is_left_out left_out name) && has_name core.peers name) 1 0
+  counts_packets : (name : Name) →
+      packets_carrying note_content id name (map (note_to id payload) (others left_out core.peers)) + entries_queued id name []
+      ≡ cond (not (is_left_out left_out name) && has_name core.peers name) 1 0
   counts_packets name =
       add-zero (packets_carrying note_content id name (map (note_to id payload) (others left_out core.peers)))
       ∙ carries_to_each id payload name (others left_out core.peers)
@@ -55,7 +69,9 @@ module _ (id : MsgId) (payload : List ℕ) (left_out : Option Name) (core : Floo
       ∙ ap (λ b. cond b 1 0) (has_others left_out core.peers name)
 
   -- so where the sender of the packet that came is left out, each name gets its share
-  pub gets_share : (stimulus : Stimulus Message) (name : Name) → is_from name stimulus ≡ is_left_out left_out name → GetsShare note_content stimulus (map (note_to id payload) (others left_out core.peers)) (flood_state core) id name
+  pub gets_share : (stimulus : Stimulus Message) (name : Name) →
+      is_from name stimulus ≡ is_left_out left_out name →
+      GetsShare note_content stimulus (map (note_to id payload) (others left_out core.peers)) (flood_state core) id name
   gets_share stimulus name from =
       record {
         one = λ member not_from. counts_packets name ∙ sent_to (is_left_out left_out name) (has_name core.peers name) (sym from ∙ not_from) member;

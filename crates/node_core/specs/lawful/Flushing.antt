@@ -1,5 +1,6 @@
 -- The queue is announced: what such a step must satisfy. Proofs only; nothing here has to be trusted.
-use Rattle.std.specs.Prelude.{◌≡◌, ◌≢◌, ◌+◌, ◌≤◌, ◌<◌, ◌&&◌, ◌||◌, ◌==◌, ℕ, zero, suc, Bool, true, false, not, cond, List, [], ◌∷◌, ◌++◌, Some, None, map, filter, take, drop, length, refl, if◌then◌else◌}
+use Rattle.std.specs.Prelude.{◌≡◌, ◌≢◌, ◌+◌, ◌≤◌, ◌<◌, ◌&&◌, ◌||◌, ◌==◌, ℕ, zero, suc, Bool, true, false, not, cond}
+use Rattle.std.specs.Prelude.{List, [], ◌∷◌, ◌++◌, Some, None, map, filter, take, drop, length, refl, if◌then◌else◌}
 use Rattle.std.specs.List.{AllByRecursion as Each, IsDistinct, flat_map}
 use Rattle.std.proofs.Common.{inl, sym, ◌∙◌, ap, zero-add, add-zero, arith, length-drop}
 use Rattle.std.proofs.lemmas.Bool.{true≢false}
@@ -45,7 +46,9 @@ module _ (name : Name) (id : MsgId) (round : ℕ) where
 
   told-append : (xs ys : List (Name × Body)) → told (xs ++ ys) ≡ told xs + told ys
   told-append [] ys = sym (zero-add (told ys))
-  told-append (x ∷ xs) ys = ap (λ n. (if same_name name x.0 then times (body_content x.1).announced else 0) + n) (told-append xs ys) ∙ regroup (if same_name name x.0 then times (body_content x.1).announced else 0) (told xs) (told ys)
+  told-append (x ∷ xs) ys =
+      ap (λ n. (if same_name name x.0 then times (body_content x.1).announced else 0) + n) (told-append xs ys)
+      ∙ regroup (if same_name name x.0 then times (body_content x.1).announced else 0) (told xs) (told ys)
     where
       regroup : (a b c : ℕ) → a + (b + c) ≡ (a + b) + c
       regroup a b c = omega arith
@@ -59,7 +62,9 @@ module _ (name : Name) (id : MsgId) (round : ℕ) where
   if-zero false = refl
 
   -- the packets for a peer announce its entries, to it alone
-  told_to : (peer : Name) (fuel : ℕ) (entries : List (MsgId × ℕ)) → length entries ≤ fuel → told (packets_to (peer, entries)) ≡ (if same_name name peer then times entries else 0)
+  told_to : (peer : Name) (fuel : ℕ) (entries : List (MsgId × ℕ)) →
+      length entries ≤ fuel →
+      told (packets_to (peer, entries)) ≡ (if same_name name peer then times entries else 0)
   told_to peer fuel [] enough = if-zero (same_name name peer)
   told_to peer zero (entry ∷ entries) enough = absurd (not_none (length entries) enough)
     where
@@ -67,9 +72,12 @@ module _ (name : Name) (id : MsgId) (round : ℕ) where
       not_none n h = omega (arith, h)
   told_to peer (suc fuel) (entry ∷ entries) enough =
       ap told (packets_to-step peer (entry ∷ entries) (some (length entries)))
-      ∙ ap (λ n. (if same_name name peer then times (take MAX_ANNOUNCEMENTS (entry ∷ entries)) else 0) + n) (told_to peer fuel (drop MAX_ANNOUNCEMENTS (entry ∷ entries)) (omega (arith, enough, length-drop MAX_ANNOUNCEMENTS (entry ∷ entries))))
-      ∙ if-add (same_name name peer) (times (take MAX_ANNOUNCEMENTS (entry ∷ entries))) (times (drop MAX_ANNOUNCEMENTS (entry ∷ entries))) (times (entry ∷ entries))
-      (ap times (sym (take-append-drop MAX_ANNOUNCEMENTS (entry ∷ entries))) ∙ count-append (λ (e : MsgId × ℕ). same_id id e.0 && (round == e.1)) (take MAX_ANNOUNCEMENTS (entry ∷ entries)) (drop MAX_ANNOUNCEMENTS (entry ∷ entries)))
+      ∙ ap (λ n. (if same_name name peer then times (take MAX_ANNOUNCEMENTS (entry ∷ entries)) else 0) + n)
+      (told_to peer fuel (drop MAX_ANNOUNCEMENTS (entry ∷ entries)) (omega (arith, enough, length-drop MAX_ANNOUNCEMENTS (entry ∷ entries))))
+      ∙ if-add (same_name name peer) (times (take MAX_ANNOUNCEMENTS (entry ∷ entries)))
+      (times (drop MAX_ANNOUNCEMENTS (entry ∷ entries))) (times (entry ∷ entries))
+      (ap times (sym (take-append-drop MAX_ANNOUNCEMENTS (entry ∷ entries))) ∙ count-append (λ (e : MsgId × ℕ). same_id id e.0 && (round == e.1))
+      (take MAX_ANNOUNCEMENTS (entry ∷ entries)) (drop MAX_ANNOUNCEMENTS (entry ∷ entries)))
     where
       some : (n : ℕ) → 0 < suc n
       some n = omega arith
@@ -77,10 +85,18 @@ module _ (name : Name) (id : MsgId) (round : ℕ) where
   -- what waits for the name is what is queued for it
   times_waiting : (queued : List (Name × MsgId × ℕ)) → times (waiting_for name queued) ≡ times_queued name id round queued
   times_waiting [] = refl
-  times_waiting (entry ∷ queued) = go (times_waiting queued) (same_name name entry.0) ∙ sym (sum_by-cons (λ (e : Name × MsgId × ℕ). cond (same_name name e.0 && (same_id id e.1 && (round == e.2))) 1 0) entry queued)
+  times_waiting (entry ∷ queued) =
+      go (times_waiting queued) (same_name name entry.0)
+      ∙ sym (sum_by-cons (λ (e : Name × MsgId × ℕ). cond (same_name name e.0 && (same_id id e.1 && (round == e.2))) 1 0) entry queued)
     where
-      go : times (waiting_for name queued) ≡ times_queued name id round queued → (b : Bool) → times (map (λ (e : Name × MsgId × ℕ). (e.1, e.2)) (cond b (entry ∷ filter (λ e. same_name name e.0) queued) (filter (λ e. same_name name e.0) queued))) ≡ cond (b && (same_id id entry.1 && (round == entry.2))) 1 0 + times_queued name id round queued
-      go rest true = sum_by-cons (λ (e : MsgId × ℕ). cond (same_id id e.0 && (round == e.1)) 1 0) (entry.1, entry.2) (waiting_for name queued) ∙ ap (λ n. cond (same_id id entry.1 && (round == entry.2)) 1 0 + n) rest
+      go : times (waiting_for name queued) ≡ times_queued name id round queued →
+          (b : Bool) →
+          times
+          (map (λ (e : Name × MsgId × ℕ). (e.1, e.2)) (cond b (entry ∷ filter (λ e. same_name name e.0) queued) (filter (λ e. same_name name e.0) queued)))
+          ≡ cond (b && (same_id id entry.1 && (round == entry.2))) 1 0 + times_queued name id round queued
+      go rest true =
+          sum_by-cons (λ (e : MsgId × ℕ). cond (same_id id e.0 && (round == e.1)) 1 0) (entry.1, entry.2) (waiting_for name queued)
+          ∙ ap (λ n. cond (same_id id entry.1 && (round == entry.2)) 1 0 + n) rest
       go rest false = rest ∙ sym (zero-add (times_queued name id round queued))
 
   -- a name for which nothing waits has no entry in the queue
@@ -90,7 +106,9 @@ module _ (name : Name) (id : MsgId) (round : ℕ) where
       sum_by-cons (λ (e : Name × MsgId × ℕ). cond (same_name name e.0 && (same_id id e.1 && (round == e.2))) 1 0) entry queued
       ∙ ap (λ b. cond (b && (same_id id entry.1 && (round == entry.2))) 1 0 + times_queued name id round queued) apart
       ∙ zero-add (times_queued name id round queued)
-      ∙ none_waits queued (sym (any-filter_same (same_name name) (λ peer. not (same_name entry.0 peer)) true (λ peer same. ap not (same_as peer same)) (receivers queued)) ∙ or_right (same_name name entry.0) _ lacks)
+      ∙ none_waits queued
+      (sym (any-filter_same (same_name name) (λ peer. not (same_name entry.0 peer)) true (λ peer same. ap not (same_as peer same)) (receivers queued))
+      ∙ or_right (same_name name entry.0) _ lacks)
     where
       or_left : (a b : Bool) → (a || b) ≡ false → a ≡ false
       or_left true b h = h
@@ -107,24 +125,35 @@ module _ (name : Name) (id : MsgId) (round : ℕ) where
       same_as peer same = go (same_name entry.0 peer) refl
         where
           go : (b : Bool) → same_name entry.0 peer ≡ b → b ≡ false
-          go true is = absurd (true≢false (sym ((same_name-Decides name entry.0).1 ((same_name-Decides name peer).0 same ∙ sym ((same_name-Decides entry.0 peer).0 is))) ∙ apart))
+          go true is =
+              absurd (true≢false
+              (sym ((same_name-Decides name entry.0).1 ((same_name-Decides name peer).0 same ∙ sym ((same_name-Decides entry.0 peer).0 is))) ∙ apart))
           go false is = refl
 
   -- the packets for distinct receivers
-  told_to_all : (queued : List (Name × MsgId × ℕ)) (peers : List Name) → IsDistinct same_name peers → told (flat_map packets_to (map (λ peer. (peer, waiting_for peer queued)) peers)) ≡ (if has_name peers name then times_queued name id round queued else 0)
+  told_to_all : (queued : List (Name × MsgId × ℕ)) (peers : List Name) →
+      IsDistinct same_name peers →
+      told (flat_map packets_to (map (λ peer. (peer, waiting_for peer queued)) peers)) ≡ (if has_name peers name then times_queued name id round queued else 0)
   told_to_all queued [] distinct = refl
   told_to_all queued (peer ∷ peers) distinct =
       told-append (packets_to (peer, waiting_for peer queued)) (flat_map packets_to (map (λ p. (p, waiting_for p queued)) peers))
-      ∙ ap (λ n. n + told (flat_map packets_to (map (λ p. (p, waiting_for p queued)) peers))) (told_to peer (length (waiting_for peer queued)) (waiting_for peer queued) (same_length (length (waiting_for peer queued))))
-      ∙ ap (λ n. (if same_name name peer then times (waiting_for peer queued) else 0) + n) (told_to_all queued peers (IsDistinct-tail same_name peer peers distinct))
+      ∙ ap (λ n. n + told (flat_map packets_to (map (λ p. (p, waiting_for p queued)) peers)))
+      (told_to peer (length (waiting_for peer queued)) (waiting_for peer queued) (same_length (length (waiting_for peer queued))))
+      ∙ ap (λ n. (if same_name name peer then times (waiting_for peer queued) else 0) + n)
+      (told_to_all queued peers (IsDistinct-tail same_name peer peers distinct))
       ∙ go (same_name name peer) (has_name peers name) refl (lacks_the_first name peer peers distinct)
     where
       same_length : (n : ℕ) → n ≤ n
       same_length n = omega arith
 
-      go : (b has : Bool) → same_name name peer ≡ b → (b ≡ true → has ≡ false) → (if b then times (waiting_for peer queued) else 0) + (if has then times_queued name id round queued else 0) ≡ (if b || has then times_queued name id round queued else 0)
+      go : (b has : Bool) →
+          same_name name peer ≡ b →
+          (b ≡ true → has ≡ false) →
+          (if b then times (waiting_for peer queued) else 0) + (if has then times_queued name id round queued else 0)
+          ≡ (if b || has then times_queued name id round queued else 0)
       go true true is apart = absurd (true≢false (apart refl))
-      go true false is apart = add-zero (times (waiting_for peer queued)) ∙ ap (λ p. times (waiting_for p queued)) (sym ((same_name-Decides name peer).0 is)) ∙ times_waiting queued
+      go true false is apart =
+          add-zero (times (waiting_for peer queued)) ∙ ap (λ p. times (waiting_for p queued)) (sym ((same_name-Decides name peer).0 is)) ∙ times_waiting queued
       go false has is apart = zero-add (if has then times_queued name id round queued else 0)
 
   pub told_all : (queued : List (Name × MsgId × ℕ)) → IsDistinct same_name (receivers queued) → told (announcements queued) ≡ times_queued name id round queued
@@ -138,13 +167,18 @@ module _ (name : Name) (id : MsgId) (round : ℕ) where
 receivers_differ : (queued : List (Name × MsgId × ℕ)) → IsDistinct same_name (receivers queued)
 unfolding IsDistinct
 receivers_differ [] = tt
-receivers_differ (entry ∷ queued) = (others (receivers queued), distinct-filter (λ peer. not (same_name entry.0 peer)) (receivers queued) (receivers_differ queued))
+receivers_differ (entry ∷ queued) =
+    (others (receivers queued), distinct-filter (λ peer. not (same_name entry.0 peer)) (receivers queued) (receivers_differ queued))
   where
     others : (peers : List Name) → Each (λ later. same_name entry.0 later ≡ false) (filter (λ peer. not (same_name entry.0 peer)) peers)
     others [] = tt
     others (peer ∷ peers) = go (others peers) (same_name entry.0 peer) refl
       where
-        go : Each (λ later. same_name entry.0 later ≡ false) (filter (λ p. not (same_name entry.0 p)) peers) → (b : Bool) → same_name entry.0 peer ≡ b → Each (λ later. same_name entry.0 later ≡ false) (cond (not b) (peer ∷ filter (λ p. not (same_name entry.0 p)) peers) (filter (λ p. not (same_name entry.0 p)) peers))
+        go : Each (λ later. same_name entry.0 later ≡ false) (filter (λ p. not (same_name entry.0 p)) peers) →
+            (b : Bool) →
+            same_name entry.0 peer ≡ b →
+            Each (λ later. same_name entry.0 later ≡ false)
+            (cond (not b) (peer ∷ filter (λ p. not (same_name entry.0 p)) peers) (filter (λ p. not (same_name entry.0 p)) peers))
         go rest true is = rest
         go rest false is = (is, rest)
 
@@ -154,39 +188,56 @@ each_receiver P [] h = tt
 each_receiver P (entry ∷ queued) h = (h.0, each-filter P (λ peer. not (same_name entry.0 peer)) (receivers queued) (each_receiver P queued h.1))
 
 -- what holds of each announcement to each receiver holds of each packet
-each_packet : (P : Name → Body → Type 0) (queued : List (Name × MsgId × ℕ)) (peers : List Name) → Each (λ peer. (entries : List (MsgId × ℕ)) → P peer (IHave entries)) peers → Each (λ send. P send.0 send.1) (flat_map packets_to (map (λ peer. (peer, waiting_for peer queued)) peers))
+each_packet : (P : Name → Body → Type 0) (queued : List (Name × MsgId × ℕ)) (peers : List Name) →
+    Each (λ peer. (entries : List (MsgId × ℕ)) → P peer (IHave entries)) peers →
+    Each (λ send. P send.0 send.1) (flat_map packets_to (map (λ peer. (peer, waiting_for peer queued)) peers))
 each_packet P queued [] h = tt
-each_packet P queued (peer ∷ peers) h = each-append (λ send. P send.0 send.1) (packets_to (peer, waiting_for peer queued)) (flat_map packets_to (map (λ p. (p, waiting_for p queued)) peers)) (go (in_frames (waiting_for peer queued))) (each_packet P queued peers h.1)
+each_packet P queued (peer ∷ peers) h =
+    each-append (λ send. P send.0 send.1) (packets_to (peer, waiting_for peer queued))
+    (flat_map packets_to (map (λ p. (p, waiting_for p queued)) peers)) (go (in_frames (waiting_for peer queued))) (each_packet P queued peers h.1)
   where
     go : (frames : List (List (MsgId × ℕ))) → Each (λ (send : Name × Body). P send.0 send.1) (map (λ entries. (peer, IHave entries)) frames)
     go [] = tt
     go (entries ∷ frames) = (h.0 entries, go frames)
 
-module _ (g : GossipState) (whole : IsWhole g) (active passive : List Name) (members : names g.peers.members ≡ active) (me : Origin) (others : has_name active g.me.name ≡ false) (framed : ℕ) where
+module _ (g : GossipState) (whole : IsWhole g) (active passive : List Name) (members : names g.peers.members ≡ active)
+    (me : Origin) (others : has_name active g.me.name ≡ false) (framed : ℕ) where
   abbrev before : CoreState
   before = state_with active passive g
 
   -- what holds of each announcement to an active name holds of each frame
-  each_sent : (P : Name → Body → Type 0) → ((peer : Name) (entries : List (MsgId × ℕ)) → has_name active peer ≡ true → P peer (IHave entries)) → Each (λ (send : Name × Frame). P send.0 send.1.body) (numbered me framed (announcements g.peers.queued))
+  each_sent : (P : Name → Body → Type 0) →
+      ((peer : Name) (entries : List (MsgId × ℕ)) → has_name active peer ≡ true → P peer (IHave entries)) →
+      Each (λ (send : Name × Frame). P send.0 send.1.body) (numbered me framed (announcements g.peers.queued))
   each_sent P all =
       each-numbered me P framed (announcements g.peers.queued)
       (each_packet P g.peers.queued (receivers g.peers.queued)
       (each_receiver (λ peer. (entries : List (MsgId × ℕ)) → P peer (IHave entries)) g.peers.queued
-      (each_one _ g.peers.queued (λ entry h entries. all entry.0 entries (is_active entry.0 (of_each (λ e. is_member g.peers.members e.0 ≡ true) g.peers.queued entry whole.peers.for_members h))))))
+      (each_one _ g.peers.queued (λ entry h entries.
+      all entry.0 entries (is_active entry.0 (of_each (λ e. is_member g.peers.members e.0 ≡ true) g.peers.queued entry whole.peers.for_members h))))))
     where
       is_active : (peer : Name) → is_member g.peers.members peer ≡ true → has_name active peer ≡ true
       is_active peer is = sym (is_member-names g.peers.members peer ∙ ap (λ ns. has_name ns peer) members) ∙ is
 
-  pub flushes_lawfully : StepLaws frame_content before on.Flush (numbered me framed (announcements g.peers.queued)) [] (state_with active passive (record g { peers = record g.peers { queued = [] } }))
+  pub flushes_lawfully : StepLaws frame_content before on.Flush (numbered me framed (announcements g.peers.queued)) []
+      (state_with active passive (record g { peers = record g.peers { queued = [] } }))
   flushes_lawfully =
       delivers_nothing before on.Flush (numbered me framed (announcements g.peers.queued)) active passive [] g.missing.wants g.missing.timers refl refl
       (carry_none (λ to id p. (before.payload id ≡ Some p) × (before.has id ≡ true)) (numbered me framed (announcements g.peers.queued)) carry)
       (each_sent (λ to body. to ≢ g.me.name) (λ peer entries is. differs active peer g.me.name is others))
       (record {
         appears = tt;
-        leaves = (λ name id round. announced-numbered me name id round framed (announcements g.peers.queued) ∙ told_all name id round g.peers.queued (receivers_differ g.peers.queued), refl);
+        leaves = (
+          λ name id round. announced-numbered me name id round framed (announcements g.peers.queued)
+              ∙ told_all name id round g.peers.queued (receivers_differ g.peers.queued),
+          refl,
+        );
       })
-      (record { taken = λ name id round a. absurd a; appears = each_one _ g.missing.wants (λ entry h. inl h); arms = each_one _ g.missing.timers (λ id h. inl h) })
+      (record {
+        taken = λ name id round a. absurd a;
+        appears = each_one _ g.missing.wants (λ entry h. inl h);
+        arms = each_one _ g.missing.timers (λ id h. inl h);
+      })
       (record {
         fires = each_sent (λ to body. (body_content body).asked ≡ None) (λ peer entries is. refl);
         entry_stays = each_one _ g.missing.wants (λ entry h. inl h);

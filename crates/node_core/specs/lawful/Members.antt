@@ -50,7 +50,11 @@ pub one_of_filter : {X : Type 0} (test : X → Bool) (x : X) (xs : List X) → I
 one_of_filter test x [] none = absurd none
 one_of_filter {X} test x (y ∷ xs) h = go (one_of_filter test x xs) (test y) refl h
   where
-    go : (IsOneOf x (filter test xs) → IsOneOf x xs × (test x ≡ true)) → (b : Bool) → test y ≡ b → IsOneOf x (cond b (y ∷ filter test xs) (filter test xs)) → IsOneOf x (y ∷ xs) × (test x ≡ true)
+    go : (IsOneOf x (filter test xs) → IsOneOf x xs × (test x ≡ true)) →
+        (b : Bool) →
+        test y ≡ b →
+        IsOneOf x (cond b (y ∷ filter test xs) (filter test xs)) →
+        IsOneOf x (y ∷ xs) × (test x ≡ true)
     go rest true passes (inl same) = (inl same, ap test same ∙ passes)
     go rest true passes (inr later) = let found : IsOneOf x xs × (test x ≡ true) = rest later in (inr found.0, found.1)
     go rest false passes later = let found : IsOneOf x xs × (test x ≡ true) = rest later in (inr found.0, found.1)
@@ -98,7 +102,11 @@ pub one_of_names : (name : Name) (names : List Name) → has_name names name ≡
 one_of_names name [] none = absurd (false≢true none)
 one_of_names name (other ∷ names) h = go (one_of_names name names) (same_name name other) refl h
   where
-    go : (has_name names name ≡ true → IsOneOf name names) → (b : Bool) → same_name name other ≡ b → (b || has_name names name) ≡ true → IsOneOf name (other ∷ names)
+    go : (has_name names name ≡ true → IsOneOf name names) →
+        (b : Bool) →
+        same_name name other ≡ b →
+        (b || has_name names name) ≡ true →
+        IsOneOf name (other ∷ names)
     go rest true same e = inl ((same_name-Decides name other).0 same)
     go rest false same e = inr (rest e)
 
@@ -119,14 +127,21 @@ differs names name other has lacks same = true≢false (sym has ∙ ap (has_name
 -- a name that is first among distinct ones is not there once more
 pub lacks_the_first : (name other : Name) (names : List Name) → IsDistinct same_name (other ∷ names) → same_name name other ≡ true → has_name names name ≡ false
 lacks_the_first name other names distinct same =
-    lacks_from_each name names (subst (λ n. Each (λ later. same_name n later ≡ false) names) (sym ((same_name-Decides name other).0 same)) (IsDistinct-head same_name other names distinct))
+    lacks_from_each name names (subst (λ n. Each (λ later. same_name n later ≡ false) names)
+    (sym ((same_name-Decides name other).0 same)) (IsDistinct-head same_name other names distinct))
 
 -- among distinct names a name is once or not at all
 pub counts_once : (name : Name) (names : List Name) → IsDistinct same_name names → count_by (same_name name) names ≡ cond (has_name names name) 1 0
 counts_once name [] distinct = refl
-counts_once name (other ∷ names) distinct = sum_by-cons (λ x. cond (same_name name x) 1 0) other names ∙ go (same_name name other) (has_name names name) (lacks_the_first name other names distinct) (counts_once name names (IsDistinct-tail same_name other names distinct))
+counts_once name (other ∷ names) distinct =
+    sum_by-cons (λ x. cond (same_name name x) 1 0) other names
+    ∙ go (same_name name other) (has_name names name) (lacks_the_first name other names distinct)
+    (counts_once name names (IsDistinct-tail same_name other names distinct))
   where
-    go : (same has : Bool) → (same ≡ true → has ≡ false) → count_by (same_name name) names ≡ cond has 1 0 → cond same 1 0 + count_by (same_name name) names ≡ cond (same || has) 1 0
+    go : (same has : Bool) →
+        (same ≡ true → has ≡ false) →
+        count_by (same_name name) names ≡ cond has 1 0 →
+        cond same 1 0 + count_by (same_name name) names ≡ cond (same || has) 1 0
     go true true apart counted = absurd (true≢false (apart refl))
     go true false apart counted = ap (λ n. 1 + n) counted
     go false has apart counted = zero-add (count_by (same_name name) names) ∙ counted
@@ -136,7 +151,8 @@ counts_once name (other ∷ names) distinct = sum_by-cons (λ x. cond (same_name
 -- if none passes the test, the count is 0
 pub counts_none : {X : Type 0} (test : X → Bool) (xs : List X) → Each (λ x. test x ≡ false) xs → count_by test xs ≡ 0
 counts_none test [] h = refl
-counts_none test (x ∷ xs) h = sum_by-cons (λ y. cond (test y) 1 0) x xs ∙ ap (λ b. cond b 1 0 + count_by test xs) h.0 ∙ zero-add (count_by test xs) ∙ counts_none test xs h.1
+counts_none test (x ∷ xs) h =
+    sum_by-cons (λ y. cond (test y) 1 0) x xs ∙ ap (λ b. cond b 1 0 + count_by test xs) h.0 ∙ zero-add (count_by test xs) ∙ counts_none test xs h.1
 
 -- the counts of two lists add up
 pub count-append : {X : Type 0} (test : X → Bool) (xs ys : List X) → count_by test (xs ++ ys) ≡ count_by test xs + count_by test ys

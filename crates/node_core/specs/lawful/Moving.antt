@@ -58,9 +58,19 @@ after_all_downs [] g =
       wants_stay = λ entry h. inl h;
     }
 after_all_downs (name ∷ names) g =
-    let later : Linked (outcome g (call.Down name)).state names (after_downs names (outcome g (call.Down name)).state) = after_all_downs names (outcome g (call.Down name)).state in
+    let later : Linked (outcome g (call.Down name)).state names (after_downs names (outcome g (call.Down name)).state) =
+    after_all_downs names (outcome g (call.Down name)).state in
     record {
-      same = record { me = later.same.me; threshold = later.same.threshold; keep = later.same.keep; spent = later.same.spent; known = later.same.known; held = later.same.held; timers = later.same.timers };
+      same =
+          record {
+            me = later.same.me;
+            threshold = later.same.threshold;
+            keep = later.same.keep;
+            spent = later.same.spent;
+            known = later.same.known;
+            held = later.same.held;
+            timers = later.same.timers;
+          };
       queue_was = λ entry h. (one_of_filter (λ e. not (same_name name e.0)) entry g.peers.queued (later.queue_was entry h)).0;
       queue_stays = λ entry h. queue_kept later entry h (same_name name entry.0) refl;
       wants_were = λ entry h. (one_of_filter (λ e. not (same_name name e.1)) entry g.missing.wants (later.wants_were entry h)).0;
@@ -68,16 +78,30 @@ after_all_downs (name ∷ names) g =
     }
   where
     queue_kept :
-        Linked (outcome g (call.Down name)).state names (after_downs names (outcome g (call.Down name)).state) → (entry : Name × MsgId × ℕ) → IsOneOf entry g.peers.queued
-        → (b : Bool) → same_name name entry.0 ≡ b → IsOneOf entry (after_downs names (outcome g (call.Down name)).state).peers.queued ⊎ (has_name (name ∷ names) entry.0 ≡ true)
+        Linked (outcome g (call.Down name)).state names (after_downs names (outcome g (call.Down name)).state) →
+        (entry : Name × MsgId × ℕ) →
+        IsOneOf entry g.peers.queued
+        → (b : Bool)
+        → same_name name entry.0 ≡ b
+        → IsOneOf entry (after_downs names (outcome g (call.Down name)).state).peers.queued ⊎ (has_name (name ∷ names) entry.0 ≡ true)
     queue_kept later entry h true is = inr (first_gone name names entry.0 is)
-    queue_kept later entry h false is = elim (later.queue_stays entry (one_of_passing (λ e. not (same_name name e.0)) entry g.peers.queued h (ap not is))) [ inl stays ↦ inl stays | inr gone ↦ inr (more_gone name names entry.0 gone) ]
+    queue_kept later entry h false is = elim (later.queue_stays entry (one_of_passing (λ e. not (same_name name e.0)) entry g.peers.queued h (ap not is))) [
+      | inl stays ↦ inl stays
+      | inr gone ↦ inr (more_gone name names entry.0 gone)
+    ]
 
     wants_kept :
-        Linked (outcome g (call.Down name)).state names (after_downs names (outcome g (call.Down name)).state) → (entry : MsgId × Name × ℕ) → IsOneOf entry g.missing.wants
-        → (b : Bool) → same_name name entry.1 ≡ b → IsOneOf entry (after_downs names (outcome g (call.Down name)).state).missing.wants ⊎ (has_name (name ∷ names) entry.1 ≡ true)
+        Linked (outcome g (call.Down name)).state names (after_downs names (outcome g (call.Down name)).state) →
+        (entry : MsgId × Name × ℕ) →
+        IsOneOf entry g.missing.wants
+        → (b : Bool)
+        → same_name name entry.1 ≡ b
+        → IsOneOf entry (after_downs names (outcome g (call.Down name)).state).missing.wants ⊎ (has_name (name ∷ names) entry.1 ≡ true)
     wants_kept later entry h true is = inr (first_gone name names entry.1 is)
-    wants_kept later entry h false is = elim (later.wants_stay entry (one_of_passing (λ e. not (same_name name e.1)) entry g.missing.wants h (ap not is))) [ inl stays ↦ inl stays | inr gone ↦ inr (more_gone name names entry.1 gone) ]
+    wants_kept later entry h false is = elim (later.wants_stay entry (one_of_passing (λ e. not (same_name name e.1)) entry g.missing.wants h (ap not is))) [
+      | inl stays ↦ inl stays
+      | inr gone ↦ inr (more_gone name names entry.1 gone)
+    ]
 
 -- ---- links that came up
 
@@ -92,9 +116,19 @@ after_all_ups [] g =
       wants_stay = λ entry h. inl h;
     }
 after_all_ups (name ∷ names) g =
-    let later : Linked (outcome g (call.Up name)).state [] (after_ups names (outcome g (call.Up name)).state) = after_all_ups names (outcome g (call.Up name)).state in
+    let later : Linked (outcome g (call.Up name)).state [] (after_ups names (outcome g (call.Up name)).state) =
+    after_all_ups names (outcome g (call.Up name)).state in
     record {
-      same = record { me = later.same.me; threshold = later.same.threshold; keep = later.same.keep; spent = later.same.spent; known = later.same.known; held = later.same.held; timers = later.same.timers };
+      same =
+          record {
+            me = later.same.me;
+            threshold = later.same.threshold;
+            keep = later.same.keep;
+            spent = later.same.spent;
+            known = later.same.known;
+            held = later.same.held;
+            timers = later.same.timers;
+          };
       queue_was = later.queue_was;
       queue_stays = later.queue_stays;
       wants_were = later.wants_were;
@@ -104,25 +138,34 @@ after_all_ups (name ∷ names) g =
 -- ---- the members
 
 -- the members without a name are its names without it
-names-without : (name : Name) (members : List (Name × PeerKind)) → names (without_member name members) ≡ filter (λ other. not (same_name name other)) (names members)
+names-without : (name : Name) (members : List (Name × PeerKind)) →
+    names (without_member name members) ≡ filter (λ other. not (same_name name other)) (names members)
 names-without name [] = refl
 names-without name (m ∷ members) = go (names-without name members) (same_name name m.0)
   where
-    go : names (without_member name members) ≡ filter (λ other. not (same_name name other)) (names members) → (b : Bool) → names (cond (not b) (m ∷ without_member name members) (without_member name members)) ≡ cond (not b) (m.0 ∷ filter (λ other. not (same_name name other)) (names members)) (filter (λ other. not (same_name name other)) (names members))
+    go : names (without_member name members) ≡ filter (λ other. not (same_name name other)) (names members) →
+        (b : Bool) →
+        names (cond (not b) (m ∷ without_member name members) (without_member name members))
+        ≡ cond (not b) (m.0 ∷ filter (λ other. not (same_name name other)) (names members)) (filter (λ other. not (same_name name other)) (names members))
     go rest true = rest
     go rest false = ap (λ ns. m.0 ∷ ns) rest
 
 -- which are the others
 without_is_others : (name : Name) (ns : List Name) → filter (λ other. not (same_name name other)) ns ≡ others (name ∷ []) ns
 without_is_others name [] = refl
-without_is_others name (other ∷ ns) = ap (λ b. cond (not b) (other ∷ filter (λ o. not (same_name name o)) ns) (filter (λ o. not (same_name name o)) ns)) (same_name-laws.symm name other ∙ sym (or_false (same_name other name))) ∙ ap (λ rest. cond (not (has_name (name ∷ []) other)) (other ∷ rest) rest) (without_is_others name ns)
+without_is_others name (other ∷ ns) =
+    ap (λ b. cond (not b) (other ∷ filter (λ o. not (same_name name o)) ns) (filter (λ o. not (same_name name o)) ns))
+    (same_name-laws.symm name other ∙ sym (or_false (same_name other name)))
+    ∙ ap (λ rest. cond (not (has_name (name ∷ []) other)) (other ∷ rest) rest) (without_is_others name ns)
   where
     or_false : (b : Bool) → (b || false) ≡ b
     or_false true = refl
     or_false false = refl
 
 -- a new member is last
-names-with : (name : Name) (members : List (Name × PeerKind)) → has_name (names members) name ≡ false → names (with_member name members) ≡ names members ++ name ∷ []
+names-with : (name : Name) (members : List (Name × PeerKind)) →
+    has_name (names members) name ≡ false →
+    names (with_member name members) ≡ names members ++ name ∷ []
 names-with name members new = go (is_member members name) (is_member-names members name ∙ new)
   where
     names-push : (ms : List (Name × PeerKind)) → names (ms ++ (name, Eager) ∷ []) ≡ names ms ++ name ∷ []
@@ -142,7 +185,9 @@ append_none [] = refl
 append_none (name ∷ ns) = ap (λ rest. name ∷ rest) (append_none ns)
 
 -- if at most one link went down, the members are the others
-pub members_after_downs : (g : GossipState) (downs : List Name) → length downs ≤ 1 → names (after_downs downs g).peers.members ≡ others downs (names g.peers.members)
+pub members_after_downs : (g : GossipState) (downs : List Name) →
+    length downs ≤ 1 →
+    names (after_downs downs g).peers.members ≡ others downs (names g.peers.members)
 members_after_downs g [] few = sym (others_of_none (names g.peers.members))
 members_after_downs g (name ∷ []) few = names-without name g.peers.members ∙ without_is_others name (names g.peers.members)
 members_after_downs g (name ∷ (other ∷ downs)) few = absurd (too_many (length downs) few)
@@ -151,7 +196,10 @@ members_after_downs g (name ∷ (other ∷ downs)) few = absurd (too_many (lengt
     too_many n h = omega (arith, h)
 
 -- if at most one link came up, to a peer that is not a member, this peer is the last member
-pub members_after_ups : (g : GossipState) (ups : List Name) → length ups ≤ 1 → Each (λ name. has_name (names g.peers.members) name ≡ false) ups → names (after_ups ups g).peers.members ≡ names g.peers.members ++ ups
+pub members_after_ups : (g : GossipState) (ups : List Name) →
+    length ups ≤ 1 →
+    Each (λ name. has_name (names g.peers.members) name ≡ false) ups →
+    names (after_ups ups g).peers.members ≡ names g.peers.members ++ ups
 members_after_ups g [] few new = sym (append_none (names g.peers.members))
 members_after_ups g (name ∷ []) few new = names-with name g.peers.members new.0
 members_after_ups g (name ∷ (other ∷ ups)) few new = absurd (too_many (length ups) few)

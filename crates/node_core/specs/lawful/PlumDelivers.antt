@@ -15,6 +15,8 @@ one_at_most me (Some message) = omega arith
 pub plum_delivers_one : OneDelivery plum_state PlumSteps
 plum_delivers_one =
     record {
-      at_most_one = λ old stimulus sends given new s. subst (λ g. length g ≤ 1) (sym s.delivers) (one_at_most old.me (turned old.me old.membership old.gossip stimulus).delivered);
+      at_most_one =
+          λ old stimulus sends given new s.
+          subst (λ g. length g ≤ 1) (sym s.delivers) (one_at_most old.me (turned old.me old.membership old.gossip stimulus).delivered);
       of_broadcast = λ old payload sends given new s. ap ids s.delivers;
     }

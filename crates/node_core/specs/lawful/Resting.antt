@@ -22,14 +22,17 @@ use Rattle.node_core.specs.lawful.Members.{each_one}
 
 -- Each packet that carries a message carries one that the core has and holds.
 abbrev pub CarryHeld : CoreState → List (Name × Frame) → Type 0
-CarryHeld before sends = Each (λ send. (id : MsgId) (p : List ℕ) → (frame_content send.1).carried ≡ Some (id, p) → (before.payload id ≡ Some p) × (before.has id ≡ true)) sends
+CarryHeld before sends =
+    Each (λ send. (id : MsgId) (p : List ℕ) → (frame_content send.1).carried ≡ Some (id, p) → (before.payload id ≡ Some p) × (before.has id ≡ true)) sends
 
 -- No packet carries anything.
 abbrev pub CarryNothing : List (Name × Frame) → Type 0
 CarryNothing sends = Each (λ send. (frame_content send.1).carried ≡ None) sends
 
 -- packets that carry nothing carry nothing else
-pub carry_none : (P : Name → MsgId → List ℕ → Type 0) (sends : List (Name × Frame)) → CarryNothing sends → Each (λ send. (id : MsgId) (p : List ℕ) → (frame_content send.1).carried ≡ Some (id, p) → P send.0 id p) sends
+pub carry_none : (P : Name → MsgId → List ℕ → Type 0) (sends : List (Name × Frame)) →
+    CarryNothing sends →
+    Each (λ send. (id : MsgId) (p : List ℕ) → (frame_content send.1).carried ≡ Some (id, p) → P send.0 id p) sends
 carry_none P [] h = tt
 carry_none P (send ∷ sends) h = ((λ id p e. absurd (false≢true (ap is_some (sym h.0 ∙ e)))), carry_none P sends h.1)
 
@@ -38,7 +41,8 @@ pub each_part : {X : Type 0} (P Q : X → Type 0) → ((x : X) → P x → Q x) 
 each_part P Q f [] h = tt
 each_part P Q f (x ∷ xs) h = (f x h.0, each_part P Q f xs h.1)
 
-module _ (before : CoreState) (stimulus : Stimulus Frame) (sends : List (Name × Frame)) (active passive : List Name) (queued : List (Name × MsgId × ℕ)) (wants : List (MsgId × Name × ℕ)) (timers : List MsgId) where
+module _ (before : CoreState) (stimulus : Stimulus Frame) (sends : List (Name × Frame)) (active passive : List Name)
+    (queued : List (Name × MsgId × ℕ)) (wants : List (MsgId × Name × ℕ)) (timers : List MsgId) where
   abbrev after : CoreState
   after = record before { active = active; passive = passive; queued = queued; wants = wants; timers = timers }
 
@@ -58,12 +62,25 @@ module _ (before : CoreState) (stimulus : Stimulus Frame) (sends : List (Name ×
         identity = refl;
         payloads =
             record {
-              sent = each_part (λ send. (id : MsgId) (p : List ℕ) → (frame_content send.1).carried ≡ Some (id, p) → (before.payload id ≡ Some p) × (before.has id ≡ true)) _ (λ send h id p e. inl (h id p e).0) sends carried;
+              sent =
+                  each_part
+                  (λ send. (id : MsgId) (p : List ℕ) → (frame_content send.1).carried ≡ Some (id, p) → (before.payload id ≡ Some p) × (before.has id ≡ true)) _
+                  (λ send h id p e. inl (h id p e).0) sends carried;
               delivered = tt;
               held = λ id p e. inl e;
-              sender_has = each_part (λ send. (id : MsgId) (p : List ℕ) → (frame_content send.1).carried ≡ Some (id, p) → (before.payload id ≡ Some p) × (before.has id ≡ true)) _ (λ send h id p e. (h id p e).1) sends carried;
+              sender_has =
+                  each_part
+                  (λ send. (id : MsgId) (p : List ℕ) → (frame_content send.1).carried ≡ Some (id, p) → (before.payload id ≡ Some p) × (before.has id ≡ true)) _
+                  (λ send h id p e. (h id p e).1) sends carried;
             };
-        deliveries = record { exact = exact; here = tt; fresh = tt; grows = λ id. (λ h. inl h, λ h. elim h [ inl was ↦ was | inr none ↦ absurd none ]); counted = counted };
+        deliveries =
+            record {
+              exact = exact;
+              here = tt;
+              fresh = tt;
+              grows = λ id. (λ h. inl h, λ h. elim h [ inl was ↦ was | inr none ↦ absurd none ]);
+              counted = counted;
+            };
         views = views;
         spread = tt;
         queue = queue;
@@ -87,7 +104,11 @@ module _ (before : CoreState) (stimulus : Stimulus Frame) (sends : List (Name ×
   leaves_all exact counted carried views flushes announces fires holds =
       delivers_nothing before stimulus sends before.active before.passive before.queued before.wants before.timers exact counted carried views
       (record { appears = each_one _ before.queued (λ entry h. inl h); leaves = flushes })
-      (record { taken = λ name id round a is. absurd (announces name id round a is); appears = each_one _ before.wants (λ entry h. inl h); arms = each_one _ before.timers (λ id h. inl h) })
+      (record {
+        taken = λ name id round a is. absurd (announces name id round a is);
+        appears = each_one _ before.wants (λ entry h. inl h);
+        arms = each_one _ before.timers (λ id h. inl h);
+      })
       (record { fires = fires; entry_stays = each_one _ before.wants (λ entry h. inl h); timer_stays = each_one _ before.timers (λ id h. inl h) })
       holds
 

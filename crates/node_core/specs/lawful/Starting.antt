@@ -32,14 +32,17 @@ module _ (limits : Limits) (owner : Name) (peers : List Name) (contact : Option 
       record {
         within = within_bound (length peers) limits.active (and_left (nat_le (length peers) limits.active) _ fit);
         distinct = distinct_peers limits owner peers contact fit;
-        of_others = not_true (has_name peers owner) (and_left (not (has_name peers owner)) (not (is_contact contact owner)) (and_right (are_distinct peers) _ later));
+        of_others =
+            not_true (has_name peers owner) (and_left (not (has_name peers owner)) (not (is_contact contact owner)) (and_right (are_distinct peers) _ later));
       }
 
   -- and the contact is not the node itself
   pub another_contact : is_contact contact owner ≡ false
-  another_contact = not_true (is_contact contact owner) (and_right (not (has_name peers owner)) (not (is_contact contact owner)) (and_right (are_distinct peers) _ later))
+  another_contact =
+      not_true (is_contact contact owner) (and_right (not (has_name peers owner)) (not (is_contact contact owner)) (and_right (are_distinct peers) _ later))
 
-module _ (spent framed : ℕ) (me : Origin) (limits : Limits) (peers : List Name) (contact : Option Name) (sends : List (Name × Frame)) (core : Plum) (fit : IsTrue (are_peers limits me.name peers contact)) (started : PlumStartsCounted spent framed me limits peers contact sends core) where
+module _ (spent framed : ℕ) (me : Origin) (limits : Limits) (peers : List Name) (contact : Option Name) (sends : List (Name × Frame)) (core : Plum)
+    (fit : IsTrue (are_peers limits me.name peers contact)) (started : PlumStartsCounted spent framed me limits peers contact sends core) where
   to_another : (c : Option Name) → is_contact c me.name ≡ false → Each (λ send. send.0 ≢ me.name) (numbered me framed (opening c))
   to_another None apart = tt
   to_another (Some c) apart = ((λ same. true≢false (sym ((same_name-Decides c me.name).1 same) ∙ apart)), tt)
@@ -51,7 +54,8 @@ module _ (spent framed : ℕ) (me : Origin) (limits : Limits) (peers : List Name
   first : Plum
   first = newcomer me limits peers spent (framed + length (opening contact))
 
-  first_laws : StartLaws frame_content me peers (numbered me framed (opening contact)) (record (plum_state (newcomer me limits peers spent (framed + length (opening contact)))) { count = 0 })
+  first_laws : StartLaws frame_content me peers (numbered me framed (opening contact))
+      (record (plum_state (newcomer me limits peers spent (framed + length (opening contact)))) { count = 0 })
   first_laws =
       record {
         is_me = refl;
@@ -69,7 +73,10 @@ module _ (spent framed : ℕ) (me : Origin) (limits : Limits) (peers : List Name
       }
 
   pub starts_well : StartLaws frame_content me peers sends (record (plum_state core) { count = 0 })
-  starts_well = subst (λ (c : Plum). StartLaws frame_content me peers sends (record (plum_state c) { count = 0 })) (sym started.leaves) (subst (λ s. StartLaws frame_content me peers s (record (plum_state (newcomer me limits peers spent (framed + length (opening contact)))) { count = 0 })) (sym started.sent) first_laws)
+  starts_well =
+      subst (λ (c : Plum). StartLaws frame_content me peers sends (record (plum_state c) { count = 0 })) (sym started.leaves)
+      (subst (λ s. StartLaws frame_content me peers s (record (plum_state (newcomer me limits peers spent (framed + length (opening contact)))) { count = 0 }))
+      (sym started.sent) first_laws)
 
   first_sound : IsSoundPlum limits (newcomer me limits peers spent (framed + length (opening contact)))
   first_sound =
@@ -95,7 +102,11 @@ module _ (spent framed : ℕ) (me : Origin) (limits : Limits) (peers : List Name
             record {
               peers = sound-new peers fits.distinct;
               missing = sound-empty;
-              store = record { counted = λ id is own. absurd (false≢true (sym (set.contains-empty id_cmp id) ∙ is)); held_is_known = λ id is. absurd (false≢true is) };
+              store =
+                  record {
+                    counted = λ id is own. absurd (false≢true (sym (set.contains-empty id_cmp id) ∙ is));
+                    held_is_known = λ id is. absurd (false≢true is);
+                  };
               held_once = tt;
               known_is_held = λ none id is. absurd (false≢true (sym (set.contains-empty id_cmp id) ∙ is));
               queued_is_known = tt;
@@ -112,5 +123,10 @@ module _ (spent framed : ℕ) (me : Origin) (limits : Limits) (peers : List Name
   starts_counted = record { sound = starts_soundly; counted = ap (λ (c : Plum). c.gossip.spent) started.leaves; lawful = starts_well }
 
 -- without spent numbers the count is that of the laws
-pub starts_uncounted : (me : Origin) (limits : Limits) (peers : List Name) (contact : Option Name) (sends : List (Name × Frame)) (core : Plum) → IsTrue (are_peers limits me.name peers contact) → PlumStarts me limits peers contact sends core → StartLaws frame_content me peers sends (plum_state core)
-starts_uncounted me limits peers contact sends core fit started = subst (λ n. StartLaws frame_content me peers sends (record (plum_state core) { count = n })) (sym (starts_counted 0 0 me limits peers contact sends core fit started).counted) (starts_well 0 0 me limits peers contact sends core fit started)
+pub starts_uncounted : (me : Origin) (limits : Limits) (peers : List Name) (contact : Option Name) (sends : List (Name × Frame)) (core : Plum) →
+    IsTrue (are_peers limits me.name peers contact) →
+    PlumStarts me limits peers contact sends core →
+    StartLaws frame_content me peers sends (plum_state core)
+starts_uncounted me limits peers contact sends core fit started =
+    subst (λ n. StartLaws frame_content me peers sends (record (plum_state core) { count = n }))
+    (sym (starts_counted 0 0 me limits peers contact sends core fit started).counted) (starts_well 0 0 me limits peers contact sends core fit started)

@@ -1,5 +1,6 @@
 -- What every call of a gossip preserves. Proofs only; nothing here has to be trusted.
-use Rattle.std.specs.Prelude.{◌≡◌, ◌≢◌, ◌⊎◌, ◌<◌, ◌≤◌, ◌||◌, ℕ, Bool, true, false, not, List, [], ◌∷◌, ◌++◌, Option, Some, None, filter, map, is_some, if◌then◌else◌, refl}
+use Rattle.std.specs.Prelude.{◌≡◌, ◌≢◌, ◌⊎◌, ◌<◌, ◌≤◌, ◌||◌, ℕ, Bool, true, false, not, List, [], ◌∷◌}
+use Rattle.std.specs.Prelude.{◌++◌, Option, Some, None, filter, map, is_some, if◌then◌else◌, refl}
 use Rattle.std.specs.FinSet as set
 use Rattle.std.specs.List.{AllByRecursion as Each, IsDistinct}
 use Rattle.std.specs.Map.{lookup}
@@ -91,7 +92,9 @@ module _ (g : GossipState) (whole : IsWhole g) where
         held_once = whole.held_once;
         known_is_held = whole.known_is_held;
         queued_is_known = whole.queued_is_known;
-        wants_of_members = subst (λ ns. Each (λ (entry : MsgId × Name × ℕ). has_name ns entry.1 ≡ true) g.missing.wants) (sym (names-with_kind name kind g.peers.members)) whole.wants_of_members;
+        wants_of_members =
+            subst (λ ns. Each (λ (entry : MsgId × Name × ℕ). has_name ns entry.1 ≡ true) g.missing.wants)
+            (sym (names-with_kind name kind g.peers.members)) whole.wants_of_members;
         wants_lacked = whole.wants_lacked;
         timers_lacked = whole.timers_lacked;
       }
@@ -112,7 +115,13 @@ module _ (g : GossipState) (whole : IsWhole g) where
       }
 
   -- announcements are taken, or a firing takes one
-  pub whole-with_missing : (wants : List (MsgId × Name × ℕ)) (timers : List MsgId) → IsMissingSound (record { wants = wants; timers = timers }) → ((entry : MsgId × Name × ℕ) → IsOneOf entry wants → IsOneOf entry g.missing.wants ⊎ ((has_name (names g.peers.members) entry.1 ≡ true) × IsLacked g.known g.me entry.0)) → ((id : MsgId) → IsOneOf id timers → IsOneOf id g.missing.timers ⊎ IsLacked g.known g.me id) → IsWhole (record g { missing = record { wants = wants; timers = timers } })
+  pub whole-with_missing : (wants : List (MsgId × Name × ℕ)) (timers : List MsgId) →
+      IsMissingSound (record { wants = wants; timers = timers }) →
+      ((entry : MsgId × Name × ℕ) →
+      IsOneOf entry wants →
+      IsOneOf entry g.missing.wants ⊎ ((has_name (names g.peers.members) entry.1 ≡ true) × IsLacked g.known g.me entry.0)) →
+      ((id : MsgId) → IsOneOf id timers → IsOneOf id g.missing.timers ⊎ IsLacked g.known g.me id) →
+      IsWhole (record g { missing = record { wants = wants; timers = timers } })
   whole-with_missing wants timers sound wanted armed =
       record {
         peers = whole.peers;
@@ -121,9 +130,19 @@ module _ (g : GossipState) (whole : IsWhole g) where
         held_once = whole.held_once;
         known_is_held = whole.known_is_held;
         queued_is_known = whole.queued_is_known;
-        wants_of_members = each_one _ wants (λ entry h. elim (wanted entry h) [ inl was ↦ of_each (λ e. has_name (names g.peers.members) e.1 ≡ true) g.missing.wants entry whole.wants_of_members was | inr new ↦ new.0 ]);
-        wants_lacked = each_one _ wants (λ entry h. elim (wanted entry h) [ inl was ↦ of_each (λ e. IsLacked g.known g.me e.0) g.missing.wants entry whole.wants_lacked was | inr new ↦ new.1 ]);
-        timers_lacked = each_one _ timers (λ id h. elim (armed id h) [ inl was ↦ of_each (λ i. IsLacked g.known g.me i) g.missing.timers id whole.timers_lacked was | inr new ↦ new ]);
+        wants_of_members =
+            each_one _ wants (λ entry h. elim (wanted entry h) [
+              | inl was ↦ of_each (λ e. has_name (names g.peers.members) e.1 ≡ true) g.missing.wants entry whole.wants_of_members was
+              | inr new ↦ new.0
+            ]);
+        wants_lacked =
+            each_one _ wants (λ entry h. elim (wanted entry h) [
+              | inl was ↦ of_each (λ e. IsLacked g.known g.me e.0) g.missing.wants entry whole.wants_lacked was
+              | inr new ↦ new.1
+            ]);
+        timers_lacked =
+            each_one _ timers
+            (λ id h. elim (armed id h) [ inl was ↦ of_each (λ i. IsLacked g.known g.me i) g.missing.timers id whole.timers_lacked was | inr new ↦ new ]);
       }
 
   -- a link comes up
@@ -136,7 +155,10 @@ module _ (g : GossipState) (whole : IsWhole g) where
         held_once = whole.held_once;
         known_is_held = whole.known_is_held;
         queued_is_known = whole.queued_is_known;
-        wants_of_members = each_one _ g.missing.wants (λ entry h. sym (is_member-names (with_member name g.peers.members) entry.1) ∙ stays-with_member name g.peers.members entry.1 (is_member-names g.peers.members entry.1 ∙ of_each (λ e. has_name (names g.peers.members) e.1 ≡ true) g.missing.wants entry whole.wants_of_members h));
+        wants_of_members =
+            each_one _ g.missing.wants (λ entry h. sym (is_member-names (with_member name g.peers.members) entry.1)
+            ∙ stays-with_member name g.peers.members entry.1 (is_member-names g.peers.members entry.1
+            ∙ of_each (λ e. has_name (names g.peers.members) e.1 ≡ true) g.missing.wants entry whole.wants_of_members h));
         wants_lacked = whole.wants_lacked;
         timers_lacked = whole.timers_lacked;
       }
@@ -150,29 +172,72 @@ module _ (g : GossipState) (whole : IsWhole g) where
         store = record { counted = whole.store.counted; held_is_known = whole.store.held_is_known };
         held_once = whole.held_once;
         known_is_held = whole.known_is_held;
-        queued_is_known = each_one _ (without_entries name g.peers.queued) (λ entry h. of_each (λ e. set.contains g.known e.1 ≡ true) g.peers.queued entry whole.queued_is_known (one_of_filter (λ e. not (same_name name e.0)) entry g.peers.queued h).0);
-        wants_of_members = each_one _ (without name g.missing).wants (λ entry h. let kept : IsOneOf entry g.missing.wants × (not (same_name name entry.1) ≡ true) = one_of_filter (λ e. not (same_name name e.1)) entry g.missing.wants h in sym (is_member-names (without_member name g.peers.members) entry.1) ∙ stays-without_member name g.peers.members entry.1 (is_member-names g.peers.members entry.1 ∙ of_each (λ e. has_name (names g.peers.members) e.1 ≡ true) g.missing.wants entry whole.wants_of_members kept.0) kept.1);
-        wants_lacked = each_one _ (without name g.missing).wants (λ entry h. of_each (λ e. IsLacked g.known g.me e.0) g.missing.wants entry whole.wants_lacked (one_of_filter (λ e. not (same_name name e.1)) entry g.missing.wants h).0);
+        queued_is_known =
+            each_one _ (without_entries name g.peers.queued) (λ entry h. of_each (λ e. set.contains g.known e.1 ≡ true)
+            g.peers.queued entry whole.queued_is_known (one_of_filter (λ e. not (same_name name e.0)) entry g.peers.queued h).0);
+        wants_of_members =
+            each_one _ (without name g.missing).wants (λ entry h.
+            let kept : IsOneOf entry g.missing.wants × (not (same_name name entry.1) ≡ true) =
+            one_of_filter (λ e. not (same_name name e.1)) entry g.missing.wants h in
+            sym (is_member-names (without_member name g.peers.members) entry.1) ∙ stays-without_member name g.peers.members entry.1
+            (is_member-names g.peers.members entry.1
+            ∙ of_each (λ e. has_name (names g.peers.members) e.1 ≡ true) g.missing.wants entry whole.wants_of_members kept.0)
+            kept.1);
+        wants_lacked =
+            each_one _ (without name g.missing).wants (λ entry h. of_each (λ e. IsLacked g.known g.me e.0) g.missing.wants entry whole.wants_lacked
+            (one_of_filter (λ e. not (same_name name e.1)) entry g.missing.wants h).0);
         timers_lacked = whole.timers_lacked;
       }
 
   -- a message is delivered
-  pub whole-spread : (left_out : Option Name) (id : MsgId) (round : ℕ) (payload : List ℕ) (spent : ℕ) (wants : List (MsgId × Name × ℕ)) (timers : List MsgId) → set.contains g.known id ≡ false → g.spent ≤ spent → (id.origin ≡ g.me → (0 < id.seq) × (id.seq ≤ spent)) → IsMissingSound (record { wants = wants; timers = timers }) → ((entry : MsgId × Name × ℕ) → IsOneOf entry wants → IsOneOf entry g.missing.wants × (entry.0 ≢ id)) → ((j : MsgId) → IsOneOf j timers → IsOneOf j g.missing.timers × (j ≢ id)) → IsWhole (record g { spent = spent; peers = record g.peers { queued = with_entries (lazy_but left_out g.peers.members) id round g.peers.queued }; missing = record { wants = wants; timers = timers }; known = set.insert g.known id; held = kept_last g.keep (g.held ++ (id, payload) ∷ []) })
+  pub whole-spread : (left_out : Option Name) (id : MsgId) (round : ℕ) (payload : List ℕ) (spent : ℕ) (wants : List (MsgId × Name × ℕ)) (timers : List MsgId) →
+      set.contains g.known id ≡ false →
+      g.spent ≤ spent →
+      (id.origin ≡ g.me → (0 < id.seq) × (id.seq ≤ spent)) →
+      IsMissingSound (record { wants = wants; timers = timers }) →
+      ((entry : MsgId × Name × ℕ) → IsOneOf entry wants → IsOneOf entry g.missing.wants × (entry.0 ≢ id)) →
+      ((j : MsgId) → IsOneOf j timers → IsOneOf j g.missing.timers × (j ≢ id)) →
+      IsWhole (record g {
+        spent = spent;
+        peers = record g.peers { queued = with_entries (lazy_but left_out g.peers.members) id round g.peers.queued };
+        missing = record { wants = wants; timers = timers };
+        known = set.insert g.known id;
+        held = kept_last g.keep (g.held ++ (id, payload) ∷ []);
+      })
   whole-spread left_out id round payload spent wants timers unknown more mine sound wanted armed =
       record {
         peers = sets.sound-with_lazy g.peers.members g.peers.queued whole.peers left_out id round;
         missing = sound;
         store =
             record {
-              counted = λ j is own. elim (known_now g id j is) [ inl was ↦ older (whole.store.counted j was own) | inr same ↦ subst (λ (i : MsgId). (0 < i.seq) × (i.seq ≤ spent)) (sym same) (mine (sym (ap (λ (i : MsgId). i.origin) same) ∙ own)) ];
-              held_is_known = λ j is. elim (held_after_push g.held id payload j (was_held g.keep (g.held ++ (id, payload) ∷ []) pushed j is)) [ inl was ↦ stays_known g id j (whole.store.held_is_known j was) | inr same ↦ subst (λ i. set.contains (set.insert g.known id) i ≡ true) (sym same) (is_known g id) ];
+              counted =
+                  λ j is own. elim (known_now g id j is) [
+                    | inl was ↦ older (whole.store.counted j was own)
+                    | inr same ↦ subst (λ (i : MsgId). (0 < i.seq) × (i.seq ≤ spent)) (sym same) (mine (sym (ap (λ (i : MsgId). i.origin) same) ∙ own))
+                  ];
+              held_is_known =
+                  λ j is. elim (held_after_push g.held id payload j (was_held g.keep (g.held ++ (id, payload) ∷ []) pushed j is)) [
+                    | inl was ↦ stays_known g id j (whole.store.held_is_known j was)
+                    | inr same ↦ subst (λ i. set.contains (set.insert g.known id) i ≡ true) (sym same) (is_known g id)
+                  ];
             };
         held_once = once_kept g.keep (g.held ++ (id, payload) ∷ []) pushed;
-        known_is_held = λ none j is. subst (λ held. is_some (lookup (same_id j) held) ≡ true) (sym (all_kept g.keep (g.held ++ (id, payload) ∷ []) none)) (elim (known_now g id j is) [ inl was ↦ stays_after_push g.held id payload j (whole.known_is_held none j was) | inr same ↦ subst (λ i. is_some (lookup (same_id i) (g.held ++ (id, payload) ∷ [])) ≡ true) (sym same) (pushed_is_held g.held id payload) ]);
+        known_is_held =
+            λ none j is.
+            subst (λ held. is_some (lookup (same_id j) held) ≡ true) (sym (all_kept g.keep (g.held ++ (id, payload) ∷ []) none)) (elim (known_now g id j is) [
+              | inl was ↦ stays_after_push g.held id payload j (whole.known_is_held none j was)
+              | inr same ↦ subst (λ i. is_some (lookup (same_id i) (g.held ++ (id, payload) ∷ [])) ≡ true) (sym same) (pushed_is_held g.held id payload)
+            ]);
         queued_is_known = each_one _ (with_entries (lazy_but left_out g.peers.members) id round g.peers.queued) queued;
-        wants_of_members = each_one _ wants (λ entry h. of_each (λ e. has_name (names g.peers.members) e.1 ≡ true) g.missing.wants entry whole.wants_of_members (wanted entry h).0);
-        wants_lacked = each_one _ wants (λ entry h. stays_lacked g id entry.0 (of_each (λ e. IsLacked g.known g.me e.0) g.missing.wants entry whole.wants_lacked (wanted entry h).0) (wanted entry h).1);
-        timers_lacked = each_one _ timers (λ j h. stays_lacked g id j (of_each (λ i. IsLacked g.known g.me i) g.missing.timers j whole.timers_lacked (armed j h).0) (armed j h).1);
+        wants_of_members =
+            each_one _ wants
+            (λ entry h. of_each (λ e. has_name (names g.peers.members) e.1 ≡ true) g.missing.wants entry whole.wants_of_members (wanted entry h).0);
+        wants_lacked =
+            each_one _ wants (λ entry h. stays_lacked g id entry.0
+            (of_each (λ e. IsLacked g.known g.me e.0) g.missing.wants entry whole.wants_lacked (wanted entry h).0) (wanted entry h).1);
+        timers_lacked =
+            each_one _ timers
+            (λ j h. stays_lacked g id j (of_each (λ i. IsLacked g.known g.me i) g.missing.timers j whole.timers_lacked (armed j h).0) (armed j h).1);
       }
     where
       pushed : HeldOnce (g.held ++ (id, payload) ∷ [])
@@ -184,9 +249,18 @@ module _ (g : GossipState) (whole : IsWhole g) where
       new_peers : List Name
       new_peers = filter (λ peer. not (is_queued peer id g.peers.queued)) (lazy_but left_out g.peers.members)
 
-      queued : (entry : Name × MsgId × ℕ) → IsOneOf entry (g.peers.queued ++ map (λ peer. (peer, id, round)) (filter (λ peer. not (is_queued peer id g.peers.queued)) (lazy_but left_out g.peers.members))) → set.contains (set.insert g.known id) entry.1 ≡ true
+      queued : (entry : Name × MsgId × ℕ) →
+          IsOneOf entry
+          (g.peers.queued ++ map (λ peer. (peer, id, round)) (filter (λ peer. not (is_queued peer id g.peers.queued)) (lazy_but left_out g.peers.members))) →
+          set.contains (set.insert g.known id) entry.1 ≡ true
       queued entry h =
-          elim (one_of_append entry g.peers.queued (map (λ peer. (peer, id, round)) (filter (λ peer. not (is_queued peer id g.peers.queued)) (lazy_but left_out g.peers.members))) h) [
+          elim (one_of_append entry g.peers.queued
+          (map (λ peer. (peer, id, round)) (filter (λ peer. not (is_queued peer id g.peers.queued)) (lazy_but left_out g.peers.members))) h) [
             | inl was ↦ stays_known g id entry.1 (of_each (λ e. set.contains g.known e.1 ≡ true) g.peers.queued entry whole.queued_is_known was)
-            | inr new ↦ let found : (peer : Name) × IsOneOf peer (filter (λ p. not (is_queued p id g.peers.queued)) (lazy_but left_out g.peers.members)) × (entry ≡ (peer, id, round)) = one_of_map (λ peer. (peer, id, round)) entry (filter (λ p. not (is_queued p id g.peers.queued)) (lazy_but left_out g.peers.members)) new in subst (λ i. set.contains (set.insert g.known id) i ≡ true) (sym (ap (λ (x : Name × MsgId × ℕ). x.1) found.2)) (is_known g id)
+            | inr new ↦
+                let found : (peer : Name)
+                × IsOneOf peer (filter (λ p. not (is_queued p id g.peers.queued)) (lazy_but left_out g.peers.members))
+                × (entry ≡ (peer, id, round)) =
+                one_of_map (λ peer. (peer, id, round)) entry (filter (λ p. not (is_queued p id g.peers.queued)) (lazy_but left_out g.peers.members)) new in
+                subst (λ i. set.contains (set.insert g.known id) i ≡ true) (sym (ap (λ (x : Name × MsgId × ℕ). x.1) found.2)) (is_known g id)
           ]

@@ -14,8 +14,8 @@ use std::thread::Threads;
 use std::time::Clock;
 use test_support::first_run;
 
-/// What the node leaves: it answers the JOIN over a link that it does not have, which a Down follows, and the end of the
-/// link that it read is another Down.
+/// What the node leaves: it answers the JOIN over a link that it does not have, which a Down follows, and the end of
+/// the link that it read is another Down.
 const LEFT: &str =
     "a/1 among p | from n/1 n/1#1 Join by dice; to n a/1#1 Neighbor { high: true }; to p a/1#2 ForwardJoin { new: \"n\", ttl: 6 } | down n by dice | down n by dice | handed out 0";
 

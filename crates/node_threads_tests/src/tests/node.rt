@@ -38,7 +38,9 @@ pub(crate) trait TestedCore<A: Allocator>: NodeCore<A> {
         out: &mut Out<Frame<A>, A>,
     ) -> Result<Self, CoreError>
         requires { IsTrue (are_peers limits me.name peers.now None) }
-        ensures { IfOk result (λ core. (sends : List (Name × Sent)) × Self.starts me limits peers.now None sends core × (out.new ≡ record out.old { sends = out.old.sends ++ sends })) };
+        ensures { IfOk result (λ core. (sends : List (Name × Sent))
+            × Self.starts me limits peers.now None sends core
+            × (out.new ≡ record out.old { sends = out.old.sends ++ sends })) };
 }
 
 impl<A: Allocator + Copy> TestedCore<A> for PlumCore<A> {

@@ -20,8 +20,8 @@ const STEPS: usize = 400;
 const MESSAGES: u64 = 3_000;
 
 /// How many of them are broadcast at once. A node forgets once in a turn of its engine, which takes 20 ms, the steps
-/// that were there the turn before. So it keeps those of two turns, in which one batch and some ticks fall, and has room
-/// for seven batches more, where the engine waits on a loaded machine.
+/// that were there the turn before. So it keeps those of two turns, in which one batch and some ticks fall, and has
+/// room for seven batches more, where the engine waits on a loaded machine.
 const BATCH: u64 = 50;
 
 /// How many milliseconds pass after each batch.
@@ -121,8 +121,8 @@ fn await_messages<R: Wait + Clock + Drop>(rt: &R, hearer: &mut Hearer<R>, count:
     false
 }
 
-/// Has the first node broadcast a batch that begins with this number. Returns whether both deliver each message once and
-/// in order.
+/// Has the first node broadcast a batch that begins with this number. Returns whether both deliver each message once
+/// and in order.
 fn say_batch<R: Wait + Clock + Drop>(
     rt: &R,
     alloc: Global,
@@ -172,8 +172,8 @@ where
     Ok(is_so && has_forgotten(&one) && has_forgotten(&two))
 }
 
-/// Has a node that keeps its history broadcast until it refuses. Returns whether it has ended then, and hands out as many
-/// steps as it may keep.
+/// Has a node that keeps its history broadcast until it refuses. Returns whether it has ended then, and hands out as
+/// many steps as it may keep.
 pub(crate) fn run_out<R>(rt: R, alloc: Global) -> Result<bool>
 where
     R: Threads

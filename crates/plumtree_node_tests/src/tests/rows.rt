@@ -40,8 +40,8 @@ where
     Ok(())
 }
 
-/// Plays the row of a node that loses its only peer. Appends it if it fails, and what the node told if that is not as it
-/// must be.
+/// Plays the row of a node that loses its only peer. Appends it if it fails, and what the node told if that is not as
+/// it must be.
 fn play_losing<R>(rt: R, alloc: Global, text: &mut String) -> Result<()>
 where
     R: Threads

@@ -7,8 +7,8 @@ use std::sync::Wait;
 use std::thread::Threads;
 use std::time::Clock;
 
-/// Within how many ticks of 10 ms nodes become a group. By the pauses alone a node joins within 12, or within 48 where a
-/// pause of 16 has begun and one of 32 follows; the rest is room for threads that wait on a loaded machine.
+/// Within how many ticks of 10 ms nodes become a group. By the pauses alone a node joins within 12, or within 48 where
+/// a pause of 16 has begun and one of 32 follows; the rest is room for threads that wait on a loaded machine.
 const BOUND: usize = 500;
 
 /// For how many ticks a contact is away: until the third pause has begun.

@@ -65,7 +65,11 @@ pub each_differs : (name : Name) (names : List Name) → has_name names name ≡
 each_differs name [] h = tt
 each_differs name (other ∷ names) h = go (same_name name other) (each_differs name names) refl h
   where
-    go : (b : Bool) → (has_name names name ≡ false → Each (λ other. same_name name other ≡ false) names) → same_name name other ≡ b → (b || has_name names name) ≡ false → Each (λ other. same_name name other ≡ false) (other ∷ names)
+    go : (b : Bool) →
+        (has_name names name ≡ false → Each (λ other. same_name name other ≡ false) names) →
+        same_name name other ≡ b →
+        (b || has_name names name) ≡ false →
+        Each (λ other. same_name name other ≡ false) (other ∷ names)
     go true later is h = absurd (true≢false h)
     go false later is h = (is, later h)
 
@@ -80,13 +84,17 @@ each_is_other name names lacks = go names (each_differs name names lacks)
   where
     go : (others : List Name) → Each (λ other. same_name name other ≡ false) others → Each (λ other. other ≢ name) others
     go [] h = tt
-    go (other ∷ others) h = ((λ e. let same : same_name name other ≡ true = (same_name-Decides name other).1 (sym e) in absurd (true≢false (sym same ∙ h.0))), go others h.1)
+    go (other ∷ others) h =
+        ((λ e. let same : same_name name other ≡ true = (same_name-Decides name other).1 (sym e) in absurd (true≢false (sym same ∙ h.0))), go others h.1)
 
 -- names that are distinct by the test are distinct
 pub distinct_names : (names : List Name) → are_distinct names ≡ true → IsDistinct same_name names
 unfolding IsDistinct
 distinct_names [] h = tt
-distinct_names (name ∷ names) h = (each_differs name names (not_true (has_name names name) (and_left (not (has_name names name)) (are_distinct names) h)), distinct_names names (and_right (not (has_name names name)) (are_distinct names) h))
+distinct_names (name ∷ names) h = (
+  each_differs name names (not_true (has_name names name) (and_left (not (has_name names name)) (are_distinct names) h)),
+  distinct_names names (and_right (not (has_name names name)) (are_distinct names) h),
+)
 
 -- the empty list is distinct
 pub distinct_none : IsDistinct same_name []
@@ -97,13 +105,18 @@ distinct_none = tt
 pub distinct-filter : (test : Name → Bool) (names : List Name) → IsDistinct same_name names → IsDistinct same_name (filter test names)
 unfolding IsDistinct
 distinct-filter test [] h = tt
-distinct-filter test (name ∷ names) h = either_way (IsDistinct same_name) (test name) (name ∷ filter test names) (filter test names) (each-filter (λ other. same_name name other ≡ false) test names h.0, distinct-filter test names h.1) (distinct-filter test names h.1)
+distinct-filter test (name ∷ names) h =
+    either_way (IsDistinct same_name) (test name) (name ∷ filter test names) (filter test names)
+    (each-filter (λ other. same_name name other ≡ false) test names h.0, distinct-filter test names h.1) (distinct-filter test names h.1)
 
 -- and so does the removal of a name
 pub distinct-remove_key : (test : Name → Bool) (names : List Name) → IsDistinct same_name names → IsDistinct same_name (remove_key test names)
 unfolding IsDistinct
 distinct-remove_key test [] h = tt
-distinct-remove_key test (name ∷ names) h = either_way (IsDistinct same_name) (test name) names (name ∷ remove_key test names) h.1 (each-remove_key (λ other. same_name name other ≡ false) test names h.0, distinct-remove_key test names h.1)
+distinct-remove_key test (name ∷ names) h = either_way (IsDistinct same_name) (test name) names (name ∷ remove_key test names) h.1 (
+  each-remove_key (λ other. same_name name other ≡ false) test names h.0,
+  distinct-remove_key test names h.1,
+)
 
 -- which makes no list longer
 pub shorter-remove_key : (test : Name → Bool) (names : List Name) → length (remove_key test names) ≤ length names
@@ -115,8 +128,13 @@ shorter-remove_key test (name ∷ names) = shorter (shorter-remove_key test name
 
 -- and brings no name in
 pub lacks-remove_key : (test : Name → Bool) (name : Name) (names : List Name) → has_name names name ≡ false → has_name (remove_key test names) name ≡ false
-lacks-remove_key test name names lacks = lacks_from_each name (remove_key test names) (each-remove_key (λ other. same_name name other ≡ false) test names (each_differs name names lacks))
+lacks-remove_key test name names lacks =
+    lacks_from_each name (remove_key test names) (each-remove_key (λ other. same_name name other ≡ false) test names (each_differs name names lacks))
 
 -- peers that a node may start with are distinct
-pub distinct_peers : (limits : Limits) (owner : Name) (peers : List Name) (contact : Option Name) → IsTrue (are_peers limits owner peers contact) → IsDistinct same_name peers
-distinct_peers limits owner peers contact fit = distinct_names peers (and_left (are_distinct peers) (not (has_name peers owner) && not (is_contact contact owner)) (and_right (nat_le (length peers) limits.active) (are_distinct peers && (not (has_name peers owner) && not (is_contact contact owner))) fit))
+pub distinct_peers : (limits : Limits) (owner : Name) (peers : List Name) (contact : Option Name) →
+    IsTrue (are_peers limits owner peers contact) →
+    IsDistinct same_name peers
+distinct_peers limits owner peers contact fit =
+    distinct_names peers (and_left (are_distinct peers) (not (has_name peers owner) && not (is_contact contact owner))
+    (and_right (nat_le (length peers) limits.active) (are_distinct peers && (not (has_name peers owner) && not (is_contact contact owner))) fit))

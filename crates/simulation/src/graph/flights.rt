@@ -73,7 +73,8 @@ pub fn flights_of<A: Allocator + Copy>(
     alloc: A,
     group: &World<PlumCore<A>, A>,
 ) -> Result<Flights<A>, AllocError>
-    ensures { IfOk result (λ flights. (id : Id) → numbers_at id flights.entries ≡ about id group.now.group.sent group.now.group.flight) }
+    ensures { IfOk result
+        (λ flights. (id : Id) → numbers_at id flights.entries ≡ about id group.now.group.sent group.now.group.flight) }
 {
     let mut flights = IndexMap::new(alloc);
     add_all(&mut flights, group.sent(), group.flight())?;
@@ -86,7 +87,8 @@ fn add_all<A: Allocator + Copy>(
     sent: &[Packet<Frame<A>>],
     numbers: &[usize],
 ) -> Result<(), AllocError>
-    ensures { OnOk result ((id : Id) → numbers_at id flights.new.entries ≡ numbers_at id flights.old.entries ++ about id sent.now numbers.now) }
+    ensures { OnOk result ((id : Id)
+        → numbers_at id flights.new.entries ≡ numbers_at id flights.old.entries ++ about id sent.now numbers.now) }
 {
     for number in numbers {
         add_at(flights, sent, *number)?;
@@ -100,7 +102,8 @@ fn add_at<A: Allocator + Copy>(
     sent: &[Packet<Frame<A>>],
     number: usize,
 ) -> Result<(), AllocError>
-    ensures { OnOk result ((id : Id) → numbers_at id flights.new.entries ≡ numbers_at id flights.old.entries ++ about_at id sent.now number) }
+    ensures { OnOk result ((id : Id)
+        → numbers_at id flights.new.entries ≡ numbers_at id flights.old.entries ++ about_at id sent.now number) }
 {
     match sent.get(number) {
         Some(packet) => add_frame(flights, &packet.note, number),
@@ -115,7 +118,8 @@ fn add_frame<A: Allocator + Copy>(
     note: &Frame<A>,
     number: usize,
 ) -> Result<(), AllocError>
-    ensures { OnOk result ((id : Id) → numbers_at id flights.new.entries ≡ numbers_at id flights.old.entries ++ (if is_silent id (frame_content note.now) then [] else number ∷ [])) }
+    ensures { OnOk result ((id : Id) → numbers_at id flights.new.entries
+        ≡ numbers_at id flights.old.entries ++ (if is_silent id (frame_content note.now) then [] else number ∷ [])) }
 {
     match note.body() {
         BodyOf::Gossip { id, .. } => add(flights, id, number),
@@ -131,7 +135,8 @@ fn add_announced<A: Allocator + Copy>(
     entries: &[(MsgId, u32)],
     number: usize,
 ) -> Result<(), AllocError>
-    ensures { OnOk result ((id : Id) → numbers_at id flights.new.entries ≡ numbers_at id flights.old.entries ++ (if is_announced id entries.now then number ∷ [] else [])) }
+    ensures { OnOk result ((id : Id) → numbers_at id flights.new.entries
+        ≡ numbers_at id flights.old.entries ++ (if is_announced id entries.now then number ∷ [] else [])) }
 {
     for place in 0..entries.len() {
         add_first(flights, &entries[..place], &entries[place].0, number)?;
@@ -146,7 +151,8 @@ fn add_first<A: Allocator + Copy>(
     id: &MsgId,
     number: usize,
 ) -> Result<(), AllocError>
-    ensures { OnOk result ((q : Id) → numbers_at q flights.new.entries ≡ numbers_at q flights.old.entries ++ (if same_id q id.now && not (is_announced q before.now) then number ∷ [] else [])) }
+    ensures { OnOk result ((q : Id) → numbers_at q flights.new.entries ≡ numbers_at q flights.old.entries
+        ++ (if same_id q id.now && not (is_announced q before.now) then number ∷ [] else [])) }
 {
     if is_announced(before, id) {
         return Ok(());
@@ -167,7 +173,8 @@ fn add<A: Allocator + Copy>(
     id: &MsgId,
     number: usize,
 ) -> Result<(), AllocError>
-    ensures { OnOk result ((q : Id) → numbers_at q flights.new.entries ≡ numbers_at q flights.old.entries ++ (if same_id q id.now then number ∷ [] else [])) }
+    ensures { OnOk result ((q : Id) → numbers_at q flights.new.entries
+        ≡ numbers_at q flights.old.entries ++ (if same_id q id.now then number ∷ [] else [])) }
 {
     match flights.get_mut(id) {
         Some(numbers) => numbers.push(number),

@@ -25,7 +25,8 @@ pub fn push_flying<A: Allocator + Copy>(
     flights: &Flights<A>,
 ) -> Result<(), AllocError>
     requires { (q : Id) → numbers_at q flights.now.entries ≡ about q group.now.group.sent group.now.group.flight }
-    ensures { OnOk result (string_bytes text.new ≡ string_bytes text.old ++ flying_lines id.now group.now.group group.now.group.flight) }
+    ensures { OnOk result
+        (string_bytes text.new ≡ string_bytes text.old ++ flying_lines id.now group.now.group group.now.group.flight) }
 {
     push_each(text, id, group, numbers_of(flights, id))
 }
@@ -37,7 +38,8 @@ fn push_each<A: Allocator + Copy>(
     group: &World<PlumCore<A>, A>,
     numbers: &[usize],
 ) -> Result<(), AllocError>
-    ensures { OnOk result (string_bytes text.new ≡ string_bytes text.old ++ flying_lines id.now group.now.group numbers.now) }
+    ensures { OnOk result
+        (string_bytes text.new ≡ string_bytes text.old ++ flying_lines id.now group.now.group numbers.now) }
 {
     for number in numbers {
         push_numbered(text, id, group, number)?;
@@ -52,7 +54,8 @@ fn push_numbered<A: Allocator + Copy>(
     group: &World<PlumCore<A>, A>,
     number: &usize,
 ) -> Result<(), AllocError>
-    ensures { OnOk result (string_bytes text.new ≡ string_bytes text.old ++ flying_at id.now group.now.group number.now) }
+    ensures { OnOk result
+        (string_bytes text.new ≡ string_bytes text.old ++ flying_at id.now group.now.group number.now) }
 {
     match group.sent().get(*number) {
         Some(packet) => push_packet(text, id, group, *number, packet),
@@ -68,7 +71,8 @@ fn push_packet<A: Allocator + Copy>(
     number: usize,
     packet: &Packet<Frame<A>>,
 ) -> Result<(), AllocError>
-    ensures { OnOk result (string_bytes text.new ≡ string_bytes text.old ++ flying_line id.now group.now.group.nodes number (Some packet.now)) }
+    ensures { OnOk result (string_bytes text.new
+        ≡ string_bytes text.old ++ flying_line id.now group.now.group.nodes number (Some packet.now)) }
 {
     if is_silent(&packet.note, id) {
         return Ok(());
@@ -113,7 +117,8 @@ fn push_arrow<A: Allocator>(
     sender: &Origin,
     receiver: &Option<Origin>,
 ) -> Result<(), AllocError>
-    ensures { OnOk result (string_bytes text.new ≡ string_bytes text.old ++ flying_arrow id.now number sender.now receiver.now) }
+    ensures { OnOk result
+        (string_bytes text.new ≡ string_bytes text.old ++ flying_arrow id.now number sender.now receiver.now) }
 {
     match receiver {
         Some(receiver) => {

@@ -5,7 +5,8 @@ ghost use Rattle.node_names.specs.Same.{same_origin};
 ghost use Rattle.node_names.specs.declared.ids.MsgId.{MsgId as Id};
 ghost use Rattle.node_names.specs.declared.ids.Origin.{Origin as Run};
 ghost use Rattle.simulation.specs.Flights.{about, numbers_at};
-ghost use Rattle.simulation.specs.Graph.{crown_lines, edge_line, head_text, lacking_lines, lacking_lines_of, opening_text, part_text, rest_text, title_text, twig_lines, DrawsPart};
+ghost use Rattle.simulation.specs.Graph.{crown_lines, edge_line, head_text, lacking_lines, lacking_lines_of};
+ghost use Rattle.simulation.specs.Graph.{opening_text, part_text, rest_text, title_text, twig_lines, DrawsPart};
 ghost use Rattle.simulation.specs.Turns.{InTurn};
 
 use super::flights::{Flights, flights_of};
@@ -27,7 +28,9 @@ pub fn push_trees<A: Allocator + Copy>(
     group: &World<PlumCore<A>, A>,
     messages: &[MsgId],
 ) -> Result<(), AllocError>
-    ensures { OnOk result ((parts : List ℕ) × InTurn (DrawsPart group.now) messages.now parts × (string_bytes text.new ≡ string_bytes text.old ++ parts)) }
+    ensures { OnOk result ((parts : List ℕ)
+        × InTurn (DrawsPart group.now) messages.now parts
+        × (string_bytes text.new ≡ string_bytes text.old ++ parts)) }
 {
     let forest = Forest::new(alloc, group)?;
     let unrest = Unrest::new(alloc, group)?;
@@ -55,7 +58,8 @@ fn push_part<A: Allocator + Copy>(
     flights: &Flights<A>,
 ) -> Result<(), AllocError>
     requires { (q : Id) → numbers_at q flights.now.entries ≡ about q group.now.group.sent group.now.group.flight }
-    ensures { OnOk result (string_bytes text.new ≡ string_bytes text.old ++ part_text id.now is_resting branches.now group.now.group) }
+    ensures { OnOk result
+        (string_bytes text.new ≡ string_bytes text.old ++ part_text id.now is_resting branches.now group.now.group) }
 {
     push_head(text, id, is_resting)?;
     push_crown(text, id, branches)?;
@@ -156,7 +160,8 @@ type Runs<A> = IndexSet<Origin, BuildHasherDefault<FoldHasher>, A>;
 
 /// The runs that made these deliveries.
 fn runs_of<A: Allocator + Copy>(alloc: A, branches: &[Branch]) -> Result<Runs<A>, AllocError>
-    ensures { IfOk result (λ runs. (o : Run) → list_any (same_origin o) runs.keys ≡ list_any (λ b. same_origin b.node o) branches.now) }
+    ensures { IfOk result
+        (λ runs. (o : Run) → list_any (same_origin o) runs.keys ≡ list_any (λ b. same_origin b.node o) branches.now) }
 {
     let mut runs = IndexSet::new(alloc);
     for branch in branches {
@@ -172,7 +177,8 @@ fn push_lacking<A: Allocator + Copy>(
     branches: &[Branch],
     group: &World<PlumCore<A>, A>,
 ) -> Result<(), AllocError>
-    ensures { OnOk result (string_bytes text.new ≡ string_bytes text.old ++ lacking_lines id.now branches.now group.now.group.nodes) }
+    ensures { OnOk result
+        (string_bytes text.new ≡ string_bytes text.old ++ lacking_lines id.now branches.now group.now.group.nodes) }
 {
     let delivered = runs_of(*text.allocator(), branches)?;
     push_each_lacking(text, id, branches, &delivered, group.nodes())
@@ -186,8 +192,10 @@ fn push_each_lacking<A: Allocator>(
     delivered: &Runs<A>,
     nodes: &[NodeState<PlumCore<A>>],
 ) -> Result<(), AllocError>
-    requires { (o : Run) → list_any (same_origin o) delivered.now.keys ≡ list_any (λ b. same_origin b.node o) branches.now }
-    ensures { OnOk result (string_bytes text.new ≡ string_bytes text.old ++ lacking_lines id.now branches.now nodes.now) }
+    requires { (o : Run)
+        → list_any (same_origin o) delivered.now.keys ≡ list_any (λ b. same_origin b.node o) branches.now }
+    ensures { OnOk result
+        (string_bytes text.new ≡ string_bytes text.old ++ lacking_lines id.now branches.now nodes.now) }
 {
     for node in nodes {
         push_if_lacking(text, id, branches, delivered, node)?;
@@ -203,8 +211,10 @@ fn push_if_lacking<A: Allocator>(
     delivered: &Runs<A>,
     node: &NodeState<PlumCore<A>>,
 ) -> Result<(), AllocError>
-    requires { (o : Run) → list_any (same_origin o) delivered.now.keys ≡ list_any (λ b. same_origin b.node o) branches.now }
-    ensures { OnOk result (string_bytes text.new ≡ string_bytes text.old ++ lacking_lines_of id.now branches.now (record { name = node.now.name; incarnation = node.now.highest }) node.now.core) }
+    requires { (o : Run)
+        → list_any (same_origin o) delivered.now.keys ≡ list_any (λ b. same_origin b.node o) branches.now }
+    ensures { OnOk result (string_bytes text.new ≡ string_bytes text.old ++ lacking_lines_of id.now branches.now
+        (record { name = node.now.name; incarnation = node.now.highest }) node.now.core) }
 {
     let origin = Origin {
         name: node.name,
@@ -221,7 +231,8 @@ fn push_if_lacking<A: Allocator>(
 
 /// Whether one of the deliveries, whose runs are given too, was made by this run.
 fn has_delivered<A: Allocator>(_branches: &[Branch], delivered: &Runs<A>, node: &Origin) -> bool
-    requires { (o : Run) → list_any (same_origin o) delivered.now.keys ≡ list_any (λ b. same_origin b.node o) _branches.now }
+    requires { (o : Run)
+        → list_any (same_origin o) delivered.now.keys ≡ list_any (λ b. same_origin b.node o) _branches.now }
     ensures { result ≡ list_any (λ b. same_origin b.node node.now) _branches.now }
 {
     delivered.contains(node)

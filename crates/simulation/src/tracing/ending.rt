@@ -28,7 +28,10 @@ pub fn write_ending<A: Allocator + Copy, W: Write>(
     stop: &Stop<'_>,
     out: &mut W,
 ) -> Result<(), OutputError>
-    ensures { OnOk result ((told : List ℕ) × (end : List ℕ) × TellsEnd run.now end × Appends (W.contents out.old) (W.contents out.new) (told ++ end)) }
+    ensures { OnOk result ((told : List ℕ)
+        × (end : List ℕ)
+        × TellsEnd run.now end
+        × Appends (W.contents out.old) (W.contents out.new) (told ++ end)) }
 {
     text.clear();
     push_stop(text, run, stop)?;
@@ -43,7 +46,8 @@ fn push_end<A: Allocator + Copy>(
     text: &mut String<A>,
     run: &World<PlumCore<A>, A>,
 ) -> Result<(), AllocError>
-    ensures { OnOk result ((end : List ℕ) × TellsEnd run.now end × (string_bytes text.new ≡ string_bytes text.old ++ end)) }
+    ensures { OnOk result
+        ((end : List ℕ) × TellsEnd run.now end × (string_bytes text.new ≡ string_bytes text.old ++ end)) }
 {
     let deliveries = output::deliveries(alloc, run.log())?;
     let messages = broadcasts(alloc, deliveries.as_slice())?;
@@ -62,7 +66,9 @@ fn push_messages<A: Allocator + Copy>(
     forest: &Forest<A>,
 ) -> Result<(), AllocError>
     requires { (id : MsgId) → branches_at id forest.now ≡ tree_of run.now.group.sent id (reverse run.now.log) }
-    ensures { OnOk result ((told : List ℕ) × InTurn (TellsMessage run.now) messages.now told × (string_bytes text.new ≡ string_bytes text.old ++ told)) }
+    ensures { OnOk result ((told : List ℕ)
+        × InTurn (TellsMessage run.now) messages.now told
+        × (string_bytes text.new ≡ string_bytes text.old ++ told)) }
 {
     let unrest = Unrest::new(alloc, run)?;
     trace_text::push_messages(text, run, messages, &unrest, forest)

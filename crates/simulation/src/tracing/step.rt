@@ -26,7 +26,9 @@ pub fn write_step<A: Allocator + Copy, W: Write>(
     event: &KeptEvent<A>,
     out: &mut W,
 ) -> Result<(), OutputError>
-    ensures { OnOk result ((step : List ℕ) × TellsStep place event.now run.old run.new step × Appends (W.contents out.old) (W.contents out.new) step) }
+    ensures { OnOk result ((step : List ℕ)
+        × TellsStep place event.now run.old run.new step
+        × Appends (W.contents out.old) (W.contents out.new) step) }
 {
     text.clear();
     push_played(alloc, text, run, place, number, event)?;
@@ -42,7 +44,9 @@ fn push_played<A: Allocator + Copy>(
     number: Option<usize>,
     event: &KeptEvent<A>,
 ) -> Result<(), AllocError>
-    ensures { OnOk result ((step : List ℕ) × TellsStep place event.now run.old run.new step × (string_bytes text.new ≡ string_bytes text.old ++ step)) }
+    ensures { OnOk result ((step : List ℕ)
+        × TellsStep place event.now run.old run.new step
+        × (string_bytes text.new ≡ string_bytes text.old ++ step)) }
 {
     let event = copy_event(event)?;
     let before = Touched::new(alloc, run, &event)?;
@@ -56,7 +60,8 @@ fn replay<A: Allocator + Copy>(
     run: &mut World<PlumCore<A>, A>,
     event: &Event<A>,
 ) -> Result<(), AllocError>
-    ensures { OnOk result ((given : List Delivery) × Applied plum_state PlumStarts PlumSteps event.now given run.old run.new) }
+    ensures { OnOk result
+        ((given : List Delivery) × Applied plum_state PlumStarts PlumSteps event.now given run.old run.new) }
 {
     match run.play(event) {
         Ok(()) => Ok(()),
@@ -71,7 +76,9 @@ fn push_newest<A: Allocator + Copy>(
     before: &Touched<A>,
     run: &World<PlumCore<A>, A>,
 ) -> Result<(), AllocError>
-    ensures { (older : List Entry) (entry : Entry) → run.now.log ≡ older ++ entry ∷ [] → OnOk result (string_bytes text.new ≡ string_bytes text.old ++ step_text before.now run.now entry) }
+    ensures { (older : List Entry) (entry : Entry)
+        → run.now.log ≡ older ++ entry ∷ []
+        → OnOk result (string_bytes text.new ≡ string_bytes text.old ++ step_text before.now run.now entry) }
 {
     match run.log().last() {
         Some(entry) => push_step(alloc, text, before, run, entry),

@@ -6,7 +6,8 @@ use Rattle.at_rest.proofs.calm.is_calm.Goals as goal
 
 pub returns-then-all_fly_calm : goal.returns-then-all_fly_calm
 returns-then-all_fly_calm g c = (
-  λ yes. calm_is g.C.Core.state g.C.Note.Wire.content c.args.world.now.group (sym c.all_fly_calm.ensures ∙ c.if-all_fly_calm.true) (c.is_symmetric.ensures.0 yes),
+  λ yes. calm_is g.C.Core.state g.C.Note.Wire.content c.args.world.now.group
+      (sym c.all_fly_calm.ensures ∙ c.if-all_fly_calm.true) (c.is_symmetric.ensures.0 yes),
   λ calm. c.is_symmetric.ensures.1 calm.symmetric,
 )
 

@@ -20,7 +20,13 @@ returns-in-Some g c =
     let had : Some c.in-Some.list.now ≡ lookup (same_id c.delivery.inside.id) old = sym (ap option_copied_mut c.in-Some.is) ∙ c.get_mut.ensures.value in
     let updates = c.get_mut.follows.holds c.push.new.self in
     let Longer : Delivery → Type 0 = λ d. (id : MsgId) → branches_at id new ≡ branches_at id old ++ branches_from id c.args.parent.now (d ∷ []) in
-    on-ok-weaken c.push.result _ _ (λ pushed. subst Longer c.delivery.view_is (listed-more old new (record { node = c.delivery.inside.node; id = c.delivery.inside.id; payload = c.delivery.inside.payload }) c.args.parent.now c.push.new.self (updates.3 (subst IsSome had refl)).0 (pushed ∙ ap (λ o. unwrap_or o [] ++ branch ∷ []) had))) c.push.ensures.ok
+    on-ok-weaken c.push.result _ _
+    (λ pushed. subst Longer c.delivery.view_is (listed-more old new
+    (record { node = c.delivery.inside.node; id = c.delivery.inside.id; payload = c.delivery.inside.payload })
+    c.args.parent.now c.push.new.self
+    (updates.3 (subst IsSome had refl)).0
+    (pushed ∙ ap (λ o. unwrap_or o [] ++ branch ∷ []) had)))
+    c.push.ensures.ok
 
 pub returns-in_ok-insert-in-None : goal.returns-in_ok-insert-in-None
 returns-in_ok-insert-in-None g c =
@@ -31,4 +37,7 @@ returns-in_ok-insert-in-None g c =
     let updates : (q : MsgId) → lookup (same_id q) new ≡ _ = rw c.get_mut.follows.holds-at-none at c.in_ok-insert-in-None.ensures.updates.0 in
     let pushed = c.in_ok-push-in-None.ensures.ok ∙ ap (λ (bs : List Branch). bs ++ branch ∷ []) c.new-list.ensures in
     let Longer : Delivery → Type 0 = λ d. (id : MsgId) → branches_at id new ≡ branches_at id old ++ branches_from id c.args.parent.now (d ∷ []) in
-    subst Longer c.delivery.view_is (listed-more old new (record { node = c.delivery.inside.node; id = c.delivery.inside.id; payload = c.delivery.inside.payload }) c.args.parent.now c.push-in-None.new.self updates (pushed ∙ ap (λ o. unwrap_or o [] ++ branch ∷ []) had))
+    subst Longer c.delivery.view_is (listed-more old new
+    (record { node = c.delivery.inside.node; id = c.delivery.inside.id; payload = c.delivery.inside.payload })
+    c.args.parent.now c.push-in-None.new.self updates
+    (pushed ∙ ap (λ o. unwrap_or o [] ++ branch ∷ []) had))

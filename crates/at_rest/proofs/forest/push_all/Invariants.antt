@@ -6,4 +6,5 @@ use Rattle.at_rest.proofs.forest.push_all.Given as goal
 
 -- the deliveries so far have their branches
 abbrev pub invariant-loop-delivery : goal.invariant-loop-delivery
-invariant-loop-delivery g l = (id : MsgId) → branches_at id l.lists.entries ≡ branches_at id l.initial.lists.entries ++ branches_from id l.parent (take l.delivery-index l.given)
+invariant-loop-delivery g l =
+    (id : MsgId) → branches_at id l.lists.entries ≡ branches_at id l.initial.lists.entries ++ branches_from id l.parent (take l.delivery-index l.given)

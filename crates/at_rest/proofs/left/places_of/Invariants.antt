@@ -8,4 +8,6 @@ use Rattle.at_rest.proofs.left.places_of.Given as goal
 
 -- the nodes so far have their places
 abbrev pub invariant-loop-at : goal.invariant-loop-at
-invariant-loop-at g l = (at : ℕ) → contains nat_cmp l.places at ≡ (nat_lt at l.at && is_left_at g.C.Core.state l.kind l.world.group.nodes (slice_get (names_of l.world.group.nodes) at))
+invariant-loop-at g l =
+    (at : ℕ) →
+    contains nat_cmp l.places at ≡ (nat_lt at l.at && is_left_at g.C.Core.state l.kind l.world.group.nodes (slice_get (names_of l.world.group.nodes) at))

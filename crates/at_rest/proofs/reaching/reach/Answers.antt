@@ -20,7 +20,8 @@ levels-preserved g c =
     c.in_ok-level-2.level.items c.in_ok-level-2.ensures.sorted
     (λ end.
     c.in_ok-level-2.ensures.same end
-    ∙ ap (λ level. has_name (all_new_links g.C.Core.state c.args.world.now.group.nodes c.add_all.new.reached.keys level) end) c.as_slice-in-levels.ensures.value)
+    ∙ ap (λ level. has_name (all_new_links g.C.Core.state c.args.world.now.group.nodes c.add_all.new.reached.keys level) end)
+    c.as_slice-in-levels.ensures.value)
 
 pub levels-smaller : goal.levels-smaller
 levels-smaller g c =
@@ -30,7 +31,8 @@ levels-smaller g c =
 
 pub returns : goal.returns
 returns g c =
-    ok-weaken c.from_slice.result (λ names. names.items ≡ c.as_slice-2.result.now) (λ names. AreInReach g.C.Core.state c.args.world.now.group c.args.name names.items)
+    ok-weaken c.from_slice.result (λ names. names.items ≡ c.as_slice-2.result.now)
+    (λ names. AreInReach g.C.Core.state c.args.world.now.group c.args.name names.items)
     (λ names is.
     subst (AreInReach g.C.Core.state c.args.world.now.group c.args.name) (sym (is ∙ c.as_slice-2.ensures.keys))
     (in_reach g.C.Core.state c.args.world.now.group c.args.name c.levels.reached.keys c.levels.level.items c.levels.invariant

@@ -11,4 +11,7 @@ pub returns : goal.returns
 returns g c =
     let Queued : List (Name × MsgId × ℕ) → Type 0 = λ entries. Adds c.args.ids.now.keys (map (λ entry. entry.1) entries) c.add_queued.new.ids.keys in
     let Timed : List MsgId → Type 0 = λ timers. Adds c.add_queued.new.ids.keys timers c.add_timers.new.ids.keys in
-    on-ok-weaken c.add_timers.result _ _ (λ timed. adds-both c.args.ids.now.keys c.add_queued.new.ids.keys c.add_timers.new.ids.keys _ _ (subst Queued c.queued.ensures c.in_ok-add_queued.ensures) (subst Timed c.timers.ensures timed)) c.add_timers.ensures
+    on-ok-weaken c.add_timers.result _ _
+    (λ timed. adds-both c.args.ids.now.keys c.add_queued.new.ids.keys c.add_timers.new.ids.keys _ _
+    (subst Queued c.queued.ensures c.in_ok-add_queued.ensures) (subst Timed c.timers.ensures timed))
+    c.add_timers.ensures

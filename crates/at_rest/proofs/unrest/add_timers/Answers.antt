@@ -18,9 +18,12 @@ loop-timer-preserved g c q =
     elim c.match-timer.branch [
       | in-Some+in_ok-add w ↦
           ap (λ ids. has_id ids.keys q) w.ids-is
-          ∙ adds-both c.args.ids.now.keys c.loop-timer.ids.keys w.add.new.ids.keys (somes (take i slots)) (w.in-Some.id ∷ []) c.loop-timer.invariant w.in_ok-add.ensures q
-          ∙ ap (λ (more : List MsgId). has_id (c.args.ids.now.keys ++ more) q) (sym (somes_some slots i c.timer-item.result w.in-Some.id c.loop-timer-test.true c.timer-item.is w.in-Some.is))
+          ∙ adds-both c.args.ids.now.keys c.loop-timer.ids.keys w.add.new.ids.keys
+          (somes (take i slots)) (w.in-Some.id ∷ []) c.loop-timer.invariant w.in_ok-add.ensures q
+          ∙ ap (λ (more : List MsgId). has_id (c.args.ids.now.keys ++ more) q)
+          (sym (somes_some slots i c.timer-item.result w.in-Some.id c.loop-timer-test.true c.timer-item.is w.in-Some.is))
       | in_default w ↦
           ap (λ ids. has_id ids.keys q) w.ids-is ∙ c.loop-timer.invariant q
-          ∙ ap (λ (more : List MsgId). has_id (c.args.ids.now.keys ++ more) q) (sym (somes_none slots i c.timer-item.result c.loop-timer-test.true c.timer-item.is w.in_default.is))
+          ∙ ap (λ (more : List MsgId). has_id (c.args.ids.now.keys ++ more) q)
+          (sym (somes_none slots i c.timer-item.result c.loop-timer-test.true c.timer-item.is w.in_default.is))
     ]

@@ -10,8 +10,11 @@ returns-in_err-item g c =
     rw (p.1, p.2) (inl (alone-err _ _ _ (stops _ _ _ _ _ _ _ (omega arith) c.in_err-item.ensures c.loop.invariant.2)))
 
 pub loop-preserved : goal.loop-preserved
-loop-preserved g c =
-    (c.loop.invariant.0 ++ c.in_ok-item.item ∷ [], c.keep.ensures _ c.loop.invariant.1, goes_on _ _ _ _ _ _ _ _ (omega arith) c.in_ok-item.ensures c.loop.invariant.2)
+loop-preserved g c = (
+  c.loop.invariant.0 ++ c.in_ok-item.item ∷ [],
+  c.keep.ensures _ c.loop.invariant.1,
+  goes_on _ _ _ _ _ _ _ _ (omega arith) c.in_ok-item.ensures c.loop.invariant.2,
+)
 
 pub returns-in_err-end : goal.returns-in_err-end
 returns-in_err-end g c =
@@ -21,11 +24,13 @@ returns-in_err-end g c =
 pub returns-in_err-items : goal.returns-in_err-items
 returns-in_err-items g c =
     let p = err_from_is_err_and c.from_residual-in_err-items.result c.from_residual-in_err-items.ensures.1 in
-    let read = alone-ok (times c.args.count g.T.Item.reader) _ _ _ c.loop.invariant.0 (is_done _ _ _ _ _ _ (omega arith) c.loop.invariant.2) c.in_ok-end.ensures in
+    let read =
+    alone-ok (times c.args.count g.T.Item.reader) _ _ _ c.loop.invariant.0 (is_done _ _ _ _ _ _ (omega arith) c.loop.invariant.2) c.in_ok-end.ensures in
     rw (p.1, p.2) (inr (refl, rw read refl))
 
 pub returns : goal.returns
 returns g c =
-    let read = alone-ok (times c.args.count g.T.Item.reader) _ _ _ c.loop.invariant.0 (is_done _ _ _ _ _ _ (omega arith) c.loop.invariant.2) c.in_ok-end.ensures in
+    let read =
+    alone-ok (times c.args.count g.T.Item.reader) _ _ _ c.loop.invariant.0 (is_done _ _ _ _ _ _ (omega arith) c.loop.invariant.2) c.in_ok-end.ensures in
     let kept = IfOk-at_ok (λ v. v.items ≡ c.loop.invariant.0) c.in_ok-items.was c.loop.invariant.1 in
     rw (c.from_vec.ensures, kept) read

@@ -9,7 +9,10 @@ use Rattle.handshake.proofs.address.v6_socket.Goals as goal
 
 pub returns : goal.returns
 returns c =
-    let octets : ipv6_octets c.from_octets.result ≡ c.args.octets.now = ap octets_of c.from_octets.ensures ∙ octets_of-segments_of 8 c.args.octets.now (omega (arith, c.told-octets)) c.fits-octets in
+    let octets : ipv6_octets c.from_octets.result ≡ c.args.octets.now =
+    ap octets_of c.from_octets.ensures ∙ octets_of-segments_of 8 c.args.octets.now (omega (arith, c.told-octets)) c.fits-octets in
     let at : of_socket c.new.result ≡ V6 c.args.octets.now c.args.port =
-    ap (λ ip. of_ip ip (socket_port c.new.result)) c.new.ensures.ip ∙ ap (λ port. of_ip (Ip.V6 c.from_octets.result) port) c.new.ensures.port ∙ ap (λ o. V6 o c.args.port) octets in
+    ap (λ ip. of_ip ip (socket_port c.new.result)) c.new.ensures.ip
+    ∙ ap (λ port. of_ip (Ip.V6 c.from_octets.result) port) c.new.ensures.port
+    ∙ ap (λ o. V6 o c.args.port) octets in
     (at, c.new.ensures.flowinfo, c.new.ensures.scope_id)

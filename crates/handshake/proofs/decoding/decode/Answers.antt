@@ -17,16 +17,20 @@ pub returns-clause-few : goal.returns-clause-few
 returns-clause-few c e = decoded_told _ _ (λ i. omega (arith, c.type_inv.bytes i)) c.first.ensures Short e
 
 pub returns-clause-not_plumtree : goal.returns-clause-not_plumtree
-returns-clause-not_plumtree c = (decoded_told _ _ (λ i. omega (arith, c.type_inv.bytes i)) c.first.ensures NotPlumtree, decoded_refused _ _ c.first.ensures NotPlumtree tt)
+returns-clause-not_plumtree c =
+    (decoded_told _ _ (λ i. omega (arith, c.type_inv.bytes i)) c.first.ensures NotPlumtree, decoded_refused _ _ c.first.ensures NotPlumtree tt)
 
 pub returns-clause-other_version : goal.returns-clause-other_version
-returns-clause-other_version c v = (decoded_told _ _ (λ i. omega (arith, c.type_inv.bytes i)) c.first.ensures (OtherVersion v), decoded_refused _ _ c.first.ensures (OtherVersion v) tt)
+returns-clause-other_version c v =
+    (decoded_told _ _ (λ i. omega (arith, c.type_inv.bytes i)) c.first.ensures (OtherVersion v), decoded_refused _ _ c.first.ensures (OtherVersion v) tt)
 
 pub returns-clause-bad_label : goal.returns-clause-bad_label
-returns-clause-bad_label c = (decoded_told _ _ (λ i. omega (arith, c.type_inv.bytes i)) c.first.ensures BadLabel, decoded_refused _ _ c.first.ensures BadLabel tt)
+returns-clause-bad_label c =
+    (decoded_told _ _ (λ i. omega (arith, c.type_inv.bytes i)) c.first.ensures BadLabel, decoded_refused _ _ c.first.ensures BadLabel tt)
 
 pub returns-clause-bad_name : goal.returns-clause-bad_name
 returns-clause-bad_name c = (decoded_told _ _ (λ i. omega (arith, c.type_inv.bytes i)) c.first.ensures BadName, decoded_refused _ _ c.first.ensures BadName tt)
 
 pub returns-clause-bad_address : goal.returns-clause-bad_address
-returns-clause-bad_address c kind = (decoded_told _ _ (λ i. omega (arith, c.type_inv.bytes i)) c.first.ensures (BadAddress kind), decoded_refused _ _ c.first.ensures (BadAddress kind) tt)
+returns-clause-bad_address c kind =
+    (decoded_told _ _ (λ i. omega (arith, c.type_inv.bytes i)) c.first.ensures (BadAddress kind), decoded_refused _ _ c.first.ensures (BadAddress kind) tt)

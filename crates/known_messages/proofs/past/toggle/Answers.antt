@@ -16,10 +16,13 @@ found : (g : _) (c : goal.After-remove g) → (c.in-Ok.place < length c.args.edg
 found g c = searched c.args.edges.now.items c.args.edge (Ok c.in-Ok.place) c.in-Ok.ensures.position (rises 0 c.args.edges.now.items c.requires.order)
 
 removed : (g : _) (c : goal.After-remove g) → c.remove.new.self.items ≡ remove c.args.edges.now.items c.in-Ok.place
-removed g c = subst (λ (r : Option ℕ). OnSome r (c.remove.new.self.items ≡ remove c.args.edges.now.items c.in-Ok.place)) (c.remove.ensures.succeeds 0 (omega (arith, (found g c).0, c.args.edges.now.ok.0))) c.remove.ensures.items
+removed g c =
+    subst (λ (r : Option ℕ). OnSome r (c.remove.new.self.items ≡ remove c.args.edges.now.items c.in-Ok.place))
+    (c.remove.ensures.succeeds 0 (omega (arith, (found g c).0, c.args.edges.now.ok.0))) c.remove.ensures.items
 
 pub returns-in-Ok-clause-order : goal.returns-in-Ok-clause-order
-returns-in-Ok-clause-order g c = λ low lower up. subst (Ascends low) (sym (removed g c)) (Ascends-remove low c.args.edges.now.items c.in-Ok.place (found g c).0 up)
+returns-in-Ok-clause-order g c =
+    λ low lower up. subst (Ascends low) (sym (removed g c)) (Ascends-remove low c.args.edges.now.items c.in-Ok.place (found g c).0 up)
 
 pub returns-in-Ok-clause-covered : goal.returns-in-Ok-clause-covered
 returns-in-Ok-clause-covered g c = λ m.
@@ -30,7 +33,9 @@ returns-in-Ok-clause-covered g c = λ m.
 pub returns-in-Err-clause-order : goal.returns-in-Err-clause-order
 returns-in-Err-clause-order g c = λ low lower up.
     let place = searched c.args.edges.now.items c.args.edge (Err c.in-Err.place) c.in-Err.ensures.position (rises 0 c.args.edges.now.items c.requires.order) in
-    subst (Ascends low) (sym (inserted g c)) (Ascends-insert low c.args.edge c.args.edges.now.items c.in-Err.place c.ranges.edge.fits lower place.0 place.1 place.2 up)
+    subst (Ascends low) (sym (inserted g c))
+    (Ascends-insert low c.args.edge c.args.edges.now.items c.in-Err.place c.ranges.edge.fits lower place.0 place.1 place.2 up)
 
 pub returns-in-Err-clause-covered : goal.returns-in-Err-clause-covered
-returns-in-Err-clause-covered g c = λ m. ap (λ (es : List ℕ). is_covered es m) (inserted g c) ∙ covered-insert c.args.edges.now.items c.in-Err.place c.args.edge m
+returns-in-Err-clause-covered g c =
+    λ m. ap (λ (es : List ℕ). is_covered es m) (inserted g c) ∙ covered-insert c.args.edges.now.items c.in-Err.place c.args.edge m

@@ -8,7 +8,9 @@ pub returns-then-written-len-clause-items : goal.returns-then-written-len-clause
 returns-then-written-len-clause-items g c =
     let gave = c.in-Ok-Some.ensures.some c.in-Ok-Some.item (ap (λ o. Ok o) c.in-Ok-Some.field-0-is) in
     let size = ap length c.as_slice.ensures in
-    let written = subst (λ t. Appends (g.W.Write.contents c.loop.writer) (g.W.Write.contents c.put-written.new.writer) (take c.put-written.result t)) c.as_slice.ensures c.put-written.ensures.written in
+    let written =
+    subst (λ t. Appends (g.W.Write.contents c.loop.writer) (g.W.Write.contents c.put-written.new.writer) (take c.put-written.result t))
+    c.as_slice.ensures c.put-written.ensures.written in
     drained_in_part _ _ _ _ _ _ _ c.loop.invariant.0 c.in-Ok-Some.item c.loop.bytes c.put-written.result
     (gave.0 ∙ ap (λ t. t ++ c.in-Ok-Some.item ∷ []) c.loop.invariant.1 ∙ append_assoc _ c.loop.invariant.0 (c.in-Ok-Some.item ∷ []))
     (omega (arith, c.loop.invariant.2)) c.loop.invariant.3 written (omega (arith, c.len.ensures.value)) c.loop.invariant.4
@@ -22,8 +24,11 @@ loop-preserved g c =
     let size = ap length c.as_slice.ensures in
     let few : c.put-written.result ≤ length c.in-Ok-Some.item = omega (arith, size, c.put-written.ensures.some) in
     let whole : length c.in-Ok-Some.item ≤ c.put-written.result = omega (arith, c.len.ensures.value) in
-    let written = subst (λ t. Appends (g.W.Write.contents c.loop.writer) (g.W.Write.contents c.put-written.new.writer) (take c.put-written.result t)) c.as_slice.ensures c.put-written.ensures.written in
-    let on = drained_on _ _ _ c.loop.invariant.0 c.in-Ok-Some.item c.loop.bytes c.put-written.result c.loop.invariant.3 written few whole c.loop.invariant.4 in (
+    let written =
+    subst (λ t. Appends (g.W.Write.contents c.loop.writer) (g.W.Write.contents c.put-written.new.writer) (take c.put-written.result t))
+    c.as_slice.ensures c.put-written.ensures.written in
+    let on =
+    drained_on _ _ _ c.loop.invariant.0 c.in-Ok-Some.item c.loop.bytes c.put-written.result c.loop.invariant.3 written few whole c.loop.invariant.4 in (
       c.loop.invariant.0 ++ c.in-Ok-Some.item ∷ [],
       gave.0 ∙ ap (λ t. t ++ c.in-Ok-Some.item ∷ []) c.loop.invariant.1 ∙ append_assoc _ c.loop.invariant.0 (c.in-Ok-Some.item ∷ []),
       omega (arith, length-append c.loop.invariant.0 (c.in-Ok-Some.item ∷ []), c.loop.invariant.2),

@@ -12,8 +12,11 @@ loop-entry-preserved g c = record {
   wants =
       c.put.ensures.wants
       ∙ ap (λ (one : MsgId × ℕ). with_want one.0 c.args.peer.now one.1 (somes c.loop-entry.wants.slots.items)) c.entry-item.is
-      ∙ ap (λ wants. with_want (get_or c.args.entries.now c.loop-entry.entry-index c.entry-item.result).0 c.args.peer.now (get_or c.args.entries.now c.loop-entry.entry-index c.entry-item.result).1 wants) c.loop-entry.invariant.wants
-      ∙ sym (with_wants-take c.args.peer.now c.args.entries.now c.loop-entry.entry-index c.entry-item.result (somes c.args.wants.now.slots.items) c.loop-entry-test.true);
+      ∙ ap (λ wants. with_want (get_or c.args.entries.now c.loop-entry.entry-index c.entry-item.result).0 c.args.peer.now
+      (get_or c.args.entries.now c.loop-entry.entry-index c.entry-item.result).1 wants)
+      c.loop-entry.invariant.wants
+      ∙ sym (with_wants-take c.args.peer.now c.args.entries.now c.loop-entry.entry-index c.entry-item.result
+      (somes c.args.wants.now.slots.items) c.loop-entry-test.true);
   kept = c.put.ensures.kept;
   known = rw c.put.ensures.peers c.loop-entry.invariant.known;
   timers =

@@ -20,11 +20,14 @@ loop-peer-preserved g c =
           ∙ ap (without_place (c.args.id.now, get_or c.args.peers.now c.loop-peer.peer-index c.peer-item.result)) c.loop-peer.invariant.left
           ∙ id_more c.args.id.now c.args.peers.now c.loop-peer.peer-index c.peer-item.result (somes c.args.slots.now.items) c.loop-peer-test.true;
       placed = c.remove.ensures.placed;
-      once = subst (λ wants. IsDistinct same_place (map place_of wants)) (sym c.remove.ensures.left) (once-filter (λ entry. not (same_place (c.args.id.now, c.peer-item.result) (place_of entry))) (somes c.loop-peer.slots.items) c.loop-peer.invariant.once);
+      once =
+          subst (λ wants. IsDistinct same_place (map place_of wants)) (sym c.remove.ensures.left) (once-filter
+          (λ entry. not (same_place (c.args.id.now, c.peer-item.result) (place_of entry))) (somes c.loop-peer.slots.items) c.loop-peer.invariant.once);
     }
 
 pub returns-clause-left : goal.returns-clause-left
 returns-clause-left g c =
     c.loop-peer.invariant.left
-    ∙ ap (λ names. filter (λ entry. not (is_by c.args.id.now names (Some entry))) (somes c.args.slots.now.items)) (take_all c.loop-peer.peer-index c.args.peers.now (omega arith))
+    ∙ ap (λ names. filter (λ entry. not (is_by c.args.id.now names (Some entry))) (somes c.args.slots.now.items))
+    (take_all c.loop-peer.peer-index c.args.peers.now (omega arith))
     ∙ id_all c.args.id.now c.args.peers.now (somes c.args.slots.now.items) c.requires.by

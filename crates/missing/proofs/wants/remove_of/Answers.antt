@@ -19,11 +19,14 @@ loop-slot-preserved g c =
           ∙ ap (without_slot (get_or c.args.ids.now c.loop-slot.slot-index c.slot-item.result) c.args.peer.now) c.loop-slot.invariant.left
           ∙ slot_more c.args.ids.now c.loop-slot.slot-index c.slot-item.result c.args.peer.now (somes c.args.slots.now.items) c.loop-slot-test.true;
       placed = c.remove_slot.ensures.placed;
-      once = subst (λ wants. IsDistinct same_place (map place_of wants)) (sym c.remove_slot.ensures.left) (once-without_slot c.slot-item.result c.args.peer.now (somes c.loop-slot.slots.items) c.loop-slot.invariant.once);
+      once =
+          subst (λ wants. IsDistinct same_place (map place_of wants)) (sym c.remove_slot.ensures.left)
+          (once-without_slot c.slot-item.result c.args.peer.now (somes c.loop-slot.slots.items) c.loop-slot.invariant.once);
     }
 
 pub returns-clause-left : goal.returns-clause-left
 returns-clause-left g c =
     c.loop-slot.invariant.left
-    ∙ ap (λ slots. filter (λ entry. not (is_any_by (somes slots) c.args.peer.now (Some entry))) (somes c.args.slots.now.items)) (take_all c.loop-slot.slot-index c.args.ids.now (omega arith))
+    ∙ ap (λ slots. filter (λ entry. not (is_any_by (somes slots) c.args.peer.now (Some entry))) (somes c.args.slots.now.items))
+    (take_all c.loop-slot.slot-index c.args.ids.now (omega arith))
     ∙ peer_all (somes c.args.ids.now) c.args.peer.now (somes c.args.slots.now.items) c.requires.armed

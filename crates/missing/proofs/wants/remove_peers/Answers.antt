@@ -17,6 +17,10 @@ loop-peer-preserved g c =
           ∙ ap (without_peer (get_or c.args.peers.now c.loop-peer.peer-index c.peer-item.result)) c.loop-peer.invariant.left
           ∙ sym (without_peers-take c.args.peers.now c.loop-peer.peer-index c.peer-item.result (somes c.args.wants.now.slots.items) c.loop-peer-test.true);
       kept = c.remove_peer.ensures.kept;
-      once = subst (λ wants. IsDistinct same_place (map place_of wants)) (sym c.remove_peer.ensures.left) (once-filter (λ entry. not (same_name c.peer-item.result entry.1)) (somes c.loop-peer.wants.slots.items) c.loop-peer.invariant.once);
-      armed = subst (AreArmed (somes c.args.ids.now)) (sym c.remove_peer.ensures.left) (armed-filter (somes c.args.ids.now) (λ entry. not (same_name c.peer-item.result entry.1)) (somes c.loop-peer.wants.slots.items) c.loop-peer.invariant.armed);
+      once =
+          subst (λ wants. IsDistinct same_place (map place_of wants)) (sym c.remove_peer.ensures.left)
+          (once-filter (λ entry. not (same_name c.peer-item.result entry.1)) (somes c.loop-peer.wants.slots.items) c.loop-peer.invariant.once);
+      armed =
+          subst (AreArmed (somes c.args.ids.now)) (sym c.remove_peer.ensures.left) (armed-filter (somes c.args.ids.now)
+          (λ entry. not (same_name c.peer-item.result entry.1)) (somes c.loop-peer.wants.slots.items) c.loop-peer.invariant.armed);
     }

@@ -8,4 +8,5 @@ on_err (Ok x) P fact = tt
 on_err (Err e) P fact = fact
 
 pub returns-in_err-number_all-clause-err : goal.returns-in_err-number_all-clause-err
-returns-in_err-number_all-clause-err g c = on_err _ _ (back_within c.args.frames.now _ c.push_frame.new.frames c.number_all-2.new.frames c.in_ok-push_frame.ensures.ok c.in_err-number_all.ensures.err)
+returns-in_err-number_all-clause-err g c =
+    on_err _ _ (back_within c.args.frames.now _ c.push_frame.new.frames c.number_all-2.new.frames c.in_ok-push_frame.ensures.ok c.in_err-number_all.ensures.err)

@@ -8,7 +8,13 @@ use Rattle.node_core.proofs.Openings.{greets}
 use Rattle.node_core.proofs.plum_core.greet.Goals as goal
 
 pub returns-clause-same : goal.returns-clause-same
-returns-clause-same g c = (greets c.args.membership.now c.args.contact c.in-Some.contact c.in-Some.is c.new-moves.result c.join.new.moves c.join.new.self c.new-moves.ensures c.in_ok-join.ensures.ok c.moves.inside.sends (ap (λ (m : Moves). m.sends) c.moves.view_is)).0
+returns-clause-same g c =
+    (greets c.args.membership.now c.args.contact c.in-Some.contact c.in-Some.is c.new-moves.result c.join.new.moves
+    c.join.new.self c.new-moves.ensures c.in_ok-join.ensures.ok c.moves.inside.sends (ap (λ (m : Moves). m.sends) c.moves.view_is)).0
 
 pub returns-clause-opening : goal.returns-clause-opening
-returns-clause-opening g c = c.of_sends.ensures ∙ ap (λ (sends : List (Name × Body)). record { sends = sends; delivered = None }) (greets c.args.membership.now c.args.contact c.in-Some.contact c.in-Some.is c.new-moves.result c.join.new.moves c.join.new.self c.new-moves.ensures c.in_ok-join.ensures.ok c.moves.inside.sends (ap (λ (m : Moves). m.sends) c.moves.view_is)).1
+returns-clause-opening g c =
+    c.of_sends.ensures
+    ∙ ap (λ (sends : List (Name × Body)). record { sends = sends; delivered = None })
+    (greets c.args.membership.now c.args.contact c.in-Some.contact c.in-Some.is c.new-moves.result c.join.new.moves
+    c.join.new.self c.new-moves.ensures c.in_ok-join.ensures.ok c.moves.inside.sends (ap (λ (m : Moves). m.sends) c.moves.view_is)).1

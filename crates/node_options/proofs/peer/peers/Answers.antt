@@ -24,5 +24,6 @@ pub returns-clause-words : goal.returns-clause-words
 returns-clause-words c texts given =
     let said : all_said c.in_ok-all.field-0.items ≡ map Word texts = c.in_ok-all.ensures.words texts given in
     let count : vec_len c.loop-given.peers ≡ length c.in_ok-all.field-0.items = search rules in
-    let all : length (all_said c.in_ok-all.field-0.items) ≡ length c.in_ok-all.field-0.items = length-map c.in_ok-all.field-0.items (λ given. said_by given.source) in
+    let all : length (all_said c.in_ok-all.field-0.items) ≡ length c.in_ok-all.field-0.items =
+    length-map c.in_ok-all.field-0.items (λ given. said_by given.source) in
     count ∙ (sym all ∙ (ap length said ∙ length-map texts Word))

@@ -14,14 +14,19 @@ loop-worker-preserved g c =
     let rest = c.in-Some.ensures.steps.0 in (
       tt,
       tt,
-      append_assoc c.loop-worker.yielded (c.in-Some.worker ∷ []) c.next.new.self.rest.items ∙ ap (λ left. c.loop-worker.yielded ++ left) (sym rest) ∙ c.loop-worker.invariant.2,
+      append_assoc c.loop-worker.yielded (c.in-Some.worker ∷ []) c.next.new.self.rest.items
+          ∙ ap (λ left. c.loop-worker.yielded ++ left) (sym rest)
+          ∙ c.loop-worker.invariant.2,
       λ yes.
-          subst (λ given. AreLeft (outlets_of c.args.given.items) (c.loop-worker.yielded ++ c.in-Some.worker ∷ []) (outlets_of given)) (sym (c.keep-kept.ensures.here yes))
-          (joined (outlets_of c.args.given.items) c.loop-worker.yielded c.loop-worker.given.items c.in-Some.worker c.join.result (c.loop-worker.invariant.3 (c.keep-kept.ensures.before yes)) c.join.ensures),
+          subst (λ given. AreLeft (outlets_of c.args.given.items) (c.loop-worker.yielded ++ c.in-Some.worker ∷ []) (outlets_of given))
+          (sym (c.keep-kept.ensures.here yes))
+          (joined (outlets_of c.args.given.items) c.loop-worker.yielded c.loop-worker.given.items c.in-Some.worker c.join.result
+          (c.loop-worker.invariant.3 (c.keep-kept.ensures.before yes)) c.join.ensures),
     )
 
 pub returns : goal.returns
 returns g c =
     let kept : c.loop-worker.kept ≡ true = search rules in
-    let whole : c.loop-worker.yielded ≡ c.args.workers.items = all_gone c.loop-worker.yielded _ c.args.workers.items c.loop-worker.invariant.2 (sym c.loop-worker.worker-iterator.rest.ok.0 ∙ c.in-None.ensures.steps.0) in
+    let whole : c.loop-worker.yielded ≡ c.args.workers.items =
+    all_gone c.loop-worker.yielded _ c.args.workers.items c.loop-worker.invariant.2 (sym c.loop-worker.worker-iterator.rest.ok.0 ∙ c.in-None.ensures.steps.0) in
     subst (λ workers. AreLeft (outlets_of c.args.given.items) workers (outlets_of c.loop-worker.given.items)) whole (c.loop-worker.invariant.3 kept)

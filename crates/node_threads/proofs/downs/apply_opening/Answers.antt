@@ -23,4 +23,5 @@ returns-clause-applied g c =
 pub open_unlinked-left-requires : goal.open_unlinked-left-requires
 open_unlinked-left-requires g c =
     let made = c.in_ok-id.field-0 in
-    its_own_place g.C.NodeCore.state g.C.NodeCore.steps c.args.cell.now c.args.stimulus c.apply.new.self made.id made.place made.full made.unlinked c.in_ok-id.ensures.applied
+    its_own_place g.C.NodeCore.state g.C.NodeCore.steps c.args.cell.now c.args.stimulus
+    c.apply.new.self made.id made.place made.full made.unlinked c.in_ok-id.ensures.applied

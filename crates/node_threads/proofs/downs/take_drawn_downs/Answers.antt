@@ -9,7 +9,12 @@ loop-peer-preserved g c =
     let i = c.loop-peer.peer-index in
     let peer = c.peer-item.result in
     let next = drop_more peers i peer c.loop-peer-test.true ∙ ap (λ it. it ∷ drop (i + 1) peers) (sym c.peer-item.is) in
-    drawn_on g.C.NodeCore.state g.C.NodeCore.steps g.C.NodeCore.is_spent _ c.args.cell.now c.args.learnt.now c.args.peers.now _ c.loop-peer.cell c.loop-peer.learnt _ _ _ c.take_down.new.cell c.take_down.new.learnt c.draw-dice.result _ next c.draw-dice.ensures.words c.draw-dice.ensures.left c.loop-peer.invariant c.take_down.ensures
+    drawn_on g.C.NodeCore.state g.C.NodeCore.steps g.C.NodeCore.is_spent _ c.args.cell.now c.args.learnt.now
+    c.args.peers.now _ c.loop-peer.cell c.loop-peer.learnt _ _ _ c.take_down.new.cell c.take_down.new.learnt
+    c.draw-dice.result _ next c.draw-dice.ensures.words c.draw-dice.ensures.left c.loop-peer.invariant c.take_down.ensures
 
 pub returns : goal.returns
-returns g c = drawn_end g.C.NodeCore.state g.C.NodeCore.steps g.C.NodeCore.is_spent _ c.before.args.cell.now c.before.args.learnt.now c.before.args.peers.now _ c.before.loop-peer.cell c.before.loop-peer.learnt _ (drop_all c.before.loop-peer.peer-index c.before.args.peers.now c.loop-peer-test.false) c.before.loop-peer.invariant
+returns g c =
+    drawn_end g.C.NodeCore.state g.C.NodeCore.steps g.C.NodeCore.is_spent _ c.before.args.cell.now
+    c.before.args.learnt.now c.before.args.peers.now _ c.before.loop-peer.cell c.before.loop-peer.learnt _
+    (drop_all c.before.loop-peer.peer-index c.before.args.peers.now c.loop-peer-test.false) c.before.loop-peer.invariant

@@ -22,7 +22,9 @@ pub returns-else-len-room-clause-links : goal.returns-else-len-room-clause-links
 returns-else-len-room-clause-links g c =
     let long : nat_le (length c.args.mail) c.args.room ≡ false = search (rules, tests) in
     let new : Link = record { peer = c.args.peer; opened = c.args.opened; pushed = c.args.mail } in
-    c.close.ensures.links ∙ sym (append-nil (without c.args.peer c.args.links.now.items)) ∙ ap (λ b. without c.args.peer c.args.links.now.items ++ (if b then new ∷ [] else [])) (sym long)
+    c.close.ensures.links
+    ∙ sym (append-nil (without c.args.peer c.args.links.now.items))
+    ∙ ap (λ b. without c.args.peer c.args.links.now.items ++ (if b then new ∷ [] else [])) (sym long)
 
 pub returns-else-len-room-clause-names : goal.returns-else-len-room-clause-names
 returns-else-len-room-clause-names g c =

@@ -13,5 +13,9 @@ returns-in-Some-clause-addressed g c =
     let names = c.args.names.now.keys in
     let placed : position (same_name c.args.send.now.0) names ≡ Some c.in-Some.place = sym c.get_index_of.ensures.index ∙ c.in-Some.is in
     let letter : Letter = (c.args.send.now.0, c.in-Some.place, spelling c.args.send.now.1) in
-    let more : c.add_letter.new.letters.items ≡ c.args.letters.now.items ++ letter ∷ [] → All (IsAddressed names) c.args.letters.now.items → All (IsAddressed names) c.add_letter.new.letters.items = λ new all. subst (All (IsAddressed names)) (sym new) (All-append (IsAddressed names) c.args.letters.now.items (letter ∷ []) all (all_of_one (IsAddressed names) letter (addressed_at names c.args.send.now.0 c.in-Some.place placed))) in
+    let more : c.add_letter.new.letters.items ≡ c.args.letters.now.items ++ letter ∷ [] →
+    All (IsAddressed names) c.args.letters.now.items →
+    All (IsAddressed names) c.add_letter.new.letters.items =
+    λ new all. subst (All (IsAddressed names)) (sym new) (All-append (IsAddressed names) c.args.letters.now.items
+    (letter ∷ []) all (all_of_one (IsAddressed names) letter (addressed_at names c.args.send.now.0 c.in-Some.place placed))) in
     on_ok_weaker c.add_letter.result more c.add_letter.ensures

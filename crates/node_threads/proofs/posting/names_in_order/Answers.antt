@@ -17,6 +17,7 @@ loop-link-preserved g c =
           ∙ ap (λ peer. c.loop-link.full.items ++ filter (has_name b) (peer ∷ [])) c.peer.ensures
           ∙ ap (λ names. names ++ this) c.loop-link.invariant.0
           ∙ append_assoc c.args.full.now.items so_far this
-          ∙ ap (λ names. c.args.full.now.items ++ names) (sym (blocked_on b c.args.links.now c.loop-link.link-index c.link-item.result c.loop-link-test.true c.link-item.is)),
+          ∙ ap (λ names. c.args.full.now.items ++ names)
+          (sym (blocked_on b c.args.links.now c.loop-link.link-index c.link-item.result c.loop-link-test.true c.link-item.is)),
       omega arith,
     )

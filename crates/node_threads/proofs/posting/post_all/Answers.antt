@@ -7,13 +7,21 @@ use Rattle.node_threads.proofs.posting.post_all.Goals as goal
 pub loop-letter-init : goal.loop-letter-init
 loop-letter-init g c =
     let whole : c.into_iter-letter-iterator.result.rest.items ≡ c.args.letters.items = search rules in
-    let room = c.requires.room in
-    (tt, tt, whole, omega (arith, ap length whole), refl, subst (λ b. Posted b [] c.args.links.now c.args.links.now) (sym c.requires.none) (none_posted c.args.links.now))
+    let room = c.requires.room in (
+      tt,
+      tt,
+      whole,
+      omega (arith, ap length whole),
+      refl,
+      subst (λ b. Posted b [] c.args.links.now c.args.links.now) (sym c.requires.none) (none_posted c.args.links.now),
+    )
 
 pub post_one-requires-clause-addressed : goal.post_one-requires-clause-addressed
 post_one-requires-clause-addressed g c =
-    let parts : c.loop-letter.yielded ++ c.in-Some.letter ∷ c.next.new.self.rest.items ≡ c.args.letters.items = ap (λ rest. c.loop-letter.yielded ++ rest) (sym c.in-Some.ensures.steps.0) ∙ c.loop-letter.invariant.2 in
-    subst (λ names. IsAddressed names c.in-Some.letter) (sym c.loop-letter.invariant.4) (seam (IsAddressed (peers_of c.args.links.now)) c.loop-letter.yielded c.next.new.self.rest.items c.args.letters.items c.in-Some.letter parts c.requires.addressed)
+    let parts : c.loop-letter.yielded ++ c.in-Some.letter ∷ c.next.new.self.rest.items ≡ c.args.letters.items =
+    ap (λ rest. c.loop-letter.yielded ++ rest) (sym c.in-Some.ensures.steps.0) ∙ c.loop-letter.invariant.2 in
+    subst (λ names. IsAddressed names c.in-Some.letter) (sym c.loop-letter.invariant.4) (seam
+    (IsAddressed (peers_of c.args.links.now)) c.loop-letter.yielded c.next.new.self.rest.items c.args.letters.items c.in-Some.letter parts c.requires.addressed)
 
 pub post_one-requires-clause-within : goal.post_one-requires-clause-within
 post_one-requires-clause-within g c = place_within c.loop-letter.links c.in-Some.letter (post_one-requires-clause-addressed g c)
@@ -26,7 +34,9 @@ loop-letter-preserved g c =
     let fewer = ap length rest in (
       tt,
       tt,
-      append_assoc c.loop-letter.yielded (c.in-Some.letter ∷ []) c.next.new.self.rest.items ∙ ap (λ left. c.loop-letter.yielded ++ left) (sym rest) ∙ c.loop-letter.invariant.2,
+      append_assoc c.loop-letter.yielded (c.in-Some.letter ∷ []) c.next.new.self.rest.items
+          ∙ ap (λ left. c.loop-letter.yielded ++ left) (sym rest)
+          ∙ c.loop-letter.invariant.2,
       omega arith,
       c.post_one.ensures.peers ∙ c.loop-letter.invariant.4,
       c.post_one.ensures.posted c.loop-letter.yielded c.args.links.now c.loop-letter.invariant.5,
@@ -34,5 +44,6 @@ loop-letter-preserved g c =
 
 pub returns-clause-posted : goal.returns-clause-posted
 returns-clause-posted g c =
-    let whole : c.loop-letter.yielded ≡ c.args.letters.items = all_gone c.loop-letter.yielded _ c.args.letters.items c.loop-letter.invariant.2 (sym c.loop-letter.letter-iterator.rest.ok.0 ∙ c.in-None.ensures.steps.0) in
+    let whole : c.loop-letter.yielded ≡ c.args.letters.items =
+    all_gone c.loop-letter.yielded _ c.args.letters.items c.loop-letter.invariant.2 (sym c.loop-letter.letter-iterator.rest.ok.0 ∙ c.in-None.ensures.steps.0) in
     subst (λ letters. Posted c.loop-letter.blocked.items letters c.args.links.now c.loop-letter.links) whole c.loop-letter.invariant.5

@@ -15,27 +15,33 @@ pub returns-then-not-push-clause-posted : goal.returns-then-not-push-clause-post
 returns-then-not-push-clause-posted g c before first posted =
     let free : has_name c.args.blocked.now.items c.args.letter.0 ≡ false = search rules in
     let new : Link = get_or c.args.links.now c.args.letter.1 c.index-links-place.result in
-    let here : slice_get c.args.links.now c.args.letter.1 ≡ Some new = slice_get-get_or c.args.links.now c.args.letter.1 c.index-links-place.result c.requires.within in
+    let here : slice_get c.args.links.now c.args.letter.1 ≡ Some new =
+    slice_get-get_or c.args.links.now c.args.letter.1 c.index-links-place.result c.requires.within in
     let kept : c.push.new.self ≡ new = c.push.ensures.kept (search rules) in
     let more : c.push-then-not-push.new.self.items ≡ c.args.blocked.now.items ++ c.args.letter.0 ∷ [] = search rules in
-    rw more (had_no_room c.args.blocked.now.items before c.args.letter first c.args.links.now new c.push.new.self c.requires.distinct c.requires.addressed free here (posted_peers _ before first c.args.links.now posted) posted kept)
+    rw more (had_no_room c.args.blocked.now.items before c.args.letter first c.args.links.now new c.push.new.self
+    c.requires.distinct c.requires.addressed free here (posted_peers _ before first c.args.links.now posted) posted kept)
 
 pub returns-then-not-push-clause-peers : goal.returns-then-not-push-clause-peers
 returns-then-not-push-clause-peers g c =
     let new : Link = get_or c.args.links.now c.args.letter.1 c.index-links-place.result in
-    let here : slice_get c.args.links.now c.args.letter.1 ≡ Some new = slice_get-get_or c.args.links.now c.args.letter.1 c.index-links-place.result c.requires.within in
+    let here : slice_get c.args.links.now c.args.letter.1 ≡ Some new =
+    slice_get-get_or c.args.links.now c.args.letter.1 c.index-links-place.result c.requires.within in
     peers_set c.args.links.now c.args.letter.1 new c.push.new.self here c.push.ensures.peer
 
 pub returns-else-not-push-clause-posted : goal.returns-else-not-push-clause-posted
 returns-else-not-push-clause-posted g c before first posted =
     let free : has_name c.args.blocked.now.items c.args.letter.0 ≡ false = search rules in
     let new : Link = get_or c.args.links.now c.args.letter.1 c.index-links-place.result in
-    let here : slice_get c.args.links.now c.args.letter.1 ≡ Some new = slice_get-get_or c.args.links.now c.args.letter.1 c.index-links-place.result c.requires.within in
+    let here : slice_get c.args.links.now c.args.letter.1 ≡ Some new =
+    slice_get-get_or c.args.links.now c.args.letter.1 c.index-links-place.result c.requires.within in
     let pushed : c.push.result ≡ true = search rules in
-    took_it c.args.blocked.now.items before c.args.letter first c.args.links.now new c.push.new.self c.requires.distinct c.requires.addressed free here (posted_peers _ before first c.args.links.now posted) posted (c.push.ensures.pushed pushed)
+    took_it c.args.blocked.now.items before c.args.letter first c.args.links.now new c.push.new.self c.requires.distinct c.requires.addressed free here
+    (posted_peers _ before first c.args.links.now posted) posted (c.push.ensures.pushed pushed)
 
 pub returns-else-not-push-clause-peers : goal.returns-else-not-push-clause-peers
 returns-else-not-push-clause-peers g c =
     let new : Link = get_or c.args.links.now c.args.letter.1 c.index-links-place.result in
-    let here : slice_get c.args.links.now c.args.letter.1 ≡ Some new = slice_get-get_or c.args.links.now c.args.letter.1 c.index-links-place.result c.requires.within in
+    let here : slice_get c.args.links.now c.args.letter.1 ≡ Some new =
+    slice_get-get_or c.args.links.now c.args.letter.1 c.index-links-place.result c.requires.within in
     peers_set c.args.links.now c.args.letter.1 new c.push.new.self here c.push.ensures.peer

@@ -20,7 +20,9 @@ loop-n-preserved g c =
     let value = c.deref_mut.ensures.value in
     let so_far = subst (PortsMarked steps (take n ports)) (sym value) c.loop-n.invariant.1 in
     let fits = c.if-not-mark_all.ensures in
-    let marked = next_marked steps ports n c.deref_mut.result.now so_far c.as_slice.result.now _ marks c.loop-n-test.true (c.as_slice.ensures ∙ c.index-ports-n.is) fits.fits fits.marked in
+    let marked =
+    next_marked steps ports n c.deref_mut.result.now so_far c.as_slice.result.now _ marks c.loop-n-test.true
+    (c.as_slice.ensures ∙ c.index-ports-n.is) fits.fits fits.marked in
     let each : length marks ≡ length steps = c.mark_all.auto.marks ∙ ap length value ∙ c.loop-n.invariant.0 in
     let kept = take_at marks (drop (length marks) c.loop-n.marks.items) c.loop-n.marks.len (c.mark_all.auto.marks ∙ c.deref_mut.ensures.len) in
     (ap length kept ∙ each, subst (PortsMarked steps (take (n + 1) ports)) (sym kept) marked)
@@ -31,7 +33,9 @@ returns-then-not-mark_all g c =
     let ports = c.args.ports.now in
     let n = c.loop-n.n in
     let so_far = subst (PortsMarked steps (take n ports)) (sym c.deref_mut.ensures.value) c.loop-n.invariant.1 in
-    let unlike = next_unlike steps ports n c.deref_mut.result.now so_far c.as_slice.result.now _ c.loop-n-test.true (c.as_slice.ensures ∙ c.index-ports-n.is) c.if-not-mark_all.ensures.unlike in
+    let unlike =
+    next_unlike steps ports n c.deref_mut.result.now so_far c.as_slice.result.now _ c.loop-n-test.true
+    (c.as_slice.ensures ∙ c.index-ports-n.is) c.if-not-mark_all.ensures.unlike in
     record { alike = (λ is_none. cc, λ alike. absurd (unlike_not_alike steps ports n unlike alike)); unlike = unlike }
 
 pub returns-then-lacks_mark : goal.returns-then-lacks_mark

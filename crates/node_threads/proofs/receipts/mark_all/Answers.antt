@@ -11,7 +11,8 @@ loop-call-preserved g c =
     let call = c.call-item.result in
     let next = drop_more calls i call c.loop-call-test.true ∙ ap (λ it. it ∷ drop (i + 1) calls) (sym c.call-item.is) in
     let fits = c.if-not-mark_one.ensures in
-    marks_on _ _ _ _ (c.loop-call.auto.marks ∙ c.requires) _ _ _ call next c.loop-call.invariant _ _ fits.fits fits.marked (ap (λ (it : Call). it.receipt.place + 1) c.call.view_is)
+    marks_on _ _ _ _ (c.loop-call.auto.marks ∙ c.requires) _ _ _ call next c.loop-call.invariant _ _ fits.fits fits.marked
+    (ap (λ (it : Call). it.receipt.place + 1) c.call.view_is)
 
 pub returns-then-not-mark_one-clause-unlike : goal.returns-then-not-mark_one-clause-unlike
 returns-then-not-mark_one-clause-unlike g c =

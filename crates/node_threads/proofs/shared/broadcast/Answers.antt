@@ -13,5 +13,8 @@ returns-clause-made g c =
       new = all.applies.stepped;
       full = made.full;
       lacking = all.applies.lacking;
-      applies = subst (λ id. Applies g.C.NodeCore.state g.C.NodeCore.steps c.args.kept.now.cell (Broadcast c.args.payload) all.applies.stepped id made.place made.full all.applies.lacking) is all.applies.applies;
+      applies =
+          subst (λ id. Applies g.C.NodeCore.state g.C.NodeCore.steps c.args.kept.now.cell
+          (Broadcast c.args.payload) all.applies.stepped id made.place made.full all.applies.lacking)
+          is all.applies.applies;
     }

@@ -9,4 +9,5 @@ invariant-loop-note g l =
     (goal.iterator-loop-note g).is_finite l.note-iterator ×
     (l.yielded ++ l.note-iterator.rest.items ≡ l.fn.frames.items) ×
     (l.taken ≡ length l.yielded) ×
-    TakesFrames g.C.NodeCore.state g.C.NodeCore.steps g.C.NodeCore.is_spent (g.R.Rng.stream l.fn.generator) l.fn.cell l.fn.learnt l.yielded l.cell l.learnt (g.R.Rng.stream l.generator)
+    TakesFrames g.C.NodeCore.state g.C.NodeCore.steps g.C.NodeCore.is_spent
+    (g.R.Rng.stream l.fn.generator) l.fn.cell l.fn.learnt l.yielded l.cell l.learnt (g.R.Rng.stream l.generator)

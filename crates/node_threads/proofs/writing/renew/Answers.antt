@@ -7,4 +7,5 @@ use Rattle.node_threads.proofs.writing.renew.Goals as goal
 pub returns-clause-spent : goal.returns-clause-spent
 returns-clause-spent g c =
     let peer = c.args.link.now.outlet.peer in
-    kept_or_not peer _ _ c.replace-spent.result (subst (All (GoesTo peer)) (sym c.reserve.ensures.items) c.requires) (ap (λ (outlet : Outlet). outlet.peer) c.replace-spent.ensures.value) c.keep_rest.ensures
+    kept_or_not peer _ _ c.replace-spent.result (subst (All (GoesTo peer)) (sym c.reserve.ensures.items) c.requires)
+    (ap (λ (outlet : Outlet). outlet.peer) c.replace-spent.ensures.value) c.keep_rest.ensures

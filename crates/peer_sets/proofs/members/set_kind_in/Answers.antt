@@ -11,4 +11,5 @@ pub loop-member-preserved : goal.loop-member-preserved
 loop-member-preserved c =
     let f = λ (m : Name × PeerKind). if same_name c.args.name.now m.0 then (m.0, c.args.kind) else m in
     ap (λ m. slice_set c.loop-member.member-items c.loop-member.member-index m) (c.kind_after-member.ensures ∙ ap f (sym c.member-item.is))
-    ∙ map_over_more f c.args.members.now c.loop-member.member-items c.loop-member.member-index c.member-item.result c.loop-member-test.true c.loop-member.invariant c.member-item.is
+    ∙ map_over_more f c.args.members.now c.loop-member.member-items c.loop-member.member-index
+    c.member-item.result c.loop-member-test.true c.loop-member.invariant c.member-item.is

@@ -10,5 +10,7 @@ returns-in-Ok-answer-clause-done c done = record {
   after = c.link_down-answer.new.self;
   had = search rules;
   has = search rules;
-  done = subst (λ peer. Steps c.deref_mut.result.now (Down peer (dice_of c.args.dice.now)) c.link_down-answer.new.self) c.in-Ok.ensures.ok c.in-Ok-answer.ensures.ok;
+  done =
+      subst (λ peer. Steps c.deref_mut.result.now (Down peer (dice_of c.args.dice.now)) c.link_down-answer.new.self)
+      c.in-Ok.ensures.ok c.in-Ok-answer.ensures.ok;
 }

@@ -9,5 +9,7 @@ returns-clause-done c done = record {
   after = c.receive-answer.new.self;
   had = search rules;
   has = search rules;
-  done = subst (λ found. IfSome found (λ length. Hears c.deref_mut.result.now c.args.bytes.now length (dice_of c.args.dice.now) c.receive-answer.new.self)) c.in-Some.is c.in-Ok-answer.ensures.some;
+  done =
+      subst (λ found. IfSome found (λ length. Hears c.deref_mut.result.now c.args.bytes.now length (dice_of c.args.dice.now) c.receive-answer.new.self))
+      c.in-Some.is c.in-Ok-answer.ensures.some;
 }

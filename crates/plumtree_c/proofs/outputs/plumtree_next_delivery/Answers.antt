@@ -9,5 +9,8 @@ returns-clause-done c done = record {
   after = c.next_delivery-answer.new.self;
   had = search rules;
   has = search rules;
-  done = subst (λ found. IfSome found (λ its. Given c.deref_mut.result.now (id_of its) (take c.next_delivery-answer.new.length c.next_delivery-answer.new.room) c.next_delivery-answer.new.self)) c.in-Some.is c.in-Ok-answer.ensures.some;
+  done =
+      subst (λ found. IfSome found (λ its. Given c.deref_mut.result.now (id_of its)
+      (take c.next_delivery-answer.new.length c.next_delivery-answer.new.room) c.next_delivery-answer.new.self))
+      c.in-Some.is c.in-Ok-answer.ensures.some;
 }

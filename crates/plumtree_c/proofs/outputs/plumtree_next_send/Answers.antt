@@ -9,5 +9,8 @@ returns-clause-done c done = record {
   after = c.next_send-answer.new.self;
   had = search rules;
   has = search rules;
-  done = subst (λ found. IfSome found (λ name. Sent c.deref_mut.result.now (name_of name) (take c.next_send-answer.new.length c.next_send-answer.new.room) c.next_send-answer.new.self)) c.in-Some.is c.in-Ok-answer.ensures.some;
+  done =
+      subst (λ found. IfSome found
+      (λ name. Sent c.deref_mut.result.now (name_of name) (take c.next_send-answer.new.length c.next_send-answer.new.room) c.next_send-answer.new.self))
+      c.in-Some.is c.in-Ok-answer.ensures.some;
 }

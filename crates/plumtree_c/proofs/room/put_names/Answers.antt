@@ -14,7 +14,8 @@ loop-i-preserved c =
     let in_room : c.loop-i.i < length c.loop-i.room = omega (arith, c.loop-i-test.true, few, c.loop-i.invariant.0) in
     let in_names : c.loop-i.i < names = omega (arith, c.loop-i-test.true, no_more) in (
       length-set c.loop-i.room c.loop-i.i c.of.result ∙ c.loop-i.invariant.0,
-      names_more c.loop-i.room c.args.names.now c.loop-i.i c.of.result c.index-names-i.result in_room in_names c.of.ensures (sym c.index-names-i.is) c.loop-i.invariant.1,
+      names_more c.loop-i.room c.args.names.now c.loop-i.i c.of.result c.index-names-i.result in_room in_names c.of.ensures
+          (sym c.index-names-i.is) c.loop-i.invariant.1,
     )
 
 pub returns-clause-names : goal.returns-clause-names

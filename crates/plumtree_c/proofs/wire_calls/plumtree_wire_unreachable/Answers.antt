@@ -9,5 +9,7 @@ returns-in-Ok-answer-clause-done c done = record {
   after = c.unreachable-answer.new.self;
   had = search rules;
   has = search rules;
-  done = subst (λ name. Does (Leaves name (dice_of c.args.dice.now)) c.deref_mut.result.now c.unreachable-answer.new.self) c.in-Ok.ensures.ok c.in-Ok-answer.ensures.ok;
+  done =
+      subst (λ name. Does (Leaves name (dice_of c.args.dice.now)) c.deref_mut.result.now c.unreachable-answer.new.self)
+      c.in-Ok.ensures.ok c.in-Ok-answer.ensures.ok;
 }

@@ -9,7 +9,10 @@ returns-in-Some-clause-done c done = record {
   after = c.next_delivery-answer.new.self;
   had = search rules;
   has = search rules;
-  done = subst (λ found. IfSome found (λ its. Delivers (id_of its) (take c.next_delivery-answer.new.length c.next_delivery-answer.new.room) c.deref_mut.result.now c.next_delivery-answer.new.self)) c.in-Some.is c.in-Ok-answer.ensures.some;
+  done =
+      subst (λ found. IfSome found (λ its.
+      Delivers (id_of its) (take c.next_delivery-answer.new.length c.next_delivery-answer.new.room) c.deref_mut.result.now c.next_delivery-answer.new.self))
+      c.in-Some.is c.in-Ok-answer.ensures.some;
 }
 
 pub returns-in-None-clause-stays : goal.returns-in-None-clause-stays

@@ -12,5 +12,7 @@ returns-clause-done c done =
     record {
       wire = c.in-Ok.wire.value;
       has = c.in-Ok.ensures.ok;
-      holds = subst (λ (n : ℕ). map name_of (take n c.put_names.new.room) ≡ names) (sym long) (c.put_names.ensures.names (omega (arith, long, c.if-length-room.false, c.put_names.ensures.length)) ∙ its);
+      holds =
+          subst (λ (n : ℕ). map name_of (take n c.put_names.new.room) ≡ names) (sym long)
+          (c.put_names.ensures.names (omega (arith, long, c.if-length-room.false, c.put_names.ensures.length)) ∙ its);
     }

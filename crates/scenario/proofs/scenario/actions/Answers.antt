@@ -21,7 +21,8 @@ pub loop-number-preserved : goal.loop-number-preserved
 loop-number-preserved c members e =
     let found = table_at c.args.events.now members c.loop-number.number c.index-events-number.result e c.loop-number-test.true in
     let read = c.in_ok-numbered_action.ensures.ok (get_or members c.loop-number.number no_members) (ap view c.index-events-number.is ∙ found.1) in
-    rw (c.in_ok-push.ensures.items, add-one) (AllZip-more IsAction members c.loop-number.actions.items c.loop-number.number no_members _ found.0 (c.loop-number.invariant members e) read)
+    rw (c.in_ok-push.ensures.items, add-one)
+    (AllZip-more IsAction members c.loop-number.actions.items c.loop-number.number no_members _ found.0 (c.loop-number.invariant members e) read)
 
 pub returns-clause-ok : goal.returns-clause-ok
 returns-clause-ok c members e =

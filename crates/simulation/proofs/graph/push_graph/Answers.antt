@@ -12,5 +12,8 @@ returns g c =
     let opened : List ℕ = (head ++ overlay_lines c.args.group.now.group.nodes) ++ codes "  }\n" in
     let overlay = joined _ _ _ head _ _ c.in_ok-push_overlay.ensures c.in_ok-push_str.ensures.bytes refl in
     let listed = joined _ _ _ _ _ opened c.in_ok-push_str-2.ensures.bytes overlay refl in
-    let whole = joined _ _ _ opened parts (opened ++ parts) appended listed refl in
-    ((opened ++ parts) ++ codes "}\n", record { parts = parts; drawn = drawn; written = refl }, joined _ _ _ (opened ++ parts) _ _ c.in_ok-push_str-3.ensures.bytes whole refl)
+    let whole = joined _ _ _ opened parts (opened ++ parts) appended listed refl in (
+      (opened ++ parts) ++ codes "}\n",
+      record { parts = parts; drawn = drawn; written = refl },
+      joined _ _ _ (opened ++ parts) _ _ c.in_ok-push_str-3.ensures.bytes whole refl,
+    )

@@ -17,5 +17,9 @@ returns-in_err-scenario-clause-refused g c fault is =
     let given = err_from_is_err_and c.from_residual.result c.from_residual.ensures.1 in
     let both : Err (Refused c.in_err-scenario.field-0.0) ≡ Err (Refused fault) = sym (given.1 ∙ ap Err given.2) ∙ is in
     let same : c.in_err-scenario.field-0.0 ≡ fault = cc both in
-    let IsNone : ScenarioError → Type 0 = λ f. f ≢ OutOfMemory → (seed : Option ℕ) (sizes : Sizes) (actions : List Action) → IsScenario MAX_SCENARIO_BYTES MAX_EVENTS c.args.text.now seed sizes actions → ⊥ in
+    let IsNone : ScenarioError → Type 0 =
+    λ f. f ≢ OutOfMemory →
+    (seed : Option ℕ) (sizes : Sizes) (actions : List Action) →
+    IsScenario MAX_SCENARIO_BYTES MAX_EVENTS c.args.text.now seed sizes actions →
+    ⊥ in
     subst IsNone same c.in_err-scenario.ensures.refused

@@ -19,7 +19,9 @@ returns g c =
     record {
       messages = ids;
       text = drawing.0;
-      all_messages = subst From (c.in_ok-deliveries.ensures ∙ ap (λ (log : List Entry). deliveries (reverse log)) c.log.ensures) (rw c.as_slice.ensures.value at c.in_ok-messages.ensures.permutation);
+      all_messages =
+          subst From (c.in_ok-deliveries.ensures ∙ ap (λ (log : List Entry). deliveries (reverse log)) c.log.ensures)
+          (rw c.as_slice.ensures.value at c.in_ok-messages.ensures.permutation);
       in_order = c.in_ok-messages.ensures.sorted;
       drawn = subst Draws (c.as_slice-3.ensures.value ∙ rw c.as_slice-2.ensures.value at c.in_ok-shown.ensures) drawing.1;
       written = drawing.2;

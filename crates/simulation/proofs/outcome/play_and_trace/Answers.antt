@@ -15,9 +15,11 @@ pub returns-clause-traced : goal.returns-clause-traced
 returns-clause-traced g c =
     let after : Standing Plum Frame = record { rolls = rolls_in c.play-played.new.self.rolls; group = c.play-played.new.self.group } in
     let old : Standing Plum Frame = record { rolls = rolls_in c.new-player.result.rolls; group = c.new-player.result.group } in
-    let begins : old ≡ record { rolls = rolls_of c.args.scenario.now.seed; group = empty_group c.args.scenario.now.limits } = λ i. record { rolls = c.new-player.ensures.rolls i; group = c.new-player.ensures.group i } in
+    let begins : old ≡ record { rolls = rolls_of c.args.scenario.now.seed; group = empty_group c.args.scenario.now.limits } =
+    λ i. record { rolls = c.new-player.ensures.rolls i; group = c.new-player.ensures.group i } in
     let Plays : Standing Plum Frame → Type 0 = λ from. PlaysActions plum_state PlumStarts PlumSteps MAX_ARRIVALS c.args.scenario.now.actions.items from after in
-    let OfGroup : Logged Plum Frame → Type 0 = λ group. TellsGroup group (g.W.Write.contents c.args.out.now) (g.W.Write.contents c.write_trace-traced.new.out) in
+    let OfGroup : Logged Plum Frame → Type 0 =
+    λ group. TellsGroup group (g.W.Write.contents c.args.out.now) (g.W.Write.contents c.write_trace-traced.new.out) in
     on_ok_weaker c.ended.result _ _ (λ both. record {
       group = after.group;
       rolls = after.rolls;

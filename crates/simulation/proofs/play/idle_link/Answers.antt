@@ -5,10 +5,20 @@ use Rattle.simulation.proofs.Idling.{linked, stopped_link}
 use Rattle.simulation.proofs.play.idle_link.Goals as goal
 
 pub returns-in-Some-clause-idle : goal.returns-in-Some-clause-idle
-returns-in-Some-clause-idle g c = (c.args.node.now, c.args.peer.now, c.in-Some.core.now, refl, sym c.core.ensures ∙ ap option_copied c.in-Some.is, sym c.is_linked.ensures ∙ c.if-not-is_linked.true)
+returns-in-Some-clause-idle g c = (
+  c.args.node.now,
+  c.args.peer.now,
+  c.in-Some.core.now,
+  refl,
+  sym c.core.ensures ∙ ap option_copied c.in-Some.is,
+  sym c.is_linked.ensures ∙ c.if-not-is_linked.true,
+)
 
 pub returns-in_default-clause-busy : goal.returns-in_default-clause-busy
-returns-in_default-clause-busy g c none = linked c.args.group.now.group c.args.node.now c.args.peer.now c.in-Some.core.now (sym c.core.ensures ∙ ap option_copied c.in-Some.is) (sym c.is_linked.ensures ∙ c.if-not-is_linked.false)
+returns-in_default-clause-busy g c none =
+    linked c.args.group.now.group c.args.node.now c.args.peer.now c.in-Some.core.now
+    (sym c.core.ensures ∙ ap option_copied c.in-Some.is) (sym c.is_linked.ensures ∙ c.if-not-is_linked.false)
 
 pub returns-in_default-2-clause-busy : goal.returns-in_default-2-clause-busy
-returns-in_default-2-clause-busy g c none = stopped_link c.args.group.now.group c.args.node.now c.args.peer.now (sym c.core.ensures ∙ ap option_copied c.in_default.is)
+returns-in_default-2-clause-busy g c none =
+    stopped_link c.args.group.now.group c.args.node.now c.args.peer.now (sym c.core.ensures ∙ ap option_copied c.in_default.is)

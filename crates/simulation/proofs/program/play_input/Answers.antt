@@ -13,6 +13,11 @@ use Rattle.simulation.proofs.program.play_input.Goals as goal
 
 pub returns-in-Ok-clause-played : goal.returns-in-Ok-clause-played
 returns-in-Ok-clause-played g c ended =
-    let Played : List ℕ → Type 0 = λ text. (seed : Option ℕ) × (sizes : Sizes) × (actions : List Action) × IsScenario MAX_SCENARIO_BYTES MAX_EVENTS text seed sizes actions × IsWritten MAX_ARRIVALS c.args.form seed sizes actions (g.W.Write.contents c.args.out.now) (g.W.Write.contents c.play.new.out) in
+    let Played : List ℕ → Type 0 =
+    λ text. (seed : Option ℕ)
+    × (sizes : Sizes)
+    × (actions : List Action)
+    × IsScenario MAX_SCENARIO_BYTES MAX_EVENTS text seed sizes actions
+    × IsWritten MAX_ARRIVALS c.args.form seed sizes actions (g.W.Write.contents c.args.out.now) (g.W.Write.contents c.play.new.out) in
     let played : Played c.in-Ok.text.items = rw c.as_slice.ensures.value at (c.play.ensures.played ended) in
     all_bytes _ c.in-Ok.text.items MAX_SCENARIO_BYTES Played c.in-Ok.ensures.text played.3.short played

@@ -21,7 +21,9 @@ there (first ∷ ids) (suc i) id e = either (same_id id first) _ (there ids i id
 unchanged : (ids : List MsgId) (i : ℕ) (id : MsgId) → slice_get ids i ≡ Some id → ids ≡ insert_key same_id ids id
 unchanged ids i id e = sym (ap (λ (b : Bool). if b then ids else ids ++ id ∷ []) (there ids i id e))
 
-equal_last : (last : Option (Bor MsgId)) (id : Bor MsgId) → true ≡ option_eq (λ (x y : Bor MsgId). same_id x.now y.now) last (Some id) → option_copied last ≡ Some id.now
+equal_last : (last : Option (Bor MsgId)) (id : Bor MsgId) →
+    true ≡ option_eq (λ (x y : Bor MsgId). same_id x.now y.now) last (Some id) →
+    option_copied last ≡ Some id.now
 equal_last None id e = absurd (cc e)
 equal_last (Some last) id e = ap Some ((same_id-Decides last.now id.now).0 (sym e))
 

@@ -12,8 +12,17 @@ use Rattle.simulation.proofs.ranks.nodes.Goals as goal
 
 pub loop-delivery-preserved : goal.loop-delivery-preserved
 loop-delivery-preserved g c =
-    let Holds : List Origin → Type 0 = λ keys. All (λ (d : Bor Delivery). Contains keys d.now.node) (take (c.loop-delivery.delivery-index + 1) c.args.deliveries.now) in
-    subst Holds (sym (c.in_ok-insert.ensures.keys ∙ ap (λ (d : Bor Delivery). insert_key same_origin c.loop-delivery.nodes.keys d.now.node) c.delivery.view_is)) (all_inserted-more same_origin (λ x y. (same_origin-Decides x y).0) (λ (d : Bor Delivery). d.now.node) c.args.deliveries.now c.loop-delivery.delivery-index c.delivery-item.result c.loop-delivery.nodes.keys c.loop-delivery-test.true c.delivery-item.is c.loop-delivery.invariant)
+    let Holds : List Origin → Type 0 =
+    λ keys. All (λ (d : Bor Delivery). Contains keys d.now.node) (take (c.loop-delivery.delivery-index + 1) c.args.deliveries.now) in
+    subst Holds (sym (c.in_ok-insert.ensures.keys ∙ ap (λ (d : Bor Delivery). insert_key same_origin c.loop-delivery.nodes.keys d.now.node) c.delivery.view_is))
+    (all_inserted-more same_origin (λ x y. (same_origin-Decides x y).0) (λ (d : Bor Delivery). d.now.node) c.args.deliveries.now
+    c.loop-delivery.delivery-index c.delivery-item.result c.loop-delivery.nodes.keys c.loop-delivery-test.true c.delivery-item.is c.loop-delivery.invariant)
 
 pub returns-clause-all : goal.returns-clause-all
-returns-clause-all g c = All-weaker (λ (d : Bor Delivery). Contains c.loop-delivery.nodes.keys d.now.node) (λ (d : Bor Delivery). Contains c.sort.new.self.keys d.now.node) (λ d has. Contains-permutation c.loop-delivery.nodes.keys c.sort.new.self.keys d.now.node c.in_ok-sort.ensures.reordered.0 has) c.args.deliveries.now (All-same (λ (d : Bor Delivery). Contains c.loop-delivery.nodes.keys d.now.node) _ _ (sym (take_all _ _ c.loop-delivery-test.false)) c.loop-delivery.invariant)
+returns-clause-all g c =
+    All-weaker (λ (d : Bor Delivery). Contains c.loop-delivery.nodes.keys d.now.node)
+    (λ (d : Bor Delivery). Contains c.sort.new.self.keys d.now.node)
+    (λ d has. Contains-permutation c.loop-delivery.nodes.keys c.sort.new.self.keys d.now.node c.in_ok-sort.ensures.reordered.0 has)
+    c.args.deliveries.now
+    (All-same (λ (d : Bor Delivery). Contains c.loop-delivery.nodes.keys d.now.node) _ _
+    (sym (take_all _ _ c.loop-delivery-test.false)) c.loop-delivery.invariant)

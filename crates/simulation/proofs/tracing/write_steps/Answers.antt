@@ -21,7 +21,9 @@ loop-place-preserved g c =
     let (steps, told, appended) = c.loop-place.invariant in
     let (step, tells, more) = c.in_ok-write_step.ensures in
     let Tells : Entry → Type 0 = λ e. TellsStep c.loop-place.place e.event c.loop-place.run c.write_step.new.run step in
-    let listed = rw c.log-entry-items.ensures at (slice_get_read c.log-entry-items.result.now (length c.log-entry-items.result.now) c.loop-place.place c.entry-item.result refl c.loop-place-test.true c.entry-item.is) in
+    let listed =
+    rw c.log-entry-items.ensures at (slice_get_read c.log-entry-items.result.now
+    (length c.log-entry-items.result.now) c.loop-place.place c.entry-item.result refl c.loop-place-test.true c.entry-item.is) in
     let Told : ℕ → Type 0 = λ n. TellsSteps c.args.group.now.limits c.args.group.now.log n c.write_step.new.run (steps ++ step) in
     let longer : Told (suc c.loop-place.place) = (c.loop-place.run, steps, step, c.entry-item.result, told, listed, subst Tells c.entry.view_is tells, refl) in
     let next : suc c.loop-place.place ≡ c.loop-place.place + 1 = omega arith in

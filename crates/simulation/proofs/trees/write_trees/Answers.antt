@@ -15,5 +15,9 @@ loop-id-preserved g c =
       rest = c.is_at_rest.result;
       is_rest = told_rest _ _ _ c.is_at_rest.ensures (c.in_ok-unrest.ensures c.id-item.result);
       written = ap (λ (bs : List Branch). tree_lines c.id-item.result c.is_at_rest.result bs) (c.tree.ensures ∙ c.in_ok-forest.ensures c.id-item.result);
-    } in
-    (before ++ more, InTurn-more (TellsTree g.C.Core.state g.C.Note.Wire.content c.args.group.now) c.args.ids.now c.loop-id.id-index c.id-item.result before more c.loop-id-test.true c.id-item.is told tells, written _ _ _ _ _ _ appended c.in_ok-write_tree.ensures refl)
+    } in (
+      before ++ more,
+      InTurn-more (TellsTree g.C.Core.state g.C.Note.Wire.content c.args.group.now) c.args.ids.now
+          c.loop-id.id-index c.id-item.result before more c.loop-id-test.true c.id-item.is told tells,
+      written _ _ _ _ _ _ appended c.in_ok-write_tree.ensures refl,
+    )

@@ -19,16 +19,24 @@ loop-trace-preserved g c =
     let new : List Origin = c.insert.new.self.keys in
     let fresh : list_any (same_origin o) old ≡ false = not_passed _ c.in_ok-insert.field-0 c.in_ok-insert.ensures.added c.if-not-branch.false in
     record {
-      seen = seen_more traces n t o c.loop-trace-test.true c.trace-item.is c.origin-origin.ensures old new c.in_ok-insert.ensures.updates.0 c.loop-trace.invariant.seen;
-      known = known_more traces n t o c.loop-trace-test.true c.trace-item.is c.origin-origin.ensures old new c.in_ok-insert.ensures.updates.0 c.loop-trace.invariant.known;
-      distinct = distinct_more traces n t o c.loop-trace-test.true c.trace-item.is c.origin-origin.ensures old c.loop-trace.invariant.seen fresh c.loop-trace.invariant.distinct;
+      seen =
+          seen_more traces n t o c.loop-trace-test.true c.trace-item.is c.origin-origin.ensures
+          old new c.in_ok-insert.ensures.updates.0 c.loop-trace.invariant.seen;
+      known =
+          known_more traces n t o c.loop-trace-test.true c.trace-item.is c.origin-origin.ensures
+          old new c.in_ok-insert.ensures.updates.0 c.loop-trace.invariant.known;
+      distinct =
+          distinct_more traces n t o c.loop-trace-test.true c.trace-item.is c.origin-origin.ensures
+          old c.loop-trace.invariant.seen fresh c.loop-trace.invariant.distinct;
     }
 
 pub returns-then-not-branch-clause-doubled : goal.returns-then-not-branch-clause-doubled
 returns-then-not-branch-clause-doubled g c =
     let o : Origin = c.origin-origin.result in
-    let was : list_any (same_origin o) c.loop-trace.seen.keys ≡ true = passed_before _ c.in_ok-insert.field-0 c.in_ok-insert.ensures.added c.if-not-branch.true in
-    doubled_from c.args.traces.now c.loop-trace.trace-index c.trace-item.result o c.loop-trace-test.true c.trace-item.is c.origin-origin.ensures (c.loop-trace.invariant.known o was)
+    let was : list_any (same_origin o) c.loop-trace.seen.keys ≡ true =
+    passed_before _ c.in_ok-insert.field-0 c.in_ok-insert.ensures.added c.if-not-branch.true in
+    doubled_from c.args.traces.now c.loop-trace.trace-index c.trace-item.result o c.loop-trace-test.true c.trace-item.is c.origin-origin.ensures
+    (c.loop-trace.invariant.known o was)
 
 pub returns-clause-distinct : goal.returns-clause-distinct
 returns-clause-distinct g c = λ i j s t listed named same.

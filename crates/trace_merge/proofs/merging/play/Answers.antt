@@ -13,7 +13,8 @@ pub note-requires : goal.note-requires
 note-requires g c =
     let applied = c.in_ok-play.ensures.applied.1 in
     let grows : (more : List (Packet Frame)) × (c.play.new.self.group.sent ≡ c.args.world.now.group.sent ++ more) =
-    sent_grows plum_state PlumStarts PlumSteps c.args.world.now.limits c.args.world.now.group applied.entry c.play.new.self.group applied.entry.event applied.happened.1
+    sent_grows plum_state PlumStarts PlumSteps c.args.world.now.limits c.args.world.now.group
+    applied.entry c.play.new.self.group applied.entry.event applied.happened.1
     in
     let first : take (length c.sent-first.result.now) c.sent.result.now ≡ c.args.world.now.group.sent =
     ap (λ xs. take (length xs) c.sent.result.now) c.sent-first.ensures

@@ -11,4 +11,5 @@ loop-packet-preserved g c =
     ∙ ap (λ xs. xs ++ c.in_ok-said.field-0 ∷ []) c.loop-packet.invariant
     ∙ ap (λ y. map said (take c.loop-packet.packet-index c.args.packets.now) ++ y ∷ []) c.in_ok-said.ensures
     ∙ sym (map-append said (take c.loop-packet.packet-index c.args.packets.now) (c.packet-item.result ∷ []))
-    ∙ ap (map said) (ap (λ x. take c.loop-packet.packet-index c.args.packets.now ++ x ∷ []) c.packet-item.is ∙ sym (take_more c.args.packets.now c.loop-packet.packet-index c.packet-item.result c.loop-packet-test.true))
+    ∙ ap (map said) (ap (λ x. take c.loop-packet.packet-index c.args.packets.now ++ x ∷ []) c.packet-item.is
+    ∙ sym (take_more c.args.packets.now c.loop-packet.packet-index c.packet-item.result c.loop-packet-test.true))

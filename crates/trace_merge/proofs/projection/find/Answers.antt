@@ -30,7 +30,8 @@ loop-at-preserved g c =
           ∙ ap (λ (last : Option Incarnation). traced_on o last c.args.sent.now e end c.loop-at.found.trace) c.loop-at.invariant.1
           ∙ ap (traced_on o (incarnation_of o.name past) c.args.sent.now e end) c.loop-at.invariant.2
           ∙ sym (projection-more o c.args.sent.now log c.loop-at.at e end c.loop-at-test.true c.index-log-at.is)
-          ∙ ap (λ n. projection o c.args.sent.now n (reverse (take (c.loop-at.at + 1) log))) (c.first_number-end.ensures ∙ ap (first_number (length c.args.sent.now)) (take_all (length log - (c.loop-at.at + 1)) later whole)),
+          ∙ ap (λ n. projection o c.args.sent.now n (reverse (take (c.loop-at.at + 1) log)))
+          (c.first_number-end.ensures ∙ ap (first_number (length c.args.sent.now)) (take_all (length log - (c.loop-at.at + 1)) later whole)),
     )
 
 pub returns : goal.returns
@@ -39,5 +40,6 @@ returns g c =
     let log : List Entry = c.args.log.now in
     let all : length log ≤ c.loop-at.at = omega arith in
     c.loop-at.invariant.2
-    ∙ ap (λ (later : List Entry). projection o c.args.sent.now (first_number (length c.args.sent.now) later) (reverse (take c.loop-at.at log))) (drop_of_length-le log all)
+    ∙ ap (λ (later : List Entry). projection o c.args.sent.now (first_number (length c.args.sent.now) later) (reverse (take c.loop-at.at log)))
+    (drop_of_length-le log all)
     ∙ ap (λ (es : List Entry). projection o c.args.sent.now (length c.args.sent.now) (reverse es)) (take_all c.loop-at.at log all)

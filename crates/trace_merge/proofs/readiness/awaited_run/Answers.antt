@@ -19,6 +19,7 @@ returns-then-not-is_out_at-clause-awaits g c =
 
 pub loop-run-preserved : goal.loop-run-preserved
 loop-run-preserved g c =
-    left_fewer c.args.traces.now c.args.places.now c.in-Some.run' c.in-Some.at c.loop-run.left.runs c.remove.new.self.runs c.requires.distinct c.loop-run.invariant c.in-Some.ensures.listed
+    left_fewer c.args.traces.now c.args.places.now c.in-Some.run' c.in-Some.at c.loop-run.left.runs
+    c.remove.new.self.runs c.requires.distinct c.loop-run.invariant c.in-Some.ensures.listed
     (λ t listed. (c.is_out_at.ensures t listed).0 c.if-not-is_out_at.false)
     c.remove.ensures.updates.0

@@ -16,13 +16,19 @@ use Rattle.trace_merge.proofs.stepping.tell_all.Goals as goal
 
 pub loop-at-init : goal.loop-at-init
 loop-at-init g c send one =
-    c.tell_opening.ensures send (subst (IsOneOf send) (append-nil c.args.trace.now.opening.sends ∙ ap (λ (o : Output Frame). o.sends) (sym c.opening.ensures)) one)
+    c.tell_opening.ensures send
+    (subst (IsOneOf send) (append-nil c.args.trace.now.opening.sends ∙ ap (λ (o : Output Frame). o.sends) (sym c.opening.ensures)) one)
 
 -- one step more
-further : (t : Trace Frame) (k : ℕ) (s : Step Frame) → slice_get t.steps k ≡ Some s → AreShort (sent_within k t) → AreShort s.out.sends → AreShort (sent_within (k + 1) t)
+further : (t : Trace Frame) (k : ℕ) (s : Step Frame) →
+    slice_get t.steps k ≡ Some s →
+    AreShort (sent_within k t) →
+    AreShort s.out.sends →
+    AreShort (sent_within (k + 1) t)
 further t k s at before here send one =
     let next : k + 1 ≡ suc k = omega arith in
-    elim (one_of-append send (sent_within k t) s.out.sends (subst (IsOneOf send) (sent_within-suc t k s at) (subst (λ n. IsOneOf send (sent_within n t)) next one)))
+    elim (one_of-append send (sent_within k t) s.out.sends
+    (subst (IsOneOf send) (sent_within-suc t k s at) (subst (λ n. IsOneOf send (sent_within n t)) next one)))
     [ inl old ↦ before send old | inr new ↦ here send new ]
 
 pub loop-at-preserved : goal.loop-at-preserved

@@ -16,7 +16,10 @@ returns-in-Some g c =
     let new : List (MsgId × List ℕ) = (c.get_mut.follows.lender c.push_str.new.self).entries in
     let had : Some c.in-Some.text.now ≡ lookup (same_id id) old = sym (ap option_copied_mut c.in-Some.is) ∙ c.get_mut.ensures.value in
     let updates = c.get_mut.follows.holds c.push_str.new.self in
-    on_ok_weaker c.push_str.result (λ pushed. appended old new id c.push_str.new.self c.args.more.now (pushed ∙ ap (λ o. unwrap_or o [] ++ c.args.more.now) had) (updates.3 (subst IsSome had refl)).0) c.push_str.ensures
+    on_ok_weaker c.push_str.result
+    (λ pushed. appended old new id c.push_str.new.self c.args.more.now
+    (pushed ∙ ap (λ o. unwrap_or o [] ++ c.args.more.now) had) (updates.3 (subst IsSome had refl)).0)
+    c.push_str.ensures
 
 pub returns-in_ok-insert-in-None : goal.returns-in_ok-insert-in-None
 returns-in_ok-insert-in-None g c =

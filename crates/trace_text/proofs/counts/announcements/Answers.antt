@@ -12,6 +12,15 @@ use Rattle.trace_text.proofs.counts.announcements.Goals as goal
 
 pub loop-packet-preserved : goal.loop-packet-preserved
 loop-packet-preserved g c = record {
-  counted = λ id. sum-more (λ (p : Packet Frame). announcements_in id (frame_content p.note).announced) c.args.sent.now c.loop-packet.packet-index c.packet-item.result _ _ c.loop-packet-test.true c.packet-item.is (c.loop-packet.invariant.counted id) (c.in_ok-count_entries.ensures id ∙ ap (λ (entries : List (MsgId × ℕ)). count_at id c.loop-packet.counts.entries + announcements_in id entries) c.announced.ensures);
-  below = λ id. omega (arith, c.loop-packet.invariant.below id, c.in_ok-count_entries.ensures id, count_by-le-length (λ (entry : MsgId × ℕ). same_id id entry.0) c.announced.result.now);
+  counted =
+      λ id. sum-more (λ (p : Packet Frame). announcements_in id (frame_content p.note).announced) c.args.sent.now c.loop-packet.packet-index
+      c.packet-item.result _ _ c.loop-packet-test.true c.packet-item.is (c.loop-packet.invariant.counted id) (c.in_ok-count_entries.ensures id
+      ∙ ap (λ (entries : List (MsgId × ℕ)). count_at id c.loop-packet.counts.entries + announcements_in id entries) c.announced.ensures);
+  below =
+      λ id. omega (
+        arith,
+        c.loop-packet.invariant.below id,
+        c.in_ok-count_entries.ensures id,
+        count_by-le-length (λ (entry : MsgId × ℕ). same_id id entry.0) c.announced.result.now,
+      );
 }

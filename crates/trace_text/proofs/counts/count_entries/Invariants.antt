@@ -5,4 +5,5 @@ use Rattle.trace_text.proofs.counts.count_entries.Given as goal
 
 -- the announcements so far are counted
 abbrev pub invariant-loop-entry : goal.invariant-loop-entry
-invariant-loop-entry g l = (id : MsgId) → count_at id l.counts.entries ≡ count_at id l.initial.counts.entries + announcements_in id (take l.entry-index l.entries)
+invariant-loop-entry g l =
+    (id : MsgId) → count_at id l.counts.entries ≡ count_at id l.initial.counts.entries + announcements_in id (take l.entry-index l.entries)

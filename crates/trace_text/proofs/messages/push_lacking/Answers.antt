@@ -13,9 +13,15 @@ use Rattle.trace_text.proofs.messages.push_lacking.Goals as goal
 pub loop-node-preserved : goal.loop-node-preserved
 loop-node-preserved g c =
     let node = c.node-item.result in
-    let delivered = c.contains.ensures ∙ c.in_ok-delivered.ensures c.run_of-run.result ∙ ap (λ (run : Origin). list_any (λ (b : Branch). same_origin b.node run) c.args.branches.now) c.run_of-run.ensures in
-    let appended = c.in_ok-push_lacking_line.ensures ∙ ap (λ (line : List ℕ). string_bytes c.loop-node.text ++ line) (lacking_is c.args.branches.now (origin_of node) node.core c.contains.result delivered) in
-    joined _ _ _ _ _ _ appended c.loop-node.invariant (lines-more (λ node. lacking_line c.args.branches.now (origin_of node) node.core) (lacking_lines c.args.branches.now) refl (λ x xs. refl) c.args.nodes.now c.loop-node.node-index node node c.loop-node-test.true c.node-item.is)
+    let delivered =
+    c.contains.ensures
+    ∙ c.in_ok-delivered.ensures c.run_of-run.result
+    ∙ ap (λ (run : Origin). list_any (λ (b : Branch). same_origin b.node run) c.args.branches.now) c.run_of-run.ensures in
+    let appended =
+    c.in_ok-push_lacking_line.ensures
+    ∙ ap (λ (line : List ℕ). string_bytes c.loop-node.text ++ line) (lacking_is c.args.branches.now (origin_of node) node.core c.contains.result delivered) in
+    joined _ _ _ _ _ _ appended c.loop-node.invariant (lines-more (λ node. lacking_line c.args.branches.now (origin_of node) node.core)
+    (lacking_lines c.args.branches.now) refl (λ x xs. refl) c.args.nodes.now c.loop-node.node-index node node c.loop-node-test.true c.node-item.is)
 
 pub returns : goal.returns
 returns g c = lines-all (lacking_lines c.args.branches.now) c.args.nodes.now c.loop-node.node-index _ _ c.loop-node-test.false c.loop-node.invariant

@@ -14,8 +14,10 @@ loop-id-preserved g c =
     let world = c.args.world.now in
     joined _ _ _ _ _ _
     (c.in_ok-push_message.ensures
-    ∙ ap (λ (about : List ℕ). string_bytes c.loop-id.text ++ (rest_line id c.is_at_rest.result ++ (lacking_lines c.tree.result.now world.group.nodes ++ about))) (c.text_of-about.ensures ∙ c.in_ok-texts.ensures id)
+    ∙ ap (λ (about : List ℕ). string_bytes c.loop-id.text ++ (rest_line id c.is_at_rest.result ++ (lacking_lines c.tree.result.now world.group.nodes ++ about)))
+    (c.text_of-about.ensures ∙ c.in_ok-texts.ensures id)
     ∙ ap (λ (rest : Bool). string_bytes c.loop-id.text ++ message_text world id rest c.tree.result.now) c.is_at_rest.ensures
     ∙ ap (λ (branches : List Branch). string_bytes c.loop-id.text ++ message_text world id (not (has_id c.args.unrest.now id)) branches) c.tree.ensures)
     c.loop-id.invariant
-    (lines-more (λ one. message_text world one (not (has_id c.args.unrest.now one)) (branches_at one c.args.forest.now)) (messages_text world c.args.unrest.now c.args.forest.now) refl (λ x xs. refl) c.args.ids.now c.loop-id.id-index id id c.loop-id-test.true c.id-item.is)
+    (lines-more (λ one. message_text world one (not (has_id c.args.unrest.now one)) (branches_at one c.args.forest.now))
+    (messages_text world c.args.unrest.now c.args.forest.now) refl (λ x xs. refl) c.args.ids.now c.loop-id.id-index id id c.loop-id-test.true c.id-item.is)

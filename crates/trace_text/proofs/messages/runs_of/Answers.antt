@@ -8,7 +8,9 @@ use Rattle.trace_text.proofs.Delivering.{runs-more}
 use Rattle.trace_text.proofs.messages.runs_of.Goals as goal
 
 pub loop-branch-preserved : goal.loop-branch-preserved
-loop-branch-preserved g c run = runs-more c.args.branches.now c.loop-branch.branch-index c.branch-item.result run _ _ c.loop-branch-test.true c.branch-item.is (c.loop-branch.invariant run) (c.in_ok-insert.ensures.updates.0 run)
+loop-branch-preserved g c run =
+    runs-more c.args.branches.now c.loop-branch.branch-index c.branch-item.result run _ _ c.loop-branch-test.true c.branch-item.is
+    (c.loop-branch.invariant run) (c.in_ok-insert.ensures.updates.0 run)
 
 pub returns : goal.returns
 returns g c run =

@@ -6,7 +6,8 @@ use Rattle.trace_text.proofs.nodes.push_lines.Goals as goal
 
 pub loop-node-preserved : goal.loop-node-preserved
 loop-node-preserved g c =
-    joined _ _ _ _ _ _ c.in_ok-push_line.ensures c.loop-node.invariant (lines-more node_line node_lines refl (λ x xs. refl) c.args.nodes.now c.loop-node.node-index c.node-item.result c.node-item.result c.loop-node-test.true c.node-item.is)
+    joined _ _ _ _ _ _ c.in_ok-push_line.ensures c.loop-node.invariant (lines-more node_line node_lines refl
+    (λ x xs. refl) c.args.nodes.now c.loop-node.node-index c.node-item.result c.node-item.result c.loop-node-test.true c.node-item.is)
 
 pub returns : goal.returns
 returns g c = lines-all node_lines c.args.nodes.now c.loop-node.node-index _ _ c.loop-node-test.false c.loop-node.invariant

@@ -6,4 +6,5 @@ use Rattle.trace_text.proofs.packets.push_announcement_items.Goals as goal
 
 pub loop-entry-preserved : goal.loop-entry-preserved
 loop-entry-preserved g c =
-    joined _ _ _ _ _ _ c.in_ok-push_announcement_item.ensures c.loop-entry.invariant (lines-more announcement_item announcement_items refl (λ x xs. refl) c.args.entries.now c.loop-entry.entry-index c.entry-item.result c.entry-item.result c.loop-entry-test.true c.entry-item.is)
+    joined _ _ _ _ _ _ c.in_ok-push_announcement_item.ensures c.loop-entry.invariant (lines-more announcement_item announcement_items refl
+    (λ x xs. refl) c.args.entries.now c.loop-entry.entry-index c.entry-item.result c.entry-item.result c.loop-entry-test.true c.entry-item.is)

@@ -11,8 +11,10 @@ loop-timer-preserved g c =
     elim c.match-timer.branch [
       | in-Some+in_ok-push_id_item w ↦
           ap (λ (text : String g.row.A.Denot). string_bytes text) w.text-is
-          ∙ joined _ _ _ _ _ _ w.in_ok-push_id_item.ensures c.loop-timer.invariant (slots-more id_item id_items refl (λ x xs. refl) c.args.timers.now c.loop-timer.timer-index c.timer-item.result w.in-Some.id c.loop-timer-test.true c.timer-item.is w.in-Some.is)
+          ∙ joined _ _ _ _ _ _ w.in_ok-push_id_item.ensures c.loop-timer.invariant (slots-more id_item id_items refl
+          (λ x xs. refl) c.args.timers.now c.loop-timer.timer-index c.timer-item.result w.in-Some.id c.loop-timer-test.true c.timer-item.is w.in-Some.is)
       | in_default w ↦
           ap (λ (text : String g.row.A.Denot). string_bytes text) w.text-is ∙ c.loop-timer.invariant
-          ∙ sym (ap (λ timers. string_bytes c.args.text.now ++ id_items timers) (somes_none c.args.timers.now c.loop-timer.timer-index c.timer-item.result c.loop-timer-test.true c.timer-item.is w.in_default.is))
+          ∙ sym (ap (λ timers. string_bytes c.args.text.now ++ id_items timers)
+          (somes_none c.args.timers.now c.loop-timer.timer-index c.timer-item.result c.loop-timer-test.true c.timer-item.is w.in_default.is))
     ]

@@ -6,7 +6,8 @@ use Rattle.trace_text.proofs.steps.push_flight_items.Goals as goal
 
 pub loop-place-preserved : goal.loop-place-preserved
 loop-place-preserved g c =
-    numbered-step flight_item flight_items (λ i. refl) (λ i x xs. refl) c.args.flight.now c.loop-place.place _ 0 _ _ _ c.loop-place-test.true refl c.in_ok-push_flight_item.ensures c.loop-place.invariant
+    numbered-step flight_item flight_items (λ i. refl)
+    (λ i x xs. refl) c.args.flight.now c.loop-place.place _ 0 _ _ _ c.loop-place-test.true refl c.in_ok-push_flight_item.ensures c.loop-place.invariant
 
 pub returns : goal.returns
 returns g c =

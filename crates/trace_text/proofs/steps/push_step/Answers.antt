@@ -20,9 +20,12 @@ returns g c =
     (c.in_ok-push_event.ensures
     ∙ ap (λ (packets : List (Packet Frame)). string_bytes c.args.text.now ++ event_line packets c.args.entry.now) c.sent-2.ensures)
     (c.in_ok-push_deliveries.ensures
-    ∙ ap (λ (given : List Delivery). string_bytes c.push_event.new.text ++ delivery_lines given) (c.as_slice.ensures ∙ ap (λ (e : Entry). e.given) c.entry.view_is))
+    ∙ ap (λ (given : List Delivery). string_bytes c.push_event.new.text ++ delivery_lines given)
+    (c.as_slice.ensures ∙ ap (λ (e : Entry). e.given) c.entry.view_is))
     (c.in_ok-push_sent.ensures
-    ∙ ap (λ (packets : List (Packet Frame)). string_bytes c.push_deliveries.new.text ++ sent_lines c.entry.inside.first_sent (drop c.entry.inside.first_sent packets)) c.sent-3.ensures
+    ∙ ap (λ (packets : List (Packet Frame)).
+    string_bytes c.push_deliveries.new.text ++ sent_lines c.entry.inside.first_sent (drop c.entry.inside.first_sent packets))
+    c.sent-3.ensures
     ∙ ap (λ (e : Entry). string_bytes c.push_deliveries.new.text ++ sent_lines e.first_sent (drop e.first_sent sent)) c.entry.view_is)
     (c.in_ok-push_change_under.ensures
     ∙ ap (λ (name : Option Name). string_bytes c.push_sent.new.text ++ change_under c.args.before.now name c.args.after.now.group.nodes)

@@ -16,6 +16,12 @@ loop-id-preserved g c =
     let tells : TellsSpread c.args.sent.now id line = record {
       greatest = greatest;
       mean = mean;
-      written = ap (λ (n : ℕ). spread_line id n announced ++ depth_text greatest mean) (c.count_of-copied.ensures ∙ c.in_ok-copies.ensures id) ∙ ap (λ (n : ℕ). spread_line id (copies_of id c.args.sent.now) n ++ depth_text greatest mean) (c.count_of-announced.ensures ∙ c.in_ok-announcements.ensures id);
-    } in
-    (before ++ line, TellsSpreads-more c.args.sent.now c.args.ids.now c.loop-id.id-index id before line c.loop-id-test.true c.id-item.is told tells, joined _ _ _ _ _ _ more appended refl)
+      written =
+          ap (λ (n : ℕ). spread_line id n announced ++ depth_text greatest mean) (c.count_of-copied.ensures ∙ c.in_ok-copies.ensures id)
+          ∙ ap (λ (n : ℕ). spread_line id (copies_of id c.args.sent.now) n ++ depth_text greatest mean)
+          (c.count_of-announced.ensures ∙ c.in_ok-announcements.ensures id);
+    } in (
+      before ++ line,
+      TellsSpreads-more c.args.sent.now c.args.ids.now c.loop-id.id-index id before line c.loop-id-test.true c.id-item.is told tells,
+      joined _ _ _ _ _ _ more appended refl,
+    )

@@ -13,5 +13,6 @@ returns g c =
     let Of : List (Packet Frame) → Type 0 = λ sent. TellsSpreads sent c.args.ids.now spread.0 in (
       kinds_line c.args.world.now.group.sent ++ spread.0,
       record { spreads = spread.0; told = subst Of c.sent-2.ensures spread.1; written = refl },
-      joined _ _ _ _ _ _ spread.2 (c.in_ok-push_kinds.ensures ∙ ap (λ (sent : List (Packet Frame)). string_bytes c.args.text.now ++ kinds_line sent) c.sent.ensures) refl,
+      joined _ _ _ _ _ _ spread.2
+          (c.in_ok-push_kinds.ensures ∙ ap (λ (sent : List (Packet Frame)). string_bytes c.args.text.now ++ kinds_line sent) c.sent.ensures) refl,
     )) c.push_spreads.ensures

@@ -11,5 +11,7 @@ use Rattle.trace_text.proofs.under_way.add_flying_at.Goals as goal
 
 pub returns-in-None : goal.returns-in-None
 returns-in-None g c id =
-    let Tells : Option (Packet Frame) → Type 0 = λ found. text_at id c.args.texts.now.entries ≡ text_at id c.args.texts.now.entries ++ option_map_or (λ (packet : Packet Frame). flying_line id c.args.place packet) found [] in
+    let Tells : Option (Packet Frame) → Type 0 =
+    λ found. text_at id c.args.texts.now.entries
+    ≡ text_at id c.args.texts.now.entries ++ option_map_or (λ (packet : Packet Frame). flying_line id c.args.place packet) found [] in
     subst Tells (sym (slice_get_past c.args.sent.now c.args.place c.in-None.ensures.lookup.3)) (sym (append-nil (text_at id c.args.texts.now.entries)))

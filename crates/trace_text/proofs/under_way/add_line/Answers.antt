@@ -10,17 +10,27 @@ use Rattle.trace_text.proofs.Announced.{announced_line, asked_line, gossip_line,
 use Rattle.trace_text.proofs.under_way.add_line.Goals as goal
 
 pub returns-in-Gossip : goal.returns-in-Gossip
-returns-in-Gossip g c = on_ok_weaker c.append.result (λ told id. told id ∙ gossip_line id c.in-Gossip.id c.in-Gossip.round _ c.args.note.now.body (text_at id c.args.texts.now.entries) c.args.line.now (sym c.body.ensures.value ∙ c.in-Gossip.is)) c.append.ensures
+returns-in-Gossip g c =
+    on_ok_weaker c.append.result
+    (λ told id. told id ∙ gossip_line id c.in-Gossip.id c.in-Gossip.round _ c.args.note.now.body
+    (text_at id c.args.texts.now.entries) c.args.line.now (sym c.body.ensures.value ∙ c.in-Gossip.is))
+    c.append.ensures
 
 pub returns-in-IHave : goal.returns-in-IHave
 returns-in-IHave g c =
     on_ok_weaker c.add_announced.result (λ told id.
     told id
     ∙ ap (λ (entries : List (MsgId × ℕ)). text_at id c.args.texts.now.entries ++ (if is_announced id entries then c.args.line.now else [])) c.as_slice.ensures
-    ∙ announced_line id c.in-IHave.entries c.args.note.now.body (text_at id c.args.texts.now.entries) c.args.line.now (sym c.body.ensures.value ∙ c.in-IHave.is)) c.add_announced.ensures
+    ∙ announced_line id c.in-IHave.entries c.args.note.now.body
+    (text_at id c.args.texts.now.entries) c.args.line.now (sym c.body.ensures.value ∙ c.in-IHave.is))
+    c.add_announced.ensures
 
 pub returns-in-Graft : goal.returns-in-Graft
-returns-in-Graft g c = on_ok_weaker c.append-in-Graft.result (λ told id. told id ∙ asked_line id c.in-Graft.id c.in-Graft.round c.args.note.now.body (text_at id c.args.texts.now.entries) c.args.line.now (sym c.body.ensures.value ∙ c.in-Graft.is)) c.append-in-Graft.ensures
+returns-in-Graft g c =
+    on_ok_weaker c.append-in-Graft.result
+    (λ told id. told id ∙ asked_line id c.in-Graft.id c.in-Graft.round c.args.note.now.body
+    (text_at id c.args.texts.now.entries) c.args.line.now (sym c.body.ensures.value ∙ c.in-Graft.is))
+    c.append-in-Graft.ensures
 
 pub returns-in_default : goal.returns-in_default
 returns-in_default g c id =

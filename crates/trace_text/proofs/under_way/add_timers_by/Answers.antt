@@ -12,8 +12,13 @@ loop-timer-preserved g c id =
     elim c.match-timer.branch [
       | in-Some+in_ok-add_timer w ↦
           ap (λ texts. text_at id texts.entries) w.texts-is
-          ∙ joined _ _ _ _ _ _ (w.in_ok-add_timer.ensures id) (c.loop-timer.invariant id) (slots-more (timer_line id c.args.node.now) (timers_by id c.args.node.now) refl (λ x xs. refl) c.args.timers.now c.loop-timer.timer-index c.timer-item.result w.in-Some.timed c.loop-timer-test.true c.timer-item.is w.in-Some.is)
+          ∙ joined _ _ _ _ _ _ (w.in_ok-add_timer.ensures id) (c.loop-timer.invariant id) (slots-more (timer_line id c.args.node.now)
+          (timers_by id c.args.node.now)
+          refl
+          (λ x xs. refl)
+          c.args.timers.now c.loop-timer.timer-index c.timer-item.result w.in-Some.timed c.loop-timer-test.true c.timer-item.is w.in-Some.is)
       | in_default w ↦
           ap (λ texts. text_at id texts.entries) w.texts-is ∙ c.loop-timer.invariant id
-          ∙ sym (ap (λ timers. text_at id c.args.texts.now.entries ++ timers_by id c.args.node.now timers) (somes_none c.args.timers.now c.loop-timer.timer-index c.timer-item.result c.loop-timer-test.true c.timer-item.is w.in_default.is))
+          ∙ sym (ap (λ timers. text_at id c.args.texts.now.entries ++ timers_by id c.args.node.now timers)
+          (somes_none c.args.timers.now c.loop-timer.timer-index c.timer-item.result c.loop-timer-test.true c.timer-item.is w.in_default.is))
     ]

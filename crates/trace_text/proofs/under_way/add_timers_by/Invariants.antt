@@ -6,4 +6,5 @@ use Rattle.trace_text.specs.Ends.{timers_by}
 use Rattle.trace_text.proofs.under_way.add_timers_by.Given as goal
 
 abbrev pub invariant-loop-timer : goal.invariant-loop-timer
-invariant-loop-timer g l = (id : MsgId) → text_at id l.texts.entries ≡ text_at id l.initial.texts.entries ++ timers_by id l.node (somes (take l.timer-index l.timers))
+invariant-loop-timer g l =
+    (id : MsgId) → text_at id l.texts.entries ≡ text_at id l.initial.texts.entries ++ timers_by id l.node (somes (take l.timer-index l.timers))

@@ -5,4 +5,6 @@ use Rattle.trace_text.proofs.Texts.{three}
 use Rattle.trace_text.proofs.under_way.push_in_flight.Goals as goal
 
 pub returns : goal.returns
-returns g c = on_ok_weaker c.push_end.result (λ told. three _ _ _ _ (codes "  in flight ") _ (codes "\n") c.in_ok-push_str.ensures.bytes c.in_ok-push_packet.ensures told) c.push_end.ensures
+returns g c =
+    on_ok_weaker c.push_end.result
+    (λ told. three _ _ _ _ (codes "  in flight ") _ (codes "\n") c.in_ok-push_str.ensures.bytes c.in_ok-push_packet.ensures told) c.push_end.ensures

@@ -7,7 +7,10 @@ use Rattle.wire_node.proofs.downs.overfull.Goals as goal
 pub loop-entry-preserved : goal.loop-entry-preserved
 loop-entry-preserved g c =
     let P = λ (w : Waiting). length w.settled ≤ c.args.limit in
-    All-more P c.args.entries.now c.loop-entry.entry-index c.entry-item.result (omega (arith, c.loop-entry-test.true)) c.loop-entry.invariant (subst P c.entry-item.is (omega (arith, c.if-len-limit.false, c.len.ensures)))
+    All-more P c.args.entries.now c.loop-entry.entry-index c.entry-item.result
+    (omega (arith, c.loop-entry-test.true))
+    c.loop-entry.invariant
+    (subst P c.entry-item.is (omega (arith, c.if-len-limit.false, c.len.ensures)))
 
 pub returns : goal.returns
 returns g c =

@@ -15,4 +15,5 @@ returns-clause-down g c =
     }
 
 pub returns-clause-settled : goal.returns-clause-settled
-returns-clause-settled g c = subst AreSettled (sym c.forget.ensures) (settled_without c.args.name c.make_step-told.new.entries.items c.make_step-told.ensures.settled)
+returns-clause-settled g c =
+    subst AreSettled (sym c.forget.ensures) (settled_without c.args.name c.make_step-told.new.entries.items c.make_step-told.ensures.settled)

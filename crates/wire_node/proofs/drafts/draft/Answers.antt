@@ -10,7 +10,9 @@ pub index_mut-requires : goal.index_mut-requires
 index_mut-requires g c =
     let its = λ (w : Waiting). same_name c.args.name w.name in
     let d : Waiting = record { name = c.args.name; settled = []; drafted = [] } in
-    let found = position-Some its c.args.entries.now.items c.in-Some.place d (ap (position its) (sym c.deref.ensures.value) ∙ sym c.place_of.ensures.place ∙ c.in-Some.is) in
+    let found =
+    position-Some its c.args.entries.now.items c.in-Some.place d
+    (ap (position its) (sym c.deref.ensures.value) ∙ sym c.place_of.ensures.place ∙ c.in-Some.is) in
     omega (arith, found.0, c.args.entries.now.ok.0)
 
 pub draft_first-requires : goal.draft_first-requires
@@ -26,7 +28,8 @@ returns-in-Some-clause-ok g c =
     let d = c.index_mut.result.now in
     let found = position-Some its olds c.in-Some.place d (ap (position its) (sym c.deref.ensures.value) ∙ sym c.place_of.ensures.place ∙ c.in-Some.is) in
     on_ok_weaker c.draft.result
-    (λ e. ap (set olds c.in-Some.place) (e ∙ ap (λ (w : Waiting). with_draft w bytes) c.index_mut.ensures.value) ∙ sym (draft_at olds c.args.name bytes c.in-Some.place d found.0 found.1 found.2))
+    (λ e. ap (set olds c.in-Some.place) (e ∙ ap (λ (w : Waiting). with_draft w bytes) c.index_mut.ensures.value)
+    ∙ sym (draft_at olds c.args.name bytes c.in-Some.place d found.0 found.1 found.2))
     c.draft.ensures.ok
 
 pub returns-in-Some-clause-err : goal.returns-in-Some-clause-err

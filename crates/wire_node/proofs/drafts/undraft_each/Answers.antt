@@ -9,8 +9,11 @@ loop-place-preserved g c =
     let olds = c.args.entries.now.items in
     let within : c.loop-place.place < length olds = omega (arith, c.loop-place-test.true, c.args.entries.now.ok.0) in (
       length-set c.loop-place.entries.items c.loop-place.place c.undraft.new.self ∙ c.loop-place.invariant.0,
-      mapped_more undrafted olds c.loop-place.entries.items c.loop-place.place c.index_mut.result.now c.undraft.new.self within c.loop-place.invariant.1 (c.undraft.ensures ∙ ap undrafted c.index_mut.ensures.value),
+      mapped_more undrafted olds c.loop-place.entries.items c.loop-place.place c.index_mut.result.now c.undraft.new.self within c.loop-place.invariant.1
+          (c.undraft.ensures ∙ ap undrafted c.index_mut.ensures.value),
     )
 
 pub returns : goal.returns
-returns g c = mapped_all undrafted c.args.entries.now.items c.loop-place.entries.items c.loop-place.place (omega (arith, c.loop-place-test.false, c.args.entries.now.ok.0)) c.loop-place.invariant.1
+returns g c =
+    mapped_all undrafted c.args.entries.now.items c.loop-place.entries.items c.loop-place.place
+    (omega (arith, c.loop-place-test.false, c.args.entries.now.ok.0)) c.loop-place.invariant.1

@@ -16,13 +16,16 @@ returns g c payload long =
     let whole = c.in-Some.whole in
     let frame : c.in-Ok.frame ≡ gossip s n i r [] = c.in-Ok.ensures.1 ∙ ap (λ (p : List ℕ). gossip s n i r p) c.new.ensures in
     let spelled : IsSpelling (gossip s n i r []) bytes = subst (λ (f : Frame). IsSpelling f bytes) frame c.in_ok-bytes.ensures.spelled in
-    let its : fields ≡ take (length bytes - 8) (drop 4 bytes) = subst (λ (b : List ℕ). fields ≡ take (length b - 8) (drop 4 b)) c.as_slice.ensures c.fields_of-fields.ensures in
+    let its : fields ≡ take (length bytes - 8) (drop 4 bytes) =
+    subst (λ (b : List ℕ). fields ≡ take (length b - 8) (drop 4 b)) c.as_slice.ensures c.fields_of-fields.ensures in
     let one : c.extend_from_slice.new.self.items ≡ to_be_bytes w32 whole =
     c.in_ok-extend_from_slice.ensures.items ∙ ap (λ (t : List ℕ). t ++ c.in_ok-word_of.field-0) c.in_ok-head.ensures.items ∙ c.in_ok-word_of.ensures in
-    let two : c.extend_from_slice-2.new.self.items ≡ to_be_bytes w32 whole ++ fields = c.in_ok-extend_from_slice-2.ensures.items ∙ ap (λ (t : List ℕ). t ++ fields) one in
+    let two : c.extend_from_slice-2.new.self.items ≡ to_be_bytes w32 whole ++ fields =
+    c.in_ok-extend_from_slice-2.ensures.items ∙ ap (λ (t : List ℕ). t ++ fields) one in
     let head : c.extend_from_slice-3.new.self.items ≡ to_be_bytes w32 whole ++ (fields ++ to_be_bytes w32 c.args.len) =
     c.in_ok-extend_from_slice-3.ensures.items
     ∙ ap (λ (t : List ℕ). t ++ c.in_ok-word_of-2.field-0) two
     ∙ ap (λ (t : List ℕ). (to_be_bytes w32 whole ++ fields) ++ t) c.in_ok-word_of-2.ensures
     ∙ append_assoc (to_be_bytes w32 whole) fields (to_be_bytes w32 c.args.len) in
-    spelled_by_head s n i r bytes fields c.extend_from_slice-3.new.self.items payload c.args.len whole spelled its (omega (arith, c.in-Some.ensures.1)) head long
+    spelled_by_head s n i r bytes fields c.extend_from_slice-3.new.self.items payload c.args.len whole spelled its
+    (omega (arith, c.in-Some.ensures.1)) head long

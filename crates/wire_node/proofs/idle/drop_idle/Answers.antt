@@ -9,5 +9,8 @@ pub loop-preserved : goal.loop-preserved
 loop-preserved g c =
     record {
       settled = subst AreSettled (sym c.forget.ensures) (settled_without c.in-Some.name c.loop.entries.items c.loop.invariant.settled);
-      same = λ other. ap (λ ws. settled_for ws other) c.forget.ensures ∙ swept c.loop.entries.items c.in-Some.name other c.in-Some.ensures ∙ c.loop.invariant.same other;
+      same =
+          λ other. ap (λ ws. settled_for ws other) c.forget.ensures
+          ∙ swept c.loop.entries.items c.in-Some.name other c.in-Some.ensures
+          ∙ c.loop.invariant.same other;
     }

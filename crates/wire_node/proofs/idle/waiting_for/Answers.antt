@@ -19,4 +19,5 @@ returns-in-Some g c =
 pub returns-in-None : goal.returns-in-None
 returns-in-None g c =
     let none : IsNone c.place_of.result = search rules in
-    sym (ap length (waits_none c.args.entries.now.items c.args.name.now (subst (All (IsOther c.args.name.now)) c.deref.ensures.value (c.place_of.ensures.none none))))
+    sym (ap length
+    (waits_none c.args.entries.now.items c.args.name.now (subst (All (IsOther c.args.name.now)) c.deref.ensures.value (c.place_of.ensures.none none))))

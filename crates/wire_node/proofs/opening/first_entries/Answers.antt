@@ -7,7 +7,8 @@ use Rattle.wire_node.proofs.opening.first_entries.Goals as goal
 pub returns-clause-waits : goal.returns-clause-waits
 returns-clause-waits g c name =
     let sends = c.args.sends.now in
-    let drafts : c.draft_all.new.entries.items ≡ all_drafted [] sends = c.in_ok-draft_all.ensures.ok ∙ ap (λ (ws : List Waiting). all_drafted ws sends) c.new-entries.ensures.items in
+    let drafts : c.draft_all.new.entries.items ≡ all_drafted [] sends =
+    c.in_ok-draft_all.ensures.ok ∙ ap (λ (ws : List Waiting). all_drafted ws sends) c.new-entries.ensures.items in
     ap (λ (ws : List Waiting). settled_for ws name) (c.settle_all.ensures ∙ ap (map settled) drafts) ∙ waits_more [] sends name refl
 
 pub returns-clause-settled : goal.returns-clause-settled

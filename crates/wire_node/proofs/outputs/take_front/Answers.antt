@@ -18,7 +18,9 @@ returns-in_default-clause-gone g c other =
 pub index_mut-requires : goal.index_mut-requires
 index_mut-requires g c =
     let its = λ (w : Waiting). same_name c.args.name.now w.name in
-    let found = position-Some its c.args.entries.now.items c.in-Some.place c.index.result.now (ap (position its) (sym c.deref.ensures.value) ∙ sym c.place_of.ensures.place ∙ c.in-Some.is) in
+    let found =
+    position-Some its c.args.entries.now.items c.in-Some.place c.index.result.now
+    (ap (position its) (sym c.deref.ensures.value) ∙ sym c.place_of.ensures.place ∙ c.in-Some.is) in
     omega (arith, found.0, c.args.entries.now.ok.0)
 
 pub advance-requires : goal.advance-requires
@@ -42,9 +44,12 @@ returns-clause-settled g c =
     let i = c.index.result.now in
     let found = position-Some its ws place d (ap (position its) (sym c.deref.ensures.value) ∙ sym c.place_of.ensures.place ∙ c.in-Some.is) in
     let e = get_or ws place d in
-    let few : c.min-taken.result ≡ min count (length e.settled) = c.min-taken.ensures ∙ ap (min count) (c.len.ensures ∙ ap (λ (w : Waiting). length w.settled) (c.index.ensures ∙ get_or_default ws place i d found.0)) in
-    let new : c.advance.new.self ≡ with_less count e = less_of count d e c.advance.new.self c.min-taken.result c.index_mut.ensures.value few c.advance.ensures in
-    subst (λ (w : Waiting). AreSettled (set ws place w)) (sym new) (settled_set ws place (with_less count e) c.requires (less_settled count e (settled_at ws place d c.requires found.0)))
+    let few : c.min-taken.result ≡ min count (length e.settled) =
+    c.min-taken.ensures ∙ ap (min count) (c.len.ensures ∙ ap (λ (w : Waiting). length w.settled) (c.index.ensures ∙ get_or_default ws place i d found.0)) in
+    let new : c.advance.new.self ≡ with_less count e =
+    less_of count d e c.advance.new.self c.min-taken.result c.index_mut.ensures.value few c.advance.ensures in
+    subst (λ (w : Waiting). AreSettled (set ws place w)) (sym new)
+    (settled_set ws place (with_less count e) c.requires (less_settled count e (settled_at ws place d c.requires found.0)))
 
 pub returns-clause-gone : goal.returns-clause-gone
 returns-clause-gone g c other =
@@ -57,6 +62,8 @@ returns-clause-gone g c other =
     let i = c.index.result.now in
     let found = position-Some its ws place d (ap (position its) (sym c.deref.ensures.value) ∙ sym c.place_of.ensures.place ∙ c.in-Some.is) in
     let e = get_or ws place d in
-    let few : c.min-taken.result ≡ min count (length e.settled) = c.min-taken.ensures ∙ ap (min count) (c.len.ensures ∙ ap (λ (w : Waiting). length w.settled) (c.index.ensures ∙ get_or_default ws place i d found.0)) in
-    let new : c.advance.new.self ≡ with_less count e = less_of count d e c.advance.new.self c.min-taken.result c.index_mut.ensures.value few c.advance.ensures in
+    let few : c.min-taken.result ≡ min count (length e.settled) =
+    c.min-taken.ensures ∙ ap (min count) (c.len.ensures ∙ ap (λ (w : Waiting). length w.settled) (c.index.ensures ∙ get_or_default ws place i d found.0)) in
+    let new : c.advance.new.self ≡ with_less count e =
+    less_of count d e c.advance.new.self c.min-taken.result c.index_mut.ensures.value few c.advance.ensures in
     ap (λ (w : Waiting). settled_for (set ws place w) other) new ∙ gone_at ws name place d count other found.0 found.1 found.2

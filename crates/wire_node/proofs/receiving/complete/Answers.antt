@@ -11,7 +11,8 @@ returns-clause-some g c =
     let now = c.drop_front.new.items.items in
     let count = c.in_ok-count.count in
     let frame = c.in-Ok.decoded.0 in
-    let spelled : IsSpelling frame (take c.in-Ok.decoded.1 whole) = subst (λ t. IsSpelling frame (take c.in-Ok.decoded.1 t)) c.as_slice.ensures.value c.in-Ok.ensures.found.0 in
+    let spelled : IsSpelling frame (take c.in-Ok.decoded.1 whole) =
+    subst (λ t. IsSpelling frame (take c.in-Ok.decoded.1 t)) c.as_slice.ensures.value c.in-Ok.ensures.found.0 in
     takes_one c.args.engine.now c.args.peer.now (left ++ bytes) c.take_frame.new.engine c.take_frame.new.peer (now ++ drop count bytes) frame
     (completed frame left bytes whole now count c.in-Ok.decoded.1 c.in_ok-count.ensures.ok spelled c.drop_front.ensures)
     c.in_default.ensures.ok

@@ -16,11 +16,15 @@ loop-engine-preserved g c =
     let q = c.complete.new.peer in
     let mid = c.loop-engine.engine in
     let new = c.complete.new.engine in
-    let few = some_at (λ (n : ℕ). (n ≤ length rest) × (length now < length left + (n + n))) c.in-Ok-Some.field-0 count c.in-Ok-Some.field-0-is c.in-Ok-Some.ensures.within in
-    let more = some_at (λ (n : ℕ). Takes mid p (left ++ rest) new q (now ++ drop n rest)) c.in-Ok-Some.field-0 count c.in-Ok-Some.field-0-is c.in-Ok-Some.ensures.some in (
+    let few =
+    some_at (λ (n : ℕ). (n ≤ length rest) × (length now < length left + (n + n)))
+    c.in-Ok-Some.field-0 count c.in-Ok-Some.field-0-is c.in-Ok-Some.ensures.within in
+    let more =
+    some_at (λ (n : ℕ). Takes mid p (left ++ rest) new q (now ++ drop n rest)) c.in-Ok-Some.field-0 count c.in-Ok-Some.field-0-is c.in-Ok-Some.ensures.some in (
       omega (arith, few.0, ap length c.after.ensures, length-drop at bytes, c.loop-engine.invariant.0),
       c.complete.ensures.few,
-      takes_then c.args.engine.now c.args.peer.now (c.args.left.now.items ++ bytes) mid p (left ++ drop at bytes) new q (now ++ drop (at + count) bytes) c.loop-engine.invariant.2
+      takes_then c.args.engine.now c.args.peer.now (c.args.left.now.items ++ bytes) mid p
+          (left ++ drop at bytes) new q (now ++ drop (at + count) bytes) c.loop-engine.invariant.2
           (resumed mid new p q left now bytes rest at c.after.ensures count more),
     )
 
@@ -36,5 +40,6 @@ returns-in-Ok-None-clause-taken g c =
     let mid = c.loop-engine.engine in
     let new = c.complete.new.engine in
     let all = none_at (Takes mid p (left ++ rest) new q now × IsPartial now) c.in-Ok-None.field-0 c.in-Ok-None.field-0-is c.in-Ok-None.ensures.none in
-    takes_then c.args.engine.now c.args.peer.now (c.args.left.now.items ++ bytes) mid p (left ++ drop at bytes) new q (now ++ drop (length bytes) bytes) c.loop-engine.invariant.2
+    takes_then c.args.engine.now c.args.peer.now (c.args.left.now.items ++ bytes) mid p
+    (left ++ drop at bytes) new q (now ++ drop (length bytes) bytes) c.loop-engine.invariant.2
     (kept_all mid new p q left now bytes rest at c.after.ensures all.0)

@@ -15,8 +15,10 @@ returns-in-Err-ended-clause-taken g c =
     let q = c.take_frames-count.new.peer in
     let mid = c.finish_cut-at.new.engine in
     let new = c.take_frames-count.new.engine in
-    let none : left ≡ [] = IfOk-at_ok (λ (finished : Bool). finished ≡ true → left ≡ []) c.in-Ok-true.is c.finish_cut-at.ensures.whole c.in-Ok-true.field-0-test in
-    takes_then c.args.engine.now c.args.peer.now (c.args.left.now.items ++ bytes) mid p (left ++ drop at bytes) new q (left ++ drop (at + count) bytes) c.finish_cut-at.ensures.taken
+    let none : left ≡ [] =
+    IfOk-at_ok (λ (finished : Bool). finished ≡ true → left ≡ []) c.in-Ok-true.is c.finish_cut-at.ensures.whole c.in-Ok-true.field-0-test in
+    takes_then c.args.engine.now c.args.peer.now (c.args.left.now.items ++ bytes) mid p
+    (left ++ drop at bytes) new q (left ++ drop (at + count) bytes) c.finish_cut-at.ensures.taken
     (from_none mid new p q left left bytes rest at c.after.ensures count none c.take_frames-count.ensures.taken)
 
 pub returns-in-Ok-clause-taken : goal.returns-in-Ok-clause-taken
@@ -30,10 +32,13 @@ returns-in-Ok-clause-taken g c =
     let q = c.take_frames-count.new.peer in
     let mid = c.finish_cut-at.new.engine in
     let new = c.take_frames-count.new.engine in
-    let none : left ≡ [] = IfOk-at_ok (λ (finished : Bool). finished ≡ true → left ≡ []) c.in-Ok-true.is c.finish_cut-at.ensures.whole c.in-Ok-true.field-0-test in
+    let none : left ≡ [] =
+    IfOk-at_ok (λ (finished : Bool). finished ≡ true → left ≡ []) c.in-Ok-true.is c.finish_cut-at.ensures.whole c.in-Ok-true.field-0-test in
     let now = c.keep.new.left.items in
-    takes_then c.args.engine.now c.args.peer.now (c.args.left.now.items ++ bytes) mid p (left ++ drop at bytes) new q (now ++ drop (length bytes) bytes) c.finish_cut-at.ensures.taken
-    (from_none_kept mid new p q left now bytes rest at c.after.ensures count c.after-2.result.now none c.after-2.ensures (c.in-Ok.ensures.ok ∙ ap (λ (l : List ℕ). l ++ c.after-2.result.now) (sym none)) c.take_frames-count.ensures.taken)
+    takes_then c.args.engine.now c.args.peer.now (c.args.left.now.items ++ bytes) mid p
+    (left ++ drop at bytes) new q (now ++ drop (length bytes) bytes) c.finish_cut-at.ensures.taken
+    (from_none_kept mid new p q left now bytes rest at c.after.ensures count c.after-2.result.now none c.after-2.ensures
+    (c.in-Ok.ensures.ok ∙ ap (λ (l : List ℕ). l ++ c.after-2.result.now) (sym none)) c.take_frames-count.ensures.taken)
 
 pub returns-in-Err-keep-clause-taken : goal.returns-in-Err-keep-clause-taken
 returns-in-Err-keep-clause-taken g c =
@@ -46,7 +51,10 @@ returns-in-Err-keep-clause-taken g c =
     let q = c.take_frames-count.new.peer in
     let mid = c.finish_cut-at.new.engine in
     let new = c.take_frames-count.new.engine in
-    let none : left ≡ [] = IfOk-at_ok (λ (finished : Bool). finished ≡ true → left ≡ []) c.in-Ok-true.is c.finish_cut-at.ensures.whole c.in-Ok-true.field-0-test in
-    subst (λ (l : List ℕ). Takes c.args.engine.now c.args.peer.now (c.args.left.now.items ++ bytes) new q (l ++ drop (at + count) bytes)) (sym c.in-Err-keep.ensures.err)
-    (takes_then c.args.engine.now c.args.peer.now (c.args.left.now.items ++ bytes) mid p (left ++ drop at bytes) new q (left ++ drop (at + count) bytes) c.finish_cut-at.ensures.taken
+    let none : left ≡ [] =
+    IfOk-at_ok (λ (finished : Bool). finished ≡ true → left ≡ []) c.in-Ok-true.is c.finish_cut-at.ensures.whole c.in-Ok-true.field-0-test in
+    subst (λ (l : List ℕ). Takes c.args.engine.now c.args.peer.now (c.args.left.now.items ++ bytes) new q (l ++ drop (at + count) bytes))
+    (sym c.in-Err-keep.ensures.err)
+    (takes_then c.args.engine.now c.args.peer.now (c.args.left.now.items ++ bytes) mid p
+    (left ++ drop at bytes) new q (left ++ drop (at + count) bytes) c.finish_cut-at.ensures.taken
     (from_none mid new p q left left bytes rest at c.after.ensures count none c.take_frames-count.ensures.taken))

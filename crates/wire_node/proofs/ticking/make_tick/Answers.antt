@@ -15,7 +15,12 @@ returns-in_err-step-2-clause-err g c =
     let asks = c.in_ok-ask.ensures.ok.asks in
     let ids = armed_of flushed asks.front in
     on_err _ c.from_residual-in_err-step-2.result
-    (inr (record { ids = ids; flushed = flushed; flushes = c.in_ok-step.ensures.ok; fires = subst (λ (e : Engine). MovesAll flushed (map (firing c.args.dice.now) ids) e) (sym c.in_err-step-2.ensures.err) asks.fires }))
+    (inr (record {
+      ids = ids;
+      flushed = flushed;
+      flushes = c.in_ok-step.ensures.ok;
+      fires = subst (λ (e : Engine). MovesAll flushed (map (firing c.args.dice.now) ids) e) (sym c.in_err-step-2.ensures.err) asks.fires;
+    }))
 
 pub returns-then-ticks-ne0-clause-ok : goal.returns-then-ticks-ne0-clause-ok
 returns-then-ticks-ne0-clause-ok g c = record {

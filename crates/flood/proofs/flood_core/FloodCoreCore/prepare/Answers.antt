@@ -10,7 +10,9 @@ returns-in-Down-clause-stepped g c = loses_peer c.args.self.now c.in-Down.peer c
 
 pub returns-in-Down-clause-moved : goal.returns-in-Down-clause-moved
 returns-in-Down-clause-moved g c = rw (← c.self.view_is)
-    (moves_by_peer (record { me = c.self.inside.me; peers = c.self.inside.peers.keys; held = c.self.inside.held.entries; count = c.self.inside.count }) c.in-Down.peer c.in-Down.dice (lent c.args.stimulus.now) c.has_name.result c.as_slice.ensures.unique (c.has_name.ensures ∙ ap (λ names. has_name names c.in-Down.peer) c.as_slice.ensures.keys) (ap lent c.in-Down.is))
+    (moves_by_peer (record { me = c.self.inside.me; peers = c.self.inside.peers.keys; held = c.self.inside.held.entries; count = c.self.inside.count })
+    c.in-Down.peer c.in-Down.dice (lent c.args.stimulus.now) c.has_name.result c.as_slice.ensures.unique
+    (c.has_name.ensures ∙ ap (λ names. has_name names c.in-Down.peer) c.as_slice.ensures.keys) (ap lent c.in-Down.is))
 
 pub returns-in-Fire-clause-stepped : goal.returns-in-Fire-clause-stepped
 returns-in-Fire-clause-stepped g c = stays_idle c.args.self.now c.args.stimulus.now c.args.out.now c.in-Fire.is

@@ -16,4 +16,6 @@ returns-in-Ok-clause-next g c =
     (subst (λ t. IsSpelling c.in-Ok.frame (take c.in-Ok.len t)) c.rest.ensures c.in-Ok.ensures.found.0))
 
 pub returns-in-Err-Short-clause-few : goal.returns-in-Err-Short-clause-few
-returns-in-Err-Short-clause-few g c e = subst (λ t. length t < 32880) c.rest.ensures (few_left c.rest.result.now (short_read c.rest.result.now (subst (λ d. IsFaultOf d (read c.rest.result.now)) c.in-Err-Short.field-0-is c.in-Err-Short.ensures.exact)))
+returns-in-Err-Short-clause-few g c e =
+    subst (λ t. length t < 32880) c.rest.ensures (few_left c.rest.result.now
+    (short_read c.rest.result.now (subst (λ d. IsFaultOf d (read c.rest.result.now)) c.in-Err-Short.field-0-is c.in-Err-Short.ensures.exact)))

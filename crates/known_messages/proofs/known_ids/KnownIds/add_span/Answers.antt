@@ -16,5 +16,7 @@ returns-clause-same g c =
     let origin : Origin = c.args.id.now.origin in
     let none : lookup (same_origin origin) known ≡ None = ap (λ (k : List (Origin × Span)). lookup (same_origin origin) k) c.self.view_is ∙ c.requires in
     ids-same known c.insert.new.self.entries origin c.make_room.new.self c.self.invariant c.insert.ensures.unique c.in_ok-insert.ensures.updates.0
-    (λ n. ap (λ (s : Span). has_number s n) c.make_room.ensures.same ∙ has-none c.new-span.result c.make_room.new.self.room n c.new-span.ensures.zero c.new-span.ensures.unbroken c.new-span.ensures.past ∙ sym (ap (λ o. option_map_or (λ (s : Span). has_number s n) o false) none))
+    (λ n. ap (λ (s : Span). has_number s n) c.make_room.ensures.same
+    ∙ has-none c.new-span.result c.make_room.new.self.room n c.new-span.ensures.zero c.new-span.ensures.unbroken c.new-span.ensures.past
+    ∙ sym (ap (λ o. option_map_or (λ (s : Span). has_number s n) o false) none))
     ∙ ap (λ (k : List (Origin × Span)). ids k) c.self.view_is

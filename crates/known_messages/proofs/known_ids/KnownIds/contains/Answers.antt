@@ -12,7 +12,8 @@ use Rattle.known_messages.proofs.known_ids.KnownIds.contains.Goals as goal
 
 pub returns-in-Some : goal.returns-in-Some
 returns-in-Some g c =
-    let had : Some c.in-Some.span.now ≡ lookup (same_origin c.args.id.now.origin) c.self.inside.spans.entries = sym (ap option_copied c.in-Some.is) ∙ c.get.ensures.value in
+    let had : Some c.in-Some.span.now ≡ lookup (same_origin c.args.id.now.origin) c.self.inside.spans.entries =
+    sym (ap option_copied c.in-Some.is) ∙ c.get.ensures.value in
     c.contains.ensures
     ∙ ap (λ o. option_map_or (λ span. has_number span c.args.id.now.seq) o false) had
     ∙ sym (contains-ids c.self.inside.spans.entries c.self.invariant c.args.id.now)

@@ -15,6 +15,9 @@ returns-in-Some-clause-same g c =
     let origin : Origin = c.args.id.now.origin in
     let had : Some c.in-Some.span.now ≡ lookup (same_origin origin) known = sym (ap option_copied_mut c.in-Some.is) ∙ c.get_mut.ensures.value in
     let updates = c.get_mut.follows.holds c.make_room.new.self in
-    ids-same known (c.get_mut.follows.lender c.make_room.new.self).entries origin c.make_room.new.self c.self.invariant updates.4 (updates.3 (subst IsSome had refl)).0
+    ids-same known
+    (c.get_mut.follows.lender c.make_room.new.self).entries
+    origin c.make_room.new.self c.self.invariant updates.4
+    (updates.3 (subst IsSome had refl)).0
     (λ n. ap (λ (s : Span). has_number s n) c.make_room.ensures.same ∙ ap (λ o. option_map_or (λ s. has_number s n) o false) had)
     ∙ ap (λ (k : List (Origin × Span)). ids k) c.self.view_is

@@ -18,12 +18,14 @@ pub returns-then-place-self : goal.returns-then-place-self
 returns-then-place-self g c =
     let now = c.self.inside in
     let found = c.in_ok-place in
-    is_forgotten now.messages.entries now.gone found.place c.args.id.now found.field-0-1.now found.payload.now c.self.invariant.0 found.ensures.key found.ensures.entry c.if-place-self.true
+    is_forgotten now.messages.entries now.gone found.place c.args.id.now found.field-0-1.now
+    found.payload.now c.self.invariant.0 found.ensures.key found.ensures.entry c.if-place-self.true
     ∙ ap (λ (held : Held). lookup (same_id c.args.id.now) held.messages) c.self.view_is
 
 pub returns-else-place-self : goal.returns-else-place-self
 returns-else-place-self g c =
     let now = c.self.inside in
     let found = c.in_ok-place in
-    is_held now.messages.entries now.gone found.place c.args.id.now found.field-0-1.now found.payload.now c.self.invariant.0 found.ensures.key found.ensures.entry c.if-place-self.false
+    is_held now.messages.entries now.gone found.place c.args.id.now found.field-0-1.now
+    found.payload.now c.self.invariant.0 found.ensures.key found.ensures.entry c.if-place-self.false
     ∙ ap (λ (held : Held). lookup (same_id c.args.id.now) held.messages) c.self.view_is

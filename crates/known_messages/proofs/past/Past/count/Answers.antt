@@ -28,10 +28,14 @@ returns-in_default-next g c =
 pub overflow_add-count : goal.overflow_add-count
 overflow_add-count g c =
     let most = fits c.args.self.now c.self.inside.edges.items (sym (ap (λ (p : Past). p.numbers) c.self.view_is)) c.self.invariant in
-    let run = length-run (2 ^ 64) refl _ _ c.in-Some.first.now c.in-Some-next.end.now (c.in-Some.ensures.steps ∙ ap (λ es. c.in-Some.first.now ∷ es) c.in-Some-next.ensures.steps) c.loop-first.invariant.up in
+    let run =
+    length-run (2 ^ 64) refl _ _ c.in-Some.first.now c.in-Some-next.end.now
+    (c.in-Some.ensures.steps ∙ ap (λ es. c.in-Some.first.now ∷ es) c.in-Some-next.ensures.steps) c.loop-first.invariant.up in
     omega (arith, most, run.1, c.loop-first.invariant.sum)
 
 pub loop-first-preserved : goal.loop-first-preserved
 loop-first-preserved g c =
-    let run = length-run (2 ^ 64) refl _ _ c.in-Some.first.now c.in-Some-next.end.now (c.in-Some.ensures.steps ∙ ap (λ es. c.in-Some.first.now ∷ es) c.in-Some-next.ensures.steps) c.loop-first.invariant.up in
+    let run =
+    length-run (2 ^ 64) refl _ _ c.in-Some.first.now c.in-Some-next.end.now
+    (c.in-Some.ensures.steps ∙ ap (λ es. c.in-Some.first.now ∷ es) c.in-Some-next.ensures.steps) c.loop-first.invariant.up in
     record { can_next = tt; is_finite = tt; up = run.0; sum = omega (arith, run.1, c.loop-first.invariant.sum) }

@@ -16,7 +16,8 @@ returns-then-n-eq0 g c =
 pub returns-then-n-self : goal.returns-then-n-self
 returns-then-n-self g c =
     le-leb c.args.n c.self.inside.unbroken c.if-n-self.true
-    ∙ sym (has_unbroken c.args.self.now c.args.n (omega (arith, c.if-n-eq0.false)) (subst (λ (s : Span). c.args.n ≤ s.unbroken) c.self.view_is c.if-n-self.true))
+    ∙ sym
+    (has_unbroken c.args.self.now c.args.n (omega (arith, c.if-n-eq0.false)) (subst (λ (s : Span). c.args.n ≤ s.unbroken) c.self.view_is c.if-n-self.true))
 
 pub returns-else-n-self : goal.returns-else-n-self
 returns-else-n-self g c =

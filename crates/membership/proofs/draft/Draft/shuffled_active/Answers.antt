@@ -12,5 +12,6 @@ returns g c =
     let few : c.from.result ≤ 12 = omega (arith, c.from.ensures, c.ka.ensures.value, c.ka.ensures.allowed.shuffle_to) in
     let candidates = others (c.args.target ∷ []) c.args.self.now.views.active in
     IfOk-weaker c.sample_active.result _ _
-    (λ names drawn. drawn ∙ ap (λ ws. sample ws candidates) (take-take c.from.result 12 (drop 4 c.args.dice.now.0) few ∙ ap (λ n. take n (drop 4 c.args.dice.now.0)) same))
+    (λ names drawn.
+    drawn ∙ ap (λ ws. sample ws candidates) (take-take c.from.result 12 (drop 4 c.args.dice.now.0) few ∙ ap (λ n. take n (drop 4 c.args.dice.now.0)) same))
     c.sample_active.ensures

@@ -14,6 +14,12 @@ returns-clause-applied g c =
       learnt_full = full.learnt;
       stream_full = g.R.Rng.stream full.generator;
       applies = c.in_ok-applied.ensures.applied;
-      downs_full = subst (λ names. TakesDrawnDowns g.C.NodeCore.state g.C.NodeCore.steps g.C.NodeCore.is_spent (g.R.Rng.stream c.args.generator.now) made.cell made.learnt names full.cell full.learnt (g.R.Rng.stream full.generator)) c.as_slice.ensures c.take_drawn_downs.ensures;
-      downs_left = subst (λ names. TakesDrawnDowns g.C.NodeCore.state g.C.NodeCore.steps g.C.NodeCore.is_spent (g.R.Rng.stream full.generator) full.cell full.learnt names last.cell last.learnt (g.R.Rng.stream last.generator)) c.as_slice-2.ensures c.take_drawn_downs-2.ensures;
+      downs_full =
+          subst (λ names. TakesDrawnDowns g.C.NodeCore.state g.C.NodeCore.steps g.C.NodeCore.is_spent
+          (g.R.Rng.stream c.args.generator.now) made.cell made.learnt names full.cell full.learnt (g.R.Rng.stream full.generator))
+          c.as_slice.ensures c.take_drawn_downs.ensures;
+      downs_left =
+          subst (λ names. TakesDrawnDowns g.C.NodeCore.state g.C.NodeCore.steps g.C.NodeCore.is_spent
+          (g.R.Rng.stream full.generator) full.cell full.learnt names last.cell last.learnt (g.R.Rng.stream last.generator))
+          c.as_slice-2.ensures c.take_drawn_downs-2.ensures;
     }

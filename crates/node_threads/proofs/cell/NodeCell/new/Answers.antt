@@ -8,7 +8,8 @@ invariant_of-result g c =
     let no_links : c.new.result.items ≡ [] = c.new.ensures.items in
     let no_names : c.new-2.result.keys ≡ [] = search rules in
     let few : 0 + length c.in_ok-trace.trace.steps < 2 ^ 64 = rw c.in_ok-trace.ensures (omega arith) in (
-      rw c.in_ok-trace.ensures (rw no_links (rw c.new-4.ensures (fresh_kept g.C.NodeCore.state g.C.NodeCore.starts g.C.NodeCore.steps g.met.C.NodeCore.tells_its_start c.args.core c.args.opening c.args.trace_limit c.requires))),
+      rw c.in_ok-trace.ensures (rw no_links (rw c.new-4.ensures (fresh_kept g.C.NodeCore.state g.C.NodeCore.starts
+          g.C.NodeCore.steps g.met.C.NodeCore.tells_its_start c.args.core c.args.opening c.args.trace_limit c.requires))),
       no_names ∙ sym (ap peers_of no_links),
       c.new-3.ensures.items,
       few,

@@ -11,4 +11,10 @@ overflow_add-self g c =
     omega arith
 
 pub invariant_of-self : goal.invariant_of-self
-invariant_of-self g c = (rw (c.replace-given.ensures.after, c.new.ensures, c.len.ensures, c.replace-given.ensures.value) (taken_kept g.C.NodeCore.state g.C.NodeCore.starts g.C.NodeCore.steps _ c.self.invariant.0), c.self.invariant.1, c.self.invariant.2, c.self.invariant.3)
+invariant_of-self g c = (
+  rw (c.replace-given.ensures.after, c.new.ensures, c.len.ensures, c.replace-given.ensures.value)
+      (taken_kept g.C.NodeCore.state g.C.NodeCore.starts g.C.NodeCore.steps _ c.self.invariant.0),
+  c.self.invariant.1,
+  c.self.invariant.2,
+  c.self.invariant.3,
+)

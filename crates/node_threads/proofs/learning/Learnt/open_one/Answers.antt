@@ -10,12 +10,14 @@ put_last-requires-clause-absent g c =
 
 pub returns-clause-opened : goal.returns-clause-opened
 returns-clause-opened g c = λ _.
-    let before : Learnt = record { ring = c.self.inside.ring; most = c.self.inside.most; names = c.self.inside.names.keys; outlets = c.self.inside.outlets.items } in
+    let before : Learnt =
+    record { ring = c.self.inside.ring; most = c.self.inside.most; names = c.self.inside.names.keys; outlets = c.self.inside.outlets.items } in
     let held : c.contains.result ≡ has_name c.self.inside.names.keys c.args.name = c.contains.ensures in
     let count = c.len.ensures.len in
     let below = c.if-len-self.false in
     let fewer : length before.names < before.most = omega (arith, count, below) in
-    let names : c.put_last.new.names.keys ≡ before.names ++ c.args.name ∷ [] = c.put_last.ensures ∙ ap (λ ns. ns ++ c.args.name ∷ []) c.reserve_one.ensures.names in
+    let names : c.put_last.new.names.keys ≡ before.names ++ c.args.name ∷ [] =
+    c.put_last.ensures ∙ ap (λ ns. ns ++ c.args.name ∷ []) c.reserve_one.ensures.names in
     let pushed : c.push.new.self.items ≡ c.reserve_one.new.outlets.items ++ c.in-Some.outlet ∷ [] = search rules in
     let outlets : c.push.new.self.items ≡ before.outlets ++ outlet_since c.args.since c.args.name ∷ [] =
     pushed

@@ -18,7 +18,10 @@ returns-clause-seen g c item is =
     let same : c.in_ok-bytes.bytes ≡ item = cc in
     let its : taken ≡ item = sym (begin_same c.peek_known.result.now taken first.0 ahead heads) ∙ sym c.in_ok-bytes.ensures.value ∙ same in (
       more.0,
-      ap (λ seen. seen ++ more.0) (sym (ap (λ (t : Tap). t.seen) c.self.view_is)) ∙ more.1 ∙ c.pop_known-frame.ensures.received.1 ∙ ap (λ frame. frame ∷ ahead) its,
+      ap (λ seen. seen ++ more.0) (sym (ap (λ (t : Tap). t.seen) c.self.view_is))
+          ∙ more.1
+          ∙ c.pop_known-frame.ensures.received.1
+          ∙ ap (λ frame. frame ∷ ahead) its,
     )
 
 pub invariant_of-self-2 : goal.invariant_of-self-2

@@ -20,6 +20,10 @@ returns-clause-some c =
     IfOk-weaker c.give.result
     (λ (found : Option Id). IfSome found (λ (id : Id). Gives before (id_of id) payload left))
     (λ (found : Option Id). IfSome found (λ (id : Id). Delivers (id_of id) payload c.args.self.now after))
-    (λ (found : Option Id) some. IfSome_then found {P = λ (id : Id). Gives before (id_of id) payload left} {Q = λ (id : Id). Delivers (id_of id) payload c.args.self.now after} some (λ (id : Id) gives. subst (λ (old : WireState). Delivers (id_of id) payload old after) c.self.view_is
+    (λ (found : Option Id) some. IfSome_then found
+    {P = λ (id : Id). Gives before (id_of id) payload left}
+    {Q = λ (id : Id). Delivers (id_of id) payload c.args.self.now after}
+    some
+    (λ (id : Id) gives. subst (λ (old : WireState). Delivers (id_of id) payload old after) c.self.view_is
     (record { gives = gives_on before (id_of id) payload left held.node.engine.machine.pending gives; lost = refl; news = refl; beside = refl })))
     c.give.ensures.some

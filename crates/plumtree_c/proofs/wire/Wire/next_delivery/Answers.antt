@@ -17,7 +17,11 @@ returns-clause-some c =
     IfOk-weaker c.give_first.result
     (λ (found : Option Id). IfSome found (λ (id : Id). Delivers (id_of id) payload mid new))
     (λ (found : Option Id). IfSome found (λ (id : Id). Delivers (id_of id) payload old new))
-    (λ (found : Option Id) some. IfSome_then found {P = λ (id : Id). Delivers (id_of id) payload mid new} {Q = λ (id : Id). Delivers (id_of id) payload old new} some (λ (id : Id) delivers. delivers_on old mid new (id_of id) payload c.refill_deliveries.ensures delivers))
+    (λ (found : Option Id) some. IfSome_then found
+    {P = λ (id : Id). Delivers (id_of id) payload mid new}
+    {Q = λ (id : Id). Delivers (id_of id) payload old new}
+    some
+    (λ (id : Id) delivers. delivers_on old mid new (id_of id) payload c.refill_deliveries.ensures delivers))
     c.give_first.ensures.some
 
 pub returns-clause-none : goal.returns-clause-none
@@ -33,4 +37,5 @@ returns-clause-none c =
 
 pub returns-clause-err : goal.returns-clause-err
 returns-clause-err c =
-    on_err_weaker c.give_first.result (stays_on c.args.self.now c.refill_deliveries.new.self c.give_first.new.self c.refill_deliveries.ensures) c.give_first.ensures.err
+    on_err_weaker c.give_first.result
+    (stays_on c.args.self.now c.refill_deliveries.new.self c.give_first.new.self c.refill_deliveries.ensures) c.give_first.ensures.err

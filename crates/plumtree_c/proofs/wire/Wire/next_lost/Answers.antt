@@ -10,7 +10,11 @@ returns-clause-some c =
     let old = c.args.self.now in
     let mid = c.refill_lost.new.self in
     let new = c.tell_first.new.self in
-    IfSome_then c.tell_first.result {P = λ (name : Name). Loses (name_of name) mid new} {Q = λ (name : Name). Loses (name_of name) old new} c.tell_first.ensures.some (λ (name : Name) loses. loses_on old mid new (name_of name) c.refill_lost.ensures loses)
+    IfSome_then c.tell_first.result
+    {P = λ (name : Name). Loses (name_of name) mid new}
+    {Q = λ (name : Name). Loses (name_of name) old new}
+    c.tell_first.ensures.some
+    (λ (name : Name) loses. loses_on old mid new (name_of name) c.refill_lost.ensures loses)
 
 pub returns-clause-none : goal.returns-clause-none
 returns-clause-none c =

@@ -14,7 +14,8 @@ holding node deliveries lost news = record { node = node; deliveries = deliverie
 
 refused : (old new : NodeState) (deliveries : List Delivery) (lost : List Name) (news : List News) (number : ℕ) (bytes : List ℕ) (dice : Dice)
     → HearsSome number bytes dice old new ⊎ (new ≡ old)
-    → Does (HearsSome number bytes dice) (holding old deliveries lost news) (holding new deliveries lost news) ⊎ (holding new deliveries lost news ≡ holding old deliveries lost news)
+    → Does (HearsSome number bytes dice) (holding old deliveries lost news) (holding new deliveries lost news)
+    ⊎ (holding new deliveries lost news ≡ holding old deliveries lost news)
 refused old new deliveries lost news number bytes dice over = elim over [
   | inl some ↦ inl (record { done = some; deliveries = refl; lost = refl; news = refl })
   | inr same ↦ inr (ap (λ (node : NodeState). holding node deliveries lost news) same)
@@ -31,5 +32,8 @@ pub returns-clause-err : goal.returns-clause-err
 returns-clause-err c =
     let held = c.self.inside in
     let after : WireState = holding c.receive_all.new.node (drop held.given held.deliveries) (drop held.told held.lost) (drop held.heard held.news) in
-    on_err_weaker c.receive_all.result (λ over. subst (λ (old : WireState). Does (HearsSome c.args.number c.args.bytes.now c.args.dice.now) old after ⊎ (after ≡ old)) c.self.view_is
-    (refused held.node c.receive_all.new.node (drop held.given held.deliveries) (drop held.told held.lost) (drop held.heard held.news) c.args.number c.args.bytes.now c.args.dice.now over)) c.receive_all.ensures.err
+    on_err_weaker c.receive_all.result
+    (λ over. subst (λ (old : WireState). Does (HearsSome c.args.number c.args.bytes.now c.args.dice.now) old after ⊎ (after ≡ old)) c.self.view_is
+    (refused held.node c.receive_all.new.node (drop held.given held.deliveries) (drop held.told held.lost)
+    (drop held.heard held.news) c.args.number c.args.bytes.now c.args.dice.now over))
+    c.receive_all.ensures.err

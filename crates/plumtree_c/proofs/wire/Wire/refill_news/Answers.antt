@@ -15,10 +15,13 @@ returns-then-not-is_empty-clause-all c none =
 pub returns-clause-ok : goal.returns-clause-ok
 returns-clause-ok c =
     let held = c.self.inside in
-    let old : WireState = record { node = held.node; deliveries = drop held.given held.deliveries; lost = drop held.told held.lost; news = drop held.heard held.news } in
+    let old : WireState =
+    record { node = held.node; deliveries = drop held.given held.deliveries; lost = drop held.told held.lost; news = drop held.heard held.news } in
     let none : held.news ≡ [] = search rules in
-    subst (λ (wire : WireState). Stays wire (record { node = c.take_news.new.self; deliveries = old.deliveries; lost = old.lost; news = c.from_vec.result })) c.self.view_is
-    (stays_informed old c.take_news.new.self c.from_vec.result (none_left held.heard held.news none) (c.from_vec.ensures ∙ c.in_ok-take_news.ensures.given) c.in_ok-take_news.ensures.rest)
+    subst (λ (wire : WireState). Stays wire (record { node = c.take_news.new.self; deliveries = old.deliveries; lost = old.lost; news = c.from_vec.result }))
+    c.self.view_is
+    (stays_informed old c.take_news.new.self c.from_vec.result (none_left held.heard held.news none)
+    (c.from_vec.ensures ∙ c.in_ok-take_news.ensures.given) c.in_ok-take_news.ensures.rest)
 
 pub returns-clause-all : goal.returns-clause-all
 returns-clause-all c none = ap (λ (node : NodeState). node.engine.machine.news) c.in_ok-take_news.ensures.rest

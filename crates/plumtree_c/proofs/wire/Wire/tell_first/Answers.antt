@@ -12,5 +12,9 @@ returns-clause-some c =
     let before = drop held.told held.lost in
     let left = drop c.tell.new.told c.tell.new.names in
     let after : WireState = record { node = held.node; deliveries = drop held.given held.deliveries; lost = left; news = drop held.heard held.news } in
-    IfSome_then c.tell.result {P = λ (name : Name). Tells before (name_of name) left} {Q = λ (name : Name). Loses (name_of name) c.args.self.now after} c.tell.ensures.some (λ (name : Name) tells. subst (λ (old : WireState). Loses (name_of name) old after) c.self.view_is
+    IfSome_then c.tell.result
+    {P = λ (name : Name). Tells before (name_of name) left}
+    {Q = λ (name : Name). Loses (name_of name) c.args.self.now after}
+    c.tell.ensures.some
+    (λ (name : Name) tells. subst (λ (old : WireState). Loses (name_of name) old after) c.self.view_is
     (record { tells = tells_on before (name_of name) left held.node.engine.lost tells; deliveries = refl; news = refl; beside = refl }))

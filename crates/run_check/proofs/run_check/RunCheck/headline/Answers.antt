@@ -23,6 +23,8 @@ returns g c = λ past group follows.
       views = views_sound g.C.Core.state frame_content g.C.Core.is_sound g.C.Core.starts g.C.Core.steps g.met.C.Core.lawful limits history group run;
       parents = run_parents g.C.Core.state frame_content g.C.Core.is_sound g.C.Core.starts g.C.Core.steps g.met.C.Core.lawful limits history group run;
       carried = carried_on g.C.Core.state frame_content g.C.Core.is_sound g.C.Core.starts g.C.Core.steps g.met.C.Core.lawful limits history group run;
-      traffic = λ id undisturbed new name peer apart. crosses_once g.C.Core.state frame_content g.C.Core.is_sound g.C.Core.starts g.C.Core.steps g.met.C.Core.lawful limits id name peer apart history group run undisturbed.calm new;
+      traffic =
+          λ id undisturbed new name peer apart. crosses_once g.C.Core.state frame_content g.C.Core.is_sound g.C.Core.starts
+          g.C.Core.steps g.met.C.Core.lawful limits id name peer apart history group run undisturbed.calm new;
       delivered = delivered_in_reach g.C.Core.state frame_content g.C.Core.is_sound g.C.Core.starts g.C.Core.steps g.met.C.Core.lawful limits history group run;
     }

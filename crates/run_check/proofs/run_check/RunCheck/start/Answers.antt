@@ -6,7 +6,14 @@ use Rattle.run_check.proofs.run_check.RunCheck.start.Goals as goal
 
 pub returns-clause-goes_on : goal.returns-clause-goes_on
 returns-clause-goes_on g c = λ past group follows.
-    let old : Kept g.row.C.Denot = record { limits = c.self.inside.limits; nodes = c.self.inside.nodes.map.entries; packets = c.self.inside.flying.map.entries } in
+    let old : Kept g.row.C.Denot =
+    record { limits = c.self.inside.limits; nodes = c.self.inside.nodes.map.entries; packets = c.self.inside.flying.map.entries } in
     let inside = subst (λ k. Follows g.C.Core.state g.C.Core.starts g.C.Core.steps k past group) (sym c.self.view_is) follows in
-    let made = sent_at_start g.C.Core.state g.C.Core.starts g.C.Core.steps c.self.inside.limits c.args.run c.args.peers.now c.args.contact c.in-Ok.core c.new-out.result c.start.new.out c.into_vec.result.items c.in-Ok.ensures.started c.new-out.ensures.sends (search rules) in
-    ok_then c.post.result _ _ (λ posts. started g.C.Core.state g.C.Core.starts g.C.Core.steps old past group c.args.run c.args.peers.now c.args.contact c.in-Ok.core c.into_vec.result.items c.put.new.self.map.entries c.post.new.self.map.entries inside c.in_ok-judge.ensures.fresh (search rules) made c.in_ok-put.ensures.ok posts) c.post.ensures.ok
+    let made =
+    sent_at_start g.C.Core.state g.C.Core.starts g.C.Core.steps c.self.inside.limits c.args.run c.args.peers.now c.args.contact
+    c.in-Ok.core c.new-out.result c.start.new.out c.into_vec.result.items c.in-Ok.ensures.started c.new-out.ensures.sends (search rules) in
+    ok_then c.post.result _ _
+    (λ posts. started g.C.Core.state g.C.Core.starts g.C.Core.steps old past group c.args.run c.args.peers.now c.args.contact
+    c.in-Ok.core c.into_vec.result.items c.put.new.self.map.entries c.post.new.self.map.entries inside c.in_ok-judge.ensures.fresh
+    (search rules) made c.in_ok-put.ensures.ok posts)
+    c.post.ensures.ok

@@ -9,15 +9,24 @@ use Rattle.run_check.proofs.run_check.RunCheck.take.Goals as goal
 
 pub returns-clause-goes_on : goal.returns-clause-goes_on
 returns-clause-goes_on g c = λ past group follows.
-    let old : Kept g.row.C.Denot = record { limits = c.self.inside.limits; nodes = c.self.inside.nodes.map.entries; packets = c.self.inside.flying.map.entries } in
+    let old : Kept g.row.C.Denot =
+    record { limits = c.self.inside.limits; nodes = c.self.inside.nodes.map.entries; packets = c.self.inside.flying.map.entries } in
     let new : Kept g.row.C.Denot = record { limits = c.self.inside.limits; nodes = c.step.new.self.map.entries; packets = c.post.new.self.map.entries } in
     let inside = subst (λ k. Follows g.C.Core.state g.C.Core.starts g.C.Core.steps k past group) (sym c.self.view_is) follows in
-    subst (λ told. TakesOn g.C.Core.state g.C.Core.starts g.C.Core.steps group past c.args.run.now.name told c.in_ok-did.did.given.items new) c.as_ref-lent.ensures
-    (taken g.C.Core.state g.C.Core.starts g.C.Core.steps old past group c.args.run.now (lent c.as_ref-lent.result) c.receive.new.self.map.entries c.post.new.self.map.entries c.in_ok-did.did.sends.items c.in_ok-did.did.given.items c.in_ok-did.did.moved c.step.new.self.map.entries inside c.in_ok-receive.ensures.ok c.in_ok-did.ensures.steps c.in_ok-post.ensures.ok)
+    subst
+    (λ told. TakesOn g.C.Core.state g.C.Core.starts g.C.Core.steps group past c.args.run.now.name told c.in_ok-did.did.given.items new) c.as_ref-lent.ensures
+    (taken g.C.Core.state g.C.Core.starts g.C.Core.steps old past group c.args.run.now
+    (lent c.as_ref-lent.result)
+    c.receive.new.self.map.entries c.post.new.self.map.entries c.in_ok-did.did.sends.items c.in_ok-did.did.given.items
+    c.in_ok-did.did.moved c.step.new.self.map.entries inside c.in_ok-receive.ensures.ok c.in_ok-did.ensures.steps c.in_ok-post.ensures.ok)
 
 pub returns-in_err-did-clause-refused : goal.returns-in_err-did-clause-refused
 returns-in_err-did-clause-refused g c =
-    let inside : Kept g.row.C.Denot = record { limits = c.self.inside.limits; nodes = c.self.inside.nodes.map.entries; packets = c.self.inside.flying.map.entries } in
-    let why = subst (λ told. IsRefused g.C.Core.is_spent inside c.args.run.now told c.in_err-did.field-0.0) c.as_ref-lent.ensures (no_step g.C.Core.is_spent inside c.args.run.now (lent c.as_ref-lent.result) c.in_err-did.field-0.0 c.in_err-did.ensures.refused) in
-    refused_so c.from_residual-in_err-did.result (IsRefused g.C.Core.is_spent c.args.self.now c.args.run.now c.args.stimulus.now) c.in_err-did.field-0.0 c.from_residual-in_err-did.ensures.1
+    let inside : Kept g.row.C.Denot =
+    record { limits = c.self.inside.limits; nodes = c.self.inside.nodes.map.entries; packets = c.self.inside.flying.map.entries } in
+    let why =
+    subst (λ told. IsRefused g.C.Core.is_spent inside c.args.run.now told c.in_err-did.field-0.0) c.as_ref-lent.ensures
+    (no_step g.C.Core.is_spent inside c.args.run.now (lent c.as_ref-lent.result) c.in_err-did.field-0.0 c.in_err-did.ensures.refused) in
+    refused_so c.from_residual-in_err-did.result
+    (IsRefused g.C.Core.is_spent c.args.self.now c.args.run.now c.args.stimulus.now) c.in_err-did.field-0.0 c.from_residual-in_err-did.ensures.1
     (subst (λ k. IsRefused g.C.Core.is_spent k c.args.run.now c.args.stimulus.now c.in_err-did.field-0.0) c.self.view_is why)

@@ -17,7 +17,8 @@ returns-in-Some g c =
     let new : List (MsgId × List ℕ) = (c.get_mut.follows.lender c.push.new.self).entries in
     let had : Some c.in-Some.numbers.now ≡ lookup (same_id id) old = sym (ap option_copied_mut c.in-Some.is) ∙ c.get_mut.ensures.value in
     let updates = c.get_mut.follows.holds c.push.new.self in
-    on_ok_weaker c.push.result (λ pushed. appended old new id c.push.new.self more (pushed ∙ ap (λ o. unwrap_or o [] ++ more) had) (updates.3 (subst IsSome had refl)).0) c.push.ensures
+    on_ok_weaker c.push.result
+    (λ pushed. appended old new id c.push.new.self more (pushed ∙ ap (λ o. unwrap_or o [] ++ more) had) (updates.3 (subst IsSome had refl)).0) c.push.ensures
 
 pub returns-in_ok-insert-in-None : goal.returns-in_ok-insert-in-None
 returns-in_ok-insert-in-None g c =

@@ -6,4 +6,6 @@ use Rattle.simulation.proofs.graph.flights.add_announced.Given as goal
 
 -- each message that was announced so far has the number once
 abbrev pub invariant-loop-place : goal.invariant-loop-place
-invariant-loop-place g l = (id : MsgId) → numbers_at id l.flights.entries ≡ numbers_at id l.initial.flights.entries ++ (if is_announced id (take l.place l.entries) then l.number ∷ [] else [])
+invariant-loop-place g l =
+    (id : MsgId) →
+    numbers_at id l.flights.entries ≡ numbers_at id l.initial.flights.entries ++ (if is_announced id (take l.place l.entries) then l.number ∷ [] else [])

@@ -10,19 +10,32 @@ use Rattle.simulation.specs.Flights.{numbers_at}
 use Rattle.simulation.proofs.graph.flights.add_frame.Goals as goal
 
 pub returns-in-Gossip : goal.returns-in-Gossip
-returns-in-Gossip g c = on_ok_weaker c.add.result (λ told id. told id ∙ gossip_line id c.in-Gossip.id c.in-Gossip.round _ c.args.note.now.body (numbers_at id c.args.flights.now.entries) (c.args.number ∷ []) (sym c.body.ensures.value ∙ c.in-Gossip.is)) c.add.ensures
+returns-in-Gossip g c =
+    on_ok_weaker c.add.result
+    (λ told id. told id ∙ gossip_line id c.in-Gossip.id c.in-Gossip.round _ c.args.note.now.body
+    (numbers_at id c.args.flights.now.entries) (c.args.number ∷ []) (sym c.body.ensures.value ∙ c.in-Gossip.is))
+    c.add.ensures
 
 pub returns-in-IHave : goal.returns-in-IHave
 returns-in-IHave g c =
     on_ok_weaker c.add_announced.result (λ told id.
     told id
-    ∙ ap (λ (entries : List (MsgId × ℕ)). numbers_at id c.args.flights.now.entries ++ (if is_announced id entries then c.args.number ∷ [] else [])) c.as_slice.ensures
-    ∙ announced_line id c.in-IHave.entries c.args.note.now.body (numbers_at id c.args.flights.now.entries) (c.args.number ∷ []) (sym c.body.ensures.value ∙ c.in-IHave.is)) c.add_announced.ensures
+    ∙ ap (λ (entries : List (MsgId × ℕ)). numbers_at id c.args.flights.now.entries ++ (if is_announced id entries then c.args.number ∷ [] else []))
+    c.as_slice.ensures
+    ∙ announced_line id c.in-IHave.entries c.args.note.now.body (numbers_at id c.args.flights.now.entries)
+    (c.args.number ∷ []) (sym c.body.ensures.value ∙ c.in-IHave.is))
+    c.add_announced.ensures
 
 pub returns-in-Graft : goal.returns-in-Graft
-returns-in-Graft g c = on_ok_weaker c.add-in-Graft.result (λ told id. told id ∙ asked_line id c.in-Graft.id c.in-Graft.round c.args.note.now.body (numbers_at id c.args.flights.now.entries) (c.args.number ∷ []) (sym c.body.ensures.value ∙ c.in-Graft.is)) c.add-in-Graft.ensures
+returns-in-Graft g c =
+    on_ok_weaker c.add-in-Graft.result
+    (λ told id. told id ∙ asked_line id c.in-Graft.id c.in-Graft.round c.args.note.now.body
+    (numbers_at id c.args.flights.now.entries) (c.args.number ∷ []) (sym c.body.ensures.value ∙ c.in-Graft.is))
+    c.add-in-Graft.ensures
 
 pub returns-in_default : goal.returns-in_default
 returns-in_default g c id =
-    other_line id c.body.result.now (numbers_at id c.args.flights.now.entries) (c.args.number ∷ []) c.in_default.not-Gossip c.in_default.not-IHave c.in_default.not-Graft
-    ∙ ap (λ (body : Body). numbers_at id c.args.flights.now.entries ++ (if is_silent id (body_content body) then [] else c.args.number ∷ [])) c.body.ensures.value
+    other_line id c.body.result.now (numbers_at id c.args.flights.now.entries)
+    (c.args.number ∷ []) c.in_default.not-Gossip c.in_default.not-IHave c.in_default.not-Graft
+    ∙ ap
+    (λ (body : Body). numbers_at id c.args.flights.now.entries ++ (if is_silent id (body_content body) then [] else c.args.number ∷ [])) c.body.ensures.value

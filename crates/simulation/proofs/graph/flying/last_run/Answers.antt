@@ -14,21 +14,28 @@ use Rattle.node_core.specs.Plum.{Plum}
 use Rattle.simulation.proofs.graph.flying.last_run.Goals as goal
 
 -- a place of a name is one of a node
-within : (name : Name) (keys : List Name) (nodes : List (NodeState Plum)) (at : ℕ) → keys ≡ names_of nodes → position (same_name name) keys ≡ Some at → at < length nodes
+within : (name : Name) (keys : List Name) (nodes : List (NodeState Plum)) (at : ℕ) →
+    keys ≡ names_of nodes →
+    position (same_name name) keys ≡ Some at →
+    at < length nodes
 within name keys nodes at named placed =
     let there = position_is (same_name name) keys at placed in
     subst (λ n. at < n) (ap length named ∙ length-map nodes (λ (node : NodeState Plum). node.name)) (subst (λ k. k < length keys) there.0 there.1)
 
 pub offset_bounds-nodes-at : goal.offset_bounds-nodes-at
 offset_bounds-nodes-at g c =
-    let low : c.in-Some.at < length c.args.nodes.now = within c.args.name.now c.args.names.now.keys c.args.nodes.now c.in-Some.at c.requires (sym c.place_of.ensures ∙ c.in-Some.is) in
+    let low : c.in-Some.at < length c.args.nodes.now =
+    within c.args.name.now c.args.names.now.keys c.args.nodes.now c.in-Some.at c.requires (sym c.place_of.ensures ∙ c.in-Some.is) in
     omega (arith, low)
 
 pub bounds-nodes-at : goal.bounds-nodes-at
 bounds-nodes-at g c = within c.args.name.now c.args.names.now.keys c.args.nodes.now c.in-Some.at c.requires (sym c.place_of.ensures ∙ c.in-Some.is)
 
 pub returns-in-Some : goal.returns-in-Some
-returns-in-Some g c = sym (ap (option_map origin_of) (node_there c.args.name.now c.args.names.now.keys c.args.nodes.now c.in-Some.at c.index-nodes-at.result c.requires (sym c.place_of.ensures ∙ c.in-Some.is) c.index-nodes-at.is).1)
+returns-in-Some g c =
+    sym (ap (option_map origin_of) (node_there c.args.name.now c.args.names.now.keys c.args.nodes.now c.in-Some.at c.index-nodes-at.result c.requires
+    (sym c.place_of.ensures ∙ c.in-Some.is) c.index-nodes-at.is).1)
 
 pub returns-in-None : goal.returns-in-None
-returns-in-None g c = sym (ap (option_map origin_of) (node_nowhere c.args.name.now c.args.names.now.keys c.args.nodes.now c.requires (sym c.place_of.ensures ∙ c.in-None.is)))
+returns-in-None g c =
+    sym (ap (option_map origin_of) (node_nowhere c.args.name.now c.args.names.now.keys c.args.nodes.now c.requires (sym c.place_of.ensures ∙ c.in-None.is)))

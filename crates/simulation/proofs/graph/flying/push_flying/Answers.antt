@@ -9,5 +9,7 @@ pub returns : goal.returns
 returns g c =
     on_ok_weaker c.push_each.result (λ told.
     told
-    ∙ ap (λ (numbers : List ℕ). string_bytes c.args.text.now ++ flying_lines c.args.id.now c.args.group.now.group numbers) (c.numbers_of.ensures ∙ c.requires c.args.id.now)
-    ∙ ap (λ (lines : List ℕ). string_bytes c.args.text.now ++ lines) (drawn c.args.id.now c.args.group.now.group c.args.group.now.group.flight)) c.push_each.ensures
+    ∙ ap (λ (numbers : List ℕ). string_bytes c.args.text.now ++ flying_lines c.args.id.now c.args.group.now.group numbers)
+    (c.numbers_of.ensures ∙ c.requires c.args.id.now)
+    ∙ ap (λ (lines : List ℕ). string_bytes c.args.text.now ++ lines) (drawn c.args.id.now c.args.group.now.group c.args.group.now.group.flight))
+    c.push_each.ensures

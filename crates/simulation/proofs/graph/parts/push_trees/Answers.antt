@@ -14,6 +14,11 @@ loop-id-preserved g c =
     let draws : DrawsPart c.args.group.now c.id-item.result more = record {
       rest = c.is_at_rest.result;
       is_rest = told_rest _ _ _ c.is_at_rest.ensures (c.in_ok-unrest.ensures c.id-item.result);
-      written = ap (λ (bs : List Branch). part_text c.id-item.result c.is_at_rest.result bs c.args.group.now.group) (c.tree.ensures ∙ c.in_ok-forest.ensures c.id-item.result);
-    } in
-    (before ++ more, InTurn-more (DrawsPart c.args.group.now) c.args.messages.now c.loop-id.id-index c.id-item.result before more c.loop-id-test.true c.id-item.is drawn draws, joined _ _ _ _ _ _ c.in_ok-push_part.ensures appended refl)
+      written =
+          ap (λ (bs : List Branch). part_text c.id-item.result c.is_at_rest.result bs c.args.group.now.group)
+          (c.tree.ensures ∙ c.in_ok-forest.ensures c.id-item.result);
+    } in (
+      before ++ more,
+      InTurn-more (DrawsPart c.args.group.now) c.args.messages.now c.loop-id.id-index c.id-item.result before more c.loop-id-test.true c.id-item.is drawn draws,
+      joined _ _ _ _ _ _ c.in_ok-push_part.ensures appended refl,
+    )

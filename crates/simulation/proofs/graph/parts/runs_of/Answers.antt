@@ -15,7 +15,11 @@ either true false = refl
 either false true = refl
 either false false = refl
 
-one_more : (branch : Branch) (some longer : List Branch) (o : Origin) (old new : Bool) → new ≡ cond (same_origin branch.node o) true old → old ≡ list_any (λ (b : Branch). same_origin b.node o) some → longer ≡ some ++ branch ∷ [] → new ≡ list_any (λ (b : Branch). same_origin b.node o) longer
+one_more : (branch : Branch) (some longer : List Branch) (o : Origin) (old new : Bool) →
+    new ≡ cond (same_origin branch.node o) true old →
+    old ≡ list_any (λ (b : Branch). same_origin b.node o) some →
+    longer ≡ some ++ branch ∷ [] →
+    new ≡ list_any (λ (b : Branch). same_origin b.node o) longer
 one_more branch some longer o old new updates before is =
     updates
     ∙ ap (λ (b : Bool). cond (same_origin branch.node o) true b) before

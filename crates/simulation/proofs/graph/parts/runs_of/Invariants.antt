@@ -7,4 +7,5 @@ use Rattle.simulation.proofs.graph.parts.runs_of.Given as goal
 
 -- the runs of the branches so far are there
 abbrev pub invariant-loop-branch : goal.invariant-loop-branch
-invariant-loop-branch g l = (o : Origin) → list_any (same_origin o) l.runs.keys ≡ list_any (λ (b : Branch). same_origin b.node o) (take l.branch-index l.branches)
+invariant-loop-branch g l =
+    (o : Origin) → list_any (same_origin o) l.runs.keys ≡ list_any (λ (b : Branch). same_origin b.node o) (take l.branch-index l.branches)

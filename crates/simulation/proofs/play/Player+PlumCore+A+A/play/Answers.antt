@@ -17,7 +17,9 @@ returns-in-Err-clause-stopped g c has_memory = (
   record {
     action = c.index-actions-number.result;
     before = record { rolls = rolls_in c.loop-number.self.rolls; group = c.loop-number.self.group };
-    listed = slice_get_read c.args.actions.now (length c.args.actions.now) c.loop-number.number c.index-actions-number.result refl c.loop-number-test.true c.index-actions-number.is;
+    listed =
+        slice_get_read c.args.actions.now
+        (length c.args.actions.now) c.loop-number.number c.index-actions-number.result refl c.loop-number-test.true c.index-actions-number.is;
     played = c.loop-number.invariant;
     halted = c.in-Err.ensures.halted (λ memory. has_memory (c.at.ensures ∙ ap (fault_of c.loop-number.number) memory));
   },
@@ -25,4 +27,8 @@ returns-in-Err-clause-stopped g c has_memory = (
 
 pub loop-number-preserved : goal.loop-number-preserved
 loop-number-preserved g c =
-    PlaysActions-more plum_state PlumStarts PlumSteps MAX_ARRIVALS c.args.actions.now c.loop-number.number c.index-actions-number.result (record { rolls = rolls_in c.args.self.now.rolls; group = c.args.self.now.group }) (record { rolls = rolls_in c.loop-number.self.rolls; group = c.loop-number.self.group }) (record { rolls = rolls_in c.play_action.new.self.rolls; group = c.play_action.new.self.group }) c.loop-number-test.true c.index-actions-number.is c.loop-number.invariant c.in_default.ensures.ok
+    PlaysActions-more plum_state PlumStarts PlumSteps MAX_ARRIVALS c.args.actions.now c.loop-number.number c.index-actions-number.result
+    (record { rolls = rolls_in c.args.self.now.rolls; group = c.args.self.now.group })
+    (record { rolls = rolls_in c.loop-number.self.rolls; group = c.loop-number.self.group })
+    (record { rolls = rolls_in c.play_action.new.self.rolls; group = c.play_action.new.self.group })
+    c.loop-number-test.true c.index-actions-number.is c.loop-number.invariant c.in_default.ensures.ok

@@ -11,7 +11,8 @@ use Rattle.simulation.proofs.play.Player.arrive_all.Goals as goal
 pub returns-in-Err-clause-halted : goal.returns-in-Err-clause-halted
 returns-in-Err-clause-halted g c has_memory =
     let refused = c.in-Err.ensures.refused (λ memory. has_memory (ap Refused memory)) in
-    let IsRefused : Dice → Type 0 = λ dice. Refuses g.C.Core.state g.C.Core.starts g.C.Core.steps g.C.Note.Wire.content g.C.Core.is_spent (oldest dice) c.in-Err.why c.step.new.self.group in (
+    let IsRefused : Dice → Type 0 =
+    λ dice. Refuses g.C.Core.state g.C.Core.starts g.C.Core.steps g.C.Note.Wire.content g.C.Core.is_spent (oldest dice) c.in-Err.why c.step.new.self.group in (
       c.loop.counter,
       c.loop-test.true,
       record { rolls = rolls_in c.loop.self.rolls; group = c.loop.self.group },

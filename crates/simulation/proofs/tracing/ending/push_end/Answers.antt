@@ -24,7 +24,9 @@ returns g c =
         ids = ids;
         messages = told;
         summary = summed.0;
-        all_messages = subst From (c.in_ok-deliveries.ensures ∙ ap (λ (log : List Entry). deliveries (reverse log)) c.log.ensures) (rw c.as_slice.ensures.value at c.in_ok-messages.ensures.permutation);
+        all_messages =
+            subst From (c.in_ok-deliveries.ensures ∙ ap (λ (log : List Entry). deliveries (reverse log)) c.log.ensures)
+            (rw c.as_slice.ensures.value at c.in_ok-messages.ensures.permutation);
         in_order = c.in_ok-messages.ensures.sorted;
         told = subst OfIds c.as_slice-2.ensures.value each;
         written = refl;

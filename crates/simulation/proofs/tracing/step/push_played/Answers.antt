@@ -19,4 +19,11 @@ returns g c =
       applied = applied;
       written = ap (λ (ps : Parts). label ++ step_text ps c.replay.new.run applied.entry) c.in_ok-before.ensures;
     } in
-    on_ok_weaker c.push_newest.result _ _ (λ told. (step, subst Tells c.in_ok-event.ensures tells, told ∙ ap (λ (t : List ℕ). t ++ step_text c.in_ok-before.before c.replay.new.run applied.entry) c.in_ok-push_label.ensures ∙ append_assoc (string_bytes c.args.text.now) label (step_text c.in_ok-before.before c.replay.new.run applied.entry))) (c.push_newest.ensures c.args.run.now.log applied.entry applied.logged)
+    on_ok_weaker c.push_newest.result _ _ (λ told. (
+      step,
+      subst Tells c.in_ok-event.ensures tells,
+      told
+          ∙ ap (λ (t : List ℕ). t ++ step_text c.in_ok-before.before c.replay.new.run applied.entry) c.in_ok-push_label.ensures
+          ∙ append_assoc (string_bytes c.args.text.now) label (step_text c.in_ok-before.before c.replay.new.run applied.entry),
+    ))
+    (c.push_newest.ensures c.args.run.now.log applied.entry applied.logged)

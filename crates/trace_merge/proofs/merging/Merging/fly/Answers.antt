@@ -23,8 +23,10 @@ returns-in-Ok g c =
       packets = again.others.sent;
       ok = subst (IsMerging limits c.args.traces.now)
           (λ i. record { world = c.play.new.self.world; events = sym plays.pushed i; places = sym plays.places i; frames = c.play.new.self.frames })
-          (repeats_on limits c.args.traces.now m c.requires.merging c.play.new.self.world c.args.number plays.given plays.applied c.play.new.self.frames plays.found);
+          (repeats_on limits c.args.traces.now m c.requires.merging c.play.new.self.world
+          c.args.number plays.given plays.applied c.play.new.self.frames plays.found);
       place = subst (λ xs. slice_get xs (length c.flight-place.result.now) ≡ Some c.args.number) (sym again.flight)
-          (subst (λ (xs : List ℕ). slice_get (m.world.group.flight ++ c.args.number ∷ []) (length xs) ≡ Some c.args.number) (sym was) (slice_get-last m.world.group.flight c.args.number));
+          (subst (λ (xs : List ℕ). slice_get (m.world.group.flight ++ c.args.number ∷ []) (length xs) ≡ Some c.args.number)
+          (sym was) (slice_get-last m.world.group.flight c.args.number));
       err = tt;
     }

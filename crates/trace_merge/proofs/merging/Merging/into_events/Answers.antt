@@ -10,4 +10,5 @@ use Rattle.trace_merge.proofs.merging.Merging.into_events.Goals as goal
 pub returns : goal.returns
 returns g c =
     subst (IsMerged c.args.self.world.limits c.args.traces.now) (ap (λ (m : Merge). m.events) (sym c.self.view_is))
-    (ends c.args.self.world.limits c.args.traces.now c.args.self c.requires.distinct c.requires.merging c.requires.out (subst (λ (m : Merge). Headline plum_state frame_content m.world) c.self.view_is c.headline.ensures))
+    (ends c.args.self.world.limits c.args.traces.now c.args.self c.requires.distinct c.requires.merging c.requires.out
+    (subst (λ (m : Merge). Headline plum_state frame_content m.world) c.self.view_is c.headline.ensures))

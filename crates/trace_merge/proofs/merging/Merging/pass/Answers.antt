@@ -16,7 +16,10 @@ abbrev AreHeldBefore : List (Trace Frame) → List (Option ℕ) → ℕ → Type
 AreHeldBefore traces places at = (i : ℕ) (t : Trace Frame) → i < at → slice_get traces i ≡ Some t → IsHeld traces places t (place_at places i)
 
 -- and so is the one there
-held_more : (traces : List (Trace Frame)) (places : List (Option ℕ)) (at : ℕ) → AreHeldBefore traces places at → ((t : Trace Frame) → slice_get traces at ≡ Some t → IsHeld traces places t (place_at places at)) → AreHeldBefore traces places (at + 1)
+held_more : (traces : List (Trace Frame)) (places : List (Option ℕ)) (at : ℕ) →
+    AreHeldBefore traces places at →
+    ((t : Trace Frame) → slice_get traces at ≡ Some t → IsHeld traces places t (place_at places at)) →
+    AreHeldBefore traces places (at + 1)
 held_more traces places at before here i t low at_i = go (nat_eq i at) refl
   where
     go : (b : Bool) → nat_eq i at ≡ b → IsHeld traces places t (place_at places i)
@@ -44,13 +47,17 @@ next traces at true false old now new so played waits = (moves_not traces true o
 next traces at false false old now new so played waits =
     let still : now ≡ old = so.0.still refl in (
       moves_not traces false old now new so.0 (waits refl).same,
-      λ none. held_more traces old.places at (so.1 refl) (subst (λ (m : Merge). (t : Trace Frame) → slice_get traces at ≡ Some t → IsHeld traces m.places t (place_at m.places at)) still (waits refl).held),
+      λ none. held_more traces old.places at (so.1 refl)
+          (subst (λ (m : Merge). (t : Trace Frame) → slice_get traces at ≡ Some t → IsHeld traces m.places t (place_at m.places at)) still (waits refl).held),
     )
 
 pub loop-at-preserved : goal.loop-at-preserved
 loop-at-preserved g c =
     let on =
-    next c.args.traces.now c.loop-at.at c.loop-at.moved c.in_ok-moved.field-0 c.args.self.now c.loop-at.self c.play_on.new.self (c.loop-at.invariant.moves, c.loop-at.invariant.held)
+    next c.args.traces.now c.loop-at.at c.loop-at.moved c.in_ok-moved.field-0 c.args.self.now c.loop-at.self c.play_on.new.self (
+      c.loop-at.invariant.moves,
+      c.loop-at.invariant.held,
+    )
     (λ it. c.play_on.ensures.played (c.in_ok-moved.was ∙ ap Ok it))
     (λ it. c.play_on.ensures.waits (c.in_ok-moved.was ∙ ap Ok it)) in
     record { moves = on.0; held = on.1; left = c.in_ok-moved.ensures.left }

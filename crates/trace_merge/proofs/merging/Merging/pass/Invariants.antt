@@ -12,6 +12,10 @@ abbrev pub invariant-loop-at : goal.invariant-loop-at
 invariant-loop-at g l =
     record {
       moves : Moves l.traces l.moved l.initial.self l.self;
-      held : l.moved ≡ false → (i : ℕ) (t : Trace Frame) → i < l.at → slice_get l.traces i ≡ Some t → IsHeld l.traces l.initial.self.places t (place_at l.initial.self.places i);
+      held : l.moved ≡ false →
+          (i : ℕ) (t : Trace Frame) →
+          i < l.at →
+          slice_get l.traces i ≡ Some t →
+          IsHeld l.traces l.initial.self.places t (place_at l.initial.self.places i);
       left : AreLeft l.traces l.self.places l.left.runs;
     }

@@ -54,8 +54,11 @@ returns-in_default-clause-waits g c it =
     let m : Merge = c.args.self.now in
     let found : c.find.result ≡ lookup (same_frame_id (record { sender = c.args.sender; number = c.args.note.now.number })) m.frames =
     c.find.ensures ∙ ap (λ n. lookup (same_frame_id (record { sender = c.args.sender; number = n })) m.frames) c.number-number.ensures.value
-    in
-    (refl, unsent_from_none m.world.limits c.args.traces.now m c.requires.merging c.args.sender c.args.note.now.number (sym found ∙ nothing c.find.result c.in_default.not-Some))
+    in (
+      refl,
+      unsent_from_none m.world.limits c.args.traces.now m c.requires.merging c.args.sender c.args.note.now.number
+          (sym found ∙ nothing c.find.result c.in_default.not-Some),
+    )
 
 pub returns-then-not-has_sent-clause-err : goal.returns-then-not-has_sent-clause-err
 returns-then-not-has_sent-clause-err g c =
@@ -64,7 +67,8 @@ returns-then-not-has_sent-clause-err g c =
     c.find.ensures ∙ ap (λ n. lookup (same_frame_id (record { sender = c.args.sender; number = n })) m.frames) c.number-number.ensures.value
     in
     let told = c.requires.merging.found.told (record { sender = c.args.sender; number = c.args.note.now.number }) c.in-Some.number (sym found ∙ c.in-Some.is) in
-    let by : IsSentBy c.args.traces.now m.places told.0 = c.requires.merging.sent_by told.0 (one_of_place m.world.group.sent c.in-Some.number told.0 told.1) in (
+    let by : IsSentBy c.args.traces.now m.places told.0 =
+    c.requires.merging.sent_by told.0 (one_of_place m.world.group.sent c.in-Some.number told.0 told.1) in (
       c.requires.distinct,
       record {
         trace = c.args.trace.now;
@@ -82,7 +86,9 @@ returns-then-not-has_sent-clause-err g c =
         other = told.0.note;
         sent = sent_all by.trace by.place (told.0.to, told.0.note) by.sends;
         numbered = ap (λ (id : FrameId). id.number) told.2;
-        unlike = unlike told.0.to c.origin-origin.result.name told.0.note c.args.note.now (λ both. false≢true (sym c.if-not-has_sent.true ∙ (c.has_sent.ensures told.0 told.1).1 both));
+        unlike =
+            unlike told.0.to c.origin-origin.result.name told.0.note c.args.note.now
+            (λ both. false≢true (sym c.if-not-has_sent.true ∙ (c.has_sent.ensures told.0 told.1).1 both));
       },
     )
 

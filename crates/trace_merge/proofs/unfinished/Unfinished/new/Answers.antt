@@ -10,8 +10,12 @@ pub loop-at-preserved : goal.loop-at-preserved
 loop-at-preserved g c =
     let traces : List (Trace Frame) = c.args.traces.now in
     record {
-      named = named_more traces c.loop-at.at c.index-traces-at.result c.origin.result c.loop-at-test.true c.index-traces-at.is c.origin.ensures c.loop-at.runs c.insert.new.self c.in_ok-insert.ensures.updates.0 c.loop-at.invariant.named;
-      there = there_more traces c.loop-at.at c.index-traces-at.result c.origin.result c.loop-at-test.true c.index-traces-at.is c.origin.ensures c.loop-at.runs c.insert.new.self c.in_ok-insert.ensures.updates.0 c.loop-at.invariant.there;
+      named =
+          named_more traces c.loop-at.at c.index-traces-at.result c.origin.result c.loop-at-test.true c.index-traces-at.is
+          c.origin.ensures c.loop-at.runs c.insert.new.self c.in_ok-insert.ensures.updates.0 c.loop-at.invariant.named;
+      there =
+          there_more traces c.loop-at.at c.index-traces-at.result c.origin.result c.loop-at-test.true c.index-traces-at.is
+          c.origin.ensures c.loop-at.runs c.insert.new.self c.in_ok-insert.ensures.updates.0 c.loop-at.invariant.there;
     }
 
 pub returns : goal.returns

@@ -17,6 +17,7 @@ put_last-requires-clause-absent g c =
     elim c.if-len-from.branch [
       | then-len-from w ↦
           subst (λ (s : Sets _). has_name s.passive.keys name ≡ false) (sym w.self-is)
-          (subst (λ names. has_name names name ≡ false) (sym (ap (λ (i : Integration). i.views.passive) w.clear_place.ensures.cleared)) (lacks-clear_place c.args.sent.now c.args.dice.now start name absent))
+          (subst (λ names. has_name names name ≡ false) (sym (ap (λ (i : Integration). i.views.passive) w.clear_place.ensures.cleared))
+          (lacks-clear_place c.args.sent.now c.args.dice.now start name absent))
       | else-len-from w ↦ subst (λ (s : Sets _). has_name s.passive.keys name ≡ false) (sym w.self-is) absent
     ]

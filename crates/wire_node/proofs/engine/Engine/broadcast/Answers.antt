@@ -17,8 +17,13 @@ returns-clause-ok g c =
     let acts = c.in_ok-make_step.ensures.acts in
     let id = c.in-Some.id in
     let one = plum_delivers_one.of_broadcast core c.args.payload acts.out.sends acts.out.deliveries c.make_step.new.core acts.stepped in
-    let its : id ≡ next_id (plum_state core) = last_id_is c.self.inside.pending acts.out.deliveries c.make_step.new.pending (next_id (plum_state core)) id c.last_id.result one acts.delivers c.last_id.ensures c.in-Some.is in
-    let after : Engine = record { machine = machine c.relieve.new.core c.relieve.new.entries.items c.relieve.new.pending (noted c.relieve.new.notes) c.relieve.new.telling; lost = c.relieve.new.lost } in
+    let its : id ≡ next_id (plum_state core) =
+    last_id_is c.self.inside.pending acts.out.deliveries c.make_step.new.pending
+    (next_id (plum_state core)) id c.last_id.result one acts.delivers c.last_id.ensures c.in-Some.is in
+    let after : Engine = record {
+      machine = machine c.relieve.new.core c.relieve.new.entries.items c.relieve.new.pending (noted c.relieve.new.notes) c.relieve.new.telling;
+      lost = c.relieve.new.lost;
+    } in
     subst (λ (n : Engine). Broadcasts n c.args.payload id after) c.self.view_is
     (record {
       moves = record {
@@ -31,4 +36,5 @@ returns-clause-ok g c =
     })
 
 pub returns-in_err-make_step-clause-spent : goal.returns-in_err-make_step-clause-spent
-returns-in_err-make_step-clause-spent g c = λ e. subst (λ (n : Engine). PlumIsSpent n.machine.core (Broadcast c.args.payload)) c.self.view_is (c.in_err-make_step.ensures.spent (search rules))
+returns-in_err-make_step-clause-spent g c =
+    λ e. subst (λ (n : Engine). PlumIsSpent n.machine.core (Broadcast c.args.payload)) c.self.view_is (c.in_err-make_step.ensures.spent (search rules))

@@ -6,7 +6,10 @@ use Rattle.wire_node.proofs.engine.Engine.step.Goals as goal
 pub returns-clause-ok : goal.returns-clause-ok
 returns-clause-ok g c =
     let noted = g.R.Record.noted in
-    let after : Engine = record { machine = machine c.relieve.new.core c.relieve.new.entries.items c.relieve.new.pending (noted c.relieve.new.notes) c.relieve.new.telling; lost = c.relieve.new.lost } in
+    let after : Engine = record {
+      machine = machine c.relieve.new.core c.relieve.new.entries.items c.relieve.new.pending (noted c.relieve.new.notes) c.relieve.new.telling;
+      lost = c.relieve.new.lost;
+    } in
     subst (λ (n : Engine). Moves n c.args.stimulus.now c.args.dice.now after) c.self.view_is
     (record {
       stepped = machine c.make_step.new.core c.make_step.new.entries.items c.make_step.new.pending (noted c.make_step.new.notes) c.make_step.new.telling;

@@ -15,7 +15,8 @@ returns-clause-ok g c =
     let link = c.index.result.now in
     let place = c.in-Some.place in
     let found = position-Some its links place link (ap (position its) (sym c.deref.ensures.value) ∙ sym c.place_of.ensures ∙ c.in-Some.is) in
-    let after : NodeState = record { engine = c.end_peer.new.engine; connections = c.forget_link.new.connections.items; ticks = c.self.inside.ticks; asking = c.self.inside.asking } in
+    let after : NodeState =
+    record { engine = c.end_peer.new.engine; connections = c.forget_link.new.connections.items; ticks = c.self.inside.ticks; asking = c.self.inside.asking } in
     subst (λ (n : NodeState). Closes n c.args.id.0 c.args.dice.now after) c.self.view_is
     (record {
       place = place;
@@ -24,7 +25,8 @@ returns-clause-ok g c =
       its_number = eqb-true link.number c.args.id.0 (ap (λ (l : Connection). nat_eq l.number c.args.id.0) c.index.ensures ∙ found.1);
       downs =
           subst (λ (p : Option Name). EndsPeer c.self.inside.engine links c.args.id.0 p c.args.dice.now c.end_peer.new.engine) c.peer-peer.ensures
-          (subst (λ (ls : List Connection). EndsPeer c.self.inside.engine ls c.args.id.0 c.peer-peer.result c.args.dice.now c.end_peer.new.engine) c.deref-2.ensures.value c.in_ok-end_peer.ensures.ok);
+          (subst (λ (ls : List Connection). EndsPeer c.self.inside.engine ls c.args.id.0 c.peer-peer.result c.args.dice.now c.end_peer.new.engine)
+          c.deref-2.ensures.value c.in_ok-end_peer.ensures.ok);
       connections = c.forget_link.ensures;
       ticks = refl;
       asking = refl;

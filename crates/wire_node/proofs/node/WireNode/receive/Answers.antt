@@ -16,7 +16,8 @@ returns-in-Err-clause-err g c =
     let link' = c.receive_at-taken.new.link in
     let place = c.in-Some.place in
     let found = position-Some its links place link (ap (position its) (sym c.deref.ensures.value) ∙ sym c.place_of.ensures ∙ c.in-Some.is) in
-    let after : NodeState = record { engine = c.receive_at-taken.new.engine; connections = set links place link'; ticks = c.self.inside.ticks; asking = c.self.inside.asking } in
+    let after : NodeState =
+    record { engine = c.receive_at-taken.new.engine; connections = set links place link'; ticks = c.self.inside.ticks; asking = c.self.inside.asking } in
     inl (subst (λ (n : NodeState). Hears n c.args.id.0 c.args.bytes.now c.receive_at-taken.result.0 after) c.self.view_is
     (record {
       place = place;
@@ -38,8 +39,10 @@ returns-clause-ok g c =
     let link' = c.receive_at-taken.new.link in
     let place = c.in-Some.place in
     let found = position-Some its links place link (ap (position its) (sym c.deref.ensures.value) ∙ sym c.place_of.ensures ∙ c.in-Some.is) in
-    let after : NodeState = record { engine = c.receive_at-taken.new.engine; connections = set links place link'; ticks = c.self.inside.ticks; asking = c.self.inside.asking } in
-    let all = IfOk-at_ok (λ _. (c.receive_at-taken.result.0 ≡ length c.args.bytes.now) × IsPartial link'.left) c.in_default-ended.is c.receive_at-taken.ensures.partial in
+    let after : NodeState =
+    record { engine = c.receive_at-taken.new.engine; connections = set links place link'; ticks = c.self.inside.ticks; asking = c.self.inside.asking } in
+    let all =
+    IfOk-at_ok (λ _. (c.receive_at-taken.result.0 ≡ length c.args.bytes.now) × IsPartial link'.left) c.in_default-ended.is c.receive_at-taken.ensures.partial in
     subst (λ (n : NodeState). (hears : Hears n c.args.id.0 c.args.bytes.now (length c.args.bytes.now) after) × IsPartial hears.link'.left) c.self.view_is (
       record {
         place = place;
@@ -47,7 +50,9 @@ returns-clause-ok g c =
         link' = link';
         at = slice_get-get_or links place link found.0 ∙ ap Some (sym c.index_mut.ensures.value);
         its_number = eqb-true link.number c.args.id.0 (ap (λ (l : Connection). nat_eq l.number c.args.id.0) c.index_mut.ensures.value ∙ found.1);
-        receives = subst (λ (n : ℕ). Receives c.self.inside.engine link c.args.bytes.now n c.receive_at-taken.new.engine link') all.0 c.receive_at-taken.ensures.receives;
+        receives =
+            subst (λ (n : ℕ). Receives c.self.inside.engine link c.args.bytes.now n c.receive_at-taken.new.engine link')
+            all.0 c.receive_at-taken.ensures.receives;
         connections = refl;
         ticks = refl;
         asking = refl;

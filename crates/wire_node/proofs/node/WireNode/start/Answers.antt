@@ -11,7 +11,9 @@ returns g c =
     let both = c.in_ok-core-2.ensures in
     record {
       opening = out;
-      started = subst (λ (core : Plum). PlumStarts c.args.me c.args.limits.core c.args.peers.now c.args.contact out.sends core) (sym both.0) c.in_ok-core.ensures.started;
+      started =
+          subst (λ (core : Plum). PlumStarts c.args.me c.args.limits.core c.args.peers.now c.args.contact out.sends core)
+          (sym both.0) c.in_ok-core.ensures.started;
       nothing = c.in_ok-core.ensures.nothing;
       waits = IfOk-at_ok _ both.1 c.first_mail-mail.ensures.waits;
       delivered = c.new.ensures;

@@ -17,24 +17,28 @@ pub invariant_of-self-then-cut-len : goal.invariant_of-self-then-cut-len
 invariant_of-self-then-cut-len g c =
     let none : c.self.inside.tail ≡ 0 = omega (arith, c.if-self-gt0.false) in
     let part : c.min-cut-2.result < length c.in-Some.last = omega (arith, c.if-cut-len.true, c.len-3.ensures.value) in
-    (inset_cut _ _ _ _ _ _ _ _ _ c.min-cut-2.result _ c.self.invariant none c.in-Some.ensures.items part c.len-then-cut-len.ensures.value c.truncate-then-cut-len.ensures c.push_back_reserved.ensures.items).0
+    (inset_cut _ _ _ _ _ _ _ _ _ c.min-cut-2.result _ c.self.invariant none c.in-Some.ensures.items part
+    c.len-then-cut-len.ensures.value c.truncate-then-cut-len.ensures c.push_back_reserved.ensures.items).0
 
 pub returns-then-cut-len-clause-left : goal.returns-then-cut-len-clause-left
 returns-then-cut-len-clause-left g c =
     let none : c.self.inside.tail ≡ 0 = omega (arith, c.if-self-gt0.false) in
     let part : c.min-cut-2.result < length c.in-Some.last = omega (arith, c.if-cut-len.true, c.len-3.ensures.value) in
-    (inset_cut _ _ _ _ _ _ _ _ _ c.min-cut-2.result _ c.self.invariant none c.in-Some.ensures.items part c.len-then-cut-len.ensures.value c.truncate-then-cut-len.ensures c.push_back_reserved.ensures.items).1
+    (inset_cut _ _ _ _ _ _ _ _ _ c.min-cut-2.result _ c.self.invariant none c.in-Some.ensures.items part
+    c.len-then-cut-len.ensures.value c.truncate-then-cut-len.ensures c.push_back_reserved.ensures.items).1
     ∙ ap (λ t. take (length t - c.min-cut-2.result) t) c.self.view_is
 
 pub invariant_of-self-2 : goal.invariant_of-self-2
 invariant_of-self-2 g c =
     let none : c.self.inside.tail ≡ 0 = omega (arith, c.if-self-gt0.false) in
-    let all : c.min-cut-2.result ≡ length c.in-Some.last = omega (arith, c.if-cut-len.false, c.len-3.ensures.value, c.len-2.ensures.value, (least _ _ _ c.min-cut-2.ensures).1) in
+    let all : c.min-cut-2.result ≡ length c.in-Some.last =
+    omega (arith, c.if-cut-len.false, c.len-3.ensures.value, c.len-2.ensures.value, (least _ _ _ c.min-cut-2.ensures).1) in
     (inset_gone _ _ _ _ _ _ _ c.min-cut-2.result c.self.invariant none c.in-Some.ensures.items all).0
 
 pub returns-clause-left : goal.returns-clause-left
 returns-clause-left g c =
     let none : c.self.inside.tail ≡ 0 = omega (arith, c.if-self-gt0.false) in
-    let all : c.min-cut-2.result ≡ length c.in-Some.last = omega (arith, c.if-cut-len.false, c.len-3.ensures.value, c.len-2.ensures.value, (least _ _ _ c.min-cut-2.ensures).1) in
+    let all : c.min-cut-2.result ≡ length c.in-Some.last =
+    omega (arith, c.if-cut-len.false, c.len-3.ensures.value, c.len-2.ensures.value, (least _ _ _ c.min-cut-2.ensures).1) in
     (inset_gone _ _ _ _ _ _ _ c.min-cut-2.result c.self.invariant none c.in-Some.ensures.items all).1
     ∙ ap (λ t. take (length t - c.min-cut-2.result) t) c.self.view_is

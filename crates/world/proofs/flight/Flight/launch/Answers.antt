@@ -14,7 +14,8 @@ loop-number-preserved g c =
       c.push.ensures.numbers
           ∙ ap (λ ns. ns ++ c.loop-number.number ∷ []) c.loop-number.invariant.0
           ∙ append_assoc (flying c.args.self.now) (places c.args.first count) (c.loop-number.number ∷ [])
-          ∙ ap (λ ns. flying c.args.self.now ++ ns) (sym (ap (λ n. places c.args.first n) one_more ∙ places-push c.args.first count ∙ ap (λ n. places c.args.first count ++ n ∷ []) here)),
+          ∙ ap (λ ns. flying c.args.self.now ++ ns)
+          (sym (ap (λ n. places c.args.first n) one_more ∙ places-push c.args.first count ∙ ap (λ n. places c.args.first count ++ n ∷ []) here)),
       omega arith,
       c.push.ensures.whole,
     )

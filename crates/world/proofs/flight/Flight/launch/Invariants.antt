@@ -6,4 +6,7 @@ use Rattle.world.proofs.flight.Flight.launch.Given as goal
 
 -- the places so far are in flight, and there is room for the others
 abbrev pub invariant-loop-number : goal.invariant-loop-number
-invariant-loop-number g l = (flying l.self ≡ flying l.initial.self ++ places l.first (l.number - l.first)) × (vec_len l.self.numbers + (l.last - l.number) ≤ vec_capacity l.self.numbers) × (l.self.gone ≤ vec_len l.self.numbers)
+invariant-loop-number g l =
+    (flying l.self ≡ flying l.initial.self ++ places l.first (l.number - l.first))
+    × (vec_len l.self.numbers + (l.last - l.number) ≤ vec_capacity l.self.numbers)
+    × (l.self.gone ≤ vec_len l.self.numbers)

@@ -6,4 +6,6 @@ use Rattle.world.specs.Run.{Run}
 use Rattle.world.proofs.world.World.history.Goals as goal
 
 pub returns : goal.returns
-returns g c = subst (λ (w : Logged g.row.C.Denot g.row.C-Note.Denot). Run g.C.Core.state g.C.Core.starts g.C.Core.steps w.limits (reverse w.log) w.group) c.self.view_is c.self.invariant.0
+returns g c =
+    subst (λ (w : Logged g.row.C.Denot g.row.C-Note.Denot). Run g.C.Core.state g.C.Core.starts g.C.Core.steps w.limits (reverse w.log) w.group)
+    c.self.view_is c.self.invariant.0

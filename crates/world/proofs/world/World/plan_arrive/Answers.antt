@@ -10,14 +10,18 @@ returns-in_err-plan-clause-refused g c =
     let in_flight : slice_get c.args.self.now.group.flight c.args.place ≡ Some c.in-Some.number = rw c.flight.ensures at c.in-Some.ensures.number in
     let sent : slice_get c.args.self.now.group.sent c.in-Some.number ≡ Some c.in-Some.packet.now = rw c.sent.ensures at c.in-Some.ensures.packet in
     let refused : IsRefusal g.C.Core.is_spent c.args.self.now.limits c.args.self.now.group c.args.event.now c.in_err-plan.field-0.0 =
-    arrival_refused g.C.Core.is_spent c.args.self.now.limits c.args.self.now.group c.args.event.now c.args.place c.args.dice.now c.in-Some.number c.in-Some.packet.now c.in_ok-found.found.node.now c.in_ok-found.found.core.now c.in_err-plan.field-0.0 c.requires in_flight sent c.in_ok-found.ensures.found.known c.in_ok-found.ensures.found.running c.in_err-plan.ensures.refused in
+    arrival_refused g.C.Core.is_spent c.args.self.now.limits c.args.self.now.group c.args.event.now c.args.place c.args.dice.now
+    c.in-Some.number c.in-Some.packet.now c.in_ok-found.found.node.now c.in_ok-found.found.core.now c.in_err-plan.field-0.0
+    c.requires in_flight sent c.in_ok-found.ensures.found.known c.in_ok-found.ensures.found.running c.in_err-plan.ensures.refused in
     search (rules, refused)
 
 pub returns-clause-tells : goal.returns-clause-tells
 returns-clause-tells g c =
     let in_flight : slice_get c.args.self.now.group.flight c.args.place ≡ Some c.in-Some.number = rw c.flight.ensures at c.in-Some.ensures.number in
     let sent : slice_get c.args.self.now.group.sent c.in-Some.number ≡ Some c.in-Some.packet.now = rw c.sent.ensures at c.in-Some.ensures.packet in
-    tells_arrival g.C.Core.state g.C.Core.starts g.C.Core.steps c.args.self.now.limits c.args.event.now c.args.self.now.group c.in_ok-plan.plan.entry _ c.args.place c.args.dice.now c.in-Some.number c.in-Some.packet.now c.requires c.in_ok-plan.ensures.event c.in_ok-plan.ensures.packet c.in_ok-plan.ensures.first_sent in_flight sent c.in_ok-plan.ensures.acts
+    tells_arrival g.C.Core.state g.C.Core.starts g.C.Core.steps c.args.self.now.limits c.args.event.now c.args.self.now.group
+    c.in_ok-plan.plan.entry _ c.args.place c.args.dice.now c.in-Some.number c.in-Some.packet.now c.requires
+    c.in_ok-plan.ensures.event c.in_ok-plan.ensures.packet c.in_ok-plan.ensures.first_sent in_flight sent c.in_ok-plan.ensures.acts
 
 pub returns-clause-leaving : goal.returns-clause-leaving
 returns-clause-leaving g c x e =
