@@ -5,11 +5,11 @@ use Rattle.std.proofs.lemmas.Result.{err_from_is_err_and}
 use Rattle.node_names.specs.Limits.{Limits as Sizes}
 use Rattle.scenario.specs.Scenario.{IsScenario}
 use Rattle.simulation.specs.declared.error.SimulationError.TheVariants.{Refused}
-use Rattle.simulation.specs.declared.read.TheConstants.{MAX_SCENARIO_BYTES}
-use Rattle.simulation.specs.declared.scenario.TheConstants.{MAX_EVENTS}
-use Rattle.simulation.specs.declared.scenario.action.Action.{Action}
-use Rattle.simulation.specs.declared.scenario.error.ScenarioError.{ScenarioError}
-use Rattle.simulation.specs.declared.scenario.error.ScenarioError.TheVariants.{OutOfMemory}
+use Rattle.scenario.specs.declared.read.TheConstants.{MAX_SCENARIO_BYTES}
+use Rattle.scenario.specs.declared.scenario.TheConstants.{MAX_EVENTS}
+use Rattle.scenario.specs.declared.action.Action.{Action}
+use Rattle.scenario.specs.declared.error.ScenarioError.{ScenarioError}
+use Rattle.scenario.specs.declared.error.ScenarioError.TheVariants.{OutOfMemory}
 use Rattle.simulation.proofs.outcome.simulate.Goals as goal
 
 pub returns-in_err-scenario-clause-refused : goal.returns-in_err-scenario-clause-refused
