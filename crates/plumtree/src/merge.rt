@@ -81,16 +81,32 @@ where
 }
 
 /// Writes what does not fit into one run, unless the output has it, and where it stands. Returns the exit status.
-fn unfit<R, F>(rt: &R, folders: &[&str], form: Form, fault: &MergeFault, faults: &mut F) -> u8
+fn unfit<R, F>(rt: &R, folders: &[&str], is_plain: bool, fault: &MergeFault, faults: &mut F) -> u8
 where
     R: AllocGlobal + Files<File = File> + Clone + Drop,
     F: Write,
     ensures { result ≤ 2 }
 {
-    if form != Form::Lines {
+    if !is_plain {
         report(faults, *fault, 1);
     }
     locate(rt, folders, fault, faults)
+}
+
+/// What does not fit into one run, if that is why one was not written to its end.
+fn unmerged(ended: &Result<(), GroupError>) -> Option<MergeFault> {
+    match ended {
+        Err(GroupError::Unmerged(fault)) => Some(*fault),
+        _ => None,
+    }
+}
+
+/// What does not fit into one run, if that is why records were not followed to their end.
+fn unmerged_stream(ended: &Result<(), StreamError>) -> Option<MergeFault> {
+    match ended {
+        Err(StreamError::Unmerged(fault)) => Some(*fault),
+        _ => None,
+    }
 }
 
 /// Writes why a run was not written to its end, if it was not, but for what does not fit into one run. Returns the exit
@@ -126,9 +142,34 @@ where
     F: Write,
     ensures { result ≤ 2 }
 {
-    match write_stream(rt, words, out, faults) {
-        Err(StreamError::Unmerged(fault)) => locate(rt, folders_of(words), &fault, faults),
-        ended => conclude_stream(ended, faults),
+    let ended = write_stream(rt, words, out, faults);
+    let fault = unmerged_stream(&ended);
+    let status = conclude_stream(ended, faults);
+    match fault {
+        Some(fault) => locate(rt, folders_of(words), &fault, faults),
+        None => status,
+    }
+}
+
+/// Ends a merge: writes why it was not written to its end, if it was not, and where it stands that does not fit. Returns
+/// the exit status.
+fn end_merge<R, F>(
+    rt: &R,
+    folders: &[&str],
+    is_plain: bool,
+    ended: Result<(), GroupError>,
+    faults: &mut F,
+) -> u8
+where
+    R: AllocGlobal + Files<File = File> + Clone + Drop,
+    F: Write,
+    ensures { result ≤ 2 }
+{
+    let fault = unmerged(&ended);
+    let status = conclude(ended, faults);
+    match fault {
+        Some(fault) => unfit(rt, folders, is_plain, &fault, faults),
+        None => status,
     }
 }
 
@@ -146,12 +187,12 @@ where
     }
     let folders = folders_of(words);
     let form = form_of(words);
-    let ended = match read_group(rt, folders, faults) {
-        Ok(group) => write_records(rt.alloc(), form, &group, out),
-        Err(error) => return refuse(error, faults),
-    };
-    match ended {
-        Err(GroupError::Unmerged(fault)) => unfit(rt, folders, form, &fault, faults),
-        ended => conclude(ended, faults),
+    let is_plain = form == Form::Lines;
+    match read_group(rt, folders, faults) {
+        Ok(group) => {
+            let ended = write_records(rt.alloc(), form, &group, out);
+            end_merge(rt, folders, is_plain, ended, faults)
+        }
+        Err(error) => refuse(error, faults),
     }
 }
