@@ -151,7 +151,7 @@ where
     }
 }
 
-/// Ends a merge: writes why it was not written to its end, if it was not, and where it stands that does not fit. Returns
+/// Ends a merge: writes why it was not written to its end, if it was not, and where what does not fit stands. Returns
 /// the exit status.
 fn end_merge<R, F>(
     rt: &R,
