@@ -51,7 +51,7 @@ pub returns-clause-turn : goal.returns-clause-turn
 returns-clause-turn g c =
     record {
       allowed = c.in_ok-worked.ensures.allowed;
-      takes = c.in_ok-worked.ensures.takes;
+      makes = c.in_ok-worked.ensures.makes;
       framed = c.in_ok-framed.ensures.last ∙ (λ i. (ap (λ (core : Plum). core.framed) c.self.view_is i) + length (c.in_ok-worked.ensures.effects i).sends);
     }
 

@@ -11,7 +11,7 @@ use Rattle.gossip_core.specs.Store.{AreCounted, AreKnown}
 use Rattle.gossip_core.specs.Table.{first_copy}
 use Rattle.gossip_core.proofs.GossipLemmas.{counts_foreign, after_first_copy, state_of}
 use Rattle.gossip_core.proofs.KnownLemmas.{known-with_entries, not_held, unqueued}
-use Rattle.gossip_core.proofs.gossip.Gossip.take_first_copy.Goals as goal
+use Rattle.gossip_core.proofs.gossip.Gossip.keep_first_copy.Goals as goal
 
 unknown : (g : _) (c : goal.After-saturating_add g) → set.contains (ids c.self.inside.known) c.args.id.now ≡ false
 unknown g c = subst (λ (s : GossipState). set.contains s.known c.args.id.now ≡ false) (sym c.self.view_is) c.requires.unknown
@@ -35,20 +35,20 @@ invariant_of-self-2 g c =
       subst (λ known. AreKnown known c.keep.new.held.messages c.make_eager.new.self.queued) (sym c.in_ok-keep.ensures.known)
           (subst (λ held. AreKnown (set.insert (ids c.self.inside.known) c.args.id.now) held c.make_eager.new.self.queued) (sym c.in_ok-keep.ensures.held)
           (subst (AreKnown (set.insert (ids c.self.inside.known) c.args.id.now)
-          (kept_last c.self.inside.keep (c.self.inside.held.messages ++ (c.args.id.now, c.args.payload.now) ∷ []))) (sym queued)
+          (kept_last c.self.inside.keep (c.self.inside.held.messages ++ (c.args.id.now, c.args.payload) ∷ []))) (sym queued)
           (known-with_entries (ids c.self.inside.known) c.args.id.now
           (lazy_but (Some c.args.sender.now) c.self.inside.peers.members)
-          c.saturating_add.result c.args.payload.now c.self.inside.keep c.self.inside.held.messages c.self.inside.peers.queued c.self.invariant.1))),
+          c.saturating_add.result c.args.payload c.self.inside.keep c.self.inside.held.messages c.self.inside.peers.queued c.self.invariant.1))),
     )
 
 pub returns-clause-ok : goal.returns-clause-ok
 returns-clause-ok g c =
     subst (λ (s : GossipState). state_of c.self.inside.me c.self.inside.threshold c.self.inside.keep c.self.inside.spent c.make_eager.new.self c.got.new.self
-    (ids c.keep.new.known) c.keep.new.held.messages ≡ (first_copy c.args.sender.now c.args.id.now c.args.round c.args.payload.now s).state)
+    (ids c.keep.new.known) c.keep.new.held.messages ≡ (first_copy c.args.sender.now c.args.id.now c.args.round c.args.payload s).state)
     c.self.view_is
     (after_first_copy c.self.inside.me c.self.inside.threshold c.self.inside.keep c.self.inside.spent c.self.inside.peers c.self.inside.missing
     (ids c.self.inside.known)
     c.self.inside.held.messages c.args.round c.saturating_add.result c.saturating_add.ensures
-    c.args.sender.now c.args.id.now c.args.payload.now c.keep.new.peers c.make_eager.new.self c.got.new.self
+    c.args.sender.now c.args.id.now c.args.payload c.keep.new.peers c.make_eager.new.self c.got.new.self
     (ids c.keep.new.known)
     c.keep.new.held.messages c.in_ok-keep.ensures.known c.in_ok-keep.ensures.held c.in_ok-keep.ensures.peers c.got.ensures c.make_eager.ensures.changed)
