@@ -32,7 +32,7 @@ use Rattle.missing.specs.Missing.{announced_all, taken_first}
 use Rattle.missing.specs.Wants.{first_want, with_wants, without_first}
 use Rattle.peer_sets.specs.Members.{is_member, eager_but, lazy_but}
 use Rattle.peer_sets.specs.Queue.{waiting_for, receivers, is_queued}
-use Rattle.peer_sets.specs.declared.kind.PeerKind.TheVariants.{Eager, Lazy}
+use Rattle.peer_sets.specs.declared.members.PeerKind.TheVariants.{Eager, Lazy}
 use Rattle.gossip_core.proofs.PacketLemmas.{packets_to-step}
 use Rattle.gossip_core.specs.Announcements.{packets_to, announcements}
 use Rattle.gossip_core.specs.State.{GossipState}

@@ -54,7 +54,7 @@ use Rattle.peer_sets.specs.Queue as queue
 use Rattle.missing.specs.Wants.{first_want, with_wants, without_first, without_id}
 use Rattle.peer_sets.specs.Members.{names, is_member, with_kind}
 use Rattle.peer_sets.proofs.MemberLemmas.{is_member-names, names-with_kind}
-use Rattle.peer_sets.specs.declared.kind.PeerKind.TheVariants.{Eager, Lazy}
+use Rattle.peer_sets.specs.declared.members.PeerKind.TheVariants.{Eager, Lazy}
 use Rattle.gossip_core.specs.State.{GossipState}
 use Rattle.gossip_core.specs.Table.{Outcome, outcome, repeated, first_copy, shortcut, swapped, asked, answer}
 use Rattle.gossip_core.specs.Table.{is_news, next_id, next_round, quiet, with_peer, after_downs, after_ups}

@@ -34,8 +34,8 @@ use Rattle.frames.specs.Frame.{Frame}
 use Rattle.known_messages.specs.Held.{kept_last}
 use Rattle.peer_sets.specs.Members.{names, is_eager_kind, eager_but, lazy_but}
 use Rattle.peer_sets.specs.Queue.{with_entries, is_queued}
-use Rattle.peer_sets.specs.declared.kind.PeerKind.{PeerKind}
-use Rattle.peer_sets.specs.declared.kind.PeerKind.TheVariants.{Eager, Lazy}
+use Rattle.peer_sets.specs.declared.members.PeerKind.{PeerKind}
+use Rattle.peer_sets.specs.declared.members.PeerKind.TheVariants.{Eager, Lazy}
 use Rattle.gossip_core.proofs.IdOrder.{id_ties, id_total}
 use Rattle.gossip_core.specs.State.{GossipState}
 use Rattle.gossip_core.specs.Table.{gossip_to}

@@ -21,7 +21,7 @@ use Rattle.peer_sets.proofs.SoundLemmas as sets
 use Rattle.peer_sets.specs.Members.{names, lazy_but, with_member, without_member}
 use Rattle.peer_sets.specs.PeerSets.{PeerSets, IsSound as AreSoundPeers}
 use Rattle.peer_sets.specs.Queue.{with_entries, without_entries, is_queued}
-use Rattle.peer_sets.specs.declared.kind.PeerKind.{PeerKind}
+use Rattle.peer_sets.specs.declared.members.PeerKind.{PeerKind}
 use Rattle.gossip_core.proofs.IdOrder.{id_ties, id_total}
 use Rattle.gossip_core.specs.State.{GossipState}
 use Rattle.gossip_core.specs.Table.{outcome, with_peer}
