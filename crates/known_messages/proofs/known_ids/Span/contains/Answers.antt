@@ -5,7 +5,7 @@ use Rattle.std.specs.List.{list_any}
 use Rattle.std.proofs.lemmas.Bool.{le-leb}
 use Rattle.known_messages.specs.Span.{Span, Ascends, has_number}
 use Rattle.known_messages.proofs.SpanLemmas.{has-past, has-zero, has_unbroken}
-use Rattle.known_messages.proofs.span.Span.contains.Goals as goal
+use Rattle.known_messages.proofs.known_ids.Span.contains.Goals as goal
 
 pub returns-then-n-eq0 : goal.returns-then-n-eq0
 returns-then-n-eq0 g c =

@@ -3,7 +3,7 @@ use Rattle.std.proofs.Common.{◌≡◌, ◌∙◌, ◌+◌, ◌≤◌, ◌||◌
 use Rattle.std.specs.Prelude.{nat_eq}
 use Rattle.known_messages.specs.Span.{Span, has_number}
 use Rattle.known_messages.proofs.SpanLemmas.{extended, has-more, has_unbroken, known_again}
-use Rattle.known_messages.proofs.span.Span.insert.Goals as goal
+use Rattle.known_messages.proofs.known_ids.Span.insert.Goals as goal
 
 pub returns-then-n-self : goal.returns-then-n-self
 returns-then-n-self g c =

@@ -1,7 +1,7 @@
 use Rattle.std.proofs.Common.{◌+◌, subst}
 use Rattle.known_messages.specs.Span.{Ascends, Span}
 use Rattle.known_messages.proofs.SpanLemmas.{none_last}
-use Rattle.known_messages.proofs.span.Span.counts.Goals as goal
+use Rattle.known_messages.proofs.known_ids.Span.counts.Goals as goal
 
 pub returns-clause-last : goal.returns-clause-last
 returns-clause-last g c =
