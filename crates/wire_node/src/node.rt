@@ -3,12 +3,12 @@ ghost use Rattle.std.specs.Prelude.{◌≡◌, [], IfOk};
 ghost use Rattle.wire_node.specs.Node.{Starts};
 
 use crate::asking::Asking;
-use crate::connection::Connection;
+use crate::connections::Connection;
 use crate::engine::Engine;
 use crate::error::WireError;
 use crate::limits::WireLimits;
 use crate::opening::{beside, first_mail, start_core};
-use crate::record::{Record, Unrecorded};
+use crate::step::{Record, Unrecorded};
 use neighborhood::Telling;
 use node_core::PlumCore;
 use node_names::{Listed, NodeName, Origin};

@@ -1,6 +1,6 @@
 use Rattle.std.proofs.Common.{◌++◌, ◌∙◌, ap, take}
 use Rattle.wire_node.proofs.Filling.{filled_twice}
-use Rattle.wire_node.proofs.connection.top_up.Goals as goal
+use Rattle.wire_node.proofs.connections.top_up.Goals as goal
 
 pub returns-in-Ok-clause-ok : goal.returns-in-Ok-clause-ok
 returns-in-Ok-clause-ok g c =

@@ -2,7 +2,7 @@ use Rattle.std.proofs.Common.{◌≤◌, ◌∙◌, ap, arith, drop, length}
 use Rattle.std.proofs.lemmas.List.{length-take}
 use Rattle.wire_node.specs.Waiting.{Waiting}
 use Rattle.wire_node.proofs.Drafting.{advanced, made}
-use Rattle.wire_node.proofs.entry.Entry.advance.Goals as goal
+use Rattle.wire_node.proofs.drafts.Entry.advance.Goals as goal
 
 pub returns : goal.returns
 returns g c =
