@@ -5,3 +5,4 @@ pub mod Told
 pub mod SameSets
 pub mod Parting
 pub mod Slots
+pub mod NewsLemmas

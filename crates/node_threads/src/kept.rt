@@ -6,7 +6,7 @@ use crate::error::HostError;
 use crate::learning::Learnt;
 use crate::outlet::Outlet;
 use crate::telling::Teller;
-use neighborhood::{News, Rejoining};
+use node_core::{News, Rejoining};
 use node_names::{Dice, NodeName};
 use protocol::StimulusOf;
 use rand_pcg::Lcg128Xsl64;

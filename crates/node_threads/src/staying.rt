@@ -9,7 +9,7 @@ use crate::joining::put;
 use crate::outlet::Outlet;
 use crate::shared::{Shared, step, with};
 use crate::worker::Outlets;
-use neighborhood::News;
+use node_core::News;
 use node_names::NodeName;
 use rand_pcg::Lcg128Xsl64;
 use std::alloc::Allocator;
@@ -111,7 +111,7 @@ impl<C: NodeCore<A> + Drop, A: Allocator + Copy> Host<C, A> {
     }
 
     /// Has the ticker make the node join again while its active view is empty, by these names in turn, with pauses that
-    /// grow (`neighborhood::Rejoining`). The only errors are `OutOfMemory` and `Closed`, and then nothing changes.
+    /// grow (`node_core::Rejoining`). The only errors are `OutOfMemory` and `Closed`, and then nothing changes.
     pub fn set_contacts<R: Wait>(&self, rt: &R, contacts: &[NodeName]) -> Result<(), HostError> {
         self.shared.set_contacts(rt, contacts)
     }

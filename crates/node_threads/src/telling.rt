@@ -1,6 +1,6 @@
 //! What a host tells of its neighbours.
 use frames::Frame;
-use neighborhood::{News, Parting, farewell_of};
+use node_core::{News, Parting, farewell_of};
 use node_names::{NameSet, NodeName, has_name};
 use protocol::{Step, Trace};
 use std::alloc::{AllocError, Allocator};

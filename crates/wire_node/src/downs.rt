@@ -9,8 +9,7 @@ ghost use Rattle.wire_node.specs.Moving.{Relieves};
 
 use crate::drafts::Entry;
 use crate::step::{Record, make_step};
-use neighborhood::Telling;
-use node_core::PlumCore;
+use node_core::{PlumCore, Telling};
 use node_names::{Dice, Listed, NodeName};
 use protocol::{CoreError, Delivery, StimulusOf};
 use std::alloc::Allocator;

@@ -12,7 +12,7 @@ use crate::engine::Engine;
 use crate::idle::drop_idle;
 use crate::node::{NAMES, WireNode};
 use crate::step::Record;
-use neighborhood::News;
+use node_core::News;
 use node_names::{Listed, NameSet, NodeName};
 use protocol::{Core, Delivery};
 use std::alloc::{AllocError, Allocator};

@@ -10,8 +10,7 @@ ghost use Rattle.wire_node.specs.Waiting.{KeepsSettled, all_drafted};
 
 use crate::drafts::{Entry, draft_all, settle_all, undraft_all};
 use frames::Frame;
-use neighborhood::Telling;
-use node_core::PlumCore;
+use node_core::{PlumCore, Telling};
 use node_names::Listed;
 use protocol::{Core, CoreError, Delivery, Out, Prepared, Stimulus};
 use std::alloc::{AllocError, Allocator};

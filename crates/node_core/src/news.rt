@@ -1,8 +1,8 @@
 //! What a node tells of its active view: which neighbours came and went, and why.
 ghost use Rattle.std.specs.Prelude.{◌≡◌, ◌++◌, IfOk, OnOk};
 ghost use Rattle.std.specs.List.{flat_map};
-ghost use Rattle.neighborhood.specs.News.{arrival_of, changes, departure_of};
-ghost use Rattle.neighborhood.specs.News.{farewell_of, is_farewell, parting_of, turn_of};
+ghost use Rattle.node_core.specs.News.{arrival_of, changes, departure_of};
+ghost use Rattle.node_core.specs.News.{farewell_of, is_farewell, parting_of, turn_of};
 
 use frames::{BodyOf, Frame};
 use node_names::{NameSet, NodeName, has_name};

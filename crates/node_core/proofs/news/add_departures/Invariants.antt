@@ -1,7 +1,7 @@
 use Rattle.std.proofs.Common.{◌≡◌, ◌++◌, take}
 use Rattle.std.specs.List.{flat_map}
-use Rattle.neighborhood.specs.News.{departure_of}
-use Rattle.neighborhood.proofs.news.add_departures.Given as goal
+use Rattle.node_core.specs.News.{departure_of}
+use Rattle.node_core.proofs.news.add_departures.Given as goal
 
 -- those of the names so far that went
 abbrev pub invariant-loop-name : goal.invariant-loop-name

@@ -9,9 +9,9 @@ use Rattle.node_names.specs.Same.{has_name, same_name, same_name-Decides}
 use Rattle.protocol.specs.SameNames.{SameNames}
 use Rattle.protocol.specs.Stimulus.{Stimulus}
 use Rattle.frames.specs.Frame.{Frame}
-use Rattle.neighborhood.specs.News.{Change, Telling, all_news, arrival_of, changes, departure_of, farewell_of, last_news, news_of, turn_of}
-use Rattle.neighborhood.specs.declared.news.Farewell.{Farewell}
-use Rattle.neighborhood.specs.declared.news.News.{News}
+use Rattle.node_core.specs.News.{Change, Telling, all_news, arrival_of, changes, departure_of, farewell_of, last_news, news_of, turn_of}
+use Rattle.node_core.specs.declared.news.Farewell.{Farewell}
+use Rattle.node_core.specs.declared.news.News.{News}
 
 -- The step's news wait behind those before it, if steps are told of.
 pub record TellsOf (s : Stimulus Frame) (old : Telling) (before : List Name) (new : Telling) (after : List Name) : Type 0 where

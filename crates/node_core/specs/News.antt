@@ -8,11 +8,11 @@ use Rattle.protocol.specs.declared.stimulus.StimulusOf.TheVariants.{Broadcast, A
 use Rattle.frames.specs.Body.{Body}
 use Rattle.frames.specs.Frame.{Frame}
 use Rattle.frames.specs.declared.body.BodyOf.TheVariants as body
-use Rattle.neighborhood.specs.declared.news.News.{News}
-use Rattle.neighborhood.specs.declared.news.News.TheVariants.{NeighborUp, NeighborDown, Isolated, Joined}
-use Rattle.neighborhood.specs.declared.news.Parting.{Parting}
-use Rattle.neighborhood.specs.declared.news.Parting.TheVariants.{Left, Failed, Displaced}
-use Rattle.neighborhood.specs.declared.news.Farewell.{Farewell}
+use Rattle.node_core.specs.declared.news.News.{News}
+use Rattle.node_core.specs.declared.news.News.TheVariants.{NeighborUp, NeighborDown, Isolated, Joined}
+use Rattle.node_core.specs.declared.news.Parting.{Parting}
+use Rattle.node_core.specs.declared.news.Parting.TheVariants.{Left, Failed, Displaced}
+use Rattle.node_core.specs.declared.news.Farewell.{Farewell}
 
 -- whether a packet with this body says that its sender is a neighbour no longer
 abbrev pub is_farewell : Body → Bool

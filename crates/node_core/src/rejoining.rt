@@ -1,7 +1,7 @@
 //! By whom a node without neighbours joins again, and when.
 ghost use Rattle.std.specs.Prelude.{◌≡◌, ◌≤◌, ◌<◌, ◌+◌, ◌*◌, ◌^◌, Contains, IfSome, IsSome};
 ghost use Rattle.std.specs.Prelude.{IsSomeAnd, IsTrue, None, [], OnErr, OnOk, false, min};
-ghost use Rattle.neighborhood.specs.declared.rejoining.TheConstants.{FIRST, LONGEST};
+ghost use Rattle.node_core.specs.declared.rejoining.TheConstants.{FIRST, LONGEST};
 
 use node_names::NodeName;
 use rand_core::Rng;
@@ -48,7 +48,7 @@ pub struct Rejoining<A: Allocator> {
 
 impl<A: Allocator> Model for Rejoining<A> {
     ghost use Rattle.std.specs.Prelude.{◌≤◌};
-    ghost use Rattle.neighborhood.specs.Rejoining.{Rejoining};
+    ghost use Rattle.node_core.specs.Rejoining.{Rejoining};
 
     ghost Value = { Rejoining };
 

@@ -1,6 +1,6 @@
 //! What a node has to tell of its active view.
 ghost use Rattle.std.specs.Prelude.{◌≡◌, ◌&&◌, [], None, Some, IfOk, OnErr, OnOk, false, if◌then◌else◌};
-ghost use Rattle.neighborhood.specs.News.{all_news, farewell_of};
+ghost use Rattle.node_core.specs.News.{all_news, farewell_of};
 
 use crate::news::{Farewell, News, changes_of, farewell_of};
 use frames::Frame;
@@ -19,7 +19,7 @@ pub struct Change<A: Allocator> {
 }
 
 impl<A: Allocator> Model for Change<A> {
-    ghost use Rattle.neighborhood.specs.News.{Change};
+    ghost use Rattle.node_core.specs.News.{Change};
 
     ghost Value = { Change };
 
@@ -40,7 +40,7 @@ pub struct Telling<A: Allocator> {
 }
 
 impl<A: Allocator> Model for Telling<A> {
-    ghost use Rattle.neighborhood.specs.News.{Telling};
+    ghost use Rattle.node_core.specs.News.{Telling};
 
     ghost Value = { Telling };
 
