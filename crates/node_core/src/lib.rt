@@ -6,7 +6,6 @@ mod dispatch;
 mod laws;
 mod names;
 mod news;
-mod numbering;
 mod output;
 mod parts;
 mod plum_core;

@@ -1,7 +1,7 @@
 use Rattle.std.proofs.Common.{Ok, Err}
 use Rattle.std.specs.Prelude.{OnErr, Result}
 use Rattle.node_core.proofs.Frames.{back_within}
-use Rattle.node_core.proofs.numbering.number_both.Goals as goal
+use Rattle.node_core.proofs.output.number_both.Goals as goal
 
 on_err : {T E : Type 0} (r : Result T E) (P : Type 0) → P → OnErr r P
 on_err (Ok x) P fact = tt

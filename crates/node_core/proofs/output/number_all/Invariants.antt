@@ -1,6 +1,6 @@
 use Rattle.std.proofs.Common.{◌≡◌, ◌+◌, ◌++◌, length}
 use Rattle.node_core.specs.Steps.{numbered}
-use Rattle.node_core.proofs.numbering.number_all.Given as goal
+use Rattle.node_core.proofs.output.number_all.Given as goal
 
 -- the bodies so far are numbered, and the others are left
 abbrev pub invariant-loop-to : goal.invariant-loop-to

@@ -3,7 +3,7 @@ use Rattle.std.specs.Prelude.{OnErr, Result}
 use Rattle.std.proofs.Math.Seq.{take-append_seam}
 use Rattle.node_core.specs.Steps.{numbered}
 use Rattle.node_core.proofs.Frames.{middle_fits, numbered-push}
-use Rattle.node_core.proofs.numbering.number_all.Goals as goal
+use Rattle.node_core.proofs.output.number_all.Goals as goal
 
 pub push_frame-requires-clause-fit : goal.push_frame-requires-clause-fit
 push_frame-requires-clause-fit g c =
