@@ -11,7 +11,7 @@ use Rattle.node_core.specs.Parts.{IsSpentPart, IsTooLongPart, Makes, Part, by_pa
 use Rattle.node_core.specs.Plum.{Plum, plum_state}
 use Rattle.node_core.specs.Steps.{Turned, IsAllowed, turned}
 use Rattle.node_core.proofs.Fitting.{turned_fits}
-use Rattle.node_core.proofs.Parting.{both_ways, ok_allowed, ok_then, spent_by, too_long_by, turned_by}
+use Rattle.node_core.proofs.PartsAgree.{both_ways, ok_allowed, ok_then, spent_by, too_long_by, turned_by}
 use Rattle.node_core.proofs.plum_core.PlumCore.work_out.Goals as goal
 
 pub returns-clause-too_long : goal.returns-clause-too_long
