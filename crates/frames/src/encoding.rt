@@ -7,6 +7,7 @@ ghost use Rattle.protocol.specs.declared.TheConstants.{MAX_PAYLOAD};
 ghost use Rattle.frames.specs.Frame.{Frame as Spelled, has_good_counts, has_good_fields, are_numbered};
 ghost use Rattle.frames.specs.Grammar.{IsSpelling, fields_of, layout};
 ghost use Rattle.frames.specs.Writing.{PutsAll, Puts};
+ghost use Rattle.frames.specs.declared.TheConstants.{MAX_ANNOUNCEMENTS, MAX_NAMES};
 ghost use Rattle.frames.specs.Field.{name_octets, announcement_octets, IsAnnouncement};
 ghost use Rattle.frames.specs.Field.Field.{byte as byte_field, flag as flag_field, round as round_field};
 ghost use Rattle.frames.specs.Field.Field.{number as number_field, name as name_field, origin as origin_field};
@@ -86,7 +87,7 @@ pub(crate) fn put_names<A: Allocator>(
     out: &mut Vec<u8, A>,
     names: &[NodeName],
 ) -> Result<(), AllocError>
-    requires { length names.now ≤ 8 }
+    requires { length names.now ≤ MAX_NAMES }
     ensures { OnOk result (Puts (names_field names.now) out.old.items out.new.items) }
 {
     out.push(names.len() as u8)?;
@@ -129,7 +130,7 @@ pub(crate) fn put_announcements<A: Allocator>(
     entries: &[(MsgId, u32)],
 ) -> Result<(), AllocError>
     requires some { 1 ≤ length entries.now }
-    requires few { length entries.now ≤ 64 }
+    requires few { length entries.now ≤ MAX_ANNOUNCEMENTS }
     requires numbered { IsTrue (are_numbered entries.now) }
     ensures { OnOk result (Puts (announcements_field entries.now) out.old.items out.new.items) }
 {
