@@ -11,8 +11,8 @@ use Rattle.node_names.specs.NodeName.{Name}
 use Rattle.node_names.specs.Same.{same_id, same_id-Decides, same_name, has_id}
 use Rattle.node_names.specs.declared.dice.Dice.{Dice}
 use Rattle.node_names.specs.declared.ids.MsgId.{MsgId}
-use Rattle.protocol.specs.lawful.NameLists.{and_left, and_right}
-use Rattle.protocol.specs.lawful.Held.{same_inside}
+use Rattle.protocol.specs.impl_proofs.NameLists.{and_left, and_right}
+use Rattle.protocol.specs.impl_proofs.Held.{same_inside}
 use Rattle.protocol.specs.Lists.{IsOneOf}
 use Rattle.protocol.specs.Stimulus.{Stimulus}
 use Rattle.protocol.specs.declared.TheConstants.{MAX_PAYLOAD}
@@ -40,11 +40,11 @@ use Rattle.gossip_core.specs.Table.{Call, Outcome, outcome, spread, repeated, fi
 use Rattle.gossip_core.specs.Table.{answer, is_news, next_round, quiet, with_peer, gossip_to, after_downs, after_ups}
 use Rattle.gossip_core.specs.declared.call.CallOf.TheVariants as call
 use Rattle.node_core.specs.Fits.{FitsFrames, IsFit, AreFit, ComesFit}
-use Rattle.node_core.specs.lawful.Members.{of_each, each_one, each-append, one_of_filter, one_of_map}
+use Rattle.node_core.specs.impl_proofs.Members.{of_each, each_one, each-append, one_of_filter, one_of_map}
 use Rattle.node_core.specs.Plum.{Plum}
 use Rattle.node_core.specs.Steps.{Turned, turned, heard, idle, is_joined, greeting, by_membership}
 use Rattle.node_core.proofs.Openings.{opening_fits}
-use Rattle.node_core.specs.lawful.Wanting.{stood}
+use Rattle.node_core.specs.impl_proofs.Wanting.{stood}
 
 either : {X : Type 0} (P : X → Type 0) (b : Bool) (x y : X) → (b ≡ true → P x) → (b ≡ false → P y) → P (if b then x else y)
 either P true x y p q = p refl

@@ -5,4 +5,4 @@ pub mod Fits
 pub mod Started
 pub mod News
 pub mod Rejoining
-pub mod lawful
+pub mod impl_proofs

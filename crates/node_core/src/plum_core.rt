@@ -161,8 +161,8 @@ fn heed<A: Allocator + Copy>(stimulus: &StimulusRef<'_, Frame<A>, A>)
 
 impl<A: Allocator + Copy> Core<A> for PlumCore<A> {
     ghost use Rattle.node_core.specs.Plum.{IsSoundPlum, plum_state};
-    ghost use Rattle.node_core.specs.lawful.PlumDelivers.{plum_delivers_one};
-    ghost use Rattle.node_core.specs.lawful.PlumLaws.{plum_lawful};
+    ghost use Rattle.node_core.specs.impl_proofs.PlumDelivers.{plum_delivers_one};
+    ghost use Rattle.node_core.specs.impl_proofs.PlumLaws.{plum_lawful};
     ghost use Rattle.node_core.specs.Parts.{IsTurn};
     ghost use Rattle.node_core.specs.Steps.{PlumStarts, PlumSteps, PlumIsSpent, plum_after};
 

@@ -15,7 +15,7 @@ use Rattle.peer_sets.proofs.MemberLemmas.{is_member-names}
 use Rattle.gossip_core.specs.State.{GossipState}
 use Rattle.gossip_core.specs.Table.{outcome, after_downs, after_ups}
 use Rattle.gossip_core.specs.declared.call.CallOf.TheVariants as call
-use Rattle.node_core.specs.lawful.Members.{one_of_filter, one_of_passing}
+use Rattle.node_core.specs.impl_proofs.Members.{one_of_filter, one_of_passing}
 
 -- Only members, queue and entries changed.
 pub record SameButLinks (g h : GossipState) : Type 0 where

@@ -8,7 +8,7 @@ use Rattle.std.proofs.lemmas.Map.Keys.{IsDistinct-head, IsDistinct-tail}
 use Rattle.node_names.specs.NodeName.{Name}
 use Rattle.node_names.specs.Same.{same_name, has_name, same_name-Decides, same_id, has_id, same_id-Decides}
 use Rattle.node_names.specs.declared.ids.MsgId.{MsgId}
-use Rattle.protocol.specs.lawful.NameLists.{lacks_from_each}
+use Rattle.protocol.specs.impl_proofs.NameLists.{lacks_from_each}
 use Rattle.protocol.specs.Lists.{IsOneOf}
 
 -- ---- what holds of each, and what is one of them

@@ -10,7 +10,7 @@ use Rattle.node_names.specs.Same.{same_id, same_id-Decides}
 use Rattle.node_names.specs.declared.ids.MsgId.{MsgId}
 use Rattle.node_names.specs.declared.ids.Origin.{Origin}
 use Rattle.protocol.specs.DeliveryLaw.{ids}
-use Rattle.protocol.specs.lawful.Held.{keys_after_push, lookup-push}
+use Rattle.protocol.specs.impl_proofs.Held.{keys_after_push, lookup-push}
 use Rattle.protocol.specs.HoldLaw.{AreLast, KeepsLast}
 use Rattle.known_messages.specs.Held.{kept_last}
 use Rattle.node_core.specs.Plum.{HeldOnce}

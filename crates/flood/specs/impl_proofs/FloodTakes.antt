@@ -9,8 +9,8 @@ use Rattle.node_names.specs.declared.ids.MsgId.{MsgId}
 use Rattle.protocol.specs.AskLaw.{AsksNothing}
 use Rattle.protocol.specs.Delivery.{Delivery}
 use Rattle.protocol.specs.DeliveryLaw.{DeliveryLaw, Delivers, count_after}
-use Rattle.protocol.specs.lawful.NameLists.{each-map, each-all, each-filter, each_is_other}
-use Rattle.protocol.specs.lawful.Held.{same_inside, found_after_push, held_after_push, stays_after_push, pushed_is_held}
+use Rattle.protocol.specs.impl_proofs.NameLists.{each-map, each-all, each-filter, each_is_other}
+use Rattle.protocol.specs.impl_proofs.Held.{same_inside, found_after_push, held_after_push, stays_after_push, pushed_is_held}
 use Rattle.protocol.specs.Lists.{IsOneOf}
 use Rattle.protocol.specs.PayloadLaw.{PayloadLaw, Brings, IsKnownPayload}
 use Rattle.protocol.specs.QueueLaw.{AnnouncesNothing}

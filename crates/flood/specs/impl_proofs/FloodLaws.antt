@@ -18,9 +18,9 @@ use Rattle.node_names.specs.declared.ids.Origin.{Origin}
 use Rattle.protocol.specs.AskLaw.{Fires}
 use Rattle.protocol.specs.Delivery.{Delivery}
 use Rattle.protocol.specs.DeliveryLaw.{Delivers, IsNews, count_after, ids}
-use Rattle.protocol.specs.lawful.NameLists.{and_left, and_right, not_true, within_bound, distinct_peers}
-use Rattle.protocol.specs.lawful.NameLists.{distinct_none, distinct-remove_key, shorter-remove_key, lacks-remove_key}
-use Rattle.protocol.specs.lawful.Held.{found_by_key, keys_after_push}
+use Rattle.protocol.specs.impl_proofs.NameLists.{and_left, and_right, not_true, within_bound, distinct_peers}
+use Rattle.protocol.specs.impl_proofs.NameLists.{distinct_none, distinct-remove_key, shorter-remove_key, lacks-remove_key}
+use Rattle.protocol.specs.impl_proofs.Held.{found_by_key, keys_after_push}
 use Rattle.protocol.specs.HoldLaw.{IsAskedBy, KeepsLast}
 use Rattle.protocol.specs.Laws.{IsSilent, Laws, StartLaws, StateLaws, StepLaws}
 use Rattle.protocol.specs.Lists.{IsOneOf}
@@ -33,10 +33,10 @@ use Rattle.protocol.specs.WantLaw.{Announces}
 use Rattle.protocol.specs.declared.stimulus.StimulusOf.TheVariants.{Broadcast, Arrive, Fire, Flush, Down, Shuffle, Join}
 use Rattle.flood.specs.FloodCore.{Flooding, Message, FloodStarts, FloodSteps, Takes, IsIdle, DropsPeer, IsSoundFlooding}
 use Rattle.flood.specs.FloodCore.{HoldsCounted, flood_state, note_content, others, is_news, payload_of}
-use Rattle.flood.specs.lawful.FloodSpread.{gets_share}
-use Rattle.flood.specs.lawful.FloodTakes.{taken_sends, taken_given, taken_core, by_takes, each_carries, takes_views}
-use Rattle.flood.specs.lawful.FloodTakes.{announces_nothing, asks_nothing, takes_payloads, takes_deliveries}
-use Rattle.flood.specs.lawful.Counted.{counts_others, counts_next}
+use Rattle.flood.specs.impl_proofs.FloodSpread.{gets_share}
+use Rattle.flood.specs.impl_proofs.FloodTakes.{taken_sends, taken_given, taken_core, by_takes, each_carries, takes_views}
+use Rattle.flood.specs.impl_proofs.FloodTakes.{announces_nothing, asks_nothing, takes_payloads, takes_deliveries}
+use Rattle.flood.specs.impl_proofs.Counted.{counts_others, counts_next}
 
 -- ---- the start
 

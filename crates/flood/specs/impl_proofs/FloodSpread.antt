@@ -10,8 +10,8 @@ use Rattle.std.proofs.lemmas.Map.Views.{any-filter_same}
 use Rattle.node_names.specs.NodeName.{Name}
 use Rattle.node_names.specs.Same.{same_name, has_name, same_name-Decides, is_left_out}
 use Rattle.node_names.specs.declared.ids.MsgId.{MsgId}
-use Rattle.protocol.specs.lawful.NameLists.{and_true, lacks_from_each, distinct-filter}
-use Rattle.protocol.specs.lawful.Held.{same_id-refl}
+use Rattle.protocol.specs.impl_proofs.NameLists.{and_true, lacks_from_each, distinct-filter}
+use Rattle.protocol.specs.impl_proofs.Held.{same_id-refl}
 use Rattle.protocol.specs.SpreadLaw.{GetsShare, packets_carrying, entries_queued, is_carried, is_from}
 use Rattle.protocol.specs.Stimulus.{Stimulus}
 use Rattle.flood.specs.FloodCore.{Flooding, Message, flood_state, note_content, note_to, others}

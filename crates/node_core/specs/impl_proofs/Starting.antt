@@ -9,7 +9,7 @@ use Rattle.node_names.specs.Limits.{Limits}
 use Rattle.node_names.specs.Order.{id_cmp}
 use Rattle.node_names.specs.Same.{same_name-Decides, has_name}
 use Rattle.node_names.specs.declared.ids.Origin.{Origin}
-use Rattle.protocol.specs.lawful.NameLists.{distinct_peers, and_left, and_right, not_true, within_bound, distinct_none}
+use Rattle.protocol.specs.impl_proofs.NameLists.{distinct_peers, and_left, and_right, not_true, within_bound, distinct_none}
 use Rattle.protocol.specs.Laws.{IsSilent, StartLaws}
 use Rattle.protocol.specs.Peers.{are_peers, are_distinct, is_contact}
 use Rattle.frames.specs.Content.{frame_content}

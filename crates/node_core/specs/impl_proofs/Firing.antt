@@ -26,9 +26,9 @@ use Rattle.peer_sets.specs.Members.{names}
 use Rattle.gossip_core.specs.State.{GossipState}
 use Rattle.gossip_core.specs.Table.{Outcome, outcome, asked, quiet}
 use Rattle.gossip_core.specs.declared.call.CallOf.TheVariants as call
-use Rattle.node_core.specs.lawful.Members.{of_each, each_one, one_of_left, one_of_right, one_of_append, has_one_of_ids, one_of_ids, differs}
+use Rattle.node_core.specs.impl_proofs.Members.{of_each, each_one, one_of_left, one_of_right, one_of_append, has_one_of_ids, one_of_ids, differs}
 use Rattle.node_core.specs.Plum.{IsWhole, state_with}
-use Rattle.node_core.specs.lawful.Resting.{delivers_nothing, leaves_all, carry_none, keeps_all}
+use Rattle.node_core.specs.impl_proofs.Resting.{delivers_nothing, leaves_all, carry_none, keeps_all}
 use Rattle.node_core.specs.Steps.{numbered, delivered_at}
 
 apart : (id other : MsgId) → same_id id other ≡ false → other ≢ id

@@ -9,7 +9,7 @@ use Rattle.node_names.specs.declared.dice.Dice.{Dice}
 use Rattle.node_names.specs.declared.ids.MsgId.{MsgId}
 use Rattle.node_names.specs.declared.ids.Origin.{Origin}
 use Rattle.protocol.specs.CoreState.{CoreState}
-use Rattle.protocol.specs.lawful.NameLists.{and_left, and_right, not_true}
+use Rattle.protocol.specs.impl_proofs.NameLists.{and_left, and_right, not_true}
 use Rattle.protocol.specs.Laws.{StepLaws}
 use Rattle.protocol.specs.Lists.{IsOneOf}
 use Rattle.protocol.specs.declared.stimulus.StimulusOf.TheVariants as on
@@ -24,9 +24,9 @@ use Rattle.peer_sets.proofs.MemberLemmas.{is_member-names}
 use Rattle.gossip_core.specs.State.{GossipState}
 use Rattle.gossip_core.specs.Table.{Outcome, outcome, is_news, quiet}
 use Rattle.gossip_core.specs.declared.call.CallOf.TheVariants as call
-use Rattle.node_core.specs.lawful.Members.{each_one, one_of_left, one_of_right, one_of_append, one_of_filter, one_of_passing}
+use Rattle.node_core.specs.impl_proofs.Members.{each_one, one_of_left, one_of_right, one_of_append, one_of_filter, one_of_passing}
 use Rattle.node_core.specs.Plum.{IsLacked, state_with}
-use Rattle.node_core.specs.lawful.Resting.{delivers_nothing, leaves_all, keeps_all}
+use Rattle.node_core.specs.impl_proofs.Resting.{delivers_nothing, leaves_all, keeps_all}
 use Rattle.node_core.specs.Steps.{numbered, delivered_at}
 
 -- ---- entries

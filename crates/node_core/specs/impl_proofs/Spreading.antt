@@ -17,8 +17,8 @@ use Rattle.protocol.specs.AskLaw.{Fires, AsksNothing}
 use Rattle.protocol.specs.CoreState.{CoreState}
 use Rattle.protocol.specs.Delivery.{Delivery}
 use Rattle.protocol.specs.DeliveryLaw.{Delivers, count_after}
-use Rattle.protocol.specs.lawful.NameLists.{each-map, each-all}
-use Rattle.protocol.specs.lawful.Held.{found_after_push, same_inside, same_id-refl}
+use Rattle.protocol.specs.impl_proofs.NameLists.{each-map, each-all}
+use Rattle.protocol.specs.impl_proofs.Held.{found_after_push, same_inside, same_id-refl}
 use Rattle.protocol.specs.HoldLaw.{IsAskedBy}
 use Rattle.protocol.specs.Laws.{StepLaws}
 use Rattle.protocol.specs.Lists.{IsOneOf}
@@ -39,12 +39,12 @@ use Rattle.peer_sets.specs.declared.members.PeerKind.TheVariants.{Eager, Lazy}
 use Rattle.gossip_core.proofs.IdOrder.{id_ties, id_total}
 use Rattle.gossip_core.specs.State.{GossipState}
 use Rattle.gossip_core.specs.Table.{gossip_to}
-use Rattle.node_core.specs.lawful.Keeping.{found_kept, once_pushed}
-use Rattle.node_core.specs.lawful.Members.{of_each, each_one, one_of_left, one_of_append, one_of_map, counts_once, counts_none, count-append}
-use Rattle.node_core.specs.lawful.Numbered.{each-numbered, carrying-numbered}
+use Rattle.node_core.specs.impl_proofs.Keeping.{found_kept, once_pushed}
+use Rattle.node_core.specs.impl_proofs.Members.{of_each, each_one, one_of_left, one_of_append, one_of_map, counts_once, counts_none, count-append}
+use Rattle.node_core.specs.impl_proofs.Numbered.{each-numbered, carrying-numbered}
 use Rattle.node_core.specs.Plum.{IsWhole, state_with}
 use Rattle.node_core.specs.Steps.{numbered}
-use Rattle.node_core.specs.lawful.Whole.{not_held}
+use Rattle.node_core.specs.impl_proofs.Whole.{not_held}
 
 -- ---- which members get a packet, and which an entry
 

@@ -11,7 +11,7 @@ use Rattle.node_names.specs.NodeName.{Name}
 use Rattle.node_names.specs.Order.{id_cmp}
 use Rattle.node_names.specs.Same.{same_id, same_id-Decides, same_name, has_name}
 use Rattle.node_names.specs.declared.ids.MsgId.{MsgId}
-use Rattle.protocol.specs.lawful.Held.{stays_after_push, pushed_is_held, held_after_push}
+use Rattle.protocol.specs.impl_proofs.Held.{stays_after_push, pushed_is_held, held_after_push}
 use Rattle.protocol.specs.Lists.{IsOneOf}
 use Rattle.known_messages.specs.Held.{kept_last}
 use Rattle.missing.proofs.SoundLemmas as missings
@@ -26,8 +26,8 @@ use Rattle.gossip_core.proofs.IdOrder.{id_ties, id_total}
 use Rattle.gossip_core.specs.State.{GossipState}
 use Rattle.gossip_core.specs.Table.{outcome, with_peer}
 use Rattle.gossip_core.specs.declared.call.CallOf.TheVariants.{Down}
-use Rattle.node_core.specs.lawful.Keeping.{all_kept, once_kept, once_pushed, was_held}
-use Rattle.node_core.specs.lawful.Members.{each_one, of_each, one_of_append, one_of_filter, one_of_map}
+use Rattle.node_core.specs.impl_proofs.Keeping.{all_kept, once_kept, once_pushed, was_held}
+use Rattle.node_core.specs.impl_proofs.Members.{each_one, of_each, one_of_append, one_of_filter, one_of_map}
 use Rattle.node_core.specs.Plum.{HeldOnce, IsWhole, IsLacked}
 
 -- what holds of both branches holds of the one that is taken

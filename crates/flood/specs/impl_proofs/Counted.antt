@@ -5,7 +5,7 @@ use Rattle.std.proofs.Math.Nat.{le-add_left, le_of_lt, le_refl, le_trans}
 use Rattle.std.proofs.Math.Numerals.{lt-add-one}
 use Rattle.node_names.specs.declared.ids.MsgId.{MsgId}
 use Rattle.node_names.specs.declared.ids.Origin.{Origin}
-use Rattle.protocol.specs.lawful.Held.{held_after_push}
+use Rattle.protocol.specs.impl_proofs.Held.{held_after_push}
 use Rattle.flood.specs.FloodCore.{HoldsCounted}
 
 -- a pushed message of another origin is not counted, and one of this origin with the next number is

@@ -18,7 +18,7 @@ use Rattle.protocol.specs.ViewLaw.{ViewLaw}
 use Rattle.protocol.specs.WantLaw.{WantLaw, Announces}
 use Rattle.frames.specs.Content.{frame_content}
 use Rattle.frames.specs.Frame.{Frame}
-use Rattle.node_core.specs.lawful.Members.{each_one}
+use Rattle.node_core.specs.impl_proofs.Members.{each_one}
 
 -- Each packet that carries a message carries one that the core has and holds.
 abbrev pub CarryHeld : CoreState → List (Name × Frame) → Type 0

@@ -13,7 +13,7 @@ use Rattle.node_names.specs.Same.{same_id, same_name, same_name-Decides, has_nam
 use Rattle.node_names.specs.declared.ids.MsgId.{MsgId}
 use Rattle.node_names.specs.declared.ids.Origin.{Origin}
 use Rattle.protocol.specs.CoreState.{CoreState}
-use Rattle.protocol.specs.lawful.NameLists.{each-filter, distinct-filter}
+use Rattle.protocol.specs.impl_proofs.NameLists.{each-filter, distinct-filter}
 use Rattle.protocol.specs.Laws.{StepLaws}
 use Rattle.protocol.specs.QueueLaw.{times_announced, times_queued}
 use Rattle.protocol.specs.QueueLaw as law
@@ -29,10 +29,10 @@ use Rattle.peer_sets.proofs.MemberLemmas.{is_member-names}
 use Rattle.gossip_core.proofs.PacketLemmas.{packets_to-step}
 use Rattle.gossip_core.specs.Announcements.{packets_to, announcements, in_frames}
 use Rattle.gossip_core.specs.State.{GossipState}
-use Rattle.node_core.specs.lawful.Members.{each_one, of_each, each-append, count-append, lacks_the_first, differs}
-use Rattle.node_core.specs.lawful.Numbered.{each-numbered, announced-numbered}
+use Rattle.node_core.specs.impl_proofs.Members.{each_one, of_each, each-append, count-append, lacks_the_first, differs}
+use Rattle.node_core.specs.impl_proofs.Numbered.{each-numbered, announced-numbered}
 use Rattle.node_core.specs.Plum.{IsWhole, state_with}
-use Rattle.node_core.specs.lawful.Resting.{delivers_nothing, carry_none, CarryNothing}
+use Rattle.node_core.specs.impl_proofs.Resting.{delivers_nothing, carry_none, CarryNothing}
 use Rattle.node_core.specs.Steps.{numbered}
 
 module _ (name : Name) (id : MsgId) (round : ℕ) where

@@ -28,9 +28,9 @@ use Rattle.frames.specs.Frame.{Frame}
 use Rattle.peer_sets.specs.Members.{is_member}
 use Rattle.gossip_core.specs.State.{GossipState}
 use Rattle.gossip_core.specs.Table.{passed_by, shortcut}
-use Rattle.node_core.specs.lawful.Members.{count-append, counts_none, each-append}
-use Rattle.node_core.specs.lawful.Numbered.{each-numbered}
-use Rattle.node_core.specs.lawful.Resting.{carry_none, each_part}
+use Rattle.node_core.specs.impl_proofs.Members.{count-append, counts_none, each-append}
+use Rattle.node_core.specs.impl_proofs.Numbered.{each-numbered}
+use Rattle.node_core.specs.impl_proofs.Resting.{carry_none, each_part}
 use Rattle.node_core.specs.Steps.{numbered}
 
 -- ---- the packets

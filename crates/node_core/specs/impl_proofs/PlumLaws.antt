@@ -23,9 +23,9 @@ use Rattle.protocol.specs.CoreState.{CoreState}
 use Rattle.protocol.specs.Delivery.{Delivery}
 use Rattle.protocol.specs.DeliveryLaw.{IsNews, Delivers, count_after, ids}
 use Rattle.protocol.specs.Content.{Content}
-use Rattle.protocol.specs.lawful.NameLists.{and_left, and_right}
+use Rattle.protocol.specs.impl_proofs.NameLists.{and_left, and_right}
 use Rattle.protocol.specs.HoldLaw.{IsAskedBy, KeepsLast, packets_with}
-use Rattle.protocol.specs.lawful.Held.{found_by_key}
+use Rattle.protocol.specs.impl_proofs.Held.{found_by_key}
 use Rattle.protocol.specs.Laws.{IsSilent, Laws, StateLaws, StepLaws}
 use Rattle.protocol.specs.Lists.{IsOneOf}
 use Rattle.protocol.specs.QueueLaw.{FlushesQueue, AnnouncesNothing, KeepsQueue}
@@ -60,21 +60,21 @@ use Rattle.gossip_core.specs.Table.{Outcome, outcome, repeated, first_copy, shor
 use Rattle.gossip_core.specs.Table.{is_news, next_id, next_round, quiet, with_peer, after_downs, after_ups}
 use Rattle.gossip_core.specs.declared.call.CallOf.TheVariants as call
 use Rattle.gossip_core.specs.Table.{Call}
-use Rattle.node_core.specs.lawful.Members.{each_one, of_each, one_of_filter, one_of_passing, one_of_names, one_of_ids, counts_none, differs}
-use Rattle.node_core.specs.lawful.Numbered.{each-numbered, carrying-numbered, with-numbered}
+use Rattle.node_core.specs.impl_proofs.Members.{each_one, of_each, one_of_filter, one_of_passing, one_of_names, one_of_ids, counts_none, differs}
+use Rattle.node_core.specs.impl_proofs.Numbered.{each-numbered, carrying-numbered, with-numbered}
 use Rattle.node_core.specs.Plum.{Plum, IsSoundPlum, IsWhole, IsLacked, plum_state, state_with}
 use Rattle.node_core.specs.Steps.{Turned, PlumSteps, PlumStarts, turned, heard, idle, is_joined}
 use Rattle.node_core.specs.Steps.{greeting, by_gossip, by_membership, gone_on, numbered, delivered_at}
-use Rattle.node_core.specs.lawful.Starting as starting
-use Rattle.node_core.specs.lawful.Firing.{fires_lawfully}
-use Rattle.node_core.specs.lawful.Flushing.{flushes_lawfully}
-use Rattle.node_core.specs.lawful.Keeping.{keeps_all_listed, keeps_delivered}
-use Rattle.node_core.specs.lawful.Moving.{Linked, after_all_downs, after_all_ups, members_after_downs, members_after_ups}
-use Rattle.node_core.specs.lawful.Resting.{leaves_all, delivers_nothing, carry_none, each_part, keeps_all, CarryNothing}
-use Rattle.node_core.specs.lawful.Spreading.{spreads_lawfully}
-use Rattle.node_core.specs.lawful.Swapping.{behind, first_stands, shortcut_is_first, silent_besides}
-use Rattle.node_core.specs.lawful.Wanting.{hears_lawfully, news_is, is_news_to, stood, was_armed}
-use Rattle.node_core.specs.lawful.Whole.{whole-with_kind, whole-flushed, whole-with_missing, whole-with_member, whole-without_member, whole-spread}
+use Rattle.node_core.specs.impl_proofs.Starting as starting
+use Rattle.node_core.specs.impl_proofs.Firing.{fires_lawfully}
+use Rattle.node_core.specs.impl_proofs.Flushing.{flushes_lawfully}
+use Rattle.node_core.specs.impl_proofs.Keeping.{keeps_all_listed, keeps_delivered}
+use Rattle.node_core.specs.impl_proofs.Moving.{Linked, after_all_downs, after_all_ups, members_after_downs, members_after_ups}
+use Rattle.node_core.specs.impl_proofs.Resting.{leaves_all, delivers_nothing, carry_none, each_part, keeps_all, CarryNothing}
+use Rattle.node_core.specs.impl_proofs.Spreading.{spreads_lawfully}
+use Rattle.node_core.specs.impl_proofs.Swapping.{behind, first_stands, shortcut_is_first, silent_besides}
+use Rattle.node_core.specs.impl_proofs.Wanting.{hears_lawfully, news_is, is_news_to, stood, was_armed}
+use Rattle.node_core.specs.impl_proofs.Whole.{whole-with_kind, whole-flushed, whole-with_missing, whole-with_member, whole-without_member, whole-spread}
 
 -- what holds of both branches holds of the one that is taken
 either : {X : Type 0} (P : X → Type 0) (b : Bool) (x y : X) → (b ≡ true → P x) → (b ≡ false → P y) → P (if b then x else y)
