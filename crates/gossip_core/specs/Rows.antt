@@ -4,7 +4,7 @@ use Rattle.std.specs.FinSet as set
 use Rattle.node_names.specs.NodeName.{Name}
 use Rattle.node_names.specs.declared.ids.MsgId.{MsgId}
 use Rattle.missing.specs.Missing.{announced_all, taken_first}
-use Rattle.peer_sets.specs.declared.kind.PeerKind.TheVariants as kind
+use Rattle.peer_sets.specs.declared.members.PeerKind.TheVariants as kind
 use Rattle.gossip_core.specs.State.{GossipState}
 use Rattle.gossip_core.specs.Table.{first_copy, outcome, swapped, with_peer}
 use Rattle.gossip_core.specs.declared.call.CallOf.TheVariants as call
