@@ -6,14 +6,7 @@ use crate::cell::outlet::Outlet;
 use crate::cell::telling::Teller;
 use crate::cores::NodeCore;
 use crate::error::HostError;
-<<<<<<< HEAD:crates/node_threads/src/kept.rt
-use crate::learning::Learnt;
-use crate::outlet::Outlet;
-use crate::telling::Teller;
 use node_core::{News, Rejoining};
-=======
-use neighborhood::{News, Rejoining};
->>>>>>> 025094a9 (Part what a node's lock keeps from its threads):crates/node_threads/src/cell/kept.rt
 use node_names::{Dice, NodeName};
 use protocol::StimulusOf;
 use rand_pcg::Lcg128Xsl64;

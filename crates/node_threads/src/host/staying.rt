@@ -6,18 +6,10 @@ use crate::cell::outlet::Outlet;
 use crate::cores::NodeCore;
 use crate::error::HostError;
 use crate::host::Host;
-<<<<<<< HEAD:crates/node_threads/src/staying.rt
-use crate::joining::put;
-use crate::outlet::Outlet;
-use crate::shared::{Shared, step, with};
-use crate::worker::Outlets;
-use node_core::News;
-=======
 use crate::host::joining::put;
 use crate::host::shared::{Shared, step, with};
 use crate::host::worker::Outlets;
-use neighborhood::News;
->>>>>>> 025094a9 (Part what a node's lock keeps from its threads):crates/node_threads/src/host/staying.rt
+use node_core::News;
 use node_names::NodeName;
 use rand_pcg::Lcg128Xsl64;
 use std::alloc::Allocator;
