@@ -1,5 +1,6 @@
 //! One frame on its way through a link's ring.
 ghost use Rattle.std.specs.Prelude.{◌≡◌, ◌≤◌, true, length, IfOk};
+ghost use Rattle.frames.specs.declared.TheConstants.{MAX_FRAME};
 ghost use Rattle.node_threads.specs.LinkText.{spelling};
 
 use bytes::Bytes;
@@ -33,10 +34,10 @@ impl<A: Allocator + Copy> LinkFrame<A> {
         Ok(LinkFrame { frame })
     }
 
-    /// Its bytes, of which there are at most 32,880.
+    /// Its bytes, of which there are at most `MAX_FRAME`.
     pub(crate) fn encode(&self, alloc: A) -> Result<Bytes<A>, AllocError>
         ensures value { IfOk result (λ bytes. bytes ≡ self.now) }
-        ensures short { IfOk result (λ bytes. length bytes ≤ 32880) }
+        ensures short { IfOk result (λ bytes. length bytes ≤ MAX_FRAME) }
     {
         encode(alloc, &self.frame)
     }

@@ -3,6 +3,7 @@ ghost use Rattle.std.specs.Prelude.{◌≡◌, ◌≢◌, ◌≤◌, [], ◌∷�
 ghost use Rattle.std.specs.Bool.{Decides};
 ghost use mathlib.Core.List.{IsPrefix};
 ghost use Rattle.rtrb.specs.Ring.{known_items, received};
+ghost use Rattle.frames.specs.declared.TheConstants.{MAX_FRAME};
 ghost use Rattle.node_threads.specs.Outlet.{Looks};
 
 use crate::cell::link_frame::LinkFrame;
@@ -41,7 +42,7 @@ impl<A: Allocator + Copy> Tap<A> {
     fn pop(&mut self) -> Result<Option<Bytes<A>>, AllocError>
         ensures some { (item : List ℕ)
             → result ≡ Ok (Some item)
-            → (self.new.given ≡ self.old.given ++ item ∷ []) × (length item ≤ 32880) }
+            → (self.new.given ≡ self.old.given ++ item ∷ []) × (length item ≤ MAX_FRAME) }
         ensures seen { (item : List ℕ) → result ≡ Ok (Some item) → IsPrefix self.old.seen (item ∷ self.new.seen) }
         ensures none { result ≡ Ok None
             → (self.new.given ≡ self.old.given) × (self.new.seen ≡ []) × (self.old.seen ≡ []) }
@@ -183,7 +184,7 @@ impl<A: Allocator + Copy> Outlet<A> {
         ensures some { (item : List ℕ)
             → result ≡ Ok (Some item)
             → (self.new ≡ record self.old { given = self.old.given ++ item ∷ []; seen = self.new.seen })
-            × (length item ≤ 32880) }
+            × (length item ≤ MAX_FRAME) }
         ensures seen { (item : List ℕ) → result ≡ Ok (Some item) → IsPrefix self.old.seen (item ∷ self.new.seen) }
         ensures none { result ≡ Ok None → (self.new ≡ self.old) × (self.new.seen ≡ []) }
         ensures err { OnErr result (Looks self.old self.new) }
