@@ -1,6 +1,6 @@
 use Rattle.std.proofs.Common.{◌≡◌, ◌∙◌, ◌++◌, ap, append_assoc, drop, rules, sym, take}
 use Rattle.std.proofs.lemmas.List.{take-append-drop}
-use Rattle.node_threads.proofs.outlet.Tap.give_up.Goals as goal
+use Rattle.node_threads.proofs.cell.outlet.Tap.give_up.Goals as goal
 
 pub invariant_of-self : goal.invariant_of-self
 invariant_of-self g c =

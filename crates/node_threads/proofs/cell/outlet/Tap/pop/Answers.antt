@@ -2,7 +2,7 @@
 use Rattle.std.proofs.Common.{◌≡◌, ◌∙◌, ◌++◌, ◌∷◌, [], ℕ, List, ap, append_assoc, rules, sym}
 use Rattle.rtrb.specs.Ring.{received}
 use Rattle.node_threads.specs.Outlet.{Tap}
-use Rattle.node_threads.proofs.outlet.Tap.pop.Goals as goal
+use Rattle.node_threads.proofs.cell.outlet.Tap.pop.Goals as goal
 
 -- lists that are equal begin alike
 begin_same : (x y : List ℕ) (xs ys : List (List ℕ)) → x ∷ xs ≡ y ∷ ys → x ≡ y
