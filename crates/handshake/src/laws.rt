@@ -22,7 +22,9 @@ pub fn connections_are_read()
 /// a record tell.
 pub fn strangers_are_refused()
     ensures no_hello { (kind : ℕ) (rest : List ℕ) → kind ≢ 1 → run start (kind ∷ rest) ≡ Err (Fault.NoHello kind) }
-    ensures too_long { (len : ℕ) (rest : List ℕ) → MAX_HELLO < len → run start (1 ∷ len ∷ rest) ≡ Err (Fault.BadLength len) }
+    ensures too_long { (len : ℕ) (rest : List ℕ)
+        → MAX_HELLO < len
+        → run start (1 ∷ len ∷ rest) ≡ Err (Fault.BadLength len) }
     // So a second hello, of the kind 1, is refused.
     ensures unknown { (kind : ℕ) (rest : List ℕ) → kind ≢ 0 → kind ≢ 2
         → run opened (kind ∷ rest) ≡ Err (Fault.UnknownRecord kind) }
