@@ -37,9 +37,10 @@ use std::marker::Model;
 ///
 /// A call has two halves: `answer` decides which row of the table it is, with what it will send and deliver, and `take`
 /// makes that row's change. A caller that makes room for the answer in between has nothing left that can fail after
-/// `take`. The other calls do both halves at once. Looking up a held message takes constant time; a copy takes time proportional to the number of messages held.
-/// The memory for the known messages grows with their origins and with the gaps in their numbers, not with the numbers
-/// known; the memory for the held messages grows with `keep`, or with all messages if that is 0.
+/// `take`. The other calls do both halves at once. Looking up a held message takes constant time; a copy takes time
+/// proportional to the number of messages held. The memory for the known messages grows with their origins and with the
+/// gaps in their numbers, not with the numbers known; the memory for the held messages grows with `keep`, or with all
+/// messages if that is 0.
 #[derive(Drop)]
 pub struct Gossip<A: Allocator = Global> {
     me: Origin,

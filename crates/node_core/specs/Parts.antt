@@ -14,7 +14,7 @@ use Rattle.frames.specs.Body.{Body}
 use Rattle.frames.specs.Frame.{Frame}
 use Rattle.frames.specs.declared.body.BodyOf.TheVariants as body
 use Rattle.membership.specs.Event.{Event, lent as lent_event}
-use Rattle.membership.specs.Membership.{Membership as Member, Turn as MemberTurn, ended, still}
+use Rattle.membership.specs.Membership.{Membership as Member, Turn as MemberTurn, ended}
 use Rattle.membership.specs.Table.{table}
 use Rattle.membership.specs.declared.event.EventOf.{EventOf}
 use Rattle.membership.specs.declared.event.EventOf.TheVariants as on
