@@ -1,5 +1,5 @@
 -- What a stimulus does is what its part does.
-use Rattle.std.proofs.Common.{◌≡◌, ◌∙◌, Bool, true, false, refl, sym, ap, arith}
+use Rattle.std.proofs.Common.{◌≡◌, ◌∙◌, Bool, true, false, refl, sym, ap, arith, subst}
 use Rattle.std.specs.Prelude.{◌↔◌, IsErrAnd, IsErrOf, OnOk, if◌then◌else◌}
 use Rattle.std.specs.declared.result.Result.{Result}
 use Rattle.std.specs.declared.result.Result.TheVariants.{Ok, Err}
@@ -17,7 +17,7 @@ use Rattle.frames.specs.Frame.{Frame}
 use Rattle.frames.specs.declared.body.BodyOf.TheVariants as body
 use Rattle.membership.specs.Membership.{Membership}
 use Rattle.gossip_core.specs.State.{GossipState}
-use Rattle.node_core.specs.Parts.{IsSpentPart, IsTooLongPart, by_part, part_heard, part_of}
+use Rattle.node_core.specs.Parts.{IsSpentPart, IsTooLongPart, Makes, PreparedStep, by_part, part_heard, part_of}
 use Rattle.node_core.specs.Plum.{Plum, plum_state}
 use Rattle.node_core.specs.Steps.{IsAllowed, greeting, heard, idle, is_joined, turned}
 use Rattle.node_core.specs.declared.dispatch.PartOf.TheVariants.{Greeting, Nobody}
@@ -85,6 +85,17 @@ turned_by me m g (Join contact) = go (is_joined me m contact)
     go : (b : Bool) → (if b then idle m g else greeting m g contact) ≡ by_part m g (if b then Nobody else Greeting contact)
     go true = refl
     go false = refl
+
+-- what is kept makes what the stimulus does, whichever way core and turn are written
+pub makes_inside : {inside core : Plum} {kept turn : PreparedStep} (stimulus : Stimulus Frame) →
+    inside ≡ core →
+    kept ≡ turn →
+    Makes core.membership core.gossip (turned core.me core.membership core.gossip stimulus) turn.moved turn.row →
+    Makes inside.membership inside.gossip (turned inside.me inside.membership inside.gossip stimulus) kept.moved kept.row
+makes_inside {inside} {core} {kept} {turn} stimulus is_core is_turn makes =
+    subst (λ (core : Plum). Makes core.membership core.gossip (turned core.me core.membership core.gossip stimulus) kept.moved kept.row) (sym is_core)
+    (subst (λ (turn : PreparedStep). Makes core.membership core.gossip (turned core.me core.membership core.gossip stimulus) turn.moved turn.row)
+    (sym is_turn) makes)
 
 -- a part is too long where its stimulus is
 pub too_long_by : (me : Origin) (m : Membership) (stimulus : Stimulus Frame) → IsTooLongPart (part_of me m stimulus) ↔ IsTooLong stimulus
