@@ -6,11 +6,7 @@ use crate::cell::outlet::Outlet;
 use crate::cell::telling::Teller;
 use crate::cores::NodeCore;
 use crate::error::HostError;
-<<<<<<< HEAD
 use node_core::{News, Rejoining};
-=======
-use neighborhood::{News, Rejoining};
->>>>>>> 973ea1a4 (Part what a node's lock keeps from its threads)
 use node_names::{Dice, NodeName};
 use protocol::StimulusOf;
 use rand_pcg::Lcg128Xsl64;

@@ -9,11 +9,7 @@ use crate::host::Host;
 use crate::host::joining::put;
 use crate::host::shared::{Shared, step, with};
 use crate::host::worker::Outlets;
-<<<<<<< HEAD
 use node_core::News;
-=======
-use neighborhood::News;
->>>>>>> 973ea1a4 (Part what a node's lock keeps from its threads)
 use node_names::NodeName;
 use rand_pcg::Lcg128Xsl64;
 use std::alloc::Allocator;
