@@ -105,7 +105,7 @@ def archives_in(top, target, backends=("llvm",)):
     shutil.rmtree(f"{where}/{out}", ignore_errors=True)
     os.makedirs(f"{where}/{out}")
     proved = f"{out}/proved"
-    call([*toolchain.words(LIBRARY, "check", top), "--target", target, "-o", proved], where)
+    call([*toolchain.words(LIBRARY, "check", top, jobs=lanes(proofs.MEMORY)), "--target", target, "-o", proved], where)
     for backend in backends:
         os.makedirs(f"{where}/{out}/{backend}")
         words = [*toolchain.words(LIBRARY, "build", top, proved), "--target", target, "--backend", backend]

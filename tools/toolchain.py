@@ -25,9 +25,9 @@ class Toolchain:
                 found += [it for it in [*self.below(name), name] if it not in found]
         return found
 
-    def words(self, crate, verb="check", top=TOP, proved=None):
-        """Returns the words that check a crate over what was built of the libraries below it in the repository at `top`, or that build it,
-        from what a check left at `proved` if that is named."""
+    def words(self, crate, verb="check", top=TOP, proved=None, jobs=1):
+        """Returns the words that check a crate, by so many processes, over what was built of the libraries below it in the repository at
+        `top`, or that build it, from what a check left at `proved` if that is named."""
         root = "main" if os.path.isfile(f"{top}/crates/{crate}/src/main.rt") else "lib"
         words = [f"{self.kit}/bin/rattle", verb, "--crate-name", crate, f"src/{root}.rt", "--links", f"{crate}="]
         words += ["--crate-type", "staticlib"] if crate in self.static else []
@@ -36,4 +36,4 @@ class Toolchain:
         for folder in [f"{self.kit}/rlibs", *(os.path.dirname(rlib(name, top)) for name in self.below(crate))]:
             words += ["-L", f"dependency={folder}"]
         words += ["--antt-project", f"{self.kit}/rattle/logic/antt-project.json"]
-        return [*words, *(["--crate-checked", proved] if proved else ["--jobs", "1", "--logic-built", f"{self.kit}/logic_built"])]
+        return [*words, *(["--crate-checked", proved] if proved else ["--jobs", f"{jobs}", "--logic-built", f"{self.kit}/logic_built"])]

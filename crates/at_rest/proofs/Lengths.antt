@@ -10,7 +10,7 @@ use Rattle.missing.specs.Timers.{with_timer, with_timers, without_timer}
 use Rattle.missing.specs.Wants.{first_want, is_wanted, with_want, with_wants, without_first}
 use Rattle.peer_sets.specs.Members.{eager_but, is_eager_kind, lazy_but, with_kind}
 use Rattle.peer_sets.specs.Queue.{is_queued, with_entries}
-use Rattle.peer_sets.specs.declared.kind.PeerKind.{PeerKind}
+use Rattle.peer_sets.specs.declared.members.PeerKind.{PeerKind}
 
 -- what is filtered is no longer
 pub filtered : {X : Type 0} (p : X → Bool) (xs : List X) → length (filter p xs) ≤ length xs

@@ -15,7 +15,7 @@ use Rattle.missing.specs.Timers.{without_timer}
 use Rattle.missing.specs.Wants.{first_want, without_first}
 use Rattle.peer_sets.specs.Members.{eager_but, is_member, lazy_but}
 use Rattle.peer_sets.specs.Queue.{with_entries}
-use Rattle.peer_sets.specs.declared.kind.PeerKind.TheVariants.{Eager, Lazy}
+use Rattle.peer_sets.specs.declared.members.PeerKind.TheVariants.{Eager, Lazy}
 use Rattle.gossip_core.specs.State.{GossipState}
 use Rattle.gossip_core.specs.Table.{Outcome, answer, asked, first_copy, gossip_to, is_news, next_round, outcome, shortcut, spread, swapped, with_peer}
 use Rattle.gossip_core.specs.declared.call.CallOf.TheVariants as call

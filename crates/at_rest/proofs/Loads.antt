@@ -25,7 +25,7 @@ use Rattle.world.proofs.Traffic.{flights}
 use Rattle.world.proofs.Weights.{AreSent, arriving, flying_weight}
 use Rattle.frames.specs.Content.{frame_content}
 use Rattle.frames.specs.Frame.{Frame}
-use Rattle.peer_sets.specs.declared.kind.PeerKind.{PeerKind}
+use Rattle.peer_sets.specs.declared.members.PeerKind.{PeerKind}
 use Rattle.node_core.specs.Plum.{IsSoundPlum, Plum, plum_state}
 use Rattle.node_core.specs.Steps.{PlumStarts, PlumSteps, Turned, delivered_at, gone_on, turned}
 use Rattle.at_rest.specs.Load.{core_load, flying_load, lacked, links, load, waiting}

@@ -17,8 +17,8 @@ use Rattle.node_names.proofs.Distinct.{each-append, each-filter, each-map, each-
 use Rattle.peer_sets.proofs.MemberLemmas.{each_is_member, is_member-names}
 use Rattle.peer_sets.specs.Members.{eager_but, is_eager_kind, is_member, names}
 use Rattle.peer_sets.specs.Queue.{receivers, waiting_for}
-use Rattle.peer_sets.specs.declared.kind.PeerKind.{PeerKind}
-use Rattle.peer_sets.specs.declared.kind.PeerKind.TheVariants.{Lazy}
+use Rattle.peer_sets.specs.declared.members.PeerKind.{PeerKind}
+use Rattle.peer_sets.specs.declared.members.PeerKind.TheVariants.{Lazy}
 use Rattle.gossip_core.specs.Announcements.{frames_of, packets_to}
 use Rattle.gossip_core.specs.State.{GossipState}
 use Rattle.gossip_core.specs.Table.{Outcome, answer, asked, first_copy, gossip_to, is_news, next_round, outcome, passed_by, shortcut, swapped, with_peer}

@@ -4,7 +4,7 @@ use crate::link_error::LinkError;
 use crate::loop_node::LoopNode;
 use crate::program::Situation;
 use indexmap::IndexMap;
-use neighborhood::Rejoining;
+use node_core::Rejoining;
 use node_names::{Dice, NodeName};
 use rand_core::Rng;
 use slab::Slab;

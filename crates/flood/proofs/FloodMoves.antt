@@ -12,14 +12,14 @@ use Rattle.node_names.specs.Same.{has_name, same_name, same_name-Decides, same_o
 use Rattle.node_names.specs.declared.dice.Dice.{Dice}
 use Rattle.node_names.specs.declared.ids.MsgId.{MsgId}
 use Rattle.node_names.specs.declared.ids.Origin.{Origin}
-use Rattle.protocol.specs.lawful.NameLists.{and_right, lacks_from_each, not_true}
+use Rattle.protocol.specs.impl_proofs.NameLists.{and_right, lacks_from_each, not_true}
 use Rattle.protocol.specs.Output.{Output, Stepped}
 use Rattle.protocol.specs.SameNames.{SameNames}
 use Rattle.protocol.specs.Stimulus.{Stimulus, lent}
 use Rattle.protocol.specs.declared.stimulus.StimulusOf.{StimulusOf}
 use Rattle.protocol.specs.declared.stimulus.StimulusOf.TheVariants.{Arrive, Fire, Flush, Down, Shuffle, Join}
 use Rattle.flood.specs.FloodCore.{Flooding, Message, FloodSteps, HoldsCounted, IsIdle, Takes, flood_after, is_news, note_to, others, payload_of, with_news}
-use Rattle.flood.specs.lawful.Counted.{counts_next, counts_others}
+use Rattle.flood.specs.impl_proofs.Counted.{counts_next, counts_others}
 
 -- a step that may give nothing appends nothing
 pub gives_nothing : (old : Flooding) (stimulus : Stimulus Message) (new : Flooding) (out : Output Message) →

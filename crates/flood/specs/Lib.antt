@@ -1,2 +1,2 @@
 pub mod FloodCore
-pub mod lawful
+pub mod impl_proofs

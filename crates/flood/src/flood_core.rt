@@ -233,8 +233,8 @@ impl<A: Allocator + Copy> FloodCore<A> {
 impl<A: Allocator + Copy> Core<A> for FloodCore<A> {
     ghost use Rattle.flood.specs.FloodCore.{flood_after, flood_state, FloodStarts, FloodSteps};
     ghost use Rattle.flood.specs.FloodCore.{FloodIsSpent, IsFloodTurn, IsSoundFlooding};
-    ghost use Rattle.flood.specs.lawful.FloodDelivers.{flood_delivers_one};
-    ghost use Rattle.flood.specs.lawful.FloodLaws.{flood_lawful};
+    ghost use Rattle.flood.specs.impl_proofs.FloodDelivers.{flood_delivers_one};
+    ghost use Rattle.flood.specs.impl_proofs.FloodLaws.{flood_lawful};
 
     type Note = FloodNote<A>;
 

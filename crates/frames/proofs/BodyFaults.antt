@@ -8,13 +8,13 @@ use Rattle.std.proofs.lemmas.Bool.{cases_lt}
 use Rattle.std.proofs.lemmas.List.{length-drop}
 use Rattle.node_names.specs.NodeName.{is_name_byte}
 use Rattle.protocol.specs.declared.TheConstants.{MAX_PAYLOAD}
-use Rattle.frames.specs.declared.TheConstants.{MAX_BODY, MAX_NAMES, MAX_ANNOUNCEMENTS}
+use Rattle.frames.specs.declared.TheConstants.{MAX_BODY, MAX_FRAME, MAX_NAMES, MAX_ANNOUNCEMENTS}
 use Rattle.frames.specs.declared.body.BodyOf.TheVariants as body
 use Rattle.frames.specs.declared.fault.FrameFault.{FrameFault}
 use Rattle.frames.specs.declared.fault.FrameFault.TheVariants.{Short, TooLong, BadVersion, BadKind, BadName, BadField, BadCount, Trailing, OutOfMemory}
-use Rattle.frames.specs.declared.kind.Kind.{Kind}
-use Rattle.frames.specs.declared.kind.Kind.TheVariants.{Join, ForwardJoin, Neighbor, NeighborReply, Disconnect}
-use Rattle.frames.specs.declared.kind.Kind.TheVariants.{Shuffle, ShuffleReply, Gossip, IHave, Graft, Prune, GraftPeer}
+use Rattle.frames.specs.declared.body.Kind.{Kind}
+use Rattle.frames.specs.declared.body.Kind.TheVariants.{Join, ForwardJoin, Neighbor, NeighborReply, Disconnect}
+use Rattle.frames.specs.declared.body.Kind.TheVariants.{Shuffle, ShuffleReply, Gossip, IHave, Graft, Prune, GraftPeer}
 use Rattle.frames.specs.Answer.{IsFaultOf}
 use Rattle.frames.specs.Frame.{Frame}
 use Rattle.frames.specs.Kind.{kind_numbered, of_version}
@@ -196,7 +196,7 @@ body_few len after e =
     ]
 
 -- bytes that end before their frame does are fewer than the longest frame has
-pub few_left : (bytes : List ℕ) → read bytes ≡ Err Short → length bytes < 32880
+pub few_left : (bytes : List ℕ) → read bytes ≡ Err Short → length bytes < MAX_FRAME
 few_left bytes e =
     elim (cases_lt (length bytes) 4) [
       | inl short ↦ omega arith

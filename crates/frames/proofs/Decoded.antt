@@ -4,7 +4,7 @@ use Rattle.std.specs.Prelude.{IfOk, MatchResult}
 use Rattle.node_names.specs.declared.ids.Origin.{Origin}
 use Rattle.frames.specs.declared.fault.FrameFault.{FrameFault}
 use Rattle.frames.specs.declared.fault.FrameFault.TheVariants.{OutOfMemory}
-use Rattle.frames.specs.declared.kind.Kind.{Kind}
+use Rattle.frames.specs.declared.body.Kind.{Kind}
 use Rattle.frames.specs.Answer.{Makes}
 use Rattle.frames.specs.Body.{Body}
 use Rattle.frames.specs.Frame.{Frame, IsFrame}

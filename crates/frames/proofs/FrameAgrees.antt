@@ -10,13 +10,14 @@ use Rattle.std.proofs.lemmas.List.{append-nil, take_at, drop_at, take-append-dro
 use Rattle.std.proofs.lemmas.Nat.{be_bytes_4, from_be_bytes-to_be_bytes_4}
 use Rattle.node_names.specs.declared.ids.Origin.{Origin}
 use Rattle.node_names.specs.declared.ids.MsgId.{MsgId}
-use Rattle.frames.specs.declared.TheConstants.{MAX_BODY}
+use Rattle.protocol.specs.declared.TheConstants.{MAX_PAYLOAD}
+use Rattle.frames.specs.declared.TheConstants.{MAX_ANNOUNCEMENTS, MAX_BODY, MAX_NAMES}
 use Rattle.frames.specs.declared.body.BodyOf.TheVariants as body
 use Rattle.frames.specs.declared.fault.FrameFault.{FrameFault}
 use Rattle.frames.specs.declared.fault.FrameFault.TheVariants.{Short, TooLong}
-use Rattle.frames.specs.declared.kind.Kind.{Kind}
-use Rattle.frames.specs.declared.kind.Kind.TheVariants.{Join, ForwardJoin, Neighbor, NeighborReply, Disconnect}
-use Rattle.frames.specs.declared.kind.Kind.TheVariants.{Shuffle, ShuffleReply, Gossip, IHave, Graft, Prune, GraftPeer}
+use Rattle.frames.specs.declared.body.Kind.{Kind}
+use Rattle.frames.specs.declared.body.Kind.TheVariants.{Join, ForwardJoin, Neighbor, NeighborReply, Disconnect}
+use Rattle.frames.specs.declared.body.Kind.TheVariants.{Shuffle, ShuffleReply, Gossip, IHave, Graft, Prune, GraftPeer}
 use Rattle.frames.specs.Body.{Body}
 use Rattle.frames.specs.Field.{Holds, origin_octets, IsNumber, IsOrigin, IsAnnouncement}
 use Rattle.frames.specs.Frame.{Frame, IsFrame, has_good_fields, has_good_counts, are_numbered}
@@ -158,7 +159,7 @@ fields_good (body.NeighborReply accepted) h = refl
 fields_good body.Disconnect h = refl
 fields_good (body.Shuffle from ttl ns) h = refl
 fields_good (body.ShuffleReply ns) h = refl
-fields_good (body.Gossip i round bs) h = rw (positive i.seq h.0.seq.positive, at_most (length bs) 32768 h.1.1.0) refl
+fields_good (body.Gossip i round bs) h = rw (positive i.seq h.0.seq.positive, at_most (length bs) MAX_PAYLOAD h.1.1.0) refl
 fields_good (body.IHave entries) h = numbered_all entries h.0.2
 fields_good (body.Graft i round) h = positive i.seq h.0.seq.positive
 fields_good body.Prune h = refl
@@ -170,10 +171,10 @@ counts_good (body.ForwardJoin new ttl) h = refl
 counts_good (body.Neighbor high) h = refl
 counts_good (body.NeighborReply accepted) h = refl
 counts_good body.Disconnect h = refl
-counts_good (body.Shuffle from ttl ns) h = at_most (length ns) 8 h.1.1.0.0
-counts_good (body.ShuffleReply ns) h = at_most (length ns) 8 h.0.0
+counts_good (body.Shuffle from ttl ns) h = at_most (length ns) MAX_NAMES h.1.1.0.0
+counts_good (body.ShuffleReply ns) h = at_most (length ns) MAX_NAMES h.0.0
 counts_good (body.Gossip i round bs) h = refl
-counts_good (body.IHave entries) h = rw (positive (length entries) (omega (arith, h.0)), at_most (length entries) 64 h.0.1) refl
+counts_good (body.IHave entries) h = rw (positive (length entries) (omega (arith, h.0)), at_most (length entries) MAX_ANNOUNCEMENTS h.0.1) refl
 counts_good (body.Graft i round) h = refl
 counts_good body.Prune h = refl
 counts_good body.GraftPeer h = refl

@@ -59,7 +59,7 @@ names_parts : (bytes after rest : List ℕ) (ns : List Name) (n : ℕ) →
 names_parts bytes after rest ns n p j t =
     (p ∙ ap (λ b. n ∷ b) t.parts ∙ ap (λ m. m ∷ (flat_map name_octets ns ++ rest)) (sym t.count), (few, t.fits))
   where
-    few : length ns ≤ 8
+    few : length ns ≤ MAX_NAMES
     few = grind (arith, nat_tests)
 
 names_takes : (bytes : List ℕ) (ns : List Name) (rest : List ℕ) →
@@ -72,7 +72,7 @@ names_takes bytes ns rest h e =
     let j = judged (nat_le a.value MAX_NAMES) BadCount (λ _. times a.value name) a.after (ns, rest) a.then' in
     names_parts bytes a.after rest ns a.value a.parts j.0 (times_take name_agrees a.value a.after ns rest a.bytes_after j.1)
 
-few_pass : (n : ℕ) → n ≤ 8 → nat_le n MAX_NAMES ≡ true
+few_pass : (n : ℕ) → n ≤ MAX_NAMES → nat_le n MAX_NAMES ≡ true
 few_pass n h = grind (arith, nat_tests)
 
 names_again : (ns : List Name) (rest : List ℕ) → Holds (names_field ns) → names (octets (names_field ns) ++ rest) ≡ Ok (ns, rest)
@@ -88,7 +88,7 @@ payload_parts : (bytes after rest p : List ℕ) (n : ℕ) → bytes ≡ to_be_by
     → (bytes ≡ octets (payload_field p) ++ rest) × Holds (payload_field p)
 payload_parts bytes after rest p n parts j q l =
     let whole : bytes ≡ (to_be_bytes w32 n ++ p) ++ rest = parts_then bytes (to_be_bytes w32 n) after p rest parts q in
-    let short : n ≤ 32768 = grind (arith, nat_tests) in
+    let short : n ≤ MAX_PAYLOAD = grind (arith, nat_tests) in
     (subst (λ k. bytes ≡ (to_be_bytes w32 k ++ p) ++ rest) (sym l) whole, omega (arith, l, short))
 
 payload_takes : (bytes p rest : List ℕ) → IsBytes bytes → payload bytes ≡ Ok (p, rest) → (bytes ≡ octets (payload_field p) ++ rest) × Holds (payload_field p)
@@ -99,7 +99,7 @@ payload_takes bytes p rest h e =
     let t = octets_takes a.value a.after p rest j.1 in
     payload_parts bytes a.after rest p a.value a.parts j.0 t.0 t.1
 
-short_passes : (n : ℕ) → n ≤ 32768 → nat_le n MAX_PAYLOAD ≡ true
+short_passes : (n : ℕ) → n ≤ MAX_PAYLOAD → nat_le n MAX_PAYLOAD ≡ true
 short_passes n h = grind (arith, nat_tests)
 
 payload_again : (p rest : List ℕ) → Holds (payload_field p) → payload (octets (payload_field p) ++ rest) ≡ Ok (p, rest)
@@ -122,7 +122,7 @@ announcements_parts bytes after rest entries n p j t =
     let whole : bytes ≡ (to_be_bytes w16 n ++ flat_map announcement_octets entries) ++ rest =
     parts_then bytes (to_be_bytes w16 n) after (flat_map announcement_octets entries) rest p t.parts in
     let some : 1 ≤ n = grind (arith, nat_tests) in
-    let few : n ≤ 64 = grind (arith, nat_tests) in (
+    let few : n ≤ MAX_ANNOUNCEMENTS = grind (arith, nat_tests) in (
       subst (λ k. bytes ≡ (to_be_bytes w16 k ++ flat_map announcement_octets entries) ++ rest) (sym t.count) whole,
       (omega (arith, t.count, some), omega (arith, t.count, few), t.fits),
     )
@@ -137,7 +137,7 @@ announcements_takes bytes entries rest h e =
     let j = judged (nat_le 1 a.value && nat_le a.value MAX_ANNOUNCEMENTS) BadCount (λ _. times a.value announcement) a.after (entries, rest) a.then' in
     announcements_parts bytes a.after rest entries a.value a.parts j.0 (times_take announcement_agrees a.value a.after entries rest a.bytes_after j.1)
 
-some_pass : (n : ℕ) → 1 ≤ n → n ≤ 64 → (nat_le 1 n && nat_le n MAX_ANNOUNCEMENTS) ≡ true
+some_pass : (n : ℕ) → 1 ≤ n → n ≤ MAX_ANNOUNCEMENTS → (nat_le 1 n && nat_le n MAX_ANNOUNCEMENTS) ≡ true
 some_pass n some few = grind (arith, nat_tests)
 
 announcements_again : (entries : List (MsgId × ℕ)) (rest : List ℕ) →

@@ -2,9 +2,9 @@
 use Rattle.std.specs.Prelude.{ℕ, Option, Some, None, ◌==◌, if◌then◌else◌}
 use Rattle.frames.specs.declared.body.BodyOf.{BodyOf}
 use Rattle.frames.specs.declared.body.BodyOf.TheVariants as body
-use Rattle.frames.specs.declared.kind.Kind.{Kind}
-use Rattle.frames.specs.declared.kind.Kind.TheVariants.{Join, ForwardJoin, Neighbor, NeighborReply, Disconnect}
-use Rattle.frames.specs.declared.kind.Kind.TheVariants.{Shuffle, ShuffleReply, Gossip, IHave, Graft, Prune, GraftPeer}
+use Rattle.frames.specs.declared.body.Kind.{Kind}
+use Rattle.frames.specs.declared.body.Kind.TheVariants.{Join, ForwardJoin, Neighbor, NeighborReply, Disconnect}
+use Rattle.frames.specs.declared.body.Kind.TheVariants.{Shuffle, ShuffleReply, Gossip, IHave, Graft, Prune, GraftPeer}
 
 -- the version of the frames of a kind
 abbrev pub version_of : Kind → ℕ

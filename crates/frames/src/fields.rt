@@ -4,8 +4,8 @@ ghost use Rattle.std.specs.Int.{w16, w32, w64};
 ghost use Rattle.frames.specs.Answer.{Reads};
 ghost use Rattle.frames.specs.Reading as read;
 
+use crate::body::Kind;
 use crate::fault::FrameFault;
-use crate::kind::Kind;
 use node_names::{Incarnation, MsgId, NodeName, Origin};
 use std::marker::Model;
 

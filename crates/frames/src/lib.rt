@@ -8,20 +8,16 @@ mod encoding;
 mod fault;
 mod fields;
 mod frame;
-mod kind;
 mod laws;
 mod list;
-mod put;
-mod rows;
 mod sameness;
 
-pub use body::{Body, BodyOf};
+pub use body::{Body, BodyOf, kind_number};
 pub use cutter::Cutter;
 pub use decoding::decode;
 pub use encoding::encode;
 pub use fault::FrameFault;
 pub use frame::Frame;
-pub use kind::kind_number;
 pub use laws::cuttings_agree;
 pub use sameness::same_frame;
 

@@ -3,9 +3,8 @@ ghost use Rattle.std.specs.Prelude.{◌≡◌};
 ghost use Rattle.std.specs.Bool.{Decides};
 ghost use Rattle.frames.specs.Sameness.{entries_of, flag_of, kind_number, message_of, names_of, payload_of, walk_of};
 
-use crate::body::{Body, BodyOf};
+use crate::body::{Body, BodyOf, kind_number};
 use crate::frame::Frame;
-use crate::kind::kind_number;
 use node_names::{MsgId, NodeName};
 use std::alloc::Allocator;
 

@@ -11,7 +11,7 @@ use Rattle.missing.specs.Missing.{Missing, got, without_all}
 use Rattle.peer_sets.specs.Members.{lazy_but, with_kind, with_members, without_members}
 use Rattle.peer_sets.specs.PeerSets.{PeerSets, relinked}
 use Rattle.peer_sets.specs.Queue.{with_entries, without_all_entries}
-use Rattle.peer_sets.specs.declared.kind.PeerKind.TheVariants.{Eager}
+use Rattle.peer_sets.specs.declared.members.PeerKind.TheVariants.{Eager}
 use Rattle.gossip_core.proofs.KnownLemmas.{found_in_insert}
 use Rattle.gossip_core.specs.State.{GossipState, IsSound}
 use Rattle.gossip_core.specs.Store.{AreCounted, AreKnown}

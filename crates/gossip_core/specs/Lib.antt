@@ -5,3 +5,4 @@ pub mod Announcements
 pub mod Store
 pub mod Table
 pub mod Refusals
+pub mod Rows

@@ -13,8 +13,8 @@ use Rattle.missing.specs.Missing.{announced_all, taken_first, got, without}
 use Rattle.missing.specs.Wants.{first_want}
 use Rattle.peer_sets.specs.Members.{is_member, eager_but, lazy_but, with_member, without_member, with_kind}
 use Rattle.peer_sets.specs.Queue.{with_entries, without_entries}
-use Rattle.peer_sets.specs.declared.kind.PeerKind.{PeerKind}
-use Rattle.peer_sets.specs.declared.kind.PeerKind.TheVariants.{Eager, Lazy}
+use Rattle.peer_sets.specs.declared.members.PeerKind.{PeerKind}
+use Rattle.peer_sets.specs.declared.members.PeerKind.TheVariants.{Eager, Lazy}
 use Rattle.gossip_core.specs.declared.call.CallOf.{CallOf}
 use Rattle.gossip_core.specs.declared.call.CallOf.TheVariants.{Broadcast, OnGossip, OnIHave, Fire, OnGraft, OnGraftPeer, OnPrune, Flush, Up, Down}
 use Rattle.gossip_core.specs.Announcements.{announcements}

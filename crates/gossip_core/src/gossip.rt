@@ -9,18 +9,21 @@ ghost use Rattle.node_names.specs.Same.{same_id, same_name};
 ghost use Rattle.known_messages.specs.Known.{IsSpan};
 ghost use Rattle.peer_sets.specs.Members.{all_eager};
 ghost use Rattle.gossip_core.specs.Refusals.{CanTake, IsTooLong, IsSpent};
+ghost use Rattle.gossip_core.specs.Rows.{CanChange, Leads, changed};
 ghost use Rattle.gossip_core.specs.State.{GossipState, IsSound};
-ghost use Rattle.gossip_core.specs.Table.{lent, Does, outcome, is_news, next_id, repeated};
+ghost use Rattle.gossip_core.specs.Table.{lent, Does, outcome, is_news, next_id, swapped};
 ghost use Rattle.gossip_core.specs.Table.{first_copy, shortcut, with_peer, after_downs, after_ups};
 ghost use Rattle.gossip_core.specs.declared.call.CallOf.TheVariants.{Broadcast, OnGossip, OnIHave, Fire, OnGraft};
 ghost use Rattle.gossip_core.specs.declared.call.CallOf.TheVariants.{OnGraftPeer, OnPrune, Flush, Up, Down};
+ghost use Rattle.gossip_core.specs.declared.row.RowOf.TheVariants as row;
 
 use crate::answer::Answer;
-use crate::answers::answers;
 use crate::call::{Call, CallOf};
 use crate::effects::Effects;
 use crate::fault::GossipFault;
+use crate::row::{Decided, Row, RowOf};
 use crate::store;
+use crate::table::{announced, decide};
 use bytes::Bytes;
 use known_messages::{KnownIds, MessageStore};
 use missing::Missing;
@@ -32,11 +35,12 @@ use std::marker::Model;
 
 /// The gossip of one run of one node: which messages it has, to whom it sends them, and how it repairs what it lacks.
 ///
-/// A call has two halves: `answer` returns what it will send and deliver, and `take` changes the state. A caller that
-/// makes room for the answer in between has nothing left that can fail after `take`. The other calls do both halves at
-/// once. Looking up a held message takes constant time; a copy takes time proportional to the number of messages held.
-/// The memory for the known messages grows with their origins and with the gaps in their numbers, not with the numbers
-/// known; the memory for the held messages grows with `keep`, or with all messages if that is 0.
+/// A call has two halves: `answer` decides which row of the table it is, with what it will send and deliver, and `take`
+/// makes that row's change. A caller that makes room for the answer in between has nothing left that can fail after
+/// `take`. The other calls do both halves at once. Looking up a held message takes constant time; a copy takes time
+/// proportional to the number of messages held. The memory for the known messages grows with their origins and with the
+/// gaps in their numbers, not with the numbers known; the memory for the held messages grows with `keep`, or with all
+/// messages if that is 0.
 #[derive(Drop)]
 pub struct Gossip<A: Allocator = Global> {
     me: Origin,
@@ -134,9 +138,11 @@ impl<A: Allocator + Copy> Gossip<A> {
         })
     }
 
-    /// Returns what the call will send and deliver; changes nothing. Errors are tested in the order of `GossipFault`.
-    pub fn answer(&self, call: &Call<'_, A>) -> Result<Answer<A>, GossipFault>
-        ensures ok { IfOk result (λ answer. answer ≡ record {
+    /// Decides the call: which row of the table it is, and what it will send and deliver. Changes nothing. Errors are
+    /// tested in the order of `GossipFault`.
+    pub fn answer(&self, call: &Call<'_, A>) -> Result<Decided<A>, GossipFault>
+        ensures row { IfOk result (λ decided. Leads self.now (outcome self.now (lent call.now)).state decided.row) }
+        ensures ok { IfOk result (λ decided. decided.answer ≡ record {
           sends = (outcome self.now (lent call.now)).sends;
           delivered = (outcome self.now (lent call.now)).delivered;
         }) }
@@ -145,7 +151,7 @@ impl<A: Allocator + Copy> Gossip<A> {
         ensures spent { IsErrOf result GossipFault.SeqSpent ↔ IsSpent self.now (lent call.now) }
     {
         self.validate(call)?;
-        Ok(answers(*self.held.allocator(), self, call)?)
+        Ok(decide(*self.held.allocator(), self, call)?)
     }
 
     /// Rejects a call that may not be made.
@@ -185,53 +191,53 @@ impl<A: Allocator + Copy> Gossip<A> {
         Ok(())
     }
 
-    /// Changes the state as the call does, or leaves it unchanged if an allocation fails.
-    pub fn take(&mut self, call: &Call<'_, A>) -> Result<(), AllocError>
-        requires { CanTake self.old (lent call.now) }
-        ensures ok { OnOk result (self.new ≡ (outcome self.old (lent call.now)).state) }
+    /// Makes the change of a row that `answer` decided, or leaves the state unchanged if an allocation fails.
+    pub fn take(&mut self, row: Row<A>) -> Result<(), AllocError>
+        requires { CanChange self.old row }
+        ensures ok { OnOk result (self.new ≡ changed row self.old) }
         ensures err { OnErr result (self.new ≡ self.old) }
     {
-        match call {
-            CallOf::Broadcast { payload } => self.take_broadcast(payload),
-            CallOf::OnGossip {
+        match row {
+            RowOf::Broadcast { payload } => self.take_broadcast(payload),
+            RowOf::FirstCopy {
                 sender,
                 id,
                 round,
                 payload,
-            } => self.take_gossip(sender, id, *round, payload),
-            CallOf::OnIHave { sender, entries } => self.on_ihave(sender, entries),
-            CallOf::Fire { id } => {
-                self.take_fire(id);
+                announcer,
+            } => self.take_first_copy(&sender, &id, round, payload, &announcer),
+            RowOf::Announced { sender, news } => self
+                .missing
+                .announce_all(&sender, news.as_slice()),
+            RowOf::Fired { id, asked } => {
+                self.take_fired(&id, &asked);
                 Ok(())
             }
-            CallOf::OnGraft { sender, .. } => {
-                self.peers.make_eager(sender);
+            RowOf::Eager { peer } => {
+                self.peers.make_eager(&peer);
                 Ok(())
             }
-            CallOf::OnGraftPeer { sender } => {
-                self.on_graft_peer(sender);
+            RowOf::Lazy { peer } => {
+                self.peers.make_lazy(&peer);
                 Ok(())
             }
-            CallOf::OnPrune { sender } => {
-                self.on_prune(sender);
-                Ok(())
-            }
-            CallOf::Flush => {
+            RowOf::Flushed => {
                 self.peers.clear_queue();
                 Ok(())
             }
-            CallOf::Up { peer } => self.up(peer),
-            CallOf::Down { peer } => {
-                self.down(peer);
+            RowOf::Up { peer } => self.up(&peer),
+            RowOf::Down { peer } => {
+                self.down(&peer);
                 Ok(())
             }
+            RowOf::Nothing => Ok(()),
         }
     }
 
     /// Holds and queues the node's next message.
-    fn take_broadcast(&mut self, payload: &Bytes<A>) -> Result<(), AllocError>
-        requires { CanTake self.old (Broadcast payload.now) }
-        ensures ok { OnOk result (self.new ≡ (outcome self.old (Broadcast payload.now)).state) }
+    fn take_broadcast(&mut self, payload: Bytes<A>) -> Result<(), AllocError>
+        requires { CanTake self.old (Broadcast payload) }
+        ensures ok { OnOk result (self.new ≡ (outcome self.old (Broadcast payload)).state) }
         ensures err { OnErr result (self.new ≡ self.old) }
     {
         let seq = self.spent + 1;
@@ -250,32 +256,6 @@ impl<A: Allocator + Copy> Gossip<A> {
             self.keep,
         )?;
         self.spent = seq;
-        Ok(())
-    }
-
-    /// Takes a packet that carries a message.
-    fn take_gossip(
-        &mut self,
-        sender: &NodeName,
-        id: &MsgId,
-        round: u32,
-        payload: &Bytes<A>,
-    ) -> Result<(), AllocError>
-        ensures ok { OnOk result (self.new ≡ (outcome self.old (OnGossip sender.now id.now round payload.now)).state) }
-        ensures err { OnErr result (self.new ≡ self.old) }
-    {
-        if self.knows(id) {
-            self.take_repeated(sender);
-            return Ok(());
-        }
-        if id.origin == self.me {
-            return Ok(());
-        }
-        let announcer = self.shortcut(sender, id, round);
-        self.take_first_copy(sender, id, round, payload)?;
-        if let Some(announcer) = announcer {
-            self.swap(sender, &announcer);
-        }
         Ok(())
     }
 
@@ -304,27 +284,39 @@ impl<A: Allocator + Copy> Gossip<A> {
         self.peers.make_lazy(sender);
     }
 
-    /// Handles another copy of a known message.
-    fn take_repeated(&mut self, sender: &NodeName)
-        ensures { self.new ≡ (repeated sender.now self.old).state }
-    {
-        if !self.peers.is_member(sender) {
-            return;
-        }
-        self.peers.make_lazy(sender);
-    }
-
-    /// Handles the first copy of a message of another origin.
+    /// Handles the first copy of a message of another origin, and the swap with a nearer announcer, if there is one.
     fn take_first_copy(
         &mut self,
         sender: &NodeName,
         id: &MsgId,
         round: u32,
-        payload: &Bytes<A>,
+        payload: Bytes<A>,
+        announcer: &Option<NodeName>,
     ) -> Result<(), AllocError>
         requires unknown { set.contains self.old.known id.now ≡ false }
         requires foreign { id.now.origin ≢ self.old.me }
-        ensures ok { OnOk result (self.new ≡ (first_copy sender.now id.now round payload.now self.old).state) }
+        ensures ok { OnOk result (self.new ≡ (swapped sender.now announcer.now
+            (first_copy sender.now id.now round payload self.old)).state) }
+        ensures err { OnErr result (self.new ≡ self.old) }
+    {
+        self.keep_first_copy(sender, id, round, payload)?;
+        if let Some(announcer) = announcer {
+            self.swap(sender, announcer);
+        }
+        Ok(())
+    }
+
+    /// Holds and queues the first copy of a message of another origin.
+    fn keep_first_copy(
+        &mut self,
+        sender: &NodeName,
+        id: &MsgId,
+        round: u32,
+        payload: Bytes<A>,
+    ) -> Result<(), AllocError>
+        requires unknown { set.contains self.old.known id.now ≡ false }
+        requires foreign { id.now.origin ≢ self.old.me }
+        ensures ok { OnOk result (self.new ≡ (first_copy sender.now id.now round payload self.old).state) }
         ensures err { OnErr result (self.new ≡ self.old) }
     {
         store::keep(
@@ -342,15 +334,13 @@ impl<A: Allocator + Copy> Gossip<A> {
         Ok(())
     }
 
-    /// Fires the timer of `id`: the peer that announced `id` first, if there is one, becomes eager.
-    fn take_fire(&mut self, id: &MsgId)
-        ensures { self.new ≡ (outcome self.old (Fire id.now)).state }
+    /// Uses up the first announcement of `id`, or its timer if there is none, and makes the peer that is asked eager.
+    fn take_fired(&mut self, id: &MsgId, asked: &Option<NodeName>)
+        ensures { self.new ≡ changed (row.Fired id.now asked.now) self.old }
     {
-        if !self.missing.armed(id) {
-            return;
-        }
-        if let Some((peer, _)) = self.missing.take_first(id) {
-            self.peers.make_eager(&peer);
+        self.missing.take_first(id);
+        if let Some(peer) = asked {
+            self.peers.make_eager(peer);
         }
     }
 
@@ -360,15 +350,16 @@ impl<A: Allocator + Copy> Gossip<A> {
         ensures ok { OnOk result (Does (lent call.now) self.old out.old self.new out.new) }
         ensures err { OnErr result ((self.new ≡ self.old) × (out.new ≡ out.old)) }
     {
-        let given = answers(*self.held.allocator(), self, call)?;
+        let decided = decide(*self.held.allocator(), self, call)?;
+        let Decided { row, answer } = decided;
         let Answer {
             first,
             others,
             delivered,
-        } = given;
+        } = answer;
         let kept = out.sends.len();
         out.send_all(first, others)?;
-        match self.take(call) {
+        match self.take(row) {
             Ok(()) => {
                 out.deliver(delivered);
                 Ok(())
@@ -425,7 +416,7 @@ impl<A: Allocator + Copy> Gossip<A> {
     }
 
     /// Returns the announcements of messages that the node lacks and did not broadcast itself.
-    fn news(&self, entries: &[(MsgId, u32)]) -> Result<Vec<(MsgId, u32), A>, AllocError>
+    pub(crate) fn news(&self, entries: &[(MsgId, u32)]) -> Result<Vec<(MsgId, u32), A>, AllocError>
         ensures { IfOk result (λ news. news.items ≡ filter (λ entry. is_news self.now entry.0) entries.now) }
     {
         let mut news = Vec::new(*self.held.allocator());
@@ -446,11 +437,8 @@ impl<A: Allocator + Copy> Gossip<A> {
         ensures ok { OnOk result (self.new ≡ (outcome self.old (OnIHave sender.now entries.now)).state) }
         ensures err { OnErr result (self.new ≡ self.old) }
     {
-        if self.peers.is_member(sender) {
-            let news = self.news(entries)?;
-            self.missing.announce_all(sender, &news)?;
-        }
-        Ok(())
+        let row = announced(self, sender, entries)?;
+        self.take(row)
     }
 
     /// Fires the timer of `id`: the peer that announced `id` first, if there is one, is asked for the message.

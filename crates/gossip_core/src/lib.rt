@@ -3,16 +3,17 @@
 
 mod announcements;
 mod answer;
-mod answers;
 mod call;
 mod effects;
 mod fault;
 mod gossip;
-mod spread;
+mod row;
 mod store;
+mod table;
 
 pub use answer::Answer;
 pub use call::{Call, CallOf};
 pub use effects::Effects;
 pub use fault::GossipFault;
 pub use gossip::Gossip;
+pub use row::{Decided, Row, RowOf};

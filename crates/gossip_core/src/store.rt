@@ -23,24 +23,23 @@ pub(crate) fn keep<A: Allocator + Copy>(
     left_out: &Option<NodeName>,
     id: &MsgId,
     round: u32,
-    payload: &Bytes<A>,
+    payload: Bytes<A>,
     keep: u32,
 ) -> Result<(), AllocError>
     requires absent { lookup (same_id id.now) held.old.messages ≡ None }
     requires unqueued { has_entry_of id.now peers.old.queued ≡ false }
     ensures known { OnOk result (ids known.new ≡ set.insert (ids known.old) id.now) }
-    ensures held { OnOk result (held.new.messages ≡ kept_last keep (held.old.messages ++ (id.now, payload.now) ∷ [])) }
+    ensures held { OnOk result (held.new.messages ≡ kept_last keep (held.old.messages ++ (id.now, payload) ∷ [])) }
     ensures peers { OnOk result (peers.new ≡ record peers.old {
       queued = with_entries (lazy_but left_out.now peers.old.members) id.now round peers.old.queued;
     }) }
     ensures err { OnErr result
         ((ids known.new ≡ ids known.old) × (held.new.messages ≡ held.old.messages) × (peers.new ≡ peers.old)) }
 {
-    let kept = payload.clone()?;
     held.make_room()?;
     known.make_room(id)?;
     peers.queue_lazy(left_out, id, round)?;
-    held.push(id, kept, keep);
+    held.push(id, payload, keep);
     known.insert(id);
     Ok(())
 }

@@ -7,6 +7,7 @@ use Rattle.std.specs.List.{flat_map}
 use Rattle.std.proofs.Math.Dec.{eqb-suc-zero}
 use Rattle.std.proofs.lemmas.Bool.{le-ltb, lt-ltb}
 use Rattle.std.proofs.lemmas.List.{drop_all, length-append}
+use Rattle.handshake.specs.declared.TheConstants.{MAX_HELLO, MAX_INTRODUCTION}
 use Rattle.handshake.specs.declared.address.Address.{Address}
 use Rattle.handshake.specs.declared.address.Address.TheVariants.{V4, V6}
 use Rattle.handshake.specs.declared.hello.Hello.{Hello}
@@ -45,11 +46,11 @@ first_more true = refl
 
 second_more : (is_open : Bool) (len : ℕ) → 0 < len → len ≤ max_text is_open → judged is_open (kind_of is_open ∷ len ∷ []) ≡ Ok None
 second_more false len some few =
-    let right = right_len 90 len some few in
+    let right = right_len MAX_HELLO len some few in
     let short : ltb 0 len ≡ true = lt-ltb _ _ some in
     rw (right, short) refl
 second_more true len some few =
-    let right = right_len 52 len some few in
+    let right = right_len MAX_INTRODUCTION len some few in
     let short : ltb 0 len ≡ true = lt-ltb _ _ some in
     rw (right, short) refl
 
@@ -60,11 +61,11 @@ all_given : (is_open : Bool) (len : ℕ) (bytes : List ℕ) (r : Record) →
     read_record is_open bytes ≡ Ok r →
     judged is_open (kind_of is_open ∷ len ∷ bytes) ≡ Ok (Some r)
 all_given false len bytes r is some few reads =
-    let right = right_len 90 len some few in
+    let right = right_len MAX_HELLO len some few in
     let whole : ltb (length bytes) len ≡ false = le-ltb _ _ (omega arith) in
     rw (right, whole) (ap told reads)
 all_given true len bytes r is some few reads =
-    let right = right_len 52 len some few in
+    let right = right_len MAX_INTRODUCTION len some few in
     let whole : ltb (length bytes) len ≡ false = le-ltb _ _ (omega arith) in
     rw (right, whole) (ap told reads)
 
@@ -125,7 +126,7 @@ address_fits : (a : Address) → IsAddress a → length (address_text a) ≤ 19
 address_fits (V4 octets port) h = omega (arith, h.0, length-append octets (to_be_bytes w16 port))
 address_fits (V6 octets port) h = omega (arith, h.0, length-append octets (to_be_bytes w16 port))
 
-hello_fits : (h : Hello) → IsHello h → length (text h) ≤ 90
+hello_fits : (h : Hello) → IsHello h → length (text h) ≤ MAX_HELLO
 hello_fits h i =
     let label = i.label.short in
     let name = i.name.short in
@@ -133,7 +134,7 @@ hello_fits h i =
     let all = length-append (length h.label ∷ h.label) ((length h.name ∷ h.name) ++ address_text h.at) in
     omega (arith, address_fits h.at i.at, both, all, label, name)
 
-introduction_fits : (i : Introduction) → IsIntroduction i → length (introduction_text i) ≤ 52
+introduction_fits : (i : Introduction) → IsIntroduction i → length (introduction_text i) ≤ MAX_INTRODUCTION
 introduction_fits i h = omega (arith, address_fits i.at h.at, length-append (length i.name ∷ i.name) (address_text i.at), h.name.short)
 
 hello_read : (h : Hello) → IsHello h → run start (hello_record h) ≡ Ok (opened, gave (Told.Hello h) ∷ [])

@@ -9,6 +9,7 @@ use Rattle.std.proofs.lemmas.Bool.{le-ltb, cases_lt}
 use Rattle.std.proofs.lemmas.Bool.Decides.{Decides-eqb, Decides-ltb}
 use Rattle.std.proofs.lemmas.List.{length-append, length-take-le, take_at}
 use Rattle.node_names.specs.NodeName.{Name, IsNodeName, is_name_byte}
+use Rattle.handshake.specs.declared.TheConstants.{MAX_HELLO}
 use Rattle.handshake.specs.declared.address.Address.{Address}
 use Rattle.handshake.specs.declared.error.HelloError.{HelloError}
 use Rattle.handshake.specs.declared.error.HelloError.TheVariants.{Short, NotPlumtree, OtherVersion, BadLabel, BadName, BadAddress}
@@ -250,7 +251,7 @@ address_refused kind rest four six =
 
 -- what an error says of the bytes
 abbrev pub Told : HelloError → List ℕ → Type 0
-Told Short bytes = length bytes < 90
+Told Short bytes = length bytes < MAX_HELLO
 Told NotPlumtree bytes = BeginsOtherwise bytes
 Told (OtherVersion v) bytes = HasOtherVersion v bytes
 Told BadLabel bytes = HasBadLabel bytes

@@ -5,6 +5,7 @@ use Rattle.std.specs.Prelude.{◌&&◌, ◌||◌}
 use Rattle.std.proofs.Math.Dec.{eqb-suc-zero}
 use Rattle.std.proofs.lemmas.Bool.{ltb-false, ltb-true, lt-ltb}
 use Rattle.std.proofs.lemmas.List.{append-nil, length-append, length-take, take-append-drop}
+use Rattle.handshake.specs.declared.TheConstants.{MAX_HELLO, MAX_RECORD}
 use Rattle.handshake.specs.declared.error.HandshakeError.{HandshakeError}
 use Rattle.handshake.specs.declared.error.HandshakeError.TheVariants as Fault
 use Rattle.handshake.specs.declared.record.Record.{Record}
@@ -91,7 +92,7 @@ more_of is_open kind len text e =
     record { right_kind = rest.0; right_len = test.0; not_whole = test.1 }
 
 -- a longest text is short
-max_fits : (is_open : Bool) → max_text is_open ≤ 90
+max_fits : (is_open : Bool) → max_text is_open ≤ MAX_HELLO
 max_fits false = omega arith
 max_fits true = omega arith
 
@@ -100,7 +101,7 @@ len_fits true max len e = absurd cc
 len_fits false max len e = ltb-false max len e
 
 -- there is room for the bytes that are lacking, and some are
-pub room : (is_open : Bool) (kept : List ℕ) → judged is_open kept ≡ Ok None → (0 < lacking kept) × (length kept + lacking kept ≤ 92)
+pub room : (is_open : Bool) (kept : List ℕ) → judged is_open kept ≡ Ok None → (0 < lacking kept) × (length kept + lacking kept ≤ MAX_RECORD)
 room is_open [] e = (omega arith, omega arith)
 room is_open (kind ∷ []) e = (omega arith, omega arith)
 room is_open (kind ∷ len ∷ text) e =

@@ -3,6 +3,7 @@ use Rattle.std.proofs.Common.{◌≡◌, ◌≢◌, ℕ, ◌<◌, Bool, true, fa
 use Rattle.std.specs.Prelude.{◌||◌}
 use Rattle.std.proofs.lemmas.Bool.{lt-ltb}
 use Rattle.std.proofs.lemmas.Bool.Decides.{Decides-eqb}
+use Rattle.handshake.specs.declared.TheConstants.{MAX_HELLO}
 use Rattle.handshake.specs.declared.error.HandshakeError.TheVariants as Fault
 use Rattle.handshake.specs.Connection.{opened}
 use Rattle.handshake.specs.Inbound.{run, start, step}
@@ -30,12 +31,12 @@ or_true : (a : Bool) → (a || true) ≡ true
 or_true true = refl
 or_true false = refl
 
-second_refused : (len : ℕ) (rest : List ℕ) → 90 < len → run (at false (1 ∷ [])) (len ∷ rest) ≡ Err (Fault.BadLength len)
+second_refused : (len : ℕ) (rest : List ℕ) → MAX_HELLO < len → run (at false (1 ∷ [])) (len ∷ rest) ≡ Err (Fault.BadLength len)
 unfolding step
 second_refused len rest long =
-    let above : ltb 90 len ≡ true = lt-ltb _ _ long in
-    let wrong : (eqb len 0 || ltb 90 len) ≡ true = rw above (or_true (eqb len 0)) in
+    let above : ltb MAX_HELLO len ≡ true = lt-ltb _ _ long in
+    let wrong : (eqb len 0 || ltb MAX_HELLO len) ≡ true = rw above (or_true (eqb len 0)) in
     rw wrong refl
 
-pub too_long : (len : ℕ) (rest : List ℕ) → 90 < len → run start (1 ∷ len ∷ rest) ≡ Err (Fault.BadLength len)
+pub too_long : (len : ℕ) (rest : List ℕ) → MAX_HELLO < len → run start (1 ∷ len ∷ rest) ≡ Err (Fault.BadLength len)
 too_long len rest long = goes_on_from start (at false (1 ∷ [])) (1 ∷ []) (len ∷ rest) (kind_read false) ∙ second_refused len rest long

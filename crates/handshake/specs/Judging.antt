@@ -1,5 +1,6 @@
 -- What the bytes of a record that is no frame say.
 use Rattle.std.specs.Prelude.{ℕ, ◌-◌, Bool, true, false, ◌||◌, List, [], ◌∷◌, length, Option, Some, None, Result, Ok, Err, nat_lt, ◌==◌, if◌then◌else◌}
+use Rattle.handshake.specs.declared.TheConstants.{MAX_HELLO, MAX_INTRODUCTION}
 use Rattle.handshake.specs.declared.error.HandshakeError.{HandshakeError}
 use Rattle.handshake.specs.declared.error.HandshakeError.TheVariants as Fault
 use Rattle.handshake.specs.declared.error.HelloError.{HelloError}
@@ -53,8 +54,8 @@ unknown true kind = Fault.UnknownRecord kind
 
 -- how many bytes a text has at most
 abbrev pub max_text : Bool → ℕ
-max_text false = 90
-max_text true = 52
+max_text false = MAX_HELLO
+max_text true = MAX_INTRODUCTION
 
 -- a whole text gives its record
 abbrev pub told : Result Record HandshakeError → Result (Option Record) HandshakeError

@@ -13,12 +13,13 @@ pub(crate) struct Kept {
 
 impl Model for Kept {
     ghost use Rattle.std.specs.Prelude.{◌≤◌, List, ℕ, take};
+    ghost use Rattle.handshake.specs.declared.TheConstants.{MAX_RECORD};
 
     ghost Value = { List ℕ };
 
     ghost view = { λ k. take k.count k.bytes };
 
-    ghost invariant = { λ k. k.count ≤ 92 };
+    ghost invariant = { λ k. k.count ≤ MAX_RECORD };
 }
 
 impl Kept {

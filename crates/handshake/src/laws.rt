@@ -1,5 +1,6 @@
 //! Laws that hold for every connection. Nothing runs here: these functions are called for what they ensure.
 ghost use Rattle.std.specs.Prelude.{◌≡◌, ◌≢◌, ◌<◌, ◌∷◌, ◌++◌, All, Err, List, Ok, ℕ};
+ghost use Rattle.handshake.specs.declared.TheConstants.{MAX_HELLO};
 ghost use Rattle.handshake.specs.declared.error.HandshakeError.TheVariants as Fault;
 ghost use Rattle.handshake.specs.declared.hello.Hello.{Hello};
 ghost use Rattle.handshake.specs.Connection.{IsPart, Part, connection_text, connection_yields, opened};
@@ -21,7 +22,9 @@ pub fn connections_are_read()
 /// a record tell.
 pub fn strangers_are_refused()
     ensures no_hello { (kind : ℕ) (rest : List ℕ) → kind ≢ 1 → run start (kind ∷ rest) ≡ Err (Fault.NoHello kind) }
-    ensures too_long { (len : ℕ) (rest : List ℕ) → 90 < len → run start (1 ∷ len ∷ rest) ≡ Err (Fault.BadLength len) }
+    ensures too_long { (len : ℕ) (rest : List ℕ)
+        → MAX_HELLO < len
+        → run start (1 ∷ len ∷ rest) ≡ Err (Fault.BadLength len) }
     // So a second hello, of the kind 1, is refused.
     ensures unknown { (kind : ℕ) (rest : List ℕ) → kind ≢ 0 → kind ≢ 2
         → run opened (kind ∷ rest) ≡ Err (Fault.UnknownRecord kind) }

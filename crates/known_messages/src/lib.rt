@@ -7,7 +7,6 @@
 mod known_ids;
 mod message_store;
 mod past;
-mod span;
 
 pub use known_ids::KnownIds;
 pub use message_store::MessageStore;

@@ -1,6 +1,7 @@
 //! Consumers of frames, and sources of their bytes.
 ghost use Rattle.std.specs.Prelude.{◌≡◌, ◌≤◌, ◌∷◌, ◌++◌, [], ℕ, List, Some, None, Ok, OnErr, IsTrue, length};
 ghost use Rattle.std.specs.Bool.{OnTrue, OnFalse};
+ghost use Rattle.frames.specs.declared.TheConstants.{MAX_FRAME};
 ghost use Rattle.links.specs.Counting.{has_risen};
 
 use bytes::Bytes;
@@ -39,7 +40,7 @@ pub trait Source<A: Allocator> {
     fn next(&mut self) -> Result<Option<Bytes<A>>, AllocError>
         ensures some { (item : List ℕ)
             → result ≡ Ok (Some item)
-            → (given self.new ≡ given self.old ++ item ∷ []) × (length item ≤ 32880) }
+            → (given self.new ≡ given self.old ++ item ∷ []) × (length item ≤ MAX_FRAME) }
         ensures none { result ≡ Ok None → (given self.new ≡ given self.old) × is_spent self.new }
         ensures err { OnErr result (given self.new ≡ given self.old) };
 }

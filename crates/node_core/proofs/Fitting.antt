@@ -11,8 +11,8 @@ use Rattle.node_names.specs.NodeName.{Name}
 use Rattle.node_names.specs.Same.{same_id, same_id-Decides, same_name, has_id}
 use Rattle.node_names.specs.declared.dice.Dice.{Dice}
 use Rattle.node_names.specs.declared.ids.MsgId.{MsgId}
-use Rattle.protocol.specs.lawful.NameLists.{and_left, and_right}
-use Rattle.protocol.specs.lawful.Held.{same_inside}
+use Rattle.protocol.specs.impl_proofs.NameLists.{and_left, and_right}
+use Rattle.protocol.specs.impl_proofs.Held.{same_inside}
 use Rattle.protocol.specs.Lists.{IsOneOf}
 use Rattle.protocol.specs.Stimulus.{Stimulus}
 use Rattle.protocol.specs.declared.TheConstants.{MAX_PAYLOAD}
@@ -32,7 +32,7 @@ use Rattle.missing.specs.Missing.{announced_all, taken_first}
 use Rattle.missing.specs.Wants.{first_want, with_wants, without_first}
 use Rattle.peer_sets.specs.Members.{is_member, eager_but, lazy_but}
 use Rattle.peer_sets.specs.Queue.{waiting_for, receivers, is_queued}
-use Rattle.peer_sets.specs.declared.kind.PeerKind.TheVariants.{Eager, Lazy}
+use Rattle.peer_sets.specs.declared.members.PeerKind.TheVariants.{Eager, Lazy}
 use Rattle.gossip_core.proofs.PacketLemmas.{packets_to-step}
 use Rattle.gossip_core.specs.Announcements.{packets_to, announcements}
 use Rattle.gossip_core.specs.State.{GossipState}
@@ -40,11 +40,11 @@ use Rattle.gossip_core.specs.Table.{Call, Outcome, outcome, spread, repeated, fi
 use Rattle.gossip_core.specs.Table.{answer, is_news, next_round, quiet, with_peer, gossip_to, after_downs, after_ups}
 use Rattle.gossip_core.specs.declared.call.CallOf.TheVariants as call
 use Rattle.node_core.specs.Fits.{FitsFrames, IsFit, AreFit, ComesFit}
-use Rattle.node_core.specs.lawful.Members.{of_each, each_one, each-append, one_of_filter, one_of_map}
+use Rattle.node_core.specs.impl_proofs.Members.{of_each, each_one, each-append, one_of_filter, one_of_map}
 use Rattle.node_core.specs.Plum.{Plum}
 use Rattle.node_core.specs.Steps.{Turned, turned, heard, idle, is_joined, greeting, by_membership}
 use Rattle.node_core.proofs.Openings.{opening_fits}
-use Rattle.node_core.specs.lawful.Wanting.{stood}
+use Rattle.node_core.specs.impl_proofs.Wanting.{stood}
 
 either : {X : Type 0} (P : X → Type 0) (b : Bool) (x y : X) → (b ≡ true → P x) → (b ≡ false → P y) → P (if b then x else y)
 either P true x y p q = p refl

@@ -3,5 +3,6 @@ pub mod Frames
 pub mod Openings
 pub mod Told
 pub mod SameSets
-pub mod Parting
+pub mod PartsAgree
 pub mod Slots
+pub mod NewsLemmas

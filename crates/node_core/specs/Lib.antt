@@ -3,4 +3,6 @@ pub mod Steps
 pub mod Parts
 pub mod Fits
 pub mod Started
-pub mod lawful
+pub mod News
+pub mod Rejoining
+pub mod impl_proofs

@@ -14,13 +14,14 @@ use Rattle.frames.specs.Body.{Body}
 use Rattle.frames.specs.Frame.{Frame}
 use Rattle.frames.specs.declared.body.BodyOf.TheVariants as body
 use Rattle.membership.specs.Event.{Event, lent as lent_event}
-use Rattle.membership.specs.Membership.{Membership as Member, Turn as MemberTurn, ended, still}
+use Rattle.membership.specs.Membership.{Membership as Member, Turn as MemberTurn, ended}
 use Rattle.membership.specs.Table.{table}
 use Rattle.membership.specs.declared.event.EventOf.{EventOf}
 use Rattle.membership.specs.declared.event.EventOf.TheVariants as on
-use Rattle.gossip_core.specs.Refusals.{CanTake, IsSpent, IsTooLong}
+use Rattle.gossip_core.specs.Refusals.{IsSpent, IsTooLong}
+use Rattle.gossip_core.specs.Rows.{CanChange, Row, changed}
 use Rattle.gossip_core.specs.State.{GossipState}
-use Rattle.gossip_core.specs.Table.{Call, lent as lent_call}
+use Rattle.gossip_core.specs.Table.{Call, after_downs, after_ups, lent as lent_call}
 use Rattle.gossip_core.specs.declared.call.CallOf.{CallOf}
 use Rattle.gossip_core.specs.declared.call.CallOf.TheVariants as call
 use Rattle.node_core.specs.Plum.{Plum}
@@ -80,10 +81,11 @@ unboxed (Some boxed) = Some boxed.value
 abbrev pub moved_by : MemberTurn → ViewChange
 moved_by done = record { membership = ended done; downs = done.downs; ups = done.ups }
 
--- What is kept between the halves of a step: what the event of the membership changed, if the step is one, and the
--- last frame number.
+-- What is kept between the halves of a step: what the event of the membership changed, if the step is one; else the row
+-- of the gossip's table; and the last frame number.
 pub record PreparedStep : Type 0 where
   pub moved : Option ViewChange
+  pub row : Row
   pub framed : ℕ
 
 -- what the part does
@@ -93,12 +95,24 @@ by_part m g (Gossip called) = by_gossip m g called
 by_part m g (Greeting contact) = greeting m g contact
 by_part m g Nobody = idle m g
 
--- If the part is an event, the view change is the one that it makes; if the part is a call, the gossip can take it.
-abbrev pub Takes : Member → GossipState → Part → Option ViewChange → Type 0
-Takes m g (Membership event dice) moved = moved ≡ Some (moved_by (table event dice (still m)))
-Takes m g (Gossip called) moved = CanTake g called
-Takes m g (Greeting contact) moved = Unit {0}
-Takes m g Nobody moved = Unit {0}
+-- the membership after the step
+abbrev pub made_membership : Member → Option ViewChange → Member
+made_membership m None = m
+made_membership m (Some change) = change.membership
+
+-- the gossip after the step: it is told which links went down and came up, or makes the row's change
+abbrev pub made_gossip : GossipState → Option ViewChange → Row → GossipState
+made_gossip g None row = changed row g
+made_gossip g (Some change) row = after_ups change.ups (after_downs change.downs g)
+
+-- If no view changes, the row's change can be made.
+abbrev pub CanMake : GossipState → Option ViewChange → Row → Type 0
+CanMake g None row = CanChange g row
+CanMake g (Some change) row = Unit {0}
+
+-- What is kept can be made, and leads to these two parts.
+abbrev pub Makes : Member → GossipState → Turned → Option ViewChange → Row → Type 0
+Makes m g next moved row = CanMake g moved row × (made_membership m moved ≡ next.membership) × (made_gossip g moved row ≡ next.gossip)
 
 -- The part broadcasts a payload that is too long.
 abbrev pub IsTooLongPart : Part → Type 0
@@ -117,5 +131,5 @@ IsSpentPart g Nobody = ⊥
 -- The turn is what the core keeps between the halves of the step for a stimulus that it does not refuse.
 pub record IsTurn (core : Plum) (stimulus : Stimulus Frame) (turn : PreparedStep) : Type 0 where
   pub allowed : IsAllowed stimulus
-  pub takes : Takes core.membership core.gossip (part_of core.me core.membership stimulus) turn.moved
+  pub makes : Makes core.membership core.gossip (turned core.me core.membership core.gossip stimulus) turn.moved turn.row
   pub framed : turn.framed ≡ core.framed + length (turned core.me core.membership core.gossip stimulus).sends

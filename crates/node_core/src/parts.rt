@@ -1,18 +1,20 @@
 //! What a stimulus does to a node's two parts: first it is worked out, and then it is carried out.
 ghost use Rattle.std.specs.Prelude.{◌≡◌, ◌↔◌, false, None, Some, IfOk, OnOk, OnErr, IsErrOf};
-ghost use Rattle.gossip_core.specs.Refusals.{CanTake, IsSpent, IsTooLong};
+ghost use Rattle.gossip_core.specs.Refusals.{IsSpent, IsTooLong};
+ghost use Rattle.gossip_core.specs.Rows.{Leads};
 ghost use Rattle.gossip_core.specs.Table.{lent as lent_call, outcome};
 ghost use Rattle.membership.specs.Event.{lent as lent_event};
 ghost use Rattle.membership.specs.Membership.{still};
 ghost use Rattle.membership.specs.Table.{table};
 ghost use Rattle.protocol.specs.SameNames.{SameNames};
-ghost use Rattle.node_core.specs.Parts.{IsSpentPart, IsTooLongPart, Takes, by_part, lent, moved_by, unboxed};
+ghost use Rattle.node_core.specs.Parts.{CanMake, IsSpentPart, IsTooLongPart, Makes, by_part, lent};
+ghost use Rattle.node_core.specs.Parts.{made_gossip, made_membership, moved_by, unboxed};
 
 use crate::dispatch::{Part, PartOf};
 use crate::names::are_same;
 use crate::prepared_step::{BoxedViewChange, ViewChange};
 use frames::BodyOf;
-use gossip_core::{Answer, Call, Gossip, GossipFault};
+use gossip_core::{Answer, Call, Decided, Gossip, GossipFault, Row, RowOf};
 use membership::{Event, Membership, Moves};
 use node_names::Dice;
 use protocol::CoreError;
@@ -24,6 +26,8 @@ use std::boxed::Box;
 pub(crate) struct Worked<A: Allocator> {
     /// The next membership and its link changes, if the membership handles the stimulus.
     pub(crate) moved: Option<BoxedViewChange<A>>,
+    /// The row of the gossip's table, if the gossip handles it.
+    pub(crate) row: Row<A>,
     /// Whether the active view will be a different set.
     pub(crate) is_moved: bool,
     /// What it sends and delivers.
@@ -61,6 +65,7 @@ fn work_out_event<A: Allocator + Copy>(
     };
     Ok(Worked {
         moved: Some(boxed(alloc, moved)?),
+        row: RowOf::Nothing,
         is_moved,
         effects: Answer::of_sends(sends),
     })
@@ -71,20 +76,23 @@ fn work_out_call<A: Allocator + Copy>(
     gossip: &Gossip<A>,
     call: &Call<'_, A>,
 ) -> Result<Worked<A>, CoreError>
-    ensures takes { OnOk result (CanTake gossip.now (lent_call call.now)) }
+    ensures still { IfOk result (λ worked. unboxed worked.moved ≡ None) }
+    ensures row { IfOk result (λ worked.
+        Leads gossip.now (outcome gossip.now (lent_call call.now)).state worked.row) }
     ensures effects { IfOk result (λ worked. worked.effects ≡ record {
       sends = (outcome gossip.now (lent_call call.now)).sends;
       delivered = (outcome gossip.now (lent_call call.now)).delivered;
     }) }
-    ensures still { IfOk result (λ worked. worked.is_moved ≡ false) }
+    ensures same { IfOk result (λ worked. worked.is_moved ≡ false) }
     ensures too_long { IsErrOf result CoreError.PayloadTooLong ↔ IsTooLong (lent_call call.now) }
     ensures spent { IsErrOf result CoreError.SeqSpent ↔ IsSpent gossip.now (lent_call call.now) }
 {
     match gossip.answer(call) {
-        Ok(effects) => Ok(Worked {
+        Ok(Decided { row, answer }) => Ok(Worked {
             moved: None,
+            row,
             is_moved: false,
-            effects,
+            effects: answer,
         }),
         Err(GossipFault::PayloadTooLong) => Err(CoreError::PayloadTooLong),
         Err(GossipFault::SeqSpent) => Err(CoreError::SeqSpent),
@@ -94,10 +102,11 @@ fn work_out_call<A: Allocator + Copy>(
 
 /// Works out what leaves the membership as it is.
 fn unmoved<A: Allocator>(effects: Answer<A>) -> Worked<A>
-    ensures { result ≡ record { moved = None; is_moved = false; effects = effects } }
+    ensures { result ≡ record { moved = None; row = RowOf.Nothing; is_moved = false; effects = effects } }
 {
     Worked {
         moved: None,
+        row: RowOf::Nothing,
         is_moved: false,
         effects,
     }
@@ -110,7 +119,8 @@ pub(crate) fn work_out<A: Allocator + Copy>(
     gossip: &Gossip<A>,
     part: &Part<'_, A>,
 ) -> Result<Worked<A>, CoreError>
-    ensures takes { IfOk result (λ worked. Takes membership.now gossip.now (lent part.now) (unboxed worked.moved)) }
+    ensures makes { IfOk result (λ worked. Makes membership.now gossip.now
+        (by_part membership.now gossip.now (lent part.now)) (unboxed worked.moved) worked.row) }
     ensures effects { IfOk result (λ worked. worked.effects ≡ record {
       sends = (by_part membership.now gossip.now (lent part.now)).sends;
       delivered = (by_part membership.now gossip.now (lent part.now)).delivered;
@@ -129,27 +139,23 @@ pub(crate) fn work_out<A: Allocator + Copy>(
 }
 
 /// Carries out what was worked out: all of it, or nothing if an allocation fails. The gossip is told which links went
-/// down and then which came up.
+/// down and then which came up, or makes the row's change.
 pub(crate) fn commit<A: Allocator + Copy>(
     membership: &mut Membership<A>,
     gossip: &mut Gossip<A>,
-    part: &Part<'_, A>,
     moved: Option<BoxedViewChange<A>>,
+    row: Row<A>,
 ) -> Result<(), AllocError>
-    requires { Takes membership.old gossip.old (lent part.now) (unboxed moved) }
-    ensures membership { OnOk result (membership.new ≡ (by_part membership.old gossip.old (lent part.now)).membership) }
-    ensures gossip { OnOk result (gossip.new ≡ (by_part membership.old gossip.old (lent part.now)).gossip) }
+    requires { CanMake gossip.old (unboxed moved) row }
+    ensures membership { OnOk result (membership.new ≡ made_membership membership.old (unboxed moved)) }
+    ensures gossip { OnOk result (gossip.new ≡ made_gossip gossip.old (unboxed moved) row) }
     ensures err { OnErr result ((membership.new ≡ membership.old) × (gossip.new ≡ gossip.old)) }
 {
-    match part {
-        PartOf::Membership { .. } => {
-            let Some(moved) = moved else { unreachable!() };
-            let moved = Box::into_inner(moved);
-            gossip.relink(moved.downs.as_slice(), moved.ups.as_slice())?;
-            *membership = moved.membership;
-            Ok(())
-        }
-        PartOf::Gossip { call } => gossip.take(call),
-        PartOf::Greeting { .. } | PartOf::Nobody => Ok(()),
-    }
+    let Some(moved) = moved else {
+        return gossip.take(row);
+    };
+    let moved = Box::into_inner(moved);
+    gossip.relink(moved.downs.as_slice(), moved.ups.as_slice())?;
+    *membership = moved.membership;
+    Ok(())
 }

@@ -8,7 +8,7 @@ ghost use Rattle.protocol.specs.Peers.{are_peers};
 ghost use Rattle.protocol.specs.SameNames.{SameNames};
 ghost use Rattle.protocol.specs.Stimulus.{lent};
 ghost use Rattle.node_core.specs.Fits.{AreFit, ComesFit};
-ghost use Rattle.node_core.specs.Parts.{Takes, part_of, unboxed};
+ghost use Rattle.node_core.specs.Parts.{Makes, unboxed};
 ghost use Rattle.node_core.specs.Plum.{plum_state};
 ghost use Rattle.node_core.specs.Started.{IsStarted};
 ghost use Rattle.node_core.specs.Steps.{IsAllowed, PlumStartsCounted, opening, turned};
@@ -129,8 +129,9 @@ impl<A: Allocator + Copy> PlumCore<A> {
         stimulus: &StimulusRef<'_, Frame<A>, A>,
     ) -> Result<Worked<A>, CoreError>
         ensures allowed { OnOk result (IsAllowed (lent stimulus.now)) }
-        ensures takes { IfOk result (λ worked. Takes self.now.membership self.now.gossip
-            (part_of self.now.me self.now.membership (lent stimulus.now)) (unboxed worked.moved)) }
+        ensures makes { IfOk result (λ worked. Makes self.now.membership self.now.gossip
+            (turned self.now.me self.now.membership self.now.gossip (lent stimulus.now))
+            (unboxed worked.moved) worked.row) }
         ensures effects { IfOk result (λ worked. worked.effects ≡ record {
           sends = (turned self.now.me self.now.membership self.now.gossip (lent stimulus.now)).sends;
           delivered = (turned self.now.me self.now.membership self.now.gossip (lent stimulus.now)).delivered;
@@ -160,8 +161,8 @@ fn heed<A: Allocator + Copy>(stimulus: &StimulusRef<'_, Frame<A>, A>)
 
 impl<A: Allocator + Copy> Core<A> for PlumCore<A> {
     ghost use Rattle.node_core.specs.Plum.{IsSoundPlum, plum_state};
-    ghost use Rattle.node_core.specs.lawful.PlumDelivers.{plum_delivers_one};
-    ghost use Rattle.node_core.specs.lawful.PlumLaws.{plum_lawful};
+    ghost use Rattle.node_core.specs.impl_proofs.PlumDelivers.{plum_delivers_one};
+    ghost use Rattle.node_core.specs.impl_proofs.PlumLaws.{plum_lawful};
     ghost use Rattle.node_core.specs.Parts.{IsTurn};
     ghost use Rattle.node_core.specs.Steps.{PlumStarts, PlumSteps, PlumIsSpent, plum_after};
 
@@ -208,6 +209,7 @@ impl<A: Allocator + Copy> Core<A> for PlumCore<A> {
         Ok(Prepared {
             turn: PreparedStep {
                 moved: worked.moved,
+                row: worked.row,
                 framed,
             },
             moved: worked.is_moved,
@@ -221,9 +223,8 @@ impl<A: Allocator + Copy> Core<A> for PlumCore<A> {
     ) -> Result<(), AllocError> {
         let _sound = self.membership.views().limits();
         heed(stimulus);
-        let part = part_of(&self.me, &self.membership, stimulus);
-        let PreparedStep { moved, framed } = turn;
-        commit(&mut self.membership, &mut self.gossip, &part, moved)?;
+        let PreparedStep { moved, row, framed } = turn;
+        commit(&mut self.membership, &mut self.gossip, moved, row)?;
         self.framed = framed;
         Ok(())
     }

@@ -1,4 +1,5 @@
 //! What a core keeps between the two halves of a step.
+use gossip_core::Row;
 use membership::Membership;
 use node_names::{Listed, NodeName};
 use std::alloc::{Allocator, Global};
@@ -32,10 +33,12 @@ impl<A: Allocator> Model for ViewChange<A> {
 /// A boxed view change: most steps change no view, and boxing keeps a `PreparedStep` cheap to move.
 pub(crate) type BoxedViewChange<A> = Box<ViewChange<A>, A>;
 
-/// A step of a core that was worked out: what its membership will be, and the number of its last frame.
+/// A step of a core that was worked out: what its membership will be, or the row of the gossip's table that it is, and
+/// the number of its last frame.
 #[derive(Drop)]
 pub struct PreparedStep<A: Allocator = Global> {
     pub(crate) moved: Option<BoxedViewChange<A>>,
+    pub(crate) row: Row<A>,
     pub(crate) framed: u64,
 }
 
@@ -44,5 +47,5 @@ impl<A: Allocator> Model for PreparedStep<A> {
 
     ghost Value = { Plain };
 
-    ghost view = { λ t. record { moved = unboxed t.moved; framed = t.framed } };
+    ghost view = { λ t. record { moved = unboxed t.moved; row = t.row; framed = t.framed } };
 }

@@ -14,7 +14,7 @@ use Rattle.node_threads.specs.Cell.{Cell}
 use Rattle.node_threads.specs.Downs.{AppliesOpening, TakesDown, TakesDownBy, TakesDowns, TakesDrawnDowns, dice_of}
 use Rattle.node_threads.specs.Learning.{Learnt}
 use Rattle.node_threads.specs.Refusal.{Refuses}
-use Rattle.node_threads.specs.declared.applied.Applied.{Applied}
+use Rattle.node_threads.specs.declared.cell.applied.Applied.{Applied}
 use Rattle.node_threads.specs.declared.error.HostError.{HostError}
 
 module _

@@ -10,8 +10,8 @@ use Rattle.node_threads.specs.Closing.{Fails, Finds}
 use Rattle.node_threads.specs.Leaving.{AreLeft}
 use Rattle.node_threads.specs.Outlet.{Outlet}
 use Rattle.node_threads.specs.Receipts.{Call}
-use Rattle.node_threads.specs.declared.closed.CloseError.{CloseError}
-use Rattle.node_threads.specs.declared.closed.CloseError.TheVariants as of
+use Rattle.node_threads.specs.declared.host.closed.CloseError.{CloseError}
+use Rattle.node_threads.specs.declared.host.closed.CloseError.TheVariants as of
 
 module _
     {C K A : Type 0}

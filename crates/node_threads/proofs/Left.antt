@@ -7,7 +7,7 @@ use Rattle.std.proofs.lemmas.List.Elements.{All-push}
 use Rattle.node_names.specs.NodeName.{Name}
 use Rattle.node_threads.specs.Leaving.{AreLeft, GoesTo, HasLeft, LeavesTo, outlets_in, outlets_of}
 use Rattle.node_threads.specs.Outlet.{Outlet}
-use Rattle.node_threads.specs.declared.worker.Outlets.{Outlets}
+use Rattle.node_threads.specs.declared.host.worker.Outlets.{Outlets}
 use Rattle.node_threads.proofs.Reporting.{flat_push}
 
 zip_push : {X Y : Type 0} (R : X → Y → Type 0) (xs : List X) (ys : List Y) (x : X) (y : Y) → AllZip R xs ys → R x y → AllZip R (xs ++ x ∷ []) (ys ++ y ∷ [])

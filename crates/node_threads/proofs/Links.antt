@@ -12,7 +12,7 @@ use Rattle.node_names.specs.Same.{same_name, same_name-Decides, same_name-laws}
 use Rattle.node_names.specs.declared.ids.Origin.{Origin}
 use Rattle.protocol.specs.CoreState.{CoreState}
 use Rattle.protocol.specs.Delivery.{Delivery}
-use Rattle.protocol.specs.lawful.NameLists.{either_way}
+use Rattle.protocol.specs.impl_proofs.NameLists.{either_way}
 use Rattle.protocol.specs.OneDelivery.{OneDelivery}
 use Rattle.protocol.specs.Output.{Output}
 use Rattle.protocol.specs.Peers.{are_peers}

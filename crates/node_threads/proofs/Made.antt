@@ -1,6 +1,6 @@
 -- A step that was made does what a node's step does.
 use Rattle.std.specs.Prelude.{◌≡◌, ℕ, false, List, [], ◌∷◌, ◌++◌, Option, Some, None, Result, Ok, Err}
-use Rattle.std.specs.Prelude.{IfErr, OnErr, OnSome, IsErrAnd, length, map, option_map, slice_get, refl}
+use Rattle.std.specs.Prelude.{IfErr, IfOk, OnErr, OnSome, IsErrAnd, length, map, option_map, slice_get, refl}
 use Rattle.std.proofs.Common.{◌∙◌, ap, sym, subst}
 use Rattle.node_names.specs.NodeName.{Name}
 use Rattle.node_names.specs.declared.ids.MsgId.{MsgId}
@@ -102,6 +102,11 @@ at_error (Err e) P p = p
 pub at_some : {T : Type 0} (option : Option T) (P : Type 0) → P → OnSome option P
 at_some (Some x) P p = p
 at_some None P p = tt
+
+-- what a refusal passes on is no success
+pub no_success : {T E : Type 0} (result : Result T E) (Q : E → Type 0) (P : T → Type 0) → IsErrAnd result Q → IfOk result P
+no_success (Ok x) Q P is = absurd is
+no_success (Err passed) Q P is = tt
 
 -- what holds of an error holds of what a refusal passes on
 pub passed_on : {T E : Type 0} (result : Result T E) (P : E → Type 0) (e : E) → IsErrAnd result (λ passed. passed ≡ e) → P e → IfErr result P

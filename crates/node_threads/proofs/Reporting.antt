@@ -12,9 +12,9 @@ use Rattle.node_threads.specs.Closing.{AreAlike, IsWithin, Matches, Mismatches, 
 use Rattle.node_threads.specs.Outlet.{Outlet}
 use Rattle.node_threads.specs.Receipts.{Call}
 use Rattle.node_threads.specs.Report.{AddsReports, BeginsText, report_of}
-use Rattle.node_threads.specs.declared.comparing.Mismatch.{Mismatch}
-use Rattle.node_threads.specs.declared.comparing.Mismatch.TheVariants.{Port, Link, OutOfMemory}
-use Rattle.node_threads.specs.declared.report.LinkReport.{LinkReport}
+use Rattle.node_threads.specs.declared.host.comparing.Mismatch.{Mismatch}
+use Rattle.node_threads.specs.declared.host.comparing.Mismatch.TheVariants.{Port, Link, OutOfMemory}
+use Rattle.node_threads.specs.declared.cell.report.LinkReport.{LinkReport}
 use Rattle.node_threads.proofs.Within.{within}
 
 -- ---- lists

@@ -13,11 +13,11 @@ use Rattle.node_threads.specs.Leaving.{AreLeft}
 use Rattle.node_threads.specs.Outlet.{Outlet}
 use Rattle.node_threads.specs.Receipts.{AllAlike, Call, IsFirstUnlike}
 use Rattle.node_threads.specs.Report.{AddsReports, IsFirstTorn}
-use Rattle.node_threads.specs.declared.report.LinkReport.{LinkReport}
-use Rattle.node_threads.specs.declared.comparing.Mismatch.{Mismatch}
-use Rattle.node_threads.specs.declared.comparing.Mismatch.TheVariants as mismatch
-use Rattle.node_threads.specs.declared.closed.CloseError.{CloseError}
-use Rattle.node_threads.specs.declared.closed.CloseError.TheVariants as of
+use Rattle.node_threads.specs.declared.cell.report.LinkReport.{LinkReport}
+use Rattle.node_threads.specs.declared.host.comparing.Mismatch.{Mismatch}
+use Rattle.node_threads.specs.declared.host.comparing.Mismatch.TheVariants as mismatch
+use Rattle.node_threads.specs.declared.host.closed.CloseError.{CloseError}
+use Rattle.node_threads.specs.declared.host.closed.CloseError.TheVariants as of
 use Rattle.node_threads.specs.History.{IsEnd, IsHistory}
 
 -- The receipts of the ports of a node that may not forget are as in the trace. Ports of one that may need not keep them.

@@ -4,7 +4,7 @@ use Rattle.std.specs.List.{AllZip, flat_map}
 use Rattle.std.specs.Option.{option_to_list}
 use Rattle.node_names.specs.NodeName.{Name}
 use Rattle.node_threads.specs.Outlet.{Outlet}
-use Rattle.node_threads.specs.declared.worker.Outlets.{Outlets}
+use Rattle.node_threads.specs.declared.host.worker.Outlets.{Outlets}
 
 -- the outlets that a worker had, in order: those whose links it gave up, and then its last
 abbrev pub outlets_in : {A : Type 0} → Outlets A → List Outlet

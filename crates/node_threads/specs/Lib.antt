@@ -17,5 +17,5 @@ pub mod Receipts
 pub mod Refusal
 pub mod Report
 pub mod Working
-pub mod lawful
+pub mod impl_proofs
 pub mod Taking

@@ -11,7 +11,7 @@ use Rattle.protocol.specs.declared.stimulus.StimulusOf.TheVariants.{Broadcast, A
 use Rattle.frames.specs.Frame.{Frame}
 use Rattle.node_threads.specs.Applying.{Applies, id_given}
 use Rattle.node_threads.specs.Cell.{Cell}
-use Rattle.node_threads.specs.declared.receipt.Receipt.{Receipt}
+use Rattle.node_threads.specs.declared.cell.receipt.Receipt.{Receipt}
 
 -- A port asked for the broadcast of this payload and got this receipt.
 pub record Call : Type 0 where

@@ -2,6 +2,7 @@
 use Rattle.std.specs.Prelude.{◌≡◌, ◌⊎◌, ◌<◌, ◌≤◌, ◌+◌, ◌^◌, ℕ, List, true, false, length}
 use Rattle.protocol.specs.IdentityLaw.{IsTooLong}
 use Rattle.protocol.specs.Stimulus.{Stimulus}
+use Rattle.protocol.specs.declared.TheConstants.{MAX_PAYLOAD}
 use Rattle.protocol.specs.declared.protocol.CoreError.TheVariants.{PayloadTooLong, SeqSpent, OutOfMemory}
 use Rattle.frames.specs.Frame.{Frame}
 use Rattle.node_threads.specs.Cell.{Cell, steps_made}
@@ -37,8 +38,8 @@ Refuses is_spent cell stimulus host.OutOfMemory = HasRoom cell × (IsTooLong sti
 abbrev pub RefusesPayload : List ℕ → HostError → Type 0
 RefusesPayload payload host.Closed = Unit {0}
 RefusesPayload payload host.TraceFull = Unit {0}
-RefusesPayload payload (host.Refused PayloadTooLong) = 32768 < length payload
-RefusesPayload payload (host.Refused SeqSpent) = length payload ≤ 32768
+RefusesPayload payload (host.Refused PayloadTooLong) = MAX_PAYLOAD < length payload
+RefusesPayload payload (host.Refused SeqSpent) = length payload ≤ MAX_PAYLOAD
 RefusesPayload payload (host.Refused OutOfMemory) = ⊥
 RefusesPayload payload host.GateShut = ⊥
 RefusesPayload payload host.OutOfMemory = Unit {0}

@@ -6,7 +6,7 @@ use Rattle.protocol.specs.Trace.{Trace}
 use Rattle.frames.specs.Frame.{Frame}
 use Rattle.node_threads.specs.LinkText.{spelling, text_since}
 use Rattle.node_threads.specs.Outlet.{Outlet}
-use Rattle.node_threads.specs.declared.report.LinkReport.{LinkReport}
+use Rattle.node_threads.specs.declared.cell.report.LinkReport.{LinkReport}
 
 -- The trace lacks the first `since` steps, which were made before the link was opened; no more steps than now had been
 -- made then; and what came out of the link is a prefix of the frames that the node sent to its peer since, each frame as

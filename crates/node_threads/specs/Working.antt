@@ -2,8 +2,8 @@
 use Rattle.std.specs.Prelude.{◌≡◌, Option}
 use Rattle.node_names.specs.NodeName.{Name}
 use Rattle.node_threads.specs.Leaving.{HasLeft, outlets_in}
-use Rattle.node_threads.specs.declared.worker.Work.{Work}
-use Rattle.node_threads.specs.declared.worker.Work.TheVariants.{Thread, Ended}
+use Rattle.node_threads.specs.declared.host.worker.Work.{Work}
+use Rattle.node_threads.specs.declared.host.worker.Work.TheVariants.{Thread, Ended}
 
 -- Its thread promised to leave what a worker with this peer leaves, or it has ended and left that.
 abbrev pub IsSure : {A : Type 0} → Option Name → Work A → Type 0

@@ -1,4 +1,4 @@
-//! The state that a running node keeps under its lock.
+//! The state that a running node keeps under its lock. Nothing in this folder has threads or a lock, or waits.
 ghost use Rattle.std.specs.Prelude.{◌≡◌, ◌⊎◌, ◌<◌, ◌≤◌, ◌+◌, ◌^◌, [], true, false};
 ghost use Rattle.std.specs.Prelude.{IfOk, IfErr, OnOk, OnErr, None, Some, length};
 ghost use Rattle.protocol.specs.IdentityLaw.{IsTooLong};
@@ -8,13 +8,34 @@ ghost use Rattle.node_threads.specs.Closing.{IsLeft};
 ghost use Rattle.node_threads.specs.Opening.{IsFresh, first_receiver};
 ghost use Rattle.node_threads.specs.Refusal.{CoreRefuses, HasRoom, Refuses};
 
-use crate::applied::Applied;
+pub(crate) mod applied;
+mod downs;
+mod forgetting;
+mod giving_up;
+pub(crate) mod kept;
+pub(crate) mod learning;
+mod link;
+mod link_frame;
+mod opening;
+pub(crate) mod outlet;
+mod posting;
+mod progress;
+pub(crate) mod receipt;
+pub(crate) mod receipts;
+mod recording;
+mod remainder;
+pub(crate) mod report;
+pub(crate) mod sealing;
+pub(crate) mod taking;
+mod telling;
+
+use crate::cell::applied::Applied;
+use crate::cell::link::Link;
+use crate::cell::posting::{Posting, close_full, post_all, posting_for};
+use crate::cell::progress::Progress;
+use crate::cell::recording::record;
 use crate::cores::NodeCore;
 use crate::error::HostError;
-use crate::link::Link;
-use crate::posting::{Posting, close_full, post_all, posting_for};
-use crate::progress::Progress;
-use crate::recording::record;
 use frames::Frame;
 use node_core::PreparedStep;
 use node_names::{Listed, MsgId, NameSet, NodeName};

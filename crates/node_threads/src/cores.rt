@@ -93,9 +93,9 @@ pub trait NodeCore<A: Allocator>: Sized {
 impl<A: Allocator + Copy> NodeCore<A> for PlumCore<A> {
     ghost use Rattle.node_core.specs.Plum.{plum_state};
     ghost use Rattle.node_core.specs.Parts.{IsTurn};
-    ghost use Rattle.node_core.specs.lawful.PlumDelivers.{plum_delivers_one};
+    ghost use Rattle.node_core.specs.impl_proofs.PlumDelivers.{plum_delivers_one};
     ghost use Rattle.node_core.specs.Steps.{PlumStarts, PlumSteps, PlumIsSpent, plum_after};
-    ghost use Rattle.node_threads.specs.lawful.PlumOpening.{plum_tells_its_start};
+    ghost use Rattle.node_threads.specs.impl_proofs.PlumOpening.{plum_tells_its_start};
 
     ghost state = { plum_state };
 

@@ -1,18 +1,37 @@
-//! A running node: how it starts and how it stops.
+//! A running node: how it starts and how it stops. This folder has all that has threads or a lock, or waits.
 ghost use Rattle.std.specs.Prelude.{◌≡◌, [], ◌∷◌, ◌++◌, None, IfOk, IfErr, OnOk, map, replicate};
 ghost use Rattle.node_threads.specs.Opening.{IsFresh};
 ghost use Rattle.node_threads.specs.Outlet.{fresh_outlet};
 
+mod basket;
+pub(crate) mod closed;
+mod closing;
+pub(crate) mod comparing;
+pub(crate) mod gate;
+pub(crate) mod handing;
+mod joining;
+mod lasting;
+pub(crate) mod port;
+pub(crate) mod reading;
+mod shared;
+mod staying;
+mod stepper;
+pub(crate) mod ticking;
+mod wakeups;
+pub(crate) mod worker;
+mod writer_place;
+pub(crate) mod writing;
+
 use crate::cell::NodeCell;
+use crate::cell::outlet::Outlet;
+use crate::cell::sealing::Sealed;
 use crate::cores::NodeCore;
 use crate::error::HostError;
-use crate::gate::Gate;
-use crate::outlet::Outlet;
-use crate::port::Port;
-use crate::sealing::Sealed;
-use crate::shared::Shared;
-use crate::stepper::Stepper;
-use crate::worker::{Outlets, Worker};
+use crate::host::gate::Gate;
+use crate::host::port::Port;
+use crate::host::shared::Shared;
+use crate::host::stepper::Stepper;
+use crate::host::worker::{Outlets, Worker};
 use frames::Frame;
 use node_names::NodeName;
 use protocol::Out;

@@ -11,8 +11,8 @@ use Rattle.node_names.specs.NodeName.{Name}
 use Rattle.node_names.specs.Same.{same_name, same_name-Decides, same_name-laws, has_name, is_left_out}
 use Rattle.node_names.proofs.Distinct.{each-weaker, each-map, each-filter}
 use Rattle.peer_sets.specs.Members.{names, is_member, is_eager, is_lazy, is_eager_kind, IsSplit, lazy_but, all_eager, with_member, without_member, with_kind}
-use Rattle.peer_sets.specs.declared.kind.PeerKind.{PeerKind}
-use Rattle.peer_sets.specs.declared.kind.PeerKind.TheVariants.{Eager}
+use Rattle.peer_sets.specs.declared.members.PeerKind.{PeerKind}
+use Rattle.peer_sets.specs.declared.members.PeerKind.TheVariants.{Eager}
 
 or_true : (b : Bool) → (b || true) ≡ true
 or_true true = refl

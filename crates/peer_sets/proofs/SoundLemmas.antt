@@ -21,7 +21,7 @@ use Rattle.peer_sets.proofs.QueueLemmas.{places-without}
 use Rattle.peer_sets.specs.Members.{is_member, lazy_but, all_eager, with_member, with_members, without_member, without_members, with_kind}
 use Rattle.peer_sets.specs.PeerSets.{IsSound, relinked}
 use Rattle.peer_sets.specs.Queue.{place_of, same_place, is_queued, with_entry, with_entries, without_entries, without_all_entries}
-use Rattle.peer_sets.specs.declared.kind.PeerKind.{PeerKind}
+use Rattle.peer_sets.specs.declared.members.PeerKind.{PeerKind}
 
 -- what holds of what a call leaves in either case
 pub by_result : {T E X : Type 0} (P : X → Type 0) (r : Result T E) (new ok err : X) → OnOk r (new ≡ ok) → OnErr r (new ≡ err) → P ok → P err → P new

@@ -7,7 +7,7 @@ use Rattle.node_names.specs.Same.{same_name}
 use Rattle.node_names.specs.declared.ids.MsgId.{MsgId}
 use Rattle.peer_sets.specs.Members.{with_member, with_members, without_member, without_members}
 use Rattle.peer_sets.specs.Queue.{without_entries, without_all_entries}
-use Rattle.peer_sets.specs.declared.kind.PeerKind.{PeerKind}
+use Rattle.peer_sets.specs.declared.members.PeerKind.{PeerKind}
 
 with_members-push : (names : List Name) (name : Name) (members : List (Name × PeerKind)) →
     with_members (names ++ name ∷ []) members ≡ with_member name (with_members names members)

@@ -6,7 +6,7 @@ use Rattle.node_names.specs.Same.{same_name}
 use Rattle.node_names.specs.declared.ids.MsgId.{MsgId}
 use Rattle.peer_sets.specs.Members.{names, is_member, with_members, without_members}
 use Rattle.peer_sets.specs.Queue.{same_place, place_of, without_all_entries}
-use Rattle.peer_sets.specs.declared.kind.PeerKind.{PeerKind}
+use Rattle.peer_sets.specs.declared.members.PeerKind.{PeerKind}
 
 -- The members in order, each eager or lazy, and the announcements that wait for them, oldest first.
 pub record PeerSets : Type 0 where

@@ -1,12 +1,31 @@
-//! Lists of members.
-ghost use Rattle.std.specs.Prelude.{◌≡◌, OnOk, OnErr, IfOk, if◌then◌else◌};
+//! Members of a node, and whether each is eager or lazy.
+ghost use Rattle.std.specs.Prelude.{◌≡◌, if◌then◌else◌, OnOk, OnErr, IfOk};
 ghost use Rattle.node_names.specs.Same.{same_name};
-ghost use Rattle.peer_sets.specs.Members.{is_member, is_eager, all_eager, with_member};
-ghost use Rattle.peer_sets.specs.Members.{with_members, without_member, without_members, with_kind};
+ghost use Rattle.peer_sets.specs.Members.{is_member, is_eager, all_eager, with_member, with_members, without_member};
+ghost use Rattle.peer_sets.specs.Members.{without_members, with_kind};
 
-use crate::kind::PeerKind;
 use node_names::NodeName;
 use std::alloc::{AllocError, Allocator};
+
+/// How a peer gets new messages.
+#[derive(Clone, Copy, Debug, PartialEq, Eq)]
+pub enum PeerKind {
+    /// The peer gets the payload at once: its link is a branch of the tree.
+    Eager,
+    /// The peer gets an announcement, and asks for the payload if it lacks it.
+    Lazy,
+}
+
+impl PeerKind {
+    ghost use Rattle.peer_sets.specs.Members.{is_eager_kind};
+
+    /// Returns whether a peer of this kind gets payloads at once.
+    pub fn is_eager(self) -> bool
+        ensures { result ≡ is_eager_kind self }
+    {
+        matches!(self, PeerKind::Eager)
+    }
+}
 
 /// A member's name, and how it gets messages. With a kind for each member, in place of two sets, the type shows that no
 /// member is both eager and lazy.

@@ -6,10 +6,9 @@ ghost use Rattle.peer_sets.specs.Members.{is_member, is_eager, IsSplit, all_eage
 ghost use Rattle.peer_sets.specs.Members.{with_member, without_member, with_kind, lazy_but};
 ghost use Rattle.peer_sets.specs.Queue.{has_entry_of, with_entry, with_entries, without_entries, batches};
 ghost use Rattle.peer_sets.specs.PeerSets.{IsSound, relinked};
-ghost use Rattle.peer_sets.specs.declared.kind.PeerKind.TheVariants.{Eager, Lazy};
+ghost use Rattle.peer_sets.specs.declared.members.PeerKind.TheVariants.{Eager, Lazy};
 
-use crate::kind::PeerKind;
-use crate::members::{self, Member};
+use crate::members::{self, Member, PeerKind};
 use crate::queue::{self, Announcement, Batch};
 use node_names::{Listed, MsgId, NodeName};
 use std::alloc::{AllocError, Allocator, Global};

@@ -2,7 +2,7 @@
 use crate::distinct::are_distinct;
 use crate::gossip_calls::{OwnedCall, call_of, lent, message_of};
 use crate::gossip_texts::{push_given, push_gossip};
-use gossip_core::{Answer, Call, CallOf, Effects, Gossip, GossipFault};
+use gossip_core::{Answer, Call, CallOf, Decided, Effects, Gossip, GossipFault};
 use node_names::MsgId;
 use play_script::layer::{Layer, Outcome, Turn, fill, in_memory};
 use play_script::lists::yes_or_no;
@@ -65,15 +65,15 @@ fn make_whole<A: Allocator + Copy>(
     Ok(())
 }
 
-/// Makes a call in two halves: first what it gives is computed, and then the node takes it.
+/// Makes a call in two halves: first it is decided, and then the node takes the row that it is.
 fn make_halves<A: Allocator + Copy>(
     node: &mut Gossip<A>,
     call: &Call<'_, A>,
     out: &mut Answer<A>,
 ) -> Result<(), GossipFault> {
-    let given = node.answer(call)?;
-    node.take(call)?;
-    *out = given;
+    let Decided { row, answer } = node.answer(call)?;
+    node.take(row)?;
+    *out = answer;
     Ok(())
 }
 

@@ -1,5 +1,6 @@
 //! A source that gives one item again and again.
 ghost use Rattle.std.specs.Prelude.{◌≤◌, length};
+ghost use Rattle.frames.specs.declared.TheConstants.{MAX_FRAME};
 
 use bytes::Bytes;
 use frames::MAX_FRAME;
@@ -13,7 +14,7 @@ pub(crate) struct Same<A: Allocator> {
     item: Bytes<A>,
     left: usize,
     gave: Vec<Bytes<A>>,
-    ghost short: { length item ≤ 32880 },
+    ghost short: { length item ≤ MAX_FRAME },
 }
 
 impl<A: Allocator + Copy> Same<A> {

@@ -5,7 +5,7 @@ use Rattle.std.specs.Prelude.{IfNone, None, Option, Some}
 use Rattle.node_names.specs.NodeName.{Name}
 use Rattle.node_names.specs.declared.ids.MsgId.{MsgId}
 use Rattle.protocol.specs.Delivery.{Delivery}
-use Rattle.neighborhood.specs.declared.news.News.{News}
+use Rattle.node_core.specs.declared.news.News.{News}
 use Rattle.wire_node.specs.Node.{NodeState}
 use Rattle.plumtree_c.specs.State.{Gives}
 use Rattle.plumtree_c.specs.Wire.{Brings, Delivers, HasNoNews, Informs, IsSameBeside, Loses, Stays, Tells, WireState, deliveries_in, lost_in, news_in}

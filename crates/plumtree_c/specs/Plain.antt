@@ -5,10 +5,10 @@ use Rattle.node_names.specs.Limits.{Limits}
 use Rattle.node_names.specs.declared.dice.Dice.{Dice}
 use Rattle.node_names.specs.declared.ids.MsgId.{MsgId}
 use Rattle.node_names.specs.declared.ids.Origin.{Origin}
-use Rattle.neighborhood.specs.declared.news.News.{News}
-use Rattle.neighborhood.specs.declared.news.News.TheVariants.{NeighborUp, NeighborDown, Isolated, Joined}
-use Rattle.neighborhood.specs.declared.news.Parting.{Parting}
-use Rattle.neighborhood.specs.declared.news.Parting.TheVariants.{Left, Failed, Displaced}
+use Rattle.node_core.specs.declared.news.News.{News}
+use Rattle.node_core.specs.declared.news.News.TheVariants.{NeighborUp, NeighborDown, Isolated, Joined}
+use Rattle.node_core.specs.declared.news.Parting.{Parting}
+use Rattle.node_core.specs.declared.news.Parting.TheVariants.{Left, Failed, Displaced}
 use Rattle.plumtree_c.specs.declared.plain.Id.{Id}
 use Rattle.plumtree_c.specs.declared.plain.Name.{Name}
 use Rattle.plumtree_c.specs.declared.plain.PlainNews.{PlainNews}

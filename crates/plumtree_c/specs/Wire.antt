@@ -14,7 +14,7 @@ use Rattle.wire_node.specs.Moving.{Broadcasts, GoesAway, Moves}
 use Rattle.wire_node.specs.Node.{Closes, Hears, NodeState, Starts}
 use Rattle.wire_node.specs.Receiving.{IsPartial}
 use Rattle.wire_node.specs.Waiting.{settled_for}
-use Rattle.neighborhood.specs.declared.news.News.{News}
+use Rattle.node_core.specs.declared.news.News.{News}
 use Rattle.node_core.specs.Plum.{plum_state}
 use Rattle.plumtree_c.specs.Plain.{Says}
 use Rattle.plumtree_c.specs.State.{Gives}

@@ -15,7 +15,7 @@ use crate::running::Running;
 use crate::shortage::Shortage;
 use crate::shortages::Shortages;
 use crate::ticks::Ticks;
-use neighborhood::News;
+use node_core::News;
 use node_names::NodeName;
 use node_threads::{Handed, Host, NodeCore, Outlet, Port};
 use protocol::Delivery;

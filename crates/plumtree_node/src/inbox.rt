@@ -1,7 +1,7 @@
 //! What a node delivered and its program has not taken yet.
 use crate::shortage::Shortage;
 use crate::shortages::Shortages;
-use neighborhood::News;
+use node_core::News;
 use node_threads::Handed;
 use protocol::Delivery;
 use std::alloc::{AllocError, Global};

@@ -22,4 +22,4 @@ pub mod Stimulus
 pub mod Trace
 pub mod ViewLaw
 pub mod WantLaw
-pub mod lawful
+pub mod impl_proofs

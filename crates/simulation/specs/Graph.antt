@@ -9,8 +9,8 @@ use Rattle.node_names.specs.NodeName.{Name}
 use Rattle.node_names.specs.Same.{same_origin}
 use Rattle.node_names.specs.declared.ids.MsgId.{MsgId}
 use Rattle.node_names.specs.declared.ids.Origin.{Origin}
-use Rattle.peer_sets.specs.declared.kind.PeerKind.{PeerKind}
-use Rattle.peer_sets.specs.declared.kind.PeerKind.TheVariants.{Eager, Lazy}
+use Rattle.peer_sets.specs.declared.members.PeerKind.{PeerKind}
+use Rattle.peer_sets.specs.declared.members.PeerKind.TheVariants.{Eager, Lazy}
 use Rattle.node_core.specs.Plum.{Plum, plum_state}
 use Rattle.world.specs.Group.{Group, Logged, node_of, origin_of}
 use Rattle.world.specs.Rest.{IsAtRest}

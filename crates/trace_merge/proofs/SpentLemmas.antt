@@ -18,7 +18,7 @@ use Rattle.protocol.specs.declared.stimulus.StimulusOf.TheVariants.{Broadcast, A
 use Rattle.frames.specs.Body.{Body}
 use Rattle.frames.specs.Frame.{Frame}
 use Rattle.node_core.specs.Plum.{Plum, plum_state}
-use Rattle.node_core.specs.lawful.PlumDelivers.{plum_delivers_one}
+use Rattle.node_core.specs.impl_proofs.PlumDelivers.{plum_delivers_one}
 use Rattle.node_core.specs.Steps.{PlumIsSpent, PlumStarts, PlumSteps, numbered, opening, turned}
 use Rattle.trace_merge.specs.Merging.{cut, sent_within}
 use Rattle.trace_merge.specs.Numbers.{AreFew, AreShort, greatest}

@@ -3,8 +3,8 @@ use Rattle.std.specs.Prelude.{ℕ, Bool, not, List, [], ◌∷◌, ◌++◌, Opt
 use Rattle.node_names.specs.NodeName.{Name}
 use Rattle.node_names.specs.declared.ids.MsgId.{MsgId}
 use Rattle.peer_sets.specs.Members.{is_eager_kind}
-use Rattle.peer_sets.specs.declared.kind.PeerKind.{PeerKind}
-use Rattle.peer_sets.specs.declared.kind.PeerKind.TheVariants.{Eager, Lazy}
+use Rattle.peer_sets.specs.declared.members.PeerKind.{PeerKind}
+use Rattle.peer_sets.specs.declared.members.PeerKind.TheVariants.{Eager, Lazy}
 use Rattle.node_core.specs.Plum.{Plum, plum_state}
 use Rattle.trace_text.specs.Names.{id_items, name_item, name_items, or_dash}
 use Rattle.trace_text.specs.Packets.{announcement_text}

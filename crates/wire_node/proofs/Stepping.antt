@@ -12,12 +12,12 @@ use Rattle.frames.specs.Frame.{Frame}
 use Rattle.node_core.specs.Plum.{Plum, plum_state}
 use Rattle.node_core.specs.Steps.{PlumSteps}
 use Rattle.wire_node.specs.Acting.{Acts, AreSettled, machine, without}
-use Rattle.neighborhood.specs.News.{Telling, all_news}
+use Rattle.node_core.specs.News.{Telling, all_news}
 use Rattle.wire_node.specs.Recording.{Noted, with_step}
 use Rattle.wire_node.specs.Waiting.{Waiting, all_drafted, mail_for, settled, settled_for, undrafted}
-use Rattle.neighborhood.specs.declared.news.News.{News}
+use Rattle.node_core.specs.declared.news.News.{News}
 use Rattle.wire_node.proofs.Drafting.{waits_more}
-use Rattle.neighborhood.proofs.NewsLemmas.{TellsOf}
+use Rattle.node_core.proofs.NewsLemmas.{TellsOf}
 
 pub on_err : {X E : Type 0} (P : Type 0) (r : Result X E) → P → OnErr r P
 on_err P (Ok x) h = tt

@@ -11,10 +11,10 @@ use Rattle.protocol.specs.declared.stimulus.StimulusOf.TheVariants.{Down}
 use Rattle.frames.specs.Frame.{Frame}
 use Rattle.node_core.specs.Plum.{Plum, plum_state}
 use Rattle.node_core.specs.Steps.{PlumSteps}
-use Rattle.neighborhood.specs.News.{Telling, all_news, news_of}
+use Rattle.node_core.specs.News.{Telling, all_news, news_of}
 use Rattle.wire_node.specs.Recording.{Leads, Noted, with_step, with_steps}
 use Rattle.wire_node.specs.Waiting.{Waiting, mail_for, settled_for, undrafted}
-use Rattle.neighborhood.specs.declared.news.News.{News}
+use Rattle.node_core.specs.declared.news.News.{News}
 
 -- A core, what waits to go out, the deliveries that were not taken yet, and what is noted, if anything is; the news of
 -- the active view that were not taken yet, and whether the next steps are told of.

@@ -5,9 +5,9 @@ ghost use Rattle.node_names.specs.declared.ids.MsgId.{MsgId as Id};
 ghost use Rattle.wire_node.specs.Moving.{MovesAll, firing};
 ghost use Rattle.wire_node.specs.Ticking.{Asks, AsksAt, AsksOn, armed_of, awaited_at, is_turn, lacked_of};
 
-use crate::connection::drop_front;
+use crate::connections::drop_front;
 use crate::engine::Engine;
-use crate::record::Record;
+use crate::step::Record;
 use node_names::{Dice, MsgId};
 use protocol::{CoreError, StimulusOf};
 use std::alloc::{AllocError, Allocator};

@@ -9,7 +9,7 @@ ghost use Rattle.wire_node.specs.Ticking.{AsksOn, IsCutShort};
 use crate::asking::ask_on;
 use crate::error::WireError;
 use crate::node::WireNode;
-use crate::record::Record;
+use crate::step::Record;
 use crate::ticking::make_tick;
 use bytes::Bytes;
 use node_names::{Dice, MsgId, NodeName};

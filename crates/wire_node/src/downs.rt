@@ -7,11 +7,9 @@ ghost use Rattle.node_core.specs.Steps.{PlumIsSpent};
 ghost use Rattle.wire_node.specs.Acting.{AreSettled, GoesDown, machine, without};
 ghost use Rattle.wire_node.specs.Moving.{Relieves};
 
-use crate::entry::Entry;
-use crate::record::Record;
-use crate::step::make_step;
-use neighborhood::Telling;
-use node_core::PlumCore;
+use crate::drafts::Entry;
+use crate::step::{Record, make_step};
+use node_core::{PlumCore, Telling};
 use node_names::{Dice, Listed, NodeName};
 use protocol::{CoreError, Delivery, StimulusOf};
 use std::alloc::Allocator;

@@ -11,14 +11,12 @@ ghost use Rattle.wire_node.specs.Node.{is_up};
 ghost use Rattle.wire_node.specs.Waiting.{settled_for};
 
 use crate::downs::{relieve, take_down};
-use crate::entry::Entry;
+use crate::drafts::Entry;
 use crate::idle::waiting_for;
-use crate::record::Record;
-use crate::step::make_step;
+use crate::step::{Record, make_step};
 use bytes::Bytes;
 use frames::Frame;
-use neighborhood::Telling;
-use node_core::{PlumCore, armed_ids};
+use node_core::{PlumCore, Telling, armed_ids};
 use node_names::{Dice, Listed, MsgId, NodeName};
 use protocol::{Core, CoreError, Delivery, Stimulus, StimulusOf};
 use std::alloc::{AllocError, Allocator};

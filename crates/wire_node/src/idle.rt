@@ -5,8 +5,7 @@ ghost use Rattle.wire_node.specs.Acting.{AreSettled};
 ghost use Rattle.wire_node.specs.Waiting.{settled_for};
 
 use crate::downs::forget;
-use crate::drafts::place_of;
-use crate::entry::Entry;
+use crate::drafts::{Entry, place_of};
 use node_names::{NameSet, NodeName};
 use std::alloc::Allocator;
 

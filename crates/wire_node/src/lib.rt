@@ -2,17 +2,13 @@
 //! It reads no clock, socket or random source, and starts no thread.
 #![tactic(auto)]
 
-mod arriving;
 mod asking;
 mod calls;
-mod connection;
 mod connections;
 mod copying;
-mod dice_source;
 mod downs;
 mod drafts;
 mod engine;
-mod entry;
 mod error;
 mod handing;
 mod heads;
@@ -24,18 +20,16 @@ mod opening;
 mod outgoing;
 mod outputs;
 mod receiving;
-mod record;
 mod recorded;
-mod spelling;
 mod step;
 mod ticking;
 
 pub use connections::{ConnectionId, ReceiveError};
-pub use dice_source::DiceSource;
 pub use error::WireError;
 pub use laws::noted_steps_lead_on;
 pub use limits::{MAX_WAITING, WireLimits};
-pub use neighborhood::{News, Parting};
 pub use node::WireNode;
-pub use record::{Record, Unrecorded};
+pub use node_core::{News, Parting};
+pub use receiving::DiceSource;
 pub use recorded::Recorded;
+pub use step::{Record, Unrecorded};

@@ -3,14 +3,13 @@ ghost use Rattle.std.specs.Prelude.{◌≡◌, [], IfOk};
 ghost use Rattle.wire_node.specs.Node.{Starts};
 
 use crate::asking::Asking;
-use crate::connection::Connection;
+use crate::connections::Connection;
 use crate::engine::Engine;
 use crate::error::WireError;
 use crate::limits::WireLimits;
 use crate::opening::{beside, first_mail, start_core};
-use crate::record::{Record, Unrecorded};
-use neighborhood::Telling;
-use node_core::PlumCore;
+use crate::step::{Record, Unrecorded};
+use node_core::{PlumCore, Telling};
 use node_names::{Listed, NodeName, Origin};
 use protocol::{Out, are_peers};
 use std::alloc::{Allocator, Global};

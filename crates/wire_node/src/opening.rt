@@ -8,11 +8,10 @@ ghost use Rattle.wire_node.specs.Acting.{AreSettled};
 ghost use Rattle.wire_node.specs.Recording.{opened};
 ghost use Rattle.wire_node.specs.Waiting.{mail_for, settled_for};
 
-use crate::drafts::{draft_all, settle_all};
-use crate::entry::Entry;
+use crate::drafts::{Entry, draft_all, settle_all};
 use crate::error::WireError;
 use crate::limits::WireLimits;
-use crate::record::Record;
+use crate::step::Record;
 use frames::Frame;
 use node_core::PlumCore;
 use node_names::{NodeName, Origin};

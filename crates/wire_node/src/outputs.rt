@@ -7,13 +7,12 @@ ghost use Rattle.node_names.specs.Same.{same_name};
 ghost use Rattle.wire_node.specs.Acting.{AreSettled};
 ghost use Rattle.wire_node.specs.Waiting.{receivers_of, settled_for};
 
-use crate::drafts::place_of;
+use crate::drafts::{Entry, place_of};
 use crate::engine::Engine;
-use crate::entry::Entry;
 use crate::idle::drop_idle;
 use crate::node::{NAMES, WireNode};
-use crate::record::Record;
-use neighborhood::News;
+use crate::step::Record;
+use node_core::News;
 use node_names::{Listed, NameSet, NodeName};
 use protocol::{Core, Delivery};
 use std::alloc::{AllocError, Allocator};

@@ -1,18 +1,61 @@
-//! Taking frames off the bytes that come over a connection, by one step each.
-ghost use Rattle.std.specs.Prelude.{◌≡◌, ◌<◌, ◌≤◌, ◌+◌, ◌++◌, [], true, false, drop};
-ghost use Rattle.std.specs.Prelude.{length, IfNone, IfOk, IfSome, OnErr, OnOk};
+//! Taking frames off the bytes that come over a connection, by one step each, with dice of its own.
+ghost use Rattle.std.specs.Prelude.{◌≡◌, ◌<◌, ◌≤◌, ◌+◌, ◌++◌, ◌∷◌, [], true, false, drop, length, IfNone, IfOk, IfSome};
+ghost use Rattle.std.specs.Prelude.{OnErr, OnOk};
+ghost use Rattle.node_names.specs.declared.dice.Dice.{Dice as Drawn};
 ghost use Rattle.frames.specs.declared.TheConstants.{MAX_FRAME as FrameMost};
-ghost use Rattle.wire_node.specs.Receiving.{IsPartial, Takes};
+ghost use Rattle.wire_node.specs.Receiving.{IsPartial, Takes, peer_of};
+ghost use Rattle.wire_node.specs.Moving.{Moves, arrival};
 
-use crate::arriving::take_frame;
-use crate::connection::{after, drop_front, top_up};
-use crate::dice_source::DiceSource;
+use crate::connections::{after, drop_front, top_up};
 use crate::engine::Engine;
 use crate::error::WireError;
-use crate::record::Record;
-use frames::{FrameFault, MAX_FRAME, decode};
-use node_names::NodeName;
+use crate::step::Record;
+use frames::{Frame, FrameFault, MAX_FRAME, decode};
+use node_names::{Dice, NodeName};
+use protocol::{CoreError, StimulusOf};
 use std::alloc::Allocator;
+
+/// A source of dice. Each frame that comes is given dice of its own. Contracts say no more of it, since what comes of a
+/// step is stated for any dice.
+pub trait DiceSource {
+    /// Draws the next dice.
+    fn draw(&mut self) -> Dice;
+}
+
+impl DiceSource for Dice {
+    fn draw(&mut self) -> Dice {
+        *self
+    }
+}
+
+/// Takes a frame by one step, whose sender is the connection's peer if it is the first.
+pub(crate) fn take_frame<A: Allocator + Copy, R: Record<A> + Drop, D: DiceSource>(
+    engine: &mut Engine<A, R>,
+    peer: &mut Option<NodeName>,
+    frame: Frame<A>,
+    source: &mut D,
+) -> Result<(), CoreError>
+    ensures ok { OnOk result ((dice : Drawn)
+        × Moves engine.old (arrival (frame, dice)).0 dice engine.new
+        × (peer.new ≡ peer_of peer.old ((frame, dice) ∷ []))) }
+    ensures err { OnErr result ((engine.new ≡ engine.old) × (peer.new ≡ peer.old)) }
+{
+    let name = frame.sender().name;
+    let sender = frame.sender();
+    let dice = source.draw();
+    engine.step(
+        &StimulusOf::Arrive {
+            sender,
+            note: frame,
+            dice,
+        },
+        &dice,
+    )?;
+    if peer.is_none() {
+        *peer = Some(name);
+    }
+    Ok(())
+}
 
 /// Takes the whole frames that the bytes begin with, where they lie. Returns how many bytes they have, and why no more
 /// frames were taken: the rest is no whole frame (`Ok`), or is none at all, or a step was refused.

@@ -3,7 +3,7 @@ ghost use Rattle.std.specs.Prelude.{◌≡◌, ◌+◌, [], length};
 ghost use Rattle.wire_node.specs.Recording.{Noted};
 
 use crate::copying::{copy_out, copy_stimulus};
-use crate::record::Record;
+use crate::step::Record;
 use frames::Frame;
 use node_names::Listed;
 use protocol::{Out, Segment, Step, Stimulus};

@@ -1,20 +1,70 @@
-//! A step of the core, whose frames wait afterwards: all of it, or nothing.
-ghost use Rattle.std.specs.Prelude.{◌≡◌, ◌++◌, None, OnOk, OnErr, IsErrOf};
+//! A step of the core, which is noted, and whose frames wait afterwards: all of it, or nothing.
+ghost use Rattle.std.specs.Prelude.{◌≡◌, ◌++◌, None, Option, OnOk, OnErr, IsErrOf};
 ghost use Rattle.protocol.specs.IdentityLaw.{IsTooLong};
+ghost use Rattle.protocol.specs.Trace.{Step};
+ghost use Rattle.frames.specs.Frame.{Frame as Plain};
 ghost use Rattle.node_core.specs.Steps.{PlumIsSpent};
 ghost use Rattle.wire_node.specs.Acting.{Acts, AreSettled, machine};
-ghost use Rattle.wire_node.specs.Recording.{with_step};
+ghost use Rattle.wire_node.specs.Recording.{with_step, Noted, opened};
 ghost use Rattle.wire_node.specs.Waiting.{KeepsSettled, all_drafted};
 
-use crate::drafts::{draft_all, settle_all, undraft_all};
-use crate::entry::Entry;
-use crate::record::Record;
+use crate::drafts::{Entry, draft_all, settle_all, undraft_all};
 use frames::Frame;
-use neighborhood::Telling;
-use node_core::PlumCore;
+use node_core::{PlumCore, Telling};
 use node_names::Listed;
 use protocol::{Core, CoreError, Delivery, Out, Prepared, Stimulus};
 use std::alloc::{AllocError, Allocator};
+
+/// What notes the steps of a node. A step is noted before it is made, so that none of its frames leaves the node
+/// unnoted; where noting is refused, the step is not made.
+pub trait Record<A: Allocator> {
+    /// What it keeps, as contracts see it, or `None` where it keeps nothing.
+    ghost noted: { Self → Option Noted };
+
+    /// Notes what the node's start sends. It is called once, before any step.
+    fn open(&mut self, opening: &Out<Frame<A>, A>) -> Result<(), AllocError>
+        ensures { OnOk result (noted self.new ≡ opened (noted self.old) opening.now) };
+
+    /// Notes a step that is about to be made, with what it sends and delivers.
+    fn note(
+        &mut self,
+        stimulus: &Stimulus<Frame<A>, A>,
+        out: &Out<Frame<A>, A>,
+    ) -> Result<(), AllocError>
+        ensures ok { OnOk result
+            (noted self.new ≡ with_step (noted self.old) (record { stimulus = stimulus.now; out = out.now })) }
+        ensures err { OnErr result (noted self.new ≡ noted self.old) };
+
+    /// Takes back the step that was noted last: the node had no memory to make it.
+    fn take_back(&mut self)
+        ensures { (before : Option Noted) (step : Step Plain)
+            → noted self.old ≡ with_step before step
+            → noted self.new ≡ before };
+}
+
+/// Notes nothing.
+#[derive(Clone, Copy, Debug)]
+pub struct Unrecorded;
+
+impl<A: Allocator> Record<A> for Unrecorded {
+    ghost use Rattle.std.specs.Prelude.{None};
+
+    ghost noted = { λ _. None };
+
+    fn open(&mut self, _opening: &Out<Frame<A>, A>) -> Result<(), AllocError> {
+        Ok(())
+    }
+
+    fn note(
+        &mut self,
+        _stimulus: &Stimulus<Frame<A>, A>,
+        _out: &Out<Frame<A>, A>,
+    ) -> Result<(), AllocError> {
+        Ok(())
+    }
+
+    fn take_back(&mut self) {}
+}
 
 /// Drafts the frames of a step, and appends its deliveries: all of this, or nothing if an allocation is refused.
 #[tactic(auto, using(crate::proofs::Drafting::keeps_same, crate::proofs::Drafting::undrafted_back))]

@@ -4,7 +4,7 @@ ghost use Rattle.wire_node.specs.Ticking.{IsCutShort, TickSteps};
 
 use crate::asking::{Asking, ask};
 use crate::engine::Engine;
-use crate::record::Record;
+use crate::step::Record;
 use node_names::Dice;
 use protocol::{CoreError, StimulusOf};
 use std::alloc::Allocator;

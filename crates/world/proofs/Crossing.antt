@@ -14,7 +14,7 @@ use Rattle.protocol.specs.Content.{Content}
 use Rattle.protocol.specs.CoreState.{CoreState}
 use Rattle.protocol.specs.Delivery.{Delivery}
 use Rattle.protocol.specs.DeliveryLaw.{Delivers, ids}
-use Rattle.protocol.specs.lawful.NameLists.{and_left, and_right}
+use Rattle.protocol.specs.impl_proofs.NameLists.{and_left, and_right}
 use Rattle.protocol.specs.HoldLaw.{IsAskedBy}
 use Rattle.protocol.specs.Laws.{IsSilent, StateLaws, StepLaws}
 use Rattle.protocol.specs.Lists.{IsOneOf}

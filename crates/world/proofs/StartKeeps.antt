@@ -11,7 +11,7 @@ use Rattle.node_names.specs.declared.ids.Origin.{Origin}
 use Rattle.protocol.specs.Content.{Content}
 use Rattle.protocol.specs.CoreState.{CoreState}
 use Rattle.protocol.specs.Delivery.{Delivery}
-use Rattle.protocol.specs.lawful.NameLists.{each-map}
+use Rattle.protocol.specs.impl_proofs.NameLists.{each-map}
 use Rattle.protocol.specs.Laws.{IsSilent, StartLaws}
 use Rattle.world.specs.Entry.{Entry}
 use Rattle.world.specs.Group.{node_of, put_node, packets}

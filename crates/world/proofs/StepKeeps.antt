@@ -13,7 +13,7 @@ use Rattle.protocol.specs.Content.{Content}
 use Rattle.protocol.specs.CoreState.{CoreState}
 use Rattle.protocol.specs.Delivery.{Delivery}
 use Rattle.protocol.specs.DeliveryLaw.{Delivers, DeliversNews, count_after, ids}
-use Rattle.protocol.specs.lawful.NameLists.{each-map}
+use Rattle.protocol.specs.impl_proofs.NameLists.{each-map}
 use Rattle.protocol.specs.Laws.{StepLaws}
 use Rattle.protocol.specs.PayloadLaw.{Brings, IsKnownPayload}
 use Rattle.protocol.specs.Stimulus.{Stimulus, IsNotFrom}

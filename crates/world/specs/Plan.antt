@@ -1,19 +1,26 @@
 -- What a plan for an event makes of a group.
-use Rattle.std.specs.Prelude.{◌≡◌, ℕ, List, [], ◌∷◌, ◌++◌, Option, Some, None, length, map, option_map, remove, slice_get}
+use Rattle.std.specs.Prelude.{◌≡◌, ◌<◌, ℕ, List, [], ◌∷◌, ◌++◌, Option, Some, None, length, map, option_map, remove, slice_get}
 use Rattle.std.specs.List.{position}
+use Rattle.std.specs.Option.{ForSome}
 use Rattle.node_names.specs.NodeName.{Name}
+use Rattle.node_names.specs.Limits.{Limits}
 use Rattle.node_names.specs.Same.{same_name}
 use Rattle.node_names.specs.declared.dice.Dice.{Dice}
+use Rattle.node_names.specs.declared.ids.Origin.{Origin}
+use Rattle.protocol.specs.CoreState.{CoreState}
+use Rattle.protocol.specs.Delivery.{Delivery}
 use Rattle.protocol.specs.Lists.{places}
 use Rattle.protocol.specs.Stimulus.{Stimulus}
 use Rattle.protocol.specs.declared.stimulus.StimulusOf.TheVariants as stimulus
 use Rattle.world.specs.Entry.{Entry}
 use Rattle.world.specs.Event.{Event}
-use Rattle.world.specs.Group.{Group, node_of, put_node}
+use Rattle.world.specs.Group.{Group, Logged, node_of, put_node}
 use Rattle.world.specs.Refusals.{sent_under}
+use Rattle.world.specs.Run.{Tells}
 use Rattle.world.specs.declared.event.EventOf.TheVariants.{Start, Broadcast, Arrive, Lose, Again, Fire, Flush, Down, Shuffle, Join, Stop}
 use Rattle.world.specs.declared.node_state.NodeState.{NodeState}
 use Rattle.world.specs.declared.packet.Packet.{Packet}
+use Rattle.world.specs.declared.plan.Plan.{Plan}
 use Rattle.world.specs.declared.plan.Change.{Change}
 use Rattle.world.specs.declared.plan.Change.TheVariants.{Nothing, Put, Step}
 
@@ -108,3 +115,21 @@ abbrev pub IsReady : {C N T A : Type 0} → (C → Stimulus N → T → Type 0) 
 IsReady is_turn nodes sent entry Nothing = Unit {0}
 IsReady is_turn nodes sent entry (Put node) = Unit {0}
 IsReady is_turn nodes sent entry (Step at turn) = CanStep is_turn nodes sent entry at turn
+
+-- What a plan of an event is: what it says of the event is true of the group that it makes, the packet that leaves the
+-- flight stands there, and the core that it steps can make its step.
+pub record IsPlan
+    {C N T A : Type 0}
+    (state : C → CoreState)
+    (starts : Origin → Limits → List Name → Option Name → List (Name × N) → C → Type 0)
+    (steps : C → Stimulus N → List (Name × N) → List Delivery → C → Type 0)
+    (after : C → Stimulus N → C)
+    (is_turn : C → Stimulus N → T → Type 0)
+    (world : Logged C N)
+    (event : Event)
+    (plan : Plan C A N T)
+    : Type 0 where
+  pub tells : Tells state starts steps world.limits event world.group plan.entry
+      (planned after world.group plan.entry plan.change plan.packets.items plan.leaving plan.again)
+  pub leaving : ForSome plan.leaving (λ place. place < length world.group.flight)
+  pub ready : IsReady is_turn world.group.nodes world.group.sent plan.entry plan.change

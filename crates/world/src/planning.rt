@@ -1,12 +1,11 @@
 //! The planning of what an event will do to a group, by its kind.
-ghost use Rattle.std.specs.Prelude.{◌≡◌, ◌⊎◌, ◌<◌, [], false, Some, None, IfOk, IfErr, OnOk, length};
-ghost use Rattle.std.specs.Option.{ForSome};
+ghost use Rattle.std.specs.Prelude.{◌≡◌, ◌⊎◌, [], false, Some, None, IfOk, IfErr, OnOk, length};
 ghost use Rattle.protocol.specs.IdentityLaw.{IsTooLong};
 ghost use Rattle.protocol.specs.Stimulus.{lent};
 ghost use Rattle.world.specs.Group.{node_of};
-ghost use Rattle.world.specs.Plan.{IsReady, RunsAt, planned, staying, stimulus_by};
+ghost use Rattle.world.specs.Plan.{IsPlan, IsReady, RunsAt, planned, staying, stimulus_by};
 ghost use Rattle.world.specs.Refusals.{IsRefusal, absent, refusal, stale};
-ghost use Rattle.world.specs.Run.{Acts, Tells};
+ghost use Rattle.world.specs.Run.{Acts};
 
 use crate::entry::Entry;
 use crate::error::WorldError;
@@ -23,12 +22,7 @@ use std::alloc::{AllocError, Allocator};
 impl<C: Core<A>, A: Allocator + Copy> World<C, A> {
     /// Plans an event. The group does not change.
     pub(crate) fn plan(&self, event: &Event<A>) -> Result<Plan<C, A>, WorldError>
-        ensures tells { IfOk result
-            (λ plan. Tells C.state C.starts C.steps self.now.limits event.now self.now.group plan.entry
-            (planned C.after self.now.group plan.entry plan.change plan.packets.items plan.leaving plan.again)) }
-        ensures leaving { IfOk result (λ plan. ForSome plan.leaving (λ place. place < length self.now.group.flight)) }
-        ensures ready { IfOk result
-            (λ plan. IsReady C.is_turn self.now.group.nodes self.now.group.sent plan.entry plan.change) }
+        ensures plan { IfOk result (IsPlan C.state C.starts C.steps C.after C.is_turn self.now event.now) }
         ensures refused { IfErr result (IsRefusal C.is_spent self.now.limits self.now.group event.now) }
         ensures accepted { OnOk result (refusal self.now.limits self.now.group event.now ≡ None) }
     {
@@ -138,12 +132,7 @@ impl<C: Core<A>, A: Allocator + Copy> World<C, A> {
         event: &Event<A>,
     ) -> Result<Plan<C, A>, WorldError>
         requires { event.now ≡ EventOf.Start name.now incarnation.now peers.now contact.now }
-        ensures tells { IfOk result
-            (λ plan. Tells C.state C.starts C.steps self.now.limits event.now self.now.group plan.entry
-            (planned C.after self.now.group plan.entry plan.change plan.packets.items plan.leaving plan.again)) }
-        ensures leaving { IfOk result (λ plan. ForSome plan.leaving (λ place. place < length self.now.group.flight)) }
-        ensures ready { IfOk result
-            (λ plan. IsReady C.is_turn self.now.group.nodes self.now.group.sent plan.entry plan.change) }
+        ensures plan { IfOk result (IsPlan C.state C.starts C.steps C.after C.is_turn self.now event.now) }
         ensures refused { IfErr result (IsRefusal C.is_spent self.now.limits self.now.group event.now) }
         ensures accepted { OnOk result (refusal self.now.limits self.now.group event.now ≡ None) }
     {
@@ -201,12 +190,7 @@ impl<C: Core<A>, A: Allocator + Copy> World<C, A> {
         event: &Event<A>,
     ) -> Result<Plan<C, A>, WorldError>
         requires { event.now ≡ EventOf.Broadcast name.now payload.now }
-        ensures tells { IfOk result
-            (λ plan. Tells C.state C.starts C.steps self.now.limits event.now self.now.group plan.entry
-            (planned C.after self.now.group plan.entry plan.change plan.packets.items plan.leaving plan.again)) }
-        ensures leaving { IfOk result (λ plan. ForSome plan.leaving (λ place. place < length self.now.group.flight)) }
-        ensures ready { IfOk result
-            (λ plan. IsReady C.is_turn self.now.group.nodes self.now.group.sent plan.entry plan.change) }
+        ensures plan { IfOk result (IsPlan C.state C.starts C.steps C.after C.is_turn self.now event.now) }
         ensures refused { IfErr result (IsRefusal C.is_spent self.now.limits self.now.group event.now) }
         ensures accepted { OnOk result (refusal self.now.limits self.now.group event.now ≡ None) }
     {
@@ -227,12 +211,7 @@ impl<C: Core<A>, A: Allocator + Copy> World<C, A> {
         event: &Event<A>,
     ) -> Result<Plan<C, A>, WorldError>
         requires { event.now ≡ EventOf.Arrive place dice.now }
-        ensures tells { IfOk result
-            (λ plan. Tells C.state C.starts C.steps self.now.limits event.now self.now.group plan.entry
-            (planned C.after self.now.group plan.entry plan.change plan.packets.items plan.leaving plan.again)) }
-        ensures leaving { IfOk result (λ plan. ForSome plan.leaving (λ place. place < length self.now.group.flight)) }
-        ensures ready { IfOk result
-            (λ plan. IsReady C.is_turn self.now.group.nodes self.now.group.sent plan.entry plan.change) }
+        ensures plan { IfOk result (IsPlan C.state C.starts C.steps C.after C.is_turn self.now event.now) }
         ensures refused { IfErr result (IsRefusal C.is_spent self.now.limits self.now.group event.now) }
         ensures accepted { OnOk result (refusal self.now.limits self.now.group event.now ≡ None) }
     {
@@ -259,12 +238,7 @@ impl<C: Core<A>, A: Allocator + Copy> World<C, A> {
     /// Plans the loss of a packet.
     fn plan_lose(&self, place: usize, event: &Event<A>) -> Result<Plan<C, A>, WorldError>
         requires { event.now ≡ EventOf.Lose place }
-        ensures tells { IfOk result
-            (λ plan. Tells C.state C.starts C.steps self.now.limits event.now self.now.group plan.entry
-            (planned C.after self.now.group plan.entry plan.change plan.packets.items plan.leaving plan.again)) }
-        ensures leaving { IfOk result (λ plan. ForSome plan.leaving (λ place. place < length self.now.group.flight)) }
-        ensures ready { IfOk result
-            (λ plan. IsReady C.is_turn self.now.group.nodes self.now.group.sent plan.entry plan.change) }
+        ensures plan { IfOk result (IsPlan C.state C.starts C.steps C.after C.is_turn self.now event.now) }
         ensures refused { IfErr result (IsRefusal C.is_spent self.now.limits self.now.group event.now) }
         ensures accepted { OnOk result (refusal self.now.limits self.now.group event.now ≡ None) }
     {
@@ -283,12 +257,7 @@ impl<C: Core<A>, A: Allocator + Copy> World<C, A> {
     /// Plans to put a packet into flight once more.
     fn plan_again(&self, number: usize, event: &Event<A>) -> Result<Plan<C, A>, WorldError>
         requires { event.now ≡ EventOf.Again number }
-        ensures tells { IfOk result
-            (λ plan. Tells C.state C.starts C.steps self.now.limits event.now self.now.group plan.entry
-            (planned C.after self.now.group plan.entry plan.change plan.packets.items plan.leaving plan.again)) }
-        ensures leaving { IfOk result (λ plan. ForSome plan.leaving (λ place. place < length self.now.group.flight)) }
-        ensures ready { IfOk result
-            (λ plan. IsReady C.is_turn self.now.group.nodes self.now.group.sent plan.entry plan.change) }
+        ensures plan { IfOk result (IsPlan C.state C.starts C.steps C.after C.is_turn self.now event.now) }
         ensures refused { IfErr result (IsRefusal C.is_spent self.now.limits self.now.group event.now) }
         ensures accepted { OnOk result (refusal self.now.limits self.now.group event.now ≡ None) }
     {
@@ -312,12 +281,7 @@ impl<C: Core<A>, A: Allocator + Copy> World<C, A> {
         event: &Event<A>,
     ) -> Result<Plan<C, A>, WorldError>
         requires { event.now ≡ EventOf.Fire name.now id.now }
-        ensures tells { IfOk result
-            (λ plan. Tells C.state C.starts C.steps self.now.limits event.now self.now.group plan.entry
-            (planned C.after self.now.group plan.entry plan.change plan.packets.items plan.leaving plan.again)) }
-        ensures leaving { IfOk result (λ plan. ForSome plan.leaving (λ place. place < length self.now.group.flight)) }
-        ensures ready { IfOk result
-            (λ plan. IsReady C.is_turn self.now.group.nodes self.now.group.sent plan.entry plan.change) }
+        ensures plan { IfOk result (IsPlan C.state C.starts C.steps C.after C.is_turn self.now event.now) }
         ensures refused { IfErr result (IsRefusal C.is_spent self.now.limits self.now.group event.now) }
         ensures accepted { OnOk result (refusal self.now.limits self.now.group event.now ≡ None) }
     {
@@ -330,12 +294,7 @@ impl<C: Core<A>, A: Allocator + Copy> World<C, A> {
     /// Plans a flush of the queued announcements.
     fn plan_flush(&self, name: &NodeName, event: &Event<A>) -> Result<Plan<C, A>, WorldError>
         requires { event.now ≡ EventOf.Flush name.now }
-        ensures tells { IfOk result
-            (λ plan. Tells C.state C.starts C.steps self.now.limits event.now self.now.group plan.entry
-            (planned C.after self.now.group plan.entry plan.change plan.packets.items plan.leaving plan.again)) }
-        ensures leaving { IfOk result (λ plan. ForSome plan.leaving (λ place. place < length self.now.group.flight)) }
-        ensures ready { IfOk result
-            (λ plan. IsReady C.is_turn self.now.group.nodes self.now.group.sent plan.entry plan.change) }
+        ensures plan { IfOk result (IsPlan C.state C.starts C.steps C.after C.is_turn self.now event.now) }
         ensures refused { IfErr result (IsRefusal C.is_spent self.now.limits self.now.group event.now) }
         ensures accepted { OnOk result (refusal self.now.limits self.now.group event.now ≡ None) }
     {
@@ -354,12 +313,7 @@ impl<C: Core<A>, A: Allocator + Copy> World<C, A> {
         event: &Event<A>,
     ) -> Result<Plan<C, A>, WorldError>
         requires { event.now ≡ EventOf.Down name.now peer.now dice.now }
-        ensures tells { IfOk result
-            (λ plan. Tells C.state C.starts C.steps self.now.limits event.now self.now.group plan.entry
-            (planned C.after self.now.group plan.entry plan.change plan.packets.items plan.leaving plan.again)) }
-        ensures leaving { IfOk result (λ plan. ForSome plan.leaving (λ place. place < length self.now.group.flight)) }
-        ensures ready { IfOk result
-            (λ plan. IsReady C.is_turn self.now.group.nodes self.now.group.sent plan.entry plan.change) }
+        ensures plan { IfOk result (IsPlan C.state C.starts C.steps C.after C.is_turn self.now event.now) }
         ensures refused { IfErr result (IsRefusal C.is_spent self.now.limits self.now.group event.now) }
         ensures accepted { OnOk result (refusal self.now.limits self.now.group event.now ≡ None) }
     {
@@ -380,12 +334,7 @@ impl<C: Core<A>, A: Allocator + Copy> World<C, A> {
         event: &Event<A>,
     ) -> Result<Plan<C, A>, WorldError>
         requires { event.now ≡ EventOf.Shuffle name.now dice.now }
-        ensures tells { IfOk result
-            (λ plan. Tells C.state C.starts C.steps self.now.limits event.now self.now.group plan.entry
-            (planned C.after self.now.group plan.entry plan.change plan.packets.items plan.leaving plan.again)) }
-        ensures leaving { IfOk result (λ plan. ForSome plan.leaving (λ place. place < length self.now.group.flight)) }
-        ensures ready { IfOk result
-            (λ plan. IsReady C.is_turn self.now.group.nodes self.now.group.sent plan.entry plan.change) }
+        ensures plan { IfOk result (IsPlan C.state C.starts C.steps C.after C.is_turn self.now event.now) }
         ensures refused { IfErr result (IsRefusal C.is_spent self.now.limits self.now.group event.now) }
         ensures accepted { OnOk result (refusal self.now.limits self.now.group event.now ≡ None) }
     {
@@ -403,12 +352,7 @@ impl<C: Core<A>, A: Allocator + Copy> World<C, A> {
         event: &Event<A>,
     ) -> Result<Plan<C, A>, WorldError>
         requires { event.now ≡ EventOf.Join name.now contact.now }
-        ensures tells { IfOk result
-            (λ plan. Tells C.state C.starts C.steps self.now.limits event.now self.now.group plan.entry
-            (planned C.after self.now.group plan.entry plan.change plan.packets.items plan.leaving plan.again)) }
-        ensures leaving { IfOk result (λ plan. ForSome plan.leaving (λ place. place < length self.now.group.flight)) }
-        ensures ready { IfOk result
-            (λ plan. IsReady C.is_turn self.now.group.nodes self.now.group.sent plan.entry plan.change) }
+        ensures plan { IfOk result (IsPlan C.state C.starts C.steps C.after C.is_turn self.now event.now) }
         ensures refused { IfErr result (IsRefusal C.is_spent self.now.limits self.now.group event.now) }
         ensures accepted { OnOk result (refusal self.now.limits self.now.group event.now ≡ None) }
     {
@@ -421,12 +365,7 @@ impl<C: Core<A>, A: Allocator + Copy> World<C, A> {
     /// Plans a stop.
     fn plan_stop(&self, name: &NodeName, event: &Event<A>) -> Result<Plan<C, A>, WorldError>
         requires { event.now ≡ EventOf.Stop name.now }
-        ensures tells { IfOk result
-            (λ plan. Tells C.state C.starts C.steps self.now.limits event.now self.now.group plan.entry
-            (planned C.after self.now.group plan.entry plan.change plan.packets.items plan.leaving plan.again)) }
-        ensures leaving { IfOk result (λ plan. ForSome plan.leaving (λ place. place < length self.now.group.flight)) }
-        ensures ready { IfOk result
-            (λ plan. IsReady C.is_turn self.now.group.nodes self.now.group.sent plan.entry plan.change) }
+        ensures plan { IfOk result (IsPlan C.state C.starts C.steps C.after C.is_turn self.now event.now) }
         ensures refused { IfErr result (IsRefusal C.is_spent self.now.limits self.now.group event.now) }
         ensures accepted { OnOk result (refusal self.now.limits self.now.group event.now ≡ None) }
     {

@@ -1,4 +1,4 @@
-use Rattle.node_core.specs.lawful.PlumLaws.{plum_lawful}
+use Rattle.node_core.specs.impl_proofs.PlumLaws.{plum_lawful}
 use Rattle.node_core.proofs.laws.core_is_lawful.Goals as goal
 
 pub returns : goal.returns

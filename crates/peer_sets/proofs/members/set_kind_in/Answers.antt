@@ -4,7 +4,7 @@ use Rattle.std.specs.Prelude.{slice_set}
 use Rattle.std.proofs.lemmas.List.Edits.{map_over_more}
 use Rattle.node_names.specs.NodeName.{Name}
 use Rattle.node_names.specs.Same.{same_name}
-use Rattle.peer_sets.specs.declared.kind.PeerKind.{PeerKind}
+use Rattle.peer_sets.specs.declared.members.PeerKind.{PeerKind}
 use Rattle.peer_sets.proofs.members.set_kind_in.Goals as goal
 
 pub loop-member-preserved : goal.loop-member-preserved

@@ -1,7 +1,7 @@
 -- The test of a group's start is what the views require.
 use Rattle.std.proofs.Common.{◌∙◌, sym}
 use Rattle.std.specs.Prelude.{None}
-use Rattle.node_core.specs.lawful.Starting.{fit_views}
+use Rattle.node_core.specs.impl_proofs.Starting.{fit_views}
 use Rattle.play_membership.proofs.starting.may_start.Goals as goal
 
 pub returns : goal.returns

@@ -7,7 +7,7 @@ use Rattle.wire_node.specs.Acting.{AreSettled}
 use Rattle.wire_node.specs.Waiting.{settled}
 use Rattle.wire_node.proofs.Drafting.{settled_rest}
 use Rattle.wire_node.proofs.Filling.{cut_back}
-use Rattle.neighborhood.proofs.NewsLemmas.{TellsOf, kept_of, tells_of}
+use Rattle.node_core.proofs.NewsLemmas.{TellsOf, kept_of, tells_of}
 use Rattle.wire_node.proofs.Stepping.{at_err, on_ok, step_acts}
 use Rattle.wire_node.proofs.step.make_next.Goals as goal
 

@@ -2,7 +2,7 @@ use Rattle.std.proofs.Common.{◌≡◌, ◌∙◌, List, None, OnOk, ap, subst}
 use Rattle.node_names.specs.NodeName.{Name}
 use Rattle.node_core.specs.Plum.{plum_state}
 use Rattle.wire_node.specs.Acting.{Acts, Machine, machine}
-use Rattle.neighborhood.specs.News.{Telling, all_news}
+use Rattle.node_core.specs.News.{Telling, all_news}
 use Rattle.wire_node.proofs.Stepping.{err_then, same_machine, settled_machine}
 use Rattle.wire_node.proofs.step.make_step.Goals as goal
 

@@ -1,5 +1,5 @@
 -- The peers that a node may start with are distinct.
-use Rattle.protocol.specs.lawful.NameLists.{distinct_peers}
+use Rattle.protocol.specs.impl_proofs.NameLists.{distinct_peers}
 use Rattle.flood.proofs.flood_core.FloodCoreCore.start.Goals as goal
 
 pub set_of-requires : goal.set_of-requires

@@ -3,6 +3,7 @@ use Rattle.frames.specs.Answer.{IsFaultOf}
 use Rattle.frames.specs.Cutting.{Cuts}
 use Rattle.frames.specs.Grammar.{IsSpelling}
 use Rattle.frames.specs.Reading.{read}
+use Rattle.frames.specs.declared.TheConstants.{MAX_FRAME}
 use Rattle.std.proofs.Common.{take}
 use Rattle.std.proofs.Common.{length, ◌<◌}
 use Rattle.frames.proofs.BodyFaults.{few_left, short_read}
@@ -17,5 +18,5 @@ returns-in-Ok-clause-next g c =
 
 pub returns-in-Err-Short-clause-few : goal.returns-in-Err-Short-clause-few
 returns-in-Err-Short-clause-few g c e =
-    subst (λ t. length t < 32880) c.rest.ensures (few_left c.rest.result.now
+    subst (λ t. length t < MAX_FRAME) c.rest.ensures (few_left c.rest.result.now
     (short_read c.rest.result.now (subst (λ d. IsFaultOf d (read c.rest.result.now)) c.in-Err-Short.field-0-is c.in-Err-Short.ensures.exact)))

@@ -34,22 +34,22 @@ invariant_of-self-2 g c =
       subst (λ known. AreKnown known c.keep.new.held.messages c.keep.new.peers.queued) (sym c.in_ok-keep.ensures.known)
           (subst (λ held. AreKnown (set.insert (ids c.self.inside.known) id) held c.keep.new.peers.queued) (sym c.in_ok-keep.ensures.held)
           (subst (λ (p : PeerSets). AreKnown (set.insert (ids c.self.inside.known) id)
-          (kept_last c.self.inside.keep (c.self.inside.held.messages ++ (id, c.args.payload.now) ∷ [])) p.queued) (sym c.in_ok-keep.ensures.peers)
+          (kept_last c.self.inside.keep (c.self.inside.held.messages ++ (id, c.args.payload) ∷ [])) p.queued) (sym c.in_ok-keep.ensures.peers)
           (known-with_entries (ids c.self.inside.known) id
           (lazy_but None c.self.inside.peers.members)
-          0 c.args.payload.now c.self.inside.keep c.self.inside.held.messages c.self.inside.peers.queued c.self.invariant.1))),
+          0 c.args.payload c.self.inside.keep c.self.inside.held.messages c.self.inside.peers.queued c.self.invariant.1))),
     )
 
 pub returns-clause-ok : goal.returns-clause-ok
 returns-clause-ok g c =
     subst (λ (s : GossipState). state_of c.self.inside.me c.self.inside.threshold c.self.inside.keep
     (c.self.inside.spent + 1) c.keep.new.peers c.self.inside.missing (ids c.keep.new.known) c.keep.new.held.messages
-    ≡ (outcome s (Broadcast c.args.payload.now)).state)
+    ≡ (outcome s (Broadcast c.args.payload)).state)
     c.self.view_is
     (after_broadcast c.self.inside.me c.self.inside.threshold c.self.inside.keep c.self.inside.spent c.self.inside.peers c.self.inside.missing
     (ids c.self.inside.known)
     c.self.inside.held.messages
     (c.self.inside.spent + 1)
-    refl c.args.payload.now c.keep.new.peers
+    refl c.args.payload c.keep.new.peers
     (ids c.keep.new.known)
     c.keep.new.held.messages c.in_ok-keep.ensures.known c.in_ok-keep.ensures.held c.in_ok-keep.ensures.peers)

@@ -2,7 +2,7 @@
 use Rattle.std.specs.declared.result.Result.TheVariants.{Err}
 use Rattle.std.proofs.Common.{◌∙◌, ap, arith, inl, refl}
 use Rattle.protocol.specs.declared.protocol.CoreError.TheVariants.{OutOfMemory}
-use Rattle.node_core.specs.lawful.Starting.{fit_views, starts_counted}
+use Rattle.node_core.specs.impl_proofs.Starting.{fit_views, starts_counted}
 use Rattle.node_core.proofs.Openings.{IsRefusal, passed_on, refused_for, started_is}
 use Rattle.node_core.proofs.plum_core.PlumCore.start_counted.Goals as goal
 

@@ -7,11 +7,11 @@ use Rattle.protocol.specs.SameNames.{SameNames}
 use Rattle.protocol.specs.Stimulus.{lent}
 use Rattle.protocol.specs.declared.protocol.CoreError.TheVariants.{SeqSpent}
 use Rattle.node_core.specs.Fits.{AreFit}
-use Rattle.node_core.specs.Parts.{IsSpentPart, IsTooLongPart, Part, Takes, by_part, part_of, unboxed}
+use Rattle.node_core.specs.Parts.{IsSpentPart, IsTooLongPart, Makes, Part, by_part, unboxed}
 use Rattle.node_core.specs.Plum.{Plum, plum_state}
 use Rattle.node_core.specs.Steps.{Turned, IsAllowed, turned}
 use Rattle.node_core.proofs.Fitting.{turned_fits}
-use Rattle.node_core.proofs.Parting.{both_ways, ok_allowed, ok_then, spent_by, too_long_by, turned_by}
+use Rattle.node_core.proofs.PartsAgree.{both_ways, ok_allowed, ok_then, spent_by, too_long_by, turned_by}
 use Rattle.node_core.proofs.plum_core.PlumCore.work_out.Goals as goal
 
 pub returns-clause-too_long : goal.returns-clause-too_long
@@ -22,13 +22,15 @@ returns-clause-too_long g c =
 pub returns-clause-allowed : goal.returns-clause-allowed
 returns-clause-allowed g c = ok_allowed c.work_out.result (lent c.args.stimulus.now) (returns-clause-too_long g c)
 
-pub returns-clause-takes : goal.returns-clause-takes
-returns-clause-takes g c =
-    subst (λ (core : Plum). IfOk c.work_out.result
-    (λ worked. Takes core.membership core.gossip (part_of core.me core.membership (lent c.args.stimulus.now)) (unboxed worked.moved)))
+pub returns-clause-makes : goal.returns-clause-makes
+returns-clause-makes g c =
+    subst (λ (core : Plum). IfOk c.work_out.result (λ worked. Makes core.membership core.gossip
+    (turned core.me core.membership core.gossip (lent c.args.stimulus.now)) (unboxed worked.moved) worked.row))
     c.self.view_is
-    (subst (λ (p : Part). IfOk c.work_out.result (λ worked. Takes c.self.inside.membership c.self.inside.gossip p (unboxed worked.moved)))
-    c.part_of-part.ensures c.work_out.ensures.takes)
+    (subst (λ (t : Turned). IfOk c.work_out.result (λ worked. Makes c.self.inside.membership c.self.inside.gossip t (unboxed worked.moved) worked.row))
+    (ap (by_part c.self.inside.membership c.self.inside.gossip) c.part_of-part.ensures
+    ∙ sym (turned_by c.self.inside.me c.self.inside.membership c.self.inside.gossip (lent c.args.stimulus.now)))
+    c.work_out.ensures.makes)
 
 pub returns-clause-effects : goal.returns-clause-effects
 returns-clause-effects g c =

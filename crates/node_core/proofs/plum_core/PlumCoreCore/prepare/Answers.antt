@@ -8,7 +8,7 @@ use Rattle.protocol.specs.declared.protocol.CoreError.TheVariants.{PayloadTooLon
 use Rattle.node_core.specs.Fits.{AreFit}
 use Rattle.node_core.specs.Plum.{Plum, plum_state}
 use Rattle.node_core.specs.Steps.{delivered_at, numbered}
-use Rattle.node_core.proofs.Parting.{passes_on}
+use Rattle.node_core.proofs.PartsAgree.{passes_on}
 use Rattle.node_core.proofs.Told.{error_is, no_error, stepped_is}
 use Rattle.node_core.proofs.plum_core.PlumCoreCore.prepare.Goals as goal
 
@@ -51,7 +51,7 @@ pub returns-clause-turn : goal.returns-clause-turn
 returns-clause-turn g c =
     record {
       allowed = c.in_ok-worked.ensures.allowed;
-      takes = c.in_ok-worked.ensures.takes;
+      makes = c.in_ok-worked.ensures.makes;
       framed = c.in_ok-framed.ensures.last ∙ (λ i. (ap (λ (core : Plum). core.framed) c.self.view_is i) + length (c.in_ok-worked.ensures.effects i).sends);
     }
 

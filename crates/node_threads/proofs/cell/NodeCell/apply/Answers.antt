@@ -11,7 +11,7 @@ use Rattle.node_threads.specs.Refusal.{HasRoom, Refuses}
 use Rattle.node_threads.specs.declared.error.HostError.TheVariants.{OutOfMemory}
 use Rattle.node_threads.proofs.Keeping.{applied_keeps}
 use Rattle.node_threads.proofs.Lettering.{lacks_by_names, open_names, over_links, posted_peers, posted_puts}
-use Rattle.node_threads.proofs.Made.{at_error, made_applies, passed_on}
+use Rattle.node_threads.proofs.Made.{at_error, made_applies, no_success, passed_on}
 use Rattle.node_threads.proofs.cell.NodeCell.apply.Given.{Over}
 use Rattle.node_threads.proofs.cell.NodeCell.apply.Goals as goal
 
@@ -166,6 +166,9 @@ returns-in_err-reserve-clause-refused g c =
     ) in
     passed_on c.from_residual-in_err-reserve.result
     (Refuses g.C.NodeCore.is_spent c.args.self.now c.args.stimulus) OutOfMemory c.from_residual-in_err-reserve.ensures.1 (room, c.in_ok-turn.ensures.accepted)
+
+pub returns-in_err-letters-clause-applied : goal.returns-in_err-letters-clause-applied
+returns-in_err-letters-clause-applied g c = no_success c.from_residual-in_err-letters.result _ _ c.from_residual-in_err-letters.ensures.1
 
 pub returns-in_err-letters-clause-err : goal.returns-in_err-letters-clause-err
 returns-in_err-letters-clause-err g c = at_error c.from_residual-in_err-letters.result _ c.self.view_is

@@ -1,5 +1,5 @@
 use Rattle.peer_sets.proofs.SoundLemmas.{sound-with_kind}
-use Rattle.peer_sets.specs.declared.kind.PeerKind.TheVariants.{Eager}
+use Rattle.peer_sets.specs.declared.members.PeerKind.TheVariants.{Eager}
 use Rattle.peer_sets.proofs.peer_sets.PeerSets.make_eager.Goals as goal
 
 pub invariant_of-self : goal.invariant_of-self

@@ -3,7 +3,7 @@ use Rattle.std.proofs.lemmas.Result.{on_err_weaker, on_ok_weaker}
 use Rattle.node_names.specs.NodeName.{Name}
 use Rattle.protocol.specs.Delivery.{Delivery}
 use Rattle.node_names.specs.declared.dice.Dice.{Dice}
-use Rattle.neighborhood.specs.declared.news.News.{News}
+use Rattle.node_core.specs.declared.news.News.{News}
 use Rattle.wire_node.specs.Node.{NodeState}
 use Rattle.plumtree_c.specs.Wire.{Does, HearsAll, HearsSome, WireState}
 use Rattle.plumtree_c.proofs.wire.Wire.receive.Goals as goal

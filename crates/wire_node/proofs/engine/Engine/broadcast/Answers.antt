@@ -4,7 +4,7 @@ use Rattle.protocol.specs.PayloadLaw.{next_id}
 use Rattle.protocol.specs.declared.stimulus.StimulusOf.TheVariants.{Broadcast}
 use Rattle.node_core.specs.Plum.{plum_state}
 use Rattle.node_core.specs.Steps.{PlumIsSpent}
-use Rattle.node_core.specs.lawful.PlumDelivers.{plum_delivers_one}
+use Rattle.node_core.specs.impl_proofs.PlumDelivers.{plum_delivers_one}
 use Rattle.wire_node.specs.Acting.{machine}
 use Rattle.wire_node.specs.Moving.{Broadcasts, Engine}
 use Rattle.wire_node.proofs.Lasts.{last_id_is}

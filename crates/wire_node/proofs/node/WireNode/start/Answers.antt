@@ -2,7 +2,7 @@ use Rattle.std.proofs.Common.{ap, refl, subst, sym}
 use Rattle.std.proofs.lemmas.Result.{IfOk-at_ok}
 use Rattle.node_core.specs.Plum.{Plum, plum_state}
 use Rattle.node_core.specs.Steps.{PlumStarts}
-use Rattle.neighborhood.specs.News.{Telling, all_news}
+use Rattle.node_core.specs.News.{Telling, all_news}
 use Rattle.wire_node.proofs.node.WireNode.start.Goals as goal
 
 pub returns : goal.returns

@@ -15,17 +15,19 @@ returns-in_err-plan-clause-refused g c =
     c.requires in_flight sent c.in_ok-found.ensures.found.known c.in_ok-found.ensures.found.running c.in_err-plan.ensures.refused in
     search (rules, refused)
 
-pub returns-clause-tells : goal.returns-clause-tells
-returns-clause-tells g c =
+pub returns-clause-plan : goal.returns-clause-plan
+returns-clause-plan g c =
     let in_flight : slice_get c.args.self.now.group.flight c.args.place ≡ Some c.in-Some.number = rw c.flight.ensures at c.in-Some.ensures.number in
     let sent : slice_get c.args.self.now.group.sent c.in-Some.number ≡ Some c.in-Some.packet.now = rw c.sent.ensures at c.in-Some.ensures.packet in
-    tells_arrival g.C.Core.state g.C.Core.starts g.C.Core.steps c.args.self.now.limits c.args.event.now c.args.self.now.group
-    c.in_ok-plan.plan.entry _ c.args.place c.args.dice.now c.in-Some.number c.in-Some.packet.now c.requires
-    c.in_ok-plan.ensures.event c.in_ok-plan.ensures.packet c.in_ok-plan.ensures.first_sent in_flight sent c.in_ok-plan.ensures.acts
-
-pub returns-clause-leaving : goal.returns-clause-leaving
-returns-clause-leaving g c x e =
-    let in_flight : slice_get c.args.self.now.group.flight c.args.place ≡ Some c.in-Some.number = rw c.flight.ensures at c.in-Some.ensures.number in
-    let left : Some c.args.place ≡ Some x = sym c.in_ok-plan.ensures.leaving ∙ e in
-    let here : c.args.place ≡ x = cc in
-    rw (← here) (found_within c.args.self.now.group.flight c.args.place c.in-Some.number in_flight)
+    record {
+      tells =
+          tells_arrival g.C.Core.state g.C.Core.starts g.C.Core.steps c.args.self.now.limits c.args.event.now c.args.self.now.group
+          c.in_ok-plan.plan.entry _ c.args.place c.args.dice.now c.in-Some.number c.in-Some.packet.now c.requires
+          c.in_ok-plan.ensures.event c.in_ok-plan.ensures.packet c.in_ok-plan.ensures.first_sent in_flight sent c.in_ok-plan.ensures.acts;
+      leaving =
+          λ x e.
+          let left : Some c.args.place ≡ Some x = sym c.in_ok-plan.ensures.leaving ∙ e in
+          let here : c.args.place ≡ x = cc in
+          rw (← here) (found_within c.args.self.now.group.flight c.args.place c.in-Some.number in_flight);
+      ready = c.in_ok-plan.ensures.ready;
+    }
