@@ -18,7 +18,7 @@ mod words;
 
 use crate::broadcasts::{hops, reaching, settling};
 use crate::groups::{Group, Host};
-use crate::plumtree::Measured;
+use crate::plumtree::{MeasuredGroup, MeasuredNode};
 use crate::words::{number, size, small};
 use anyhow::Result;
 use loopback::Machine;
@@ -47,42 +47,77 @@ fn group(words: &[String], host: Host) -> Result<Group> {
     })
 }
 
-/// Prints the result of each benchmark with a small input.
-fn tell<R: Print + Machine, C: Measured>(rt: R, alloc: Global) -> Result<()> {
-    broadcasts::tell::<R, C>(&rt, alloc)?;
-    streams::run_all(&rt, alloc, None)?;
-    merges::tell::<R, C>(&rt, alloc)?;
+/// Prints the result of each benchmark of simulated groups, and of streams, with a small input.
+fn tell_simulated<R: Print + Clock, C: MeasuredGroup>(rt: &R, alloc: Global) -> Result<()> {
+    broadcasts::tell::<R, C>(rt, alloc)?;
+    streams::run_all(rt, alloc, None)?;
+    merges::tell::<R, C>(rt, alloc)
+}
+
+/// Prints the result of each benchmark of a node and its parts with a small input.
+fn tell_node<R, C>(rt: R, alloc: Global) -> Result<()>
+where
+    R: Print + Clock + Threads + Wait + Copy + Send + Drop + 'static,
+    C: MeasuredNode,
+{
     running_node::tell::<R, C>(rt, alloc)?;
-    steps::tell::<R, C>(&rt, alloc)?;
+    steps::tell::<R, C>(&rt, alloc)
+}
+
+/// Prints the result of each benchmark with a small input.
+fn tell<R: Print + Machine>(rt: R, alloc: Global) -> Result<()> {
+    tell_simulated::<R, PlumCore>(&rt, alloc)?;
+    tell_node::<R, PlumCore>(rt, alloc)?;
     groups::tell(rt, alloc)
 }
 
-/// Measures the benchmark of this name, with the numbers that follow.
-fn measure<R, C>(rt: R, alloc: Global, what: &str, words: &[String]) -> Result<()>
+/// Measures the benchmark of simulated groups that has this name, with the numbers that follow.
+fn measure_simulated<R, C>(rt: &R, alloc: Global, what: &str, words: &[String]) -> Result<()>
 where
-    R: AllocGlobal + Print + Files + Machine,
-    C: Measured,
+    R: Print + Clock,
+    C: MeasuredGroup,
 {
     match what {
-        "broadcasts" => broadcasts::measure::<R, C>(&rt, alloc, size(words, 2, 500)?),
-        "hops" => hops::measure::<R, C>(&rt, alloc, small(words, 2, 0)?),
-        "settle" => settling::measure::<R, C>(&rt, alloc, size(words, 2, 10_000)?),
-        "reach" => reaching::measure::<R, C>(&rt, alloc, size(words, 2, 1_000)?),
-        "frames" => streams::run_all(&rt, alloc, Some(number(words, 2, 32)?)),
-        "merge" => merges::measure::<R, C>(&rt, alloc, words),
-        "node" => {
-            let count = number(words, 2, 100_000)?;
-            running_node::measure::<R, C>(rt, alloc, count, number(words, 3, 0)?)
+        "broadcasts" => broadcasts::measure::<R, C>(rt, alloc, size(words, 2, 500)?),
+        "hops" => hops::measure::<R, C>(rt, alloc, small(words, 2, 0)?),
+        "settle" => settling::measure::<R, C>(rt, alloc, size(words, 2, 10_000)?),
+        "reach" => reaching::measure::<R, C>(rt, alloc, size(words, 2, 1_000)?),
+        _ => merges::measure::<R, C>(rt, alloc, words),
+    }
+}
+
+/// Measures a running node or a part of one, as this name says, with the numbers that follow.
+fn measure_node<R, C>(rt: R, alloc: Global, what: &str, words: &[String]) -> Result<()>
+where
+    R: Print + Clock + Threads + Wait + Copy + Send + Drop + 'static,
+    C: MeasuredNode,
+{
+    let count = number(words, 2, 100_000)?;
+    match what {
+        "node" => running_node::measure::<R, C>(rt, alloc, count, number(words, 3, 0)?),
+        part => steps::measure::<R, C>(&rt, alloc, part, count),
+    }
+}
+
+/// Measures the benchmark of this name, with the numbers that follow.
+fn measure<R>(rt: R, alloc: Global, what: &str, words: &[String]) -> Result<()>
+where
+    R: AllocGlobal + Print + Files + Machine,
+{
+    match what {
+        "broadcasts" | "hops" | "settle" | "reach" | "merge" => {
+            measure_simulated::<R, PlumCore>(&rt, alloc, what, words)
         }
+        "frames" => streams::run_all(&rt, alloc, Some(number(words, 2, 32)?)),
         "groups" => groups::measure(rt, alloc, &group(words, Host::Threads)?),
         "loops" => groups::measure(rt, alloc, &group(words, Host::Loop)?),
-        part => steps::measure::<R, C>(&rt, alloc, part, number(words, 2, 100_000)?),
+        part => measure_node::<R, PlumCore>(rt, alloc, part, words),
     }
 }
 
 /// Does what the arguments say. It names the parts of a `Machine`, since the prover does not cover a call that passes
 /// the host's runtime as a `Machine`.
-fn obey<R, C>(rt: R, alloc: Global, words: &[String]) -> Result<()>
+fn obey<R>(rt: R, alloc: Global, words: &[String]) -> Result<()>
 where
     R: AllocGlobal
         + Print
@@ -95,16 +130,15 @@ where
         + Send
         + Drop
         + 'static,
-    C: Measured,
 {
     match words.get(1) {
-        Some(what) => measure::<R, C>(rt, alloc, what.as_str(), words),
-        None => tell::<R, C>(rt, alloc),
+        Some(what) => measure(rt, alloc, what.as_str(), words),
+        None => tell(rt, alloc),
     }
 }
 
 fn main(rt: HostRuntime) -> Result<()> {
     let alloc = rt.alloc();
     let words: Vec<String> = env::args(&rt)?.collect(alloc)?;
-    obey::<HostRuntime, PlumCore>(rt, alloc, words.as_slice())
+    obey(rt, alloc, words.as_slice())
 }

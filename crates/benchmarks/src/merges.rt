@@ -8,7 +8,7 @@ use crate::clock::micros_since;
 use crate::merges::plan::{Place, Plan};
 use crate::merges::play::played;
 use crate::names::origin_of;
-use crate::plumtree::Measured;
+use crate::plumtree::MeasuredGroup;
 use anyhow::Result;
 use frames::Frame;
 use node_names::Limits;
@@ -28,7 +28,7 @@ const SMALL: Plan = Plan {
 };
 
 /// Appends the trace of the node at this place of a group.
-fn push_trace<C: Measured>(
+fn push_trace<C: MeasuredGroup>(
     alloc: Global,
     group: &World<C>,
     place: usize,
@@ -39,7 +39,7 @@ fn push_trace<C: Measured>(
 }
 
 /// The traces of a group.
-fn traces_of<C: Measured>(
+fn traces_of<C: MeasuredGroup>(
     alloc: Global,
     group: &World<C>,
     nodes: usize,
@@ -100,19 +100,19 @@ fn measure_of<R: Print + Clock>(rt: &R, alloc: Global, traces: &[Trace<Frame>]) 
 }
 
 /// The traces of a group that is played according to the plan.
-fn played_traces<C: Measured>(alloc: Global, plan: &Plan) -> Result<Vec<Trace<Frame>>> {
+fn played_traces<C: MeasuredGroup>(alloc: Global, plan: &Plan) -> Result<Vec<Trace<Frame>>> {
     let group = played::<C>(alloc, plan)?;
     traces_of(alloc, &group, plan.nodes)
 }
 
 /// Prints how many events the merge of a small group's traces has.
-pub(crate) fn tell<R: Print, C: Measured>(rt: &R, alloc: Global) -> Result<()> {
+pub(crate) fn tell<R: Print, C: MeasuredGroup>(rt: &R, alloc: Global) -> Result<()> {
     let traces = played_traces::<C>(alloc, &SMALL)?;
     tell_of(rt, alloc, traces.as_slice())
 }
 
 /// Prints how long the merge of a group's traces takes. The arguments give the plan.
-pub(crate) fn measure<R: Print + Clock, C: Measured>(
+pub(crate) fn measure<R: Print + Clock, C: MeasuredGroup>(
     rt: &R,
     alloc: Global,
     words: &[String],

@@ -23,15 +23,19 @@ const RING: usize = 1 << 17;
 /// A node that has started, its ports and its links.
 pub(crate) type Started<C> = (Host<C>, Vec<Port<C>>, Vec<Outlet>);
 
-/// The core of the nodes that are measured, which is Plumtree's. The benchmarks name it by this trait alone: the prover
-/// takes ten seconds and more over each function that names the type.
-pub(crate) trait Measured: Core<Global, Note = Frame> + NodeCore<Global> + Send + 'static {
+/// The core of the groups that are measured, which is Plumtree's. The benchmarks name it by this trait and the next
+/// alone: the prover takes ten seconds and more over each function that names the type, and it runs out of steps where
+/// one trait has the functions of both.
+pub(crate) trait MeasuredGroup: Core<Global, Note = Frame> {
     /// Brings a group to rest, and returns how many events that took.
     fn settle(alloc: Global, group: &mut World<Self>) -> Result<u64>;
 
     /// The trace of a node of a group.
     fn trace(alloc: Global, group: &World<Self>, origin: Origin) -> Result<Trace<Frame>>;
+}
 
+/// The core of the nodes that are measured, which is Plumtree's.
+pub(crate) trait MeasuredNode: Core<Global, Note = Frame> + NodeCore<Global> + Send + 'static {
     /// Makes a cell whose core has just started, without peers.
     fn start_cell(alloc: Global) -> Result<NodeCell<Self>>;
 
@@ -39,7 +43,7 @@ pub(crate) trait Measured: Core<Global, Note = Frame> + NodeCore<Global> + Send 
     fn start_host(alloc: Global, names: &[NodeName]) -> Result<Started<Self>>;
 }
 
-impl Measured for PlumCore {
+impl MeasuredGroup for PlumCore {
     fn settle(alloc: Global, group: &mut World<PlumCore>) -> Result<u64> {
         Ok(settle(alloc, group)?)
     }
@@ -47,7 +51,9 @@ impl Measured for PlumCore {
     fn trace(alloc: Global, group: &World<PlumCore>, origin: Origin) -> Result<Trace<Frame>> {
         Ok(project(alloc, group, origin)?)
     }
+}
 
+impl MeasuredNode for PlumCore {
     fn start_cell(alloc: Global) -> Result<NodeCell<PlumCore>> {
         let me = origin_named(ME)?;
         let mut opening = Out::new(alloc);

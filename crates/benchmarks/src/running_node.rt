@@ -6,7 +6,7 @@ mod tally;
 mod writing;
 
 use crate::clock::in_a_second;
-use crate::plumtree::Measured;
+use crate::plumtree::MeasuredNode;
 use crate::running_node::messages::Sent;
 use crate::running_node::running::run;
 use anyhow::Result;
@@ -43,7 +43,7 @@ fn tell_time(rt: &impl Print, sent: &Sent, held: u64) -> Result<()> {
 pub(crate) fn tell<R, C>(rt: R, alloc: Global) -> Result<()>
 where
     R: Print + Clock + Threads + Wait + Copy + Send + Drop + 'static,
-    C: Measured,
+    C: MeasuredNode,
 {
     let sent = run::<R, C>(rt, alloc, TOLD, 0)?;
     tell_sent(&rt, &sent)
@@ -53,7 +53,7 @@ where
 pub(crate) fn measure<R, C>(rt: R, alloc: Global, count: u64, held: u64) -> Result<()>
 where
     R: Print + Clock + Threads + Wait + Copy + Send + Drop + 'static,
-    C: Measured,
+    C: MeasuredNode,
 {
     let sent = run::<R, C>(rt, alloc, count, held)?;
     tell_sent(&rt, &sent)?;

@@ -7,7 +7,7 @@ mod nothing_new;
 mod sealing;
 mod wanted;
 
-use crate::plumtree::Measured;
+use crate::plumtree::MeasuredNode;
 use crate::steps::cell_steps::step_cell;
 use crate::steps::core_steps::{see_all, step_core};
 use crate::steps::known::know_all;
@@ -41,7 +41,7 @@ fn tell_taken(rt: &impl Print, what: &str, taken: Taken, is_timed: bool) -> Resu
 }
 
 /// Does what the word says with `count` messages.
-fn step<R: Print + Clock, C: Measured>(
+fn step<R: Print + Clock, C: MeasuredNode>(
     rt: &R,
     alloc: Global,
     word: &str,
@@ -71,7 +71,7 @@ fn step<R: Print + Clock, C: Measured>(
 }
 
 /// Prints the result of a few messages, for each part.
-pub(crate) fn tell<R: Print + Clock, C: Measured>(rt: &R, alloc: Global) -> Result<()> {
+pub(crate) fn tell<R: Print + Clock, C: MeasuredNode>(rt: &R, alloc: Global) -> Result<()> {
     for word in [
         "core", "asks", "comes", "again", "told", "prune", "cell", "wide", "ids", "gaps", "seen",
         "kept", "seal", "copy",
@@ -82,7 +82,7 @@ pub(crate) fn tell<R: Print + Clock, C: Measured>(rt: &R, alloc: Global) -> Resu
 }
 
 /// Prints how long the part that the word names takes with `count` messages.
-pub(crate) fn measure<R: Print + Clock, C: Measured>(
+pub(crate) fn measure<R: Print + Clock, C: MeasuredNode>(
     rt: &R,
     alloc: Global,
     word: &str,

@@ -3,7 +3,7 @@ use crate::broadcasts::group_of;
 use crate::broadcasts::play::{broadcast, broadcast_lost};
 use crate::clock::micros_since;
 use crate::names::{LENGTH, payload};
-use crate::plumtree::Measured;
+use crate::plumtree::MeasuredGroup;
 use anyhow::Result;
 use bytes::Bytes;
 use node_names::Limits;
@@ -72,7 +72,7 @@ fn measure_filling<R: Print + Clock, C: Core<Global>>(
 }
 
 /// Brings the group to rest, and prints how long that takes.
-fn measure_rest<R: Print + Clock, C: Measured>(
+fn measure_rest<R: Print + Clock, C: MeasuredGroup>(
     rt: &R,
     alloc: Global,
     what: &str,
@@ -104,7 +104,7 @@ fn lose<C: Core<Global>>(group: &mut World<C>, payload: &Bytes) -> Result<()> {
 
 /// Measures both kinds of settling: with announcements that are queued, and with broadcasts that were lost on their
 /// way, where nodes ask for what was announced to them.
-fn measure_in<R: Print + Clock, C: Measured>(
+fn measure_in<R: Print + Clock, C: MeasuredGroup>(
     rt: &R,
     alloc: Global,
     group: &mut World<C>,
@@ -121,7 +121,7 @@ fn measure_in<R: Print + Clock, C: Measured>(
 }
 
 /// Measures both kinds of settling in a fresh group.
-pub(crate) fn measure<R: Print + Clock, C: Measured>(
+pub(crate) fn measure<R: Print + Clock, C: MeasuredGroup>(
     rt: &R,
     alloc: Global,
     count: usize,

@@ -1,7 +1,7 @@
 //! A running node, with four links each way.
 use crate::clock::micros_since;
 use crate::names::{LENGTH, origin_named, payload};
-use crate::plumtree::{Measured, Started};
+use crate::plumtree::{MeasuredNode, Started};
 use crate::running_node::draining::{Counting, drain};
 use crate::running_node::messages::{PEERS, Sent, bytes_out};
 use crate::running_node::tally::Tally;
@@ -276,7 +276,7 @@ where
 pub(crate) fn run<R, C>(rt: R, alloc: Global, count: u64, held: u64) -> Result<Sent>
 where
     R: Clock + Threads + Wait + Copy + Send + Drop + 'static,
-    C: Measured,
+    C: MeasuredNode,
 {
     let started = C::start_host(alloc, names(alloc)?.as_slice())?;
     run_started(rt, alloc, started, count, held)

@@ -1,7 +1,7 @@
 //! Steps of a running node's cell.
 use crate::clock::nanos_since;
 use crate::names::{name_of, origin_named};
-use crate::plumtree::Measured;
+use crate::plumtree::MeasuredNode;
 use crate::steps::messages::{PEERS, Taken, arrivals};
 use anyhow::Result;
 use frames::Frame;
@@ -172,7 +172,7 @@ fn time_linked<R: Clock, C: NodeCore<Global> + Drop>(
 }
 
 /// Lets a cell with links to four peers, and `idle` others, take `count` messages of one of the peers.
-pub(crate) fn step_cell<R: Clock, C: Measured>(
+pub(crate) fn step_cell<R: Clock, C: MeasuredNode>(
     rt: &R,
     alloc: Global,
     count: u64,

@@ -1,6 +1,6 @@
 //! The history of a running node, handed out in one part.
 use crate::clock::nanos_since;
-use crate::plumtree::Measured;
+use crate::plumtree::MeasuredNode;
 use crate::steps::cell_steps::fill;
 use crate::steps::messages::{Taken, arrivals};
 use anyhow::Result;
@@ -45,7 +45,7 @@ fn time_seal<R: Clock, C: NodeCore<Global> + Drop>(
 
 /// Times how long a cell takes to hand out its steps after `count` messages came. If `is_again` is set, all of them
 /// were handed out before, and otherwise none.
-pub(crate) fn seal<R: Clock, C: Measured>(
+pub(crate) fn seal<R: Clock, C: MeasuredNode>(
     rt: &R,
     alloc: Global,
     count: u64,
