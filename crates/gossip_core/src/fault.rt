@@ -1,4 +1,5 @@
 //! The reasons why a broadcast is refused.
+use protocol::CoreError;
 use std::alloc::AllocError;
 use std::error::Error;
 use std::fmt;
@@ -39,5 +40,20 @@ impl From<AllocError> for GossipFault {
 
     fn from(_e: AllocError) -> GossipFault {
         GossipFault::OutOfMemory
+    }
+}
+
+impl From<GossipFault> for CoreError {
+    ghost use Rattle.std.specs.Prelude.{◌≡◌};
+    ghost use Rattle.gossip_core.specs.Fault.{core_error};
+
+    ghost from_gives = { λ fault error. error ≡ core_error fault };
+
+    fn from(fault: GossipFault) -> CoreError {
+        match fault {
+            GossipFault::PayloadTooLong => CoreError::PayloadTooLong,
+            GossipFault::SeqSpent => CoreError::SeqSpent,
+            GossipFault::OutOfMemory => CoreError::OutOfMemory,
+        }
     }
 }

@@ -1,4 +1,7 @@
 //! Plumtree's table: the row that a call is, and what it will send and deliver. Nothing here changes the state.
+//!
+//! Each row has a function of its own that gives what `decide` gives, even where it can't fail: what is decided is some
+//! 400 bytes, and a function clears those of all its arms before it takes one.
 ghost use Rattle.std.specs.Prelude.{◌≡◌, [], ◌∷◌, ◌++◌, ◌≢◌, None, Some, IfOk, OnOk, map, false};
 ghost use Rattle.std.specs.FinSet as set;
 ghost use Rattle.peer_sets.specs.Members.{eager_but};
@@ -18,25 +21,22 @@ use peer_sets::Member;
 use std::alloc::{AllocError, Allocator};
 
 /// Decides that nothing happens.
-fn quiet<A: Allocator + Copy>(alloc: A) -> Decided<A>
-    ensures row { result.row ≡ RowOf.Nothing }
-    ensures answer { result.answer ≡ record { sends = []; delivered = None } }
+fn quiet<A: Allocator + Copy>(alloc: A) -> Result<Decided<A>, AllocError>
+    ensures row { IfOk result (λ decided. decided.row ≡ RowOf.Nothing) }
+    ensures answer { IfOk result (λ decided. decided.answer ≡ record { sends = []; delivered = None }) }
 {
-    Decided {
-        row: RowOf::Nothing,
-        answer: Answer::new(alloc),
-    }
+    silent(alloc, RowOf::Nothing)
 }
 
 /// Decides that the row's change is made, and that nothing is sent or delivered.
-fn silent<A: Allocator + Copy>(alloc: A, row: Row<A>) -> Decided<A>
-    ensures row { result.row ≡ row }
-    ensures answer { result.answer ≡ record { sends = []; delivered = None } }
+fn silent<A: Allocator + Copy>(alloc: A, row: Row<A>) -> Result<Decided<A>, AllocError>
+    ensures row { IfOk result (λ decided. decided.row ≡ row) }
+    ensures answer { IfOk result (λ decided. decided.answer ≡ record { sends = []; delivered = None }) }
 {
-    Decided {
+    Ok(Decided {
         row,
         answer: Answer::new(alloc),
-    }
+    })
 }
 
 /// Makes the body that carries the message.
@@ -121,21 +121,24 @@ fn broadcast<A: Allocator + Copy>(
 }
 
 /// Decides another copy of a known message: its sender is pruned, if it is a member.
-fn repeated<A: Allocator + Copy>(alloc: A, node: &Gossip<A>, sender: &NodeName) -> Decided<A>
-    ensures row { Leads node.now (repeated sender.now node.now).state result.row }
-    ensures answer { result.answer ≡ record {
+fn repeated<A: Allocator + Copy>(
+    alloc: A,
+    node: &Gossip<A>,
+    sender: &NodeName,
+) -> Result<Decided<A>, AllocError>
+    ensures row { IfOk result (λ decided. Leads node.now (repeated sender.now node.now).state decided.row) }
+    ensures answer { IfOk result (λ decided. decided.answer ≡ record {
       sends = (repeated sender.now node.now).sends;
       delivered = (repeated sender.now node.now).delivered;
-    } }
+    }) }
 {
-    if node.peers().is_member(sender) {
-        Decided {
-            row: RowOf::Lazy { peer: *sender },
-            answer: Answer::packet(alloc, sender, BodyOf::Prune),
-        }
-    } else {
-        quiet(alloc)
+    if !node.peers().is_member(sender) {
+        return quiet(alloc);
     }
+    Ok(Decided {
+        row: RowOf::Lazy { peer: *sender },
+        answer: Answer::packet(alloc, sender, BodyOf::Prune),
+    })
 }
 
 /// Appends what a node also sends when `announcer` takes the place of `sender` in the tree: a graft and a prune.
@@ -210,10 +213,10 @@ fn heard<A: Allocator + Copy>(
     }) }
 {
     if node.knows(id) {
-        return Ok(repeated(alloc, node, sender));
+        return repeated(alloc, node, sender);
     }
     if id.origin == node.me() {
-        return Ok(quiet(alloc));
+        return quiet(alloc);
     }
     first_copy(alloc, node, sender, id, round, payload)
 }
@@ -236,33 +239,52 @@ pub(crate) fn announced<A: Allocator + Copy>(
     })
 }
 
+/// Decides the same packet as a call, which sends and delivers nothing.
+fn told<A: Allocator + Copy>(
+    alloc: A,
+    node: &Gossip<A>,
+    sender: &NodeName,
+    entries: &[(MsgId, u32)],
+) -> Result<Decided<A>, AllocError>
+    ensures row { IfOk result (λ decided.
+        Leads node.now (outcome node.now (CallOf.OnIHave sender.now entries.now)).state decided.row) }
+    ensures answer { IfOk result (λ decided. decided.answer ≡ record { sends = []; delivered = None }) }
+{
+    silent(alloc, announced(node, sender, entries)?)
+}
+
 /// Decides the firing of the timer of `id`: the peer that announced `id` first, if there is one, is grafted.
-fn fired<A: Allocator + Copy>(alloc: A, node: &Gossip<A>, id: &MsgId) -> Decided<A>
-    ensures row { Leads node.now (outcome node.now (CallOf.Fire id.now)).state result.row }
-    ensures answer { result.answer ≡ record {
+fn fired<A: Allocator + Copy>(
+    alloc: A,
+    node: &Gossip<A>,
+    id: &MsgId,
+) -> Result<Decided<A>, AllocError>
+    ensures row { IfOk result (λ decided.
+        Leads node.now (outcome node.now (CallOf.Fire id.now)).state decided.row) }
+    ensures answer { IfOk result (λ decided. decided.answer ≡ record {
       sends = (outcome node.now (CallOf.Fire id.now)).sends;
       delivered = (outcome node.now (CallOf.Fire id.now)).delivered;
-    } }
+    }) }
 {
     if !node.missing().armed(id) {
         return quiet(alloc);
     }
-    match node.missing().first(id) {
-        Some((peer, round)) => Decided {
-            row: RowOf::Fired {
-                id: *id,
-                asked: Some(peer),
-            },
-            answer: Answer::packet(alloc, &peer, BodyOf::Graft { id: *id, round }),
-        },
-        None => silent(
+    let Some((peer, round)) = node.missing().first(id) else {
+        return silent(
             alloc,
             RowOf::Fired {
                 id: *id,
                 asked: None,
             },
-        ),
-    }
+        );
+    };
+    Ok(Decided {
+        row: RowOf::Fired {
+            id: *id,
+            asked: Some(peer),
+        },
+        answer: Answer::packet(alloc, &peer, BodyOf::Graft { id: *id, round }),
+    })
 }
 
 /// Decides a packet that asks for a message: its sender becomes eager, and is sent the message if it is held.
@@ -303,6 +325,38 @@ fn flushed<A: Allocator + Copy>(alloc: A, node: &Gossip<A>) -> Result<Decided<A>
     })
 }
 
+/// Decides that a peer becomes eager.
+fn eager<A: Allocator + Copy>(alloc: A, peer: &NodeName) -> Result<Decided<A>, AllocError>
+    ensures row { IfOk result (λ decided. decided.row ≡ RowOf.Eager peer.now) }
+    ensures answer { IfOk result (λ decided. decided.answer ≡ record { sends = []; delivered = None }) }
+{
+    silent(alloc, RowOf::Eager { peer: *peer })
+}
+
+/// Decides that a peer becomes lazy.
+fn lazy<A: Allocator + Copy>(alloc: A, peer: &NodeName) -> Result<Decided<A>, AllocError>
+    ensures row { IfOk result (λ decided. decided.row ≡ RowOf.Lazy peer.now) }
+    ensures answer { IfOk result (λ decided. decided.answer ≡ record { sends = []; delivered = None }) }
+{
+    silent(alloc, RowOf::Lazy { peer: *peer })
+}
+
+/// Decides that a link came up.
+fn up<A: Allocator + Copy>(alloc: A, peer: &NodeName) -> Result<Decided<A>, AllocError>
+    ensures row { IfOk result (λ decided. decided.row ≡ RowOf.Up peer.now) }
+    ensures answer { IfOk result (λ decided. decided.answer ≡ record { sends = []; delivered = None }) }
+{
+    silent(alloc, RowOf::Up { peer: *peer })
+}
+
+/// Decides that a link went down.
+fn down<A: Allocator + Copy>(alloc: A, peer: &NodeName) -> Result<Decided<A>, AllocError>
+    ensures row { IfOk result (λ decided. decided.row ≡ RowOf.Down peer.now) }
+    ensures answer { IfOk result (λ decided. decided.answer ≡ record { sends = []; delivered = None }) }
+{
+    silent(alloc, RowOf::Down { peer: *peer })
+}
+
 /// Decides the call.
 pub(crate) fn decide<A: Allocator + Copy>(
     alloc: A,
@@ -324,13 +378,13 @@ pub(crate) fn decide<A: Allocator + Copy>(
             round,
             payload,
         } => heard(alloc, node, sender, id, *round, payload),
-        CallOf::OnIHave { sender, entries } => Ok(silent(alloc, announced(node, sender, entries)?)),
-        CallOf::Fire { id } => Ok(fired(alloc, node, id)),
+        CallOf::OnIHave { sender, entries } => told(alloc, node, sender, entries),
+        CallOf::Fire { id } => fired(alloc, node, id),
         CallOf::OnGraft { sender, id, round } => asked(alloc, node, sender, id, *round),
-        CallOf::OnGraftPeer { sender } => Ok(silent(alloc, RowOf::Eager { peer: *sender })),
-        CallOf::OnPrune { sender } => Ok(silent(alloc, RowOf::Lazy { peer: *sender })),
+        CallOf::OnGraftPeer { sender } => eager(alloc, sender),
+        CallOf::OnPrune { sender } => lazy(alloc, sender),
         CallOf::Flush => flushed(alloc, node),
-        CallOf::Up { peer } => Ok(silent(alloc, RowOf::Up { peer: *peer })),
-        CallOf::Down { peer } => Ok(silent(alloc, RowOf::Down { peer: *peer })),
+        CallOf::Up { peer } => up(alloc, peer),
+        CallOf::Down { peer } => down(alloc, peer),
     }
 }

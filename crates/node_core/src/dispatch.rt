@@ -4,10 +4,11 @@ ghost use Rattle.protocol.specs.Stimulus.{lent as told};
 ghost use Rattle.node_core.specs.Parts.{lent, part_heard, part_of};
 ghost use Rattle.node_core.specs.Steps.{is_joined};
 
+use bytes::Bytes;
 use frames::{Body, BodyOf, Frame};
 use gossip_core::{Call, CallOf};
 use membership::{Event, EventOf, Membership};
-use node_names::{Dice, NodeName, Origin, has_name};
+use node_names::{Dice, MsgId, NodeName, Origin, has_name};
 use protocol::{StimulusOf, StimulusRef};
 use std::alloc::Allocator;
 
@@ -28,73 +29,122 @@ pub(crate) enum PartOf<E, C, D> {
 /// The part that handles a stimulus, with its lists and payloads borrowed.
 pub(crate) type Part<'a, A> = PartOf<Event<'a>, Call<'a, A>, &'a Dice>;
 
+/// Maps a packet that carries a message.
+fn carried<'a, A: Allocator>(
+    sender: &NodeName,
+    id: &MsgId,
+    round: u32,
+    payload: &'a Bytes<A>,
+) -> Part<'a, A>
+    ensures { lent result ≡ PartOf.Gossip (CallOf.OnGossip sender.now id.now round payload.now) }
+{
+    PartOf::Gossip {
+        call: CallOf::OnGossip {
+            sender: *sender,
+            id: *id,
+            round,
+            payload,
+        },
+    }
+}
+
+/// Maps a packet that announces messages.
+fn announced<'a, A: Allocator>(sender: &NodeName, entries: &'a [(MsgId, u32)]) -> Part<'a, A>
+    ensures { lent result ≡ PartOf.Gossip (CallOf.OnIHave sender.now entries.now) }
+{
+    PartOf::Gossip {
+        call: CallOf::OnIHave {
+            sender: *sender,
+            entries,
+        },
+    }
+}
+
+/// Maps a packet that asks for a message.
+fn asked<'a, A: Allocator>(sender: &NodeName, id: &MsgId, round: u32) -> Part<'a, A>
+    ensures { lent result ≡ PartOf.Gossip (CallOf.OnGraft sender.now id.now round) }
+{
+    PartOf::Gossip {
+        call: CallOf::OnGraft {
+            sender: *sender,
+            id: *id,
+            round,
+        },
+    }
+}
+
+/// Maps a packet that asks for announcements in place of messages.
+fn pruned<'a, A: Allocator>(sender: &NodeName) -> Part<'a, A>
+    ensures { lent result ≡ PartOf.Gossip (CallOf.OnPrune sender.now) }
+{
+    PartOf::Gossip {
+        call: CallOf::OnPrune { sender: *sender },
+    }
+}
+
+/// Maps a packet that asks for messages in place of announcements.
+fn grafted<'a, A: Allocator>(sender: &NodeName) -> Part<'a, A>
+    ensures { lent result ≡ PartOf.Gossip (CallOf.OnGraftPeer sender.now) }
+{
+    PartOf::Gossip {
+        call: CallOf::OnGraftPeer { sender: *sender },
+    }
+}
+
+/// Maps the firing of a timer.
+fn fired<'a, A: Allocator>(id: &MsgId) -> Part<'a, A>
+    ensures { lent result ≡ PartOf.Gossip (CallOf.Fire id.now) }
+{
+    PartOf::Gossip {
+        call: CallOf::Fire { id: *id },
+    }
+}
+
+/// Maps a link that went down.
+fn cut<'a, A: Allocator>(peer: &NodeName, dice: &'a Dice) -> Part<'a, A>
+    ensures { lent result ≡ PartOf.Membership (EventOf.Down peer.now) dice.now }
+{
+    PartOf::Membership {
+        event: EventOf::Down { peer: *peer },
+        dice,
+    }
+}
+
 /// Maps a packet from the sender to the part that handles it.
-fn part_heard<'a, A: Allocator>(sender: NodeName, body: &'a Body<A>, dice: &'a Dice) -> Part<'a, A>
-    ensures { lent result ≡ part_heard sender body.now dice.now }
+fn part_heard<'a, A: Allocator>(sender: &NodeName, body: &'a Body<A>, dice: &'a Dice) -> Part<'a, A>
+    ensures { lent result ≡ part_heard sender.now body.now dice.now }
 {
     let event = match body {
-        BodyOf::Join => EventOf::Join { sender },
+        BodyOf::Join => EventOf::Join { sender: *sender },
         BodyOf::ForwardJoin { new, ttl } => EventOf::ForwardJoin {
-            sender,
+            sender: *sender,
             new: *new,
             ttl: *ttl,
         },
         BodyOf::Neighbor { high } => EventOf::Neighbor {
-            sender,
+            sender: *sender,
             high: *high,
         },
         BodyOf::NeighborReply { accepted } => EventOf::Reply {
-            sender,
+            sender: *sender,
             accepted: *accepted,
         },
-        BodyOf::Disconnect => EventOf::Disconnect { sender },
+        BodyOf::Disconnect => EventOf::Disconnect { sender: *sender },
         BodyOf::Shuffle { origin, ttl, names } => EventOf::Shuffle {
-            sender,
+            sender: *sender,
             origin: *origin,
             ttl: *ttl,
             names: names.as_slice(),
         },
         BodyOf::ShuffleReply { names } => EventOf::ShuffleReply {
-            sender,
+            sender: *sender,
             names: names.as_slice(),
         },
-        BodyOf::Gossip { id, round, payload } => {
-            return PartOf::Gossip {
-                call: CallOf::OnGossip {
-                    sender,
-                    id: *id,
-                    round: *round,
-                    payload,
-                },
-            };
-        }
-        BodyOf::IHave { entries } => {
-            return PartOf::Gossip {
-                call: CallOf::OnIHave {
-                    sender,
-                    entries: entries.as_slice(),
-                },
-            };
-        }
-        BodyOf::Graft { id, round } => {
-            return PartOf::Gossip {
-                call: CallOf::OnGraft {
-                    sender,
-                    id: *id,
-                    round: *round,
-                },
-            };
-        }
-        BodyOf::Prune => {
-            return PartOf::Gossip {
-                call: CallOf::OnPrune { sender },
-            };
-        }
-        BodyOf::GraftPeer => {
-            return PartOf::Gossip {
-                call: CallOf::OnGraftPeer { sender },
-            };
-        }
+        BodyOf::Gossip { id, round, payload } => return carried(sender, id, *round, payload),
+        BodyOf::IHave { entries } => return announced(sender, entries.as_slice()),
+        BodyOf::Graft { id, round } => return asked(sender, id, *round),
+        BodyOf::Prune => return pruned(sender),
+        BodyOf::GraftPeer => return grafted(sender),
     };
     PartOf::Membership { event, dice }
 }
@@ -122,18 +172,13 @@ pub(crate) fn part_of<'a, A: Allocator>(
             if sender.name == me.name {
                 return PartOf::Nobody;
             }
-            part_heard(sender.name, note.body(), dice)
+            part_heard(&sender.name, note.body(), dice)
         }
-        StimulusOf::Fire(id) => PartOf::Gossip {
-            call: CallOf::Fire { id: *id },
-        },
+        StimulusOf::Fire(id) => fired(id),
         StimulusOf::Flush => PartOf::Gossip {
             call: CallOf::Flush,
         },
-        StimulusOf::Down { peer, dice } => PartOf::Membership {
-            event: EventOf::Down { peer: *peer },
-            dice,
-        },
+        StimulusOf::Down { peer, dice } => cut(peer, dice),
         StimulusOf::Shuffle(dice) => PartOf::Membership {
             event: EventOf::Tick,
             dice,

@@ -1,8 +1,8 @@
 //! What a stimulus does to a node's two parts: first it is worked out, and then it is carried out.
-ghost use Rattle.std.specs.Prelude.{◌≡◌, ◌↔◌, false, None, Some, IfOk, OnOk, OnErr, IsErrOf};
+ghost use Rattle.std.specs.Prelude.{◌≡◌, ◌↔◌, ◌∷◌, [], false, None, Some, IfOk, IfErr, IsOk, OnOk, OnErr, IsErrOf};
 ghost use Rattle.gossip_core.specs.Refusals.{IsSpent, IsTooLong};
 ghost use Rattle.gossip_core.specs.Rows.{Leads};
-ghost use Rattle.gossip_core.specs.Table.{lent as lent_call, outcome};
+ghost use Rattle.gossip_core.specs.Table.{after_downs, after_ups, lent as lent_call, outcome};
 ghost use Rattle.membership.specs.Event.{lent as lent_event};
 ghost use Rattle.membership.specs.Membership.{still};
 ghost use Rattle.membership.specs.Table.{table};
@@ -14,9 +14,9 @@ use crate::dispatch::{Part, PartOf};
 use crate::names::are_same;
 use crate::prepared_step::{BoxedViewChange, ViewChange};
 use frames::BodyOf;
-use gossip_core::{Answer, Call, Decided, Gossip, GossipFault, Row, RowOf};
+use gossip_core::{Answer, Call, Decided, Gossip, Row, RowOf};
 use membership::{Event, Membership, Moves};
-use node_names::Dice;
+use node_names::{Dice, NodeName};
 use protocol::CoreError;
 use std::alloc::{AllocError, Allocator};
 use std::boxed::Box;
@@ -47,13 +47,14 @@ fn work_out_event<A: Allocator + Copy>(
     membership: &Membership<A>,
     event: &Event<'_>,
     dice: &Dice,
-) -> Result<Worked<A>, AllocError>
+) -> Result<Worked<A>, CoreError>
     ensures takes { IfOk result (λ worked.
         unboxed worked.moved ≡ Some (moved_by (table (lent_event event.now) dice.now (still membership.now)))) }
     ensures effects { IfOk result (λ worked. worked.effects
         ≡ record { sends = (table (lent_event event.now) dice.now (still membership.now)).sends; delivered = None }) }
     ensures moved { IfOk result (λ worked. (worked.is_moved ≡ false) ↔ SameNames membership.now.views.active
         (table (lent_event event.now) dice.now (still membership.now)).views.active) }
+    ensures refused { IfErr result (λ e. e ≡ CoreError.OutOfMemory) }
 {
     let (next, moves) = membership.prepare(event, dice)?;
     let is_moved = !are_same(membership.views().active(), next.views().active());
@@ -87,29 +88,50 @@ fn work_out_call<A: Allocator + Copy>(
     ensures too_long { IsErrOf result CoreError.PayloadTooLong ↔ IsTooLong (lent_call call.now) }
     ensures spent { IsErrOf result CoreError.SeqSpent ↔ IsSpent gossip.now (lent_call call.now) }
 {
-    match gossip.answer(call) {
-        Ok(Decided { row, answer }) => Ok(Worked {
-            moved: None,
-            row,
-            is_moved: false,
-            effects: answer,
-        }),
-        Err(GossipFault::PayloadTooLong) => Err(CoreError::PayloadTooLong),
-        Err(GossipFault::SeqSpent) => Err(CoreError::SeqSpent),
-        Err(GossipFault::OutOfMemory) => Err(CoreError::OutOfMemory),
-    }
+    let Decided { row, answer } = gossip.answer(call)?;
+    Ok(Worked {
+        moved: None,
+        row,
+        is_moved: false,
+        effects: answer,
+    })
 }
 
-/// Works out what leaves the membership as it is.
-fn unmoved<A: Allocator>(effects: Answer<A>) -> Worked<A>
-    ensures { result ≡ record { moved = None; row = RowOf.Nothing; is_moved = false; effects = effects } }
+/// Works out what leaves both parts as they are.
+fn unmoved<A: Allocator>(effects: Answer<A>) -> Result<Worked<A>, CoreError>
+    ensures worked { IfOk result
+        (λ worked. worked ≡ record { moved = None; row = RowOf.Nothing; is_moved = false; effects = effects }) }
+    ensures done { IsOk result }
 {
-    Worked {
+    Ok(Worked {
         moved: None,
         row: RowOf::Nothing,
         is_moved: false,
         effects,
-    }
+    })
+}
+
+/// Works out a JOIN to the contact.
+fn greeting<A: Allocator + Copy>(alloc: A, contact: &NodeName) -> Result<Worked<A>, CoreError>
+    ensures still { IfOk result (λ worked. unboxed worked.moved ≡ None) }
+    ensures row { IfOk result (λ worked. worked.row ≡ RowOf.Nothing) }
+    ensures same { IfOk result (λ worked. worked.is_moved ≡ false) }
+    ensures effects { IfOk result (λ worked.
+        worked.effects ≡ record { sends = (contact.now, BodyOf.Join) ∷ []; delivered = None }) }
+    ensures done { IsOk result }
+{
+    unmoved(Answer::packet(alloc, contact, BodyOf::Join))
+}
+
+/// Works out that nothing happens.
+fn idle<A: Allocator + Copy>(alloc: A) -> Result<Worked<A>, CoreError>
+    ensures still { IfOk result (λ worked. unboxed worked.moved ≡ None) }
+    ensures row { IfOk result (λ worked. worked.row ≡ RowOf.Nothing) }
+    ensures same { IfOk result (λ worked. worked.is_moved ≡ false) }
+    ensures effects { IfOk result (λ worked. worked.effects ≡ record { sends = []; delivered = None }) }
+    ensures done { IsOk result }
+{
+    unmoved(Answer::new(alloc))
 }
 
 /// Works out what the part does. Nothing changes.
@@ -131,10 +153,10 @@ pub(crate) fn work_out<A: Allocator + Copy>(
     ensures spent { IsErrOf result CoreError.SeqSpent ↔ IsSpentPart gossip.now (lent part.now) }
 {
     match part {
-        PartOf::Membership { event, dice } => Ok(work_out_event(alloc, membership, event, dice)?),
+        PartOf::Membership { event, dice } => work_out_event(alloc, membership, event, dice),
         PartOf::Gossip { call } => work_out_call(gossip, call),
-        PartOf::Greeting { contact } => Ok(unmoved(Answer::packet(alloc, contact, BodyOf::Join))),
-        PartOf::Nobody => Ok(unmoved(Answer::new(alloc))),
+        PartOf::Greeting { contact } => greeting(alloc, contact),
+        PartOf::Nobody => idle(alloc),
     }
 }
 
@@ -151,9 +173,22 @@ pub(crate) fn commit<A: Allocator + Copy>(
     ensures gossip { OnOk result (gossip.new ≡ made_gossip gossip.old (unboxed moved) row) }
     ensures err { OnErr result ((membership.new ≡ membership.old) × (gossip.new ≡ gossip.old)) }
 {
-    let Some(moved) = moved else {
-        return gossip.take(row);
-    };
+    match moved {
+        Some(moved) => commit_event(membership, gossip, moved),
+        None => gossip.take(row),
+    }
+}
+
+/// Carries out an event of the membership, in the same way.
+fn commit_event<A: Allocator + Copy>(
+    membership: &mut Membership<A>,
+    gossip: &mut Gossip<A>,
+    moved: BoxedViewChange<A>,
+) -> Result<(), AllocError>
+    ensures membership { OnOk result (membership.new ≡ moved.value.membership) }
+    ensures gossip { OnOk result (gossip.new ≡ after_ups moved.value.ups (after_downs moved.value.downs gossip.old)) }
+    ensures err { OnErr result ((membership.new ≡ membership.old) × (gossip.new ≡ gossip.old)) }
+{
     let moved = Box::into_inner(moved);
     gossip.relink(moved.downs.as_slice(), moved.ups.as_slice())?;
     *membership = moved.membership;

@@ -1,5 +1,5 @@
 mod Alphabet
-mod Padding
+mod Packing
 pub mod Drawing
 pub mod Distinct
 mod NameSets

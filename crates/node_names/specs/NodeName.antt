@@ -1,5 +1,5 @@
 -- Which bytes name a node.
-use Rattle.std.specs.Prelude.{◌≡◌, ℕ, ◌-◌, ◌<◌, ◌≤◌, Bool, ◌||◌, not, ◌==◌, IsTrue, Option, List, ◌++◌, length, take, replicate, position, All}
+use Rattle.std.specs.Prelude.{◌≡◌, ℕ, ◌<◌, ◌≤◌, Bool, ◌||◌, not, ◌==◌, nat_lt, slice_index, if◌then◌else◌, IsTrue, Option, List, [], ◌∷◌, ◌++◌, length, take, drop, replicate, position, All}
 use Rattle.std.specs.Char.{is_ascii_lowercase, is_ascii_digit}
 
 -- A node's name is seen as the list of its bytes.
@@ -24,12 +24,19 @@ pub record IsNodeName (bytes : Name) : Type 0 where
 abbrev pub first_bad_byte : List ℕ → Option ℕ
 first_bad_byte bytes = position (λ b. not (is_name_byte b)) bytes
 
--- the name, padded with zeros to 32 bytes
-abbrev pub padded : Name → List ℕ
-padded name = name ++ replicate (32 - length name) 0
+-- 32 bytes that hold the name: behind it zeros, and last its length, unless its own last byte stands there
+unfoldable pub packed : Name → List ℕ
+packed name = name ++ drop (length name) (replicate 31 0 ++ length name ∷ [])
 
--- The first len bytes are a name, and zeros fill the rest.
-pub record HoldsName (bytes : List ℕ) (len : ℕ) : Type 0 where
-  pub name : IsNodeName (take len bytes)
-  pub whole : length (take len bytes) ≡ len
-  pub zeros : padded (take len bytes) ≡ bytes
+-- How long the name is that 32 bytes hold: their last is a length if it is less than 32, and else a byte of the name.
+unfoldable pub held_length : List ℕ → ℕ
+held_length bytes = if nat_lt (slice_index bytes 31) 32 then slice_index bytes 31 else 32
+
+-- the name that 32 bytes hold
+unfoldable pub held_name : List ℕ → Name
+held_name bytes = take (held_length bytes) bytes
+
+-- The 32 bytes hold a name.
+pub record HoldsName (bytes : List ℕ) : Type 0 where
+  pub name : IsNodeName (held_name bytes)
+  pub whole : packed (held_name bytes) ≡ bytes

@@ -20,25 +20,27 @@ use std::{fmt, str};
 /// The name of a node: 1 to 32 bytes, each a lowercase ASCII letter, an ASCII digit or `-`.
 ///
 /// Names are ordered by their bytes, a proper prefix first. Contracts see a name as its bytes.
+///
+/// A name takes 32 bytes: its own, then zeros, and the last is its length. A name of 32 bytes has its own last byte there,
+/// which is greater than any length.
 #[derive(Clone, Copy)]
 pub struct NodeName {
     bytes: [u8; NodeName::MAX_LEN],
-    len: u8,
 }
 
 impl Model for NodeName {
-    ghost use Rattle.std.specs.Prelude.{List, ℕ, length, take};
-    ghost use Rattle.node_names.specs.NodeName.{HoldsName, padded};
+    ghost use Rattle.std.specs.Prelude.{List, ℕ};
+    ghost use Rattle.node_names.specs.NodeName.{HoldsName, held_name, packed};
 
     ghost Value = { List ℕ };
 
-    ghost view = { λ n. take n.len n.bytes };
+    ghost view = { λ n. held_name n.bytes };
 
-    ghost invariant = { λ n. HoldsName n.bytes n.len };
+    ghost invariant = { λ n. HoldsName n.bytes };
 
-    ghost inverse = { λ name. record { bytes = padded name; len = length name } };
+    ghost inverse = { λ name. record { bytes = packed name } };
 
-    ghost inverse_ok = { λ n h i. record { bytes = h.zeros i; len = h.whole i } };
+    ghost inverse_ok = { λ n h i. record { bytes = h.whole i } };
 }
 
 /// The reason why bytes are not a name.
@@ -95,19 +97,31 @@ impl NodeName {
         ensures { result ≡ name.now }
     {
         let mut bytes = [0; NodeName::MAX_LEN];
+        bytes[NodeName::MAX_LEN - 1] = name.len() as u8;
         bytes[..name.len()].copy_from_slice(name);
-        NodeName {
-            bytes,
-            len: name.len() as u8,
+        NodeName { bytes }
+    }
+
+    /// Returns how many bytes the name has.
+    #[tactic(auto, unfolding(crate::specs::NodeName::held_name, crate::specs::NodeName::held_length))]
+    fn len(&self) -> usize
+        ensures { result ≡ length self.now }
+    {
+        let last = usize::from(self.bytes[NodeName::MAX_LEN - 1]);
+        if last < NodeName::MAX_LEN {
+            last
+        } else {
+            NodeName::MAX_LEN
         }
     }
 
     /// Returns the name as bytes.
+    #[tactic(auto, unfolding(crate::specs::NodeName::held_name, crate::specs::NodeName::held_length))]
     pub fn as_bytes(&self) -> &[u8]
         ensures value { result.now ≡ self.now }
         ensures valid { IsNodeName self.now }
     {
-        &self.bytes[..usize::from(self.len)]
+        &self.bytes[..self.len()]
     }
 
     /// Returns the name as text.
@@ -125,7 +139,7 @@ impl PartialEq for NodeName {
     ghost laws = { partial_equiv_from_equiv nat_list_eq_equiv };
 
     fn eq(&self, other: &NodeName) -> bool {
-        self.as_bytes() == other.as_bytes()
+        self.bytes == other.bytes
     }
 }
 
