@@ -1,5 +1,6 @@
 -- How 32 bytes hold a name.
-use Rattle.std.proofs.Common.{◌≡◌, ℕ, ◌+◌, ◌-◌, ◌<◌, ◌≤◌, [], ◌∷◌, List, ◌++◌, length, take, drop, replicate, refl, subst, sym, ap, ◌∙◌, ◌⊎◌, inl, inr, arith, if◌then◌else◌, nat_eq, nat_lt, leb, true, false}
+use Rattle.std.proofs.Common.{◌≡◌, ℕ, ◌+◌, ◌-◌, ◌<◌, ◌≤◌, [], ◌∷◌, List, ◌++◌, length, take, drop, replicate, refl, subst, sym, ap, ◌∙◌, arith}
+use Rattle.std.proofs.Common.{◌⊎◌, inl, inr, if◌then◌else◌, nat_eq, nat_lt, leb, true, false}
 use Rattle.std.specs.Prelude.{IsTrue, slice_index}
 use Rattle.std.specs.Cmp.Lexicographic.{pointwise, bytes_decides}
 use Rattle.std.proofs.Math.Seq.{take-append_seam, get_or-append_seam}
@@ -41,7 +42,8 @@ last-whole name h e =
     subst (λ b. 32 ≤ b) (sym (get_or-append name (drop (length name) (tail (length name))) 0 31 (grind arith)))
     (name_byte-wide _ (h.alphabet 31 0 (grind arith)))
 
-shown : (name : List ℕ) → IsNodeName name → ((leb 32 (length name) ≡ true) × (32 ≤ length name)) ⊎ ((leb 32 (length name) ≡ false) × (length name < 32)) → held_length (packed name) ≡ length name
+shown : (name : List ℕ) → IsNodeName name → ((leb 32 (length name) ≡ true) × (32 ≤ length name)) ⊎ ((leb 32 (length name) ≡ false) × (length name < 32))
+    → held_length (packed name) ≡ length name
 unfolding held_length
 shown name h (inl (_, le)) = let e : length name ≡ 32 = grind (arith, h.short, le) in shown-whole _ _ (last-whole name h e) e
 shown name h (inr (_, lt)) = shown-short _ _ (last-short name lt) lt

@@ -1,5 +1,6 @@
 -- Which bytes name a node.
-use Rattle.std.specs.Prelude.{◌≡◌, ℕ, ◌<◌, ◌≤◌, Bool, ◌||◌, not, ◌==◌, nat_lt, slice_index, if◌then◌else◌, IsTrue, Option, List, [], ◌∷◌, ◌++◌, length, take, drop, replicate, position, All}
+use Rattle.std.specs.Prelude.{◌≡◌, ℕ, ◌<◌, ◌≤◌, Bool, ◌||◌, not, ◌==◌, nat_lt, slice_index, if◌then◌else◌, IsTrue, Option, List, [], ◌∷◌, ◌++◌}
+use Rattle.std.specs.Prelude.{length, take, drop, replicate, position, All}
 use Rattle.std.specs.Char.{is_ascii_lowercase, is_ascii_digit}
 
 -- A node's name is seen as the list of its bytes.

@@ -21,8 +21,8 @@ use std::{fmt, str};
 ///
 /// Names are ordered by their bytes, a proper prefix first. Contracts see a name as its bytes.
 ///
-/// A name takes 32 bytes: its own, then zeros, and the last is its length. A name of 32 bytes has its own last byte there,
-/// which is greater than any length.
+/// A name takes 32 bytes: its own, then zeros, and the last is its length. A name of 32 bytes has its own last byte
+/// there, which is greater than any length.
 #[derive(Clone, Copy)]
 pub struct NodeName {
     bytes: [u8; NodeName::MAX_LEN],
