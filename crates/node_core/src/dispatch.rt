@@ -91,25 +91,6 @@ fn grafted<'a, A: Allocator>(sender: &NodeName) -> Part<'a, A>
     }
 }
 
-/// Maps the firing of a timer.
-fn fired<'a, A: Allocator>(id: &MsgId) -> Part<'a, A>
-    ensures { lent result ≡ PartOf.Gossip (CallOf.Fire id.now) }
-{
-    PartOf::Gossip {
-        call: CallOf::Fire { id: *id },
-    }
-}
-
-/// Maps a link that went down.
-fn cut<'a, A: Allocator>(peer: &NodeName, dice: &'a Dice) -> Part<'a, A>
-    ensures { lent result ≡ PartOf.Membership (EventOf.Down peer.now) dice.now }
-{
-    PartOf::Membership {
-        event: EventOf::Down { peer: *peer },
-        dice,
-    }
-}
-
 /// Maps a packet from the sender to the part that handles it.
 fn part_heard<'a, A: Allocator>(sender: &NodeName, body: &'a Body<A>, dice: &'a Dice) -> Part<'a, A>
     ensures { lent result ≡ part_heard sender.now body.now dice.now }
@@ -174,11 +155,16 @@ pub(crate) fn part_of<'a, A: Allocator>(
             }
             part_heard(&sender.name, note.body(), dice)
         }
-        StimulusOf::Fire(id) => fired(id),
+        StimulusOf::Fire(id) => PartOf::Gossip {
+            call: CallOf::Fire { id: *id },
+        },
         StimulusOf::Flush => PartOf::Gossip {
             call: CallOf::Flush,
         },
-        StimulusOf::Down { peer, dice } => cut(peer, dice),
+        StimulusOf::Down { peer, dice } => PartOf::Membership {
+            event: EventOf::Down { peer: *peer },
+            dice,
+        },
         StimulusOf::Shuffle(dice) => PartOf::Membership {
             event: EventOf::Tick,
             dice,
