@@ -57,8 +57,8 @@ impl<A: Allocator> Frame<A> {
         })
     }
 
-    /// Creates a frame from parts that are known to be within their limits.
-    pub(crate) fn from_parts(sender: Origin, number: u64, body: Body<A>) -> Frame<A>
+    /// Creates a frame from parts that are known to be within their limits, which are those of `new`.
+    pub fn from_parts(sender: Origin, number: u64, body: Body<A>) -> Frame<A>
         requires { IsFrame (record { sender = sender; number = number; body = body }) }
         ensures { result ≡ record { sender = sender; number = number; body = body } }
     {

@@ -151,7 +151,7 @@ impl<A: Allocator + Copy> Gossip<A> {
         ensures spent { IsErrOf result GossipFault.SeqSpent ↔ IsSpent self.now (lent call.now) }
     {
         self.validate(call)?;
-        Ok(decide(*self.held.allocator(), self, call)?)
+        decide(*self.held.allocator(), self, call)
     }
 
     /// Rejects a call that may not be made.
@@ -350,8 +350,9 @@ impl<A: Allocator + Copy> Gossip<A> {
         ensures ok { OnOk result (Does (lent call.now) self.old out.old self.new out.new) }
         ensures err { OnErr result ((self.new ≡ self.old) × (out.new ≡ out.old)) }
     {
-        let decided = decide(*self.held.allocator(), self, call)?;
-        let Decided { row, answer } = decided;
+        let Ok(Decided { row, answer }) = decide(*self.held.allocator(), self, call) else {
+            return Err(AllocError);
+        };
         let Answer {
             first,
             others,

@@ -2,7 +2,7 @@
 //!
 //! Each row has a function of its own that gives what `decide` gives, even where it can't fail: what is decided is some
 //! 400 bytes, and a function clears those of all its arms before it takes one.
-ghost use Rattle.std.specs.Prelude.{◌≡◌, [], ◌∷◌, ◌++◌, ◌≢◌, None, Some, IfOk, OnOk, map, false};
+ghost use Rattle.std.specs.Prelude.{◌≡◌, [], ◌∷◌, ◌++◌, ◌≢◌, None, Some, IfOk, IfErr, OnOk, map, false};
 ghost use Rattle.std.specs.FinSet as set;
 ghost use Rattle.peer_sets.specs.Members.{eager_but};
 ghost use Rattle.gossip_core.specs.Refusals.{CanTake};
@@ -12,6 +12,7 @@ ghost use Rattle.gossip_core.specs.Table.{first_copy, gossip_to, lent, outcome, 
 use crate::announcements::announcements;
 use crate::answer::Answer;
 use crate::call::{Call, CallOf};
+use crate::fault::GossipFault;
 use crate::gossip::Gossip;
 use crate::row::{Decided, Row, RowOf};
 use bytes::Bytes;
@@ -21,17 +22,19 @@ use peer_sets::Member;
 use std::alloc::{AllocError, Allocator};
 
 /// Decides that nothing happens.
-fn quiet<A: Allocator + Copy>(alloc: A) -> Result<Decided<A>, AllocError>
+fn quiet<A: Allocator + Copy>(alloc: A) -> Result<Decided<A>, GossipFault>
     ensures row { IfOk result (λ decided. decided.row ≡ RowOf.Nothing) }
     ensures answer { IfOk result (λ decided. decided.answer ≡ record { sends = []; delivered = None }) }
+    ensures memory { IfErr result (λ e. e ≡ GossipFault.OutOfMemory) }
 {
     silent(alloc, RowOf::Nothing)
 }
 
 /// Decides that the row's change is made, and that nothing is sent or delivered.
-fn silent<A: Allocator + Copy>(alloc: A, row: Row<A>) -> Result<Decided<A>, AllocError>
+fn silent<A: Allocator + Copy>(alloc: A, row: Row<A>) -> Result<Decided<A>, GossipFault>
     ensures row { IfOk result (λ decided. decided.row ≡ row) }
     ensures answer { IfOk result (λ decided. decided.answer ≡ record { sends = []; delivered = None }) }
+    ensures memory { IfErr result (λ e. e ≡ GossipFault.OutOfMemory) }
 {
     Ok(Decided {
         row,
@@ -99,7 +102,7 @@ fn broadcast<A: Allocator + Copy>(
     alloc: A,
     node: &Gossip<A>,
     payload: &Bytes<A>,
-) -> Result<Decided<A>, AllocError>
+) -> Result<Decided<A>, GossipFault>
     requires { CanTake node.now (CallOf.Broadcast payload.now) }
     ensures row { IfOk result (λ decided.
         Leads node.now (outcome node.now (CallOf.Broadcast payload.now)).state decided.row) }
@@ -107,6 +110,7 @@ fn broadcast<A: Allocator + Copy>(
       sends = (outcome node.now (CallOf.Broadcast payload.now)).sends;
       delivered = (outcome node.now (CallOf.Broadcast payload.now)).delivered;
     }) }
+    ensures memory { IfErr result (λ e. e ≡ GossipFault.OutOfMemory) }
 {
     let id = MsgId {
         origin: node.me(),
@@ -125,12 +129,13 @@ fn repeated<A: Allocator + Copy>(
     alloc: A,
     node: &Gossip<A>,
     sender: &NodeName,
-) -> Result<Decided<A>, AllocError>
+) -> Result<Decided<A>, GossipFault>
     ensures row { IfOk result (λ decided. Leads node.now (repeated sender.now node.now).state decided.row) }
     ensures answer { IfOk result (λ decided. decided.answer ≡ record {
       sends = (repeated sender.now node.now).sends;
       delivered = (repeated sender.now node.now).delivered;
     }) }
+    ensures memory { IfErr result (λ e. e ≡ GossipFault.OutOfMemory) }
 {
     if !node.peers().is_member(sender) {
         return quiet(alloc);
@@ -163,7 +168,7 @@ fn first_copy<A: Allocator + Copy>(
     id: &MsgId,
     round: u32,
     payload: &Bytes<A>,
-) -> Result<Decided<A>, AllocError>
+) -> Result<Decided<A>, GossipFault>
     requires unknown { set.contains node.now.known id.now ≡ false }
     requires foreign { id.now.origin ≢ node.now.me }
     ensures row { IfOk result (λ decided. Leads node.now
@@ -175,6 +180,7 @@ fn first_copy<A: Allocator + Copy>(
           (first_copy sender.now id.now round payload.now node.now)).sends;
       delivered = Some (id.now, payload.now);
     }) }
+    ensures memory { IfErr result (λ e. e ≡ GossipFault.OutOfMemory) }
 {
     let announcer = node.shortcut(sender, id, round);
     let kept = payload.clone()?;
@@ -204,13 +210,14 @@ fn heard<A: Allocator + Copy>(
     id: &MsgId,
     round: u32,
     payload: &Bytes<A>,
-) -> Result<Decided<A>, AllocError>
+) -> Result<Decided<A>, GossipFault>
     ensures row { IfOk result (λ decided. Leads node.now
         (outcome node.now (CallOf.OnGossip sender.now id.now round payload.now)).state decided.row) }
     ensures answer { IfOk result (λ decided. decided.answer ≡ record {
       sends = (outcome node.now (CallOf.OnGossip sender.now id.now round payload.now)).sends;
       delivered = (outcome node.now (CallOf.OnGossip sender.now id.now round payload.now)).delivered;
     }) }
+    ensures memory { IfErr result (λ e. e ≡ GossipFault.OutOfMemory) }
 {
     if node.knows(id) {
         return repeated(alloc, node, sender);
@@ -239,16 +246,17 @@ pub(crate) fn announced<A: Allocator + Copy>(
     })
 }
 
-/// Decides the same packet as a call, which sends and delivers nothing.
+/// Decides the same packet, on which nothing is sent or delivered.
 fn told<A: Allocator + Copy>(
     alloc: A,
     node: &Gossip<A>,
     sender: &NodeName,
     entries: &[(MsgId, u32)],
-) -> Result<Decided<A>, AllocError>
+) -> Result<Decided<A>, GossipFault>
     ensures row { IfOk result (λ decided.
         Leads node.now (outcome node.now (CallOf.OnIHave sender.now entries.now)).state decided.row) }
     ensures answer { IfOk result (λ decided. decided.answer ≡ record { sends = []; delivered = None }) }
+    ensures memory { IfErr result (λ e. e ≡ GossipFault.OutOfMemory) }
 {
     silent(alloc, announced(node, sender, entries)?)
 }
@@ -258,13 +266,14 @@ fn fired<A: Allocator + Copy>(
     alloc: A,
     node: &Gossip<A>,
     id: &MsgId,
-) -> Result<Decided<A>, AllocError>
+) -> Result<Decided<A>, GossipFault>
     ensures row { IfOk result (λ decided.
         Leads node.now (outcome node.now (CallOf.Fire id.now)).state decided.row) }
     ensures answer { IfOk result (λ decided. decided.answer ≡ record {
       sends = (outcome node.now (CallOf.Fire id.now)).sends;
       delivered = (outcome node.now (CallOf.Fire id.now)).delivered;
     }) }
+    ensures memory { IfErr result (λ e. e ≡ GossipFault.OutOfMemory) }
 {
     if !node.missing().armed(id) {
         return quiet(alloc);
@@ -294,13 +303,14 @@ fn asked<A: Allocator + Copy>(
     sender: &NodeName,
     id: &MsgId,
     round: u32,
-) -> Result<Decided<A>, AllocError>
+) -> Result<Decided<A>, GossipFault>
     ensures row { IfOk result (λ decided. Leads node.now
         (outcome node.now (CallOf.OnGraft sender.now id.now round)).state decided.row) }
     ensures answer { IfOk result (λ decided. decided.answer ≡ record {
       sends = (outcome node.now (CallOf.OnGraft sender.now id.now round)).sends;
       delivered = (outcome node.now (CallOf.OnGraft sender.now id.now round)).delivered;
     }) }
+    ensures memory { IfErr result (λ e. e ≡ GossipFault.OutOfMemory) }
 {
     let answer = match node.payload(id) {
         Some(payload) => Answer::packet(alloc, sender, gossip(id, round, payload)?),
@@ -313,10 +323,11 @@ fn asked<A: Allocator + Copy>(
 }
 
 /// Decides the request to announce everything in the queue.
-fn flushed<A: Allocator + Copy>(alloc: A, node: &Gossip<A>) -> Result<Decided<A>, AllocError>
+fn flushed<A: Allocator + Copy>(alloc: A, node: &Gossip<A>) -> Result<Decided<A>, GossipFault>
     ensures row { IfOk result (λ decided. Leads node.now (outcome node.now CallOf.Flush).state decided.row) }
     ensures answer { IfOk result (λ decided.
         decided.answer ≡ record { sends = (outcome node.now CallOf.Flush).sends; delivered = None }) }
+    ensures memory { IfErr result (λ e. e ≡ GossipFault.OutOfMemory) }
 {
     let packets = announcements(alloc, node.peers())?;
     Ok(Decided {
@@ -326,33 +337,37 @@ fn flushed<A: Allocator + Copy>(alloc: A, node: &Gossip<A>) -> Result<Decided<A>
 }
 
 /// Decides that a peer becomes eager.
-fn eager<A: Allocator + Copy>(alloc: A, peer: &NodeName) -> Result<Decided<A>, AllocError>
+fn eager<A: Allocator + Copy>(alloc: A, peer: &NodeName) -> Result<Decided<A>, GossipFault>
     ensures row { IfOk result (λ decided. decided.row ≡ RowOf.Eager peer.now) }
     ensures answer { IfOk result (λ decided. decided.answer ≡ record { sends = []; delivered = None }) }
+    ensures memory { IfErr result (λ e. e ≡ GossipFault.OutOfMemory) }
 {
     silent(alloc, RowOf::Eager { peer: *peer })
 }
 
 /// Decides that a peer becomes lazy.
-fn lazy<A: Allocator + Copy>(alloc: A, peer: &NodeName) -> Result<Decided<A>, AllocError>
+fn lazy<A: Allocator + Copy>(alloc: A, peer: &NodeName) -> Result<Decided<A>, GossipFault>
     ensures row { IfOk result (λ decided. decided.row ≡ RowOf.Lazy peer.now) }
     ensures answer { IfOk result (λ decided. decided.answer ≡ record { sends = []; delivered = None }) }
+    ensures memory { IfErr result (λ e. e ≡ GossipFault.OutOfMemory) }
 {
     silent(alloc, RowOf::Lazy { peer: *peer })
 }
 
 /// Decides that a link came up.
-fn up<A: Allocator + Copy>(alloc: A, peer: &NodeName) -> Result<Decided<A>, AllocError>
+fn up<A: Allocator + Copy>(alloc: A, peer: &NodeName) -> Result<Decided<A>, GossipFault>
     ensures row { IfOk result (λ decided. decided.row ≡ RowOf.Up peer.now) }
     ensures answer { IfOk result (λ decided. decided.answer ≡ record { sends = []; delivered = None }) }
+    ensures memory { IfErr result (λ e. e ≡ GossipFault.OutOfMemory) }
 {
     silent(alloc, RowOf::Up { peer: *peer })
 }
 
 /// Decides that a link went down.
-fn down<A: Allocator + Copy>(alloc: A, peer: &NodeName) -> Result<Decided<A>, AllocError>
+fn down<A: Allocator + Copy>(alloc: A, peer: &NodeName) -> Result<Decided<A>, GossipFault>
     ensures row { IfOk result (λ decided. decided.row ≡ RowOf.Down peer.now) }
     ensures answer { IfOk result (λ decided. decided.answer ≡ record { sends = []; delivered = None }) }
+    ensures memory { IfErr result (λ e. e ≡ GossipFault.OutOfMemory) }
 {
     silent(alloc, RowOf::Down { peer: *peer })
 }
@@ -362,13 +377,14 @@ pub(crate) fn decide<A: Allocator + Copy>(
     alloc: A,
     node: &Gossip<A>,
     call: &Call<'_, A>,
-) -> Result<Decided<A>, AllocError>
+) -> Result<Decided<A>, GossipFault>
     requires { CanTake node.now (lent call.now) }
     ensures row { IfOk result (λ decided. Leads node.now (outcome node.now (lent call.now)).state decided.row) }
     ensures answer { IfOk result (λ decided. decided.answer ≡ record {
       sends = (outcome node.now (lent call.now)).sends;
       delivered = (outcome node.now (lent call.now)).delivered;
     }) }
+    ensures memory { IfErr result (λ e. e ≡ GossipFault.OutOfMemory) }
 {
     match call {
         CallOf::Broadcast { payload } => broadcast(alloc, node, payload),

@@ -1,6 +1,6 @@
 -- What a stimulus does is what its part does.
 use Rattle.std.proofs.Common.{◌≡◌, ◌∙◌, Bool, true, false, refl, sym, ap, arith, subst}
-use Rattle.std.specs.Prelude.{◌↔◌, IsErrAnd, IsErrOf, OnOk, if◌then◌else◌}
+use Rattle.std.specs.Prelude.{◌↔◌, IsErrOf, OnOk, if◌then◌else◌}
 use Rattle.std.specs.declared.result.Result.{Result}
 use Rattle.std.specs.declared.result.Result.TheVariants.{Ok, Err}
 use Rattle.node_names.specs.NodeName.{Name}
@@ -17,7 +17,7 @@ use Rattle.frames.specs.Frame.{Frame}
 use Rattle.frames.specs.declared.body.BodyOf.TheVariants as body
 use Rattle.membership.specs.Membership.{Membership}
 use Rattle.gossip_core.specs.State.{GossipState}
-use Rattle.node_core.specs.Parts.{IsSpentPart, IsTooLongPart, Makes, PreparedStep, by_part, part_heard, part_of}
+use Rattle.node_core.specs.Parts.{IsSpentPart, IsTooLongPart, Makes, Part, PreparedStep, by_part, part_heard, part_of}
 use Rattle.node_core.specs.Plum.{Plum, plum_state}
 use Rattle.node_core.specs.Steps.{IsAllowed, greeting, heard, idle, is_joined, turned}
 use Rattle.node_core.specs.declared.dispatch.PartOf.TheVariants.{Greeting, Nobody}
@@ -68,7 +68,7 @@ not_spent g sender body.Prune dice h = h
 not_spent g sender body.GraftPeer dice h = h
 
 -- what a stimulus does, its part does
-pub turned_by : (me : Origin) (m : Membership) (g : GossipState) (stimulus : Stimulus Frame) → turned me m g stimulus ≡ by_part m g (part_of me m stimulus)
+turned_by : (me : Origin) (m : Membership) (g : GossipState) (stimulus : Stimulus Frame) → turned me m g stimulus ≡ by_part m g (part_of me m stimulus)
 turned_by me m g (Broadcast payload) = refl
 turned_by me m g (Arrive sender frame dice) = go (same_name sender.name me.name)
   where
@@ -85,6 +85,12 @@ turned_by me m g (Join contact) = go (is_joined me m contact)
     go : (b : Bool) → (if b then idle m g else greeting m g contact) ≡ by_part m g (if b then Nobody else Greeting contact)
     go true = refl
     go false = refl
+
+-- what the part of a stimulus does, the stimulus does
+pub part_does : {part : Part} (core : Plum) (stimulus : Stimulus Frame) →
+    part ≡ part_of core.me core.membership stimulus →
+    by_part core.membership core.gossip part ≡ turned core.me core.membership core.gossip stimulus
+part_does core stimulus is = ap (by_part core.membership core.gossip) is ∙ sym (turned_by core.me core.membership core.gossip stimulus)
 
 -- what is kept makes what the stimulus does, whichever way core and turn are written
 pub makes_inside : {inside core : Plum} {kept turn : PreparedStep} (stimulus : Stimulus Frame) →
@@ -151,26 +157,6 @@ pub ok_allowed : {T : Type 0} (result : Result T CoreError) (stimulus : Stimulus
 ok_allowed (Err e) stimulus long = tt
 ok_allowed (Ok x) stimulus long = allowed_by stimulus (λ h. no_error x PayloadTooLong (long.1 h))
 
--- what follows of what may be taken follows where it was not refused
-pub ok_then : {T : Type 0} (result : Result T CoreError) (P Q : Type 0) → (P → Q) → OnOk result P → OnOk result Q
-ok_then (Err e) P Q f p = tt
-ok_then (Ok x) P Q f p = f p
-
 -- two answers, one after the other
 pub both_ways : {P Q R : Type 0} → P ↔ Q → Q ↔ R → P ↔ R
 both_ways a b = ((λ p. b.0 (a.0 p)), (λ r. a.1 (b.1 r)))
-
--- equal refusals have equal causes
-same_error : {T : Type 0} (e x : CoreError) → ◌≡◌ {A = Result T CoreError} (Err e) (Err x) → e ≡ x
-same_error e x same = cc
-
--- a refusal that is passed on comes as it came
-pub passes_on : {T U : Type 0} (result : Result U CoreError) (e x : CoreError) (P : Type 0) →
-    IsErrAnd result (λ passed. passed ≡ e) →
-    (◌≡◌ {A = Result T CoreError} (Err e) (Err x)) ↔ P →
-    IsErrOf result x ↔ P
-passes_on (Ok v) e x P is came = absurd is
-passes_on (Err passed) e x P is came = (
-  (λ returned. came.0 (ap Err (sym is ∙ same_error passed x returned))),
-  (λ p. ap Err (is ∙ same_error e x (came.1 p))),
-)

@@ -1,6 +1,6 @@
 -- How a node's core starts and steps: a packet or a tick of the membership changes the views, and the gossip is told
 -- which links went down and came up; who is to join sends JOIN; the gossip handles everything else.
-use Rattle.std.specs.Prelude.{◌≡◌, ◌+◌, ◌-◌, ◌^◌, ◌<◌, ◌≤◌, ◌⊎◌, ◌||◌, ℕ, Bool, List, [], ◌∷◌, Option, None, Some, length, if◌then◌else◌}
+use Rattle.std.specs.Prelude.{◌≡◌, ◌+◌, ◌-◌, ◌^◌, ◌<◌, ◌≤◌, ◌⊎◌, ◌||◌, ℕ, Bool, List, [], ◌∷◌, ◌++◌, Option, None, Some, length, if◌then◌else◌}
 use Rattle.std.specs.FinSet as set
 use Rattle.node_names.specs.NodeName.{Name}
 use Rattle.node_names.specs.Limits.{Limits, IsAllowed as AreAllowed}
@@ -10,6 +10,7 @@ use Rattle.node_names.specs.declared.ids.MsgId.{MsgId}
 use Rattle.node_names.specs.declared.ids.Origin.{Origin}
 use Rattle.protocol.specs.Delivery.{Delivery}
 use Rattle.protocol.specs.IdentityLaw.{IsOutOfNumbers}
+use Rattle.protocol.specs.Output.{Output}
 use Rattle.protocol.specs.Stimulus.{Stimulus}
 use Rattle.protocol.specs.declared.TheConstants.{MAX_PAYLOAD}
 use Rattle.protocol.specs.declared.stimulus.StimulusOf.TheVariants.{Broadcast, Arrive, Fire, Flush, Down, Shuffle, Join}
@@ -99,6 +100,11 @@ numbered me framed (send ∷ sends) = (send.0, record { sender = me; number = fr
 abbrev pub delivered_at : Origin → Option (MsgId × List ℕ) → List Delivery
 delivered_at me None = []
 delivered_at me (Some message) = record { node = me; id = message.0; payload = message.1 } ∷ []
+
+-- the output with what is sent, numbered from the next number on, and what is delivered appended
+abbrev pub appended : Origin → ℕ → List (Name × Body) → Option (MsgId × List ℕ) → Output Frame → Output Frame
+appended me framed sends delivered out =
+    record { sends = out.sends ++ numbered me framed sends; deliveries = out.deliveries ++ delivered_at me delivered }
 
 -- the core after the step
 abbrev pub gone_on : Plum → Turned → Plum

@@ -26,10 +26,7 @@ fn push_frame<A: Allocator + Copy>(
         (frames.new ≡ frames.old ++ (to, record { sender = me.now; number = number; body = body }) ∷ []) }
     ensures err { OnErr result (frames.new ≡ frames.old) }
 {
-    let Ok(frame) = Frame::new(*me, number, body) else {
-        unreachable!()
-    };
-    frames.push((to, frame))
+    frames.push((to, Frame::from_parts(*me, number, body)))
 }
 
 /// Appends the bodies as frames of this origin, numbered in their order from `framed` + 1 on. There must be numbers

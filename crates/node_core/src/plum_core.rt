@@ -1,21 +1,17 @@
 //! A node's core: the state machine that joins HyParView's membership and Plumtree's gossip.
-ghost use Rattle.std.specs.Prelude.{◌≡◌, ◌+◌, ◌≤◌, ◌⊎◌, ◌↔◌, ◌++◌, false, None, List, length};
-ghost use Rattle.std.specs.Prelude.{IsSome, IsTrue, IfOk, IfErr, OnOk, OnErr, IsErrOf};
+ghost use Rattle.std.specs.Prelude.{◌≡◌, ◌+◌, ◌≤◌, ◌⊎◌, ◌++◌, None, List, length};
+ghost use Rattle.std.specs.Prelude.{IsSome, IsTrue, IfOk, IfErr, OnOk, OnErr};
 ghost use Rattle.node_names.specs.NodeName.{Name};
 ghost use Rattle.frames.specs.Frame.{Frame as Plain};
-ghost use Rattle.protocol.specs.IdentityLaw.{IsOutOfNumbers, IsTooLong};
 ghost use Rattle.protocol.specs.Peers.{are_peers};
-ghost use Rattle.protocol.specs.SameNames.{SameNames};
 ghost use Rattle.protocol.specs.Stimulus.{lent};
-ghost use Rattle.node_core.specs.Fits.{AreFit, ComesFit};
-ghost use Rattle.node_core.specs.Parts.{Makes, unboxed};
-ghost use Rattle.node_core.specs.Plum.{plum_state};
+ghost use Rattle.node_core.specs.Fits.{ComesFit};
 ghost use Rattle.node_core.specs.Started.{IsStarted};
-ghost use Rattle.node_core.specs.Steps.{IsAllowed, PlumStartsCounted, opening, turned};
+ghost use Rattle.node_core.specs.Steps.{IsAllowed, PlumStartsCounted, opening};
 
 use crate::dispatch::part_of;
 use crate::output::append_numbered;
-use crate::parts::{Worked, commit, work_out};
+use crate::parts::{commit, prepare_part};
 use crate::prepared_step::PreparedStep;
 use bytes::Bytes;
 use frames::Frame;
@@ -121,33 +117,6 @@ impl<A: Allocator + Copy> PlumCore<A> {
             framed,
         })
     }
-
-    /// Works out what a stimulus does to the two parts. Nothing changes.
-    fn work_out(
-        &self,
-        alloc: A,
-        stimulus: &StimulusRef<'_, Frame<A>, A>,
-    ) -> Result<Worked<A>, CoreError>
-        ensures allowed { OnOk result (IsAllowed (lent stimulus.now)) }
-        ensures makes { IfOk result (λ worked. Makes self.now.membership self.now.gossip
-            (turned self.now.me self.now.membership self.now.gossip (lent stimulus.now))
-            (unboxed worked.moved) worked.row) }
-        ensures effects { IfOk result (λ worked. worked.effects ≡ record {
-          sends = (turned self.now.me self.now.membership self.now.gossip (lent stimulus.now)).sends;
-          delivered = (turned self.now.me self.now.membership self.now.gossip (lent stimulus.now)).delivered;
-        }) }
-        ensures fit { OnOk result
-            (AreFit (turned self.now.me self.now.membership self.now.gossip (lent stimulus.now)).sends) }
-        ensures moved { IfOk result (λ worked. (worked.is_moved ≡ false) ↔ SameNames self.now.membership.views.active
-            (turned self.now.me self.now.membership self.now.gossip (lent stimulus.now)).membership.views.active) }
-        ensures too_long { IsErrOf result CoreError.PayloadTooLong ↔ IsTooLong (lent stimulus.now) }
-        ensures numbers { IsErrOf result CoreError.SeqSpent ↔ IsOutOfNumbers (plum_state self.now) (lent stimulus.now) }
-    {
-        let _sound = self.membership.views().limits();
-        heed(stimulus);
-        let part = part_of(&self.me, &self.membership, stimulus);
-        work_out(alloc, &self.membership, &self.gossip, &part)
-    }
 }
 
 /// Ensures that an allowed stimulus fits frames: a packet that arrived is itself a frame.
@@ -204,16 +173,17 @@ impl<A: Allocator + Copy> Core<A> for PlumCore<A> {
         stimulus: &StimulusRef<'_, Frame<A>, A>,
         out: &mut Out<Frame<A>, A>,
     ) -> Result<Prepared<PreparedStep<A>>, CoreError> {
-        let worked = self.work_out(*out.sends.allocator(), stimulus)?;
-        let framed = append_numbered(&self.me, self.framed, worked.effects, out)?;
-        Ok(Prepared {
-            turn: PreparedStep {
-                moved: worked.moved,
-                row: worked.row,
-                framed,
-            },
-            moved: worked.is_moved,
-        })
+        let _sound = self.membership.views().limits();
+        heed(stimulus);
+        let part = part_of(&self.me, &self.membership, stimulus);
+        prepare_part(
+            &self.me,
+            self.framed,
+            &self.membership,
+            &self.gossip,
+            &part,
+            out,
+        )
     }
 
     fn advance(

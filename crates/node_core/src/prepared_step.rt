@@ -33,7 +33,7 @@ impl<A: Allocator> Model for ViewChange<A> {
 /// A boxed view change: most steps change no view, and boxing keeps a `PreparedStep` cheap to move.
 pub(crate) type BoxedViewChange<A> = Box<ViewChange<A>, A>;
 
-/// A step of a core that was worked out: what its membership will be, or the row of the gossip's table that it is, and
+/// A step of a core that was prepared: what its membership will be, or the row of the gossip's table that it is, and
 /// the number of its last frame.
 #[derive(Drop)]
 pub struct PreparedStep<A: Allocator = Global> {

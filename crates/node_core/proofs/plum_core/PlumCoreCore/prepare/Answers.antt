@@ -1,78 +1,77 @@
--- What refuses the working out refuses the step, and what it gives is given.
-use Rattle.std.proofs.Common.{◌<◌, ◌+◌, ◌-◌, ◌^◌, ◌++◌, length, sym, ◌∙◌, ap, subst, inl, inr}
-use Rattle.std.specs.declared.result.Result.TheVariants.{Err}
-use Rattle.gossip_core.specs.Effects.{Effects}
+-- What a stimulus does is what its part does.
+use Rattle.std.proofs.Common.{◌≡◌, ◌<◌, ◌+◌, ◌-◌, ◌^◌, length, sym, subst, inl, inr}
+use Rattle.std.specs.Prelude.{◌↔◌, IfOk, OnOk, false}
+use Rattle.views.specs.Views.{AreSound}
 use Rattle.protocol.specs.IdentityLaw.{IsOutOfNumbers, IsTooLong}
+use Rattle.protocol.specs.Output.{Stepped}
+use Rattle.protocol.specs.SameNames.{SameNames}
 use Rattle.protocol.specs.Stimulus.{lent}
-use Rattle.protocol.specs.declared.protocol.CoreError.TheVariants.{PayloadTooLong, SeqSpent}
 use Rattle.node_core.specs.Fits.{AreFit}
+use Rattle.node_core.specs.Parts.{IsSpentPart, IsTooLongPart, IsTurn, Makes, Part}
 use Rattle.node_core.specs.Plum.{Plum, plum_state}
-use Rattle.node_core.specs.Steps.{delivered_at, numbered}
-use Rattle.node_core.proofs.PartsAgree.{passes_on}
-use Rattle.node_core.proofs.Told.{error_is, no_error, stepped_is}
+use Rattle.node_core.specs.Steps.{IsAllowed, PlumIsSpent, PlumSteps, Turned, appended, plum_after, turned}
+use Rattle.node_core.proofs.Fitting.{turned_fits}
+use Rattle.node_core.proofs.PartsAgree.{allowed_by, both_ways, ok_allowed, part_does, spent_by, too_long_by}
+use Rattle.node_core.proofs.Told.{gives_step, keeps_turn}
 use Rattle.node_core.proofs.plum_core.PlumCoreCore.prepare.Goals as goal
 
-pub returns-in_err-worked-clause-too_long : goal.returns-in_err-worked-clause-too_long
-returns-in_err-worked-clause-too_long g c =
-    passes_on c.from_residual.result c.in_err-worked.field-0.0 PayloadTooLong
-    (IsTooLong (lent c.args.stimulus.now)) c.from_residual.ensures.1 c.in_err-worked.ensures.too_long
+pub prepare_part-requires : goal.prepare_part-requires
+prepare_part-requires g c short =
+    let core : Plum = record { me = c.self.inside.me; membership = c.self.inside.membership; gossip = c.self.inside.gossip; framed = c.self.inside.framed } in
+    let allowed : IsAllowed (lent c.args.stimulus.now) =
+    allowed_by (lent c.args.stimulus.now) (λ long. short (subst IsTooLongPart (sym c.part_of-part.ensures)
+    ((too_long_by c.self.inside.me c.self.inside.membership (lent c.args.stimulus.now)).1 long))) in
+    subst (λ (t : Turned). AreFit t.sends) (sym (part_does core (lent c.args.stimulus.now) c.part_of-part.ensures))
+    (turned_fits core c.self.invariant (subst AreSound c.views.ensures c.limits-sound.ensures.sound)
+    (lent c.args.stimulus.now) (c.heed.ensures allowed)).1
 
-pub returns-in_err-worked-clause-spent : goal.returns-in_err-worked-clause-spent
-returns-in_err-worked-clause-spent g c is =
-    inl ((passes_on c.from_residual.result c.in_err-worked.field-0.0 SeqSpent
-    (IsOutOfNumbers (plum_state c.args.self.now) (lent c.args.stimulus.now)) c.from_residual.ensures.1 c.in_err-worked.ensures.numbers).0 is)
-
-pub returns-in_err-worked-clause-numbers : goal.returns-in_err-worked-clause-numbers
-returns-in_err-worked-clause-numbers g c out =
-    (passes_on c.from_residual.result c.in_err-worked.field-0.0 SeqSpent
-    (IsOutOfNumbers (plum_state c.args.self.now) (lent c.args.stimulus.now)) c.from_residual.ensures.1 c.in_err-worked.ensures.numbers).1
-    out
-
-pub append_numbered-requires : goal.append_numbered-requires
-append_numbered-requires g c = subst AreFit (sym (ap (λ (e : Effects). e.sends) c.in_ok-worked.ensures.effects)) c.in_ok-worked.ensures.fit
-
-pub returns-in_err-framed-clause-too_long : goal.returns-in_err-framed-clause-too_long
-returns-in_err-framed-clause-too_long g c = (
-  λ is. absurd (c.in_err-framed.ensures.no_payload
-      (ap Err (error_is c.from_residual-in_err-framed.result c.in_err-framed.field-0.0 PayloadTooLong c.from_residual-in_err-framed.ensures.1 is))),
-  λ long. absurd (no_error c.in_ok-worked.worked PayloadTooLong (c.in_ok-worked.ensures.too_long.1 long)),
-)
-
-pub returns-in_err-framed-clause-spent : goal.returns-in_err-framed-clause-spent
-returns-in_err-framed-clause-spent g c is =
-    inr (subst (λ n. 2 ^ 64 - 1 < n)
-    (λ i. (ap (λ (core : Plum). core.framed) c.self.view_is i) + length (c.in_ok-worked.ensures.effects i).sends) (c.in_err-framed.ensures.spent
-    (ap Err (error_is c.from_residual-in_err-framed.result c.in_err-framed.field-0.0 SeqSpent c.from_residual-in_err-framed.ensures.1 is))))
-
-pub returns-in_err-framed-clause-numbers : goal.returns-in_err-framed-clause-numbers
-returns-in_err-framed-clause-numbers g c out = absurd (no_error c.in_ok-worked.worked SeqSpent (c.in_ok-worked.ensures.numbers.1 out))
+pub returns-clause-too_long : goal.returns-clause-too_long
+returns-clause-too_long g c =
+    both_ways c.prepare_part.ensures.too_long (subst (λ (p : Part). IsTooLongPart p ↔ IsTooLong (lent c.args.stimulus.now))
+    (sym c.part_of-part.ensures) (too_long_by c.self.inside.me c.self.inside.membership (lent c.args.stimulus.now)))
 
 pub returns-clause-turn : goal.returns-clause-turn
 returns-clause-turn g c =
-    record {
-      allowed = c.in_ok-worked.ensures.allowed;
-      makes = c.in_ok-worked.ensures.makes;
-      framed = c.in_ok-framed.ensures.last ∙ (λ i. (ap (λ (core : Plum). core.framed) c.self.view_is i) + length (c.in_ok-worked.ensures.effects i).sends);
-    }
+    let core : Plum = record { me = c.self.inside.me; membership = c.self.inside.membership; gossip = c.self.inside.gossip; framed = c.self.inside.framed } in
+    subst (λ (core : Plum). IfOk c.prepare_part.result (λ prepared. IsTurn core (lent c.args.stimulus.now) prepared.turn)) c.self.view_is
+    (keeps_turn c.prepare_part.result core (lent c.args.stimulus.now)
+    (ok_allowed c.prepare_part.result (lent c.args.stimulus.now) (returns-clause-too_long g c))
+    (subst (λ (t : Turned). IfOk c.prepare_part.result (λ prepared. Makes core.membership core.gossip t prepared.turn.moved prepared.turn.row)) (part_does core (lent c.args.stimulus.now) c.part_of-part.ensures)
+    c.prepare_part.ensures.makes)
+    (subst (λ (t : Turned). IfOk c.prepare_part.result (λ prepared. prepared.turn.framed ≡ core.framed + length t.sends)) (part_does core (lent c.args.stimulus.now) c.part_of-part.ensures)
+    c.prepare_part.ensures.last))
 
 pub returns-clause-stepped : goal.returns-clause-stepped
 returns-clause-stepped g c =
-    stepped_is c.args.self.now
-    (lent c.args.stimulus.now)
-    c.in_ok-worked.ensures.allowed c.in_ok-worked.worked.effects c.in_ok-worked.ensures.effects c.args.out.now c.append_numbered.new.out
-    (c.in_ok-framed.ensures.ok ∙ ap (λ (core : Plum). record {
-      sends = c.args.out.now.sends ++ numbered core.me core.framed c.in_ok-worked.worked.effects.sends;
-      deliveries = c.args.out.now.deliveries ++ delivered_at core.me c.in_ok-worked.worked.effects.delivered;
-    }) c.self.view_is)
+    let core : Plum = record { me = c.self.inside.me; membership = c.self.inside.membership; gossip = c.self.inside.gossip; framed = c.self.inside.framed } in
+    subst (λ (core : Plum). OnOk c.prepare_part.result (Stepped PlumSteps core (lent c.args.stimulus.now) c.args.out.now
+    (plum_after core (lent c.args.stimulus.now)) c.prepare_part.new.out)) c.self.view_is
+    (gives_step c.prepare_part.result core (lent c.args.stimulus.now) c.args.out.now c.prepare_part.new.out
+    (ok_allowed c.prepare_part.result (lent c.args.stimulus.now) (returns-clause-too_long g c))
+    (subst (λ (t : Turned). OnOk c.prepare_part.result (c.prepare_part.new.out ≡ appended core.me core.framed t.sends t.delivered c.args.out.now)) (part_does core (lent c.args.stimulus.now) c.part_of-part.ensures)
+    c.prepare_part.ensures.ok))
 
 pub returns-clause-moved : goal.returns-clause-moved
-returns-clause-moved g c = c.in_ok-worked.ensures.moved
+returns-clause-moved g c =
+    let core : Plum = record { me = c.self.inside.me; membership = c.self.inside.membership; gossip = c.self.inside.gossip; framed = c.self.inside.framed } in
+    subst (λ (core : Plum). IfOk c.prepare_part.result (λ prepared. (prepared.moved ≡ false)
+    ↔ SameNames core.membership.views.active (turned core.me core.membership core.gossip (lent c.args.stimulus.now)).membership.views.active))
+    c.self.view_is
+    (subst (λ (t : Turned). IfOk c.prepare_part.result (λ prepared. (prepared.moved ≡ false)
+    ↔ SameNames c.self.inside.membership.views.active t.membership.views.active))
+    (part_does core (lent c.args.stimulus.now) c.part_of-part.ensures) c.prepare_part.ensures.moved)
 
-pub returns-clause-too_long : goal.returns-clause-too_long
-returns-clause-too_long g c = (
-  λ returned. absurd (no_error _ PayloadTooLong returned),
-  λ long. absurd (no_error c.in_ok-worked.worked PayloadTooLong (c.in_ok-worked.ensures.too_long.1 long)),
-)
+pub returns-clause-spent : goal.returns-clause-spent
+returns-clause-spent g c is =
+    let core : Plum = record { me = c.self.inside.me; membership = c.self.inside.membership; gossip = c.self.inside.gossip; framed = c.self.inside.framed } in
+    subst (λ (core : Plum). PlumIsSpent core (lent c.args.stimulus.now)) c.self.view_is
+    (elim (c.prepare_part.ensures.spent is) [
+      | inl used ↦ inl ((spent_by core (lent c.args.stimulus.now)).0 (subst (IsSpentPart core.gossip) c.part_of-part.ensures used))
+      | inr more ↦ inr (subst (λ (t : Turned). 2 ^ 64 - 1 < core.framed + length t.sends) (part_does core (lent c.args.stimulus.now) c.part_of-part.ensures) more)
+    ])
 
 pub returns-clause-numbers : goal.returns-clause-numbers
-returns-clause-numbers g c out = absurd (no_error c.in_ok-worked.worked SeqSpent (c.in_ok-worked.ensures.numbers.1 out))
+returns-clause-numbers g c out =
+    let core : Plum = record { me = c.self.inside.me; membership = c.self.inside.membership; gossip = c.self.inside.gossip; framed = c.self.inside.framed } in
+    c.prepare_part.ensures.numbers (subst (IsSpentPart core.gossip) (sym c.part_of-part.ensures) ((spent_by core (lent c.args.stimulus.now)).1
+    (subst (λ (core : Plum). IsOutOfNumbers (plum_state core) (lent c.args.stimulus.now)) (sym c.self.view_is) out)))
