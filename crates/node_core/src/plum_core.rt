@@ -1,5 +1,5 @@
 //! A node's core: the state machine that joins HyParView's membership and Plumtree's gossip.
-ghost use Rattle.std.specs.Prelude.{◌≡◌, ◌+◌, ◌≤◌, ◌⊎◌, ◌++◌, None, List, length};
+ghost use Rattle.std.specs.Prelude.{◌≡◌, ◌+◌, ◌≤◌, ◌⊎◌, ◌++◌, List, length};
 ghost use Rattle.std.specs.Prelude.{IsSome, IsTrue, IfOk, IfErr, OnOk, OnErr};
 ghost use Rattle.node_names.specs.NodeName.{Name};
 ghost use Rattle.frames.specs.Frame.{Frame as Plain};
@@ -10,14 +10,14 @@ ghost use Rattle.node_core.specs.Started.{IsStarted};
 ghost use Rattle.node_core.specs.Steps.{IsAllowed, PlumStartsCounted, opening};
 
 use crate::dispatch::part_of;
-use crate::output::append_numbered;
+use crate::output::append_list;
 use crate::parts::{commit, prepare_part};
 use crate::prepared_step::PreparedStep;
 use bytes::Bytes;
-use frames::Frame;
-use gossip_core::{Answer, Gossip};
+use frames::{Body, Frame};
+use gossip_core::Gossip;
 use membership::{Membership, Moves};
-use node_names::{Limits, MsgId, NameSet, NodeName, Origin};
+use node_names::{Limits, Listed, MsgId, NameSet, NodeName, Origin};
 use peer_sets::PeerSets;
 use protocol::{Core, CoreError, Out, Prepared, StimulusOf, StimulusRef};
 use std::alloc::{AllocError, Allocator, Global};
@@ -60,17 +60,17 @@ fn greet<A: Allocator + Copy>(
     alloc: A,
     membership: &mut Membership<A>,
     contact: Option<NodeName>,
-) -> Result<Answer<A>, AllocError>
+) -> Result<Listed<(NodeName, Body<A>), A>, AllocError>
     ensures same { OnOk result (membership.new ≡ membership.old) }
-    ensures opening { IfOk result (λ effects. effects ≡ record { sends = opening contact; delivered = None }) }
+    ensures opening { IfOk result (λ sends. sends ≡ opening contact) }
 {
     let Some(contact) = contact else {
-        return Ok(Answer::new(alloc));
+        return Ok(Listed::new(alloc));
     };
     let mut moves = Moves::new(alloc);
     membership.join(contact, &mut moves)?;
     let Moves { sends, .. } = moves;
-    Ok(Answer::of_sends(sends))
+    Ok(sends)
 }
 
 impl<A: Allocator + Copy> PlumCore<A> {
@@ -108,8 +108,8 @@ impl<A: Allocator + Copy> PlumCore<A> {
             limits.threshold(),
             limits.keep(),
         )?;
-        let effects = greet(alloc, &mut membership, contact)?;
-        let framed = append_numbered(&me, frames_spent, effects, out)?;
+        let sends = greet(alloc, &mut membership, contact)?;
+        let framed = append_list(&me, frames_spent, sends, out)?;
         Ok(PlumCore {
             me,
             membership,

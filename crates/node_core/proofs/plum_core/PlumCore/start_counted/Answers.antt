@@ -15,7 +15,7 @@ returns-in_err-framed-clause-refused g c =
     (IsRefusal c.args.contact c.args.frames_spent) c.in_err-framed.field-0.0 c.from_residual-in_err-framed.ensures.1
     (refused_for c.args.contact c.args.frames_spent
     (omega (arith, c.ranges.frames_spent.fits))
-    c.in_ok-effects.effects c.in_ok-effects.ensures.opening c.in_err-framed.field-0.0
+    c.in_ok-sends.sends c.in_ok-sends.ensures.opening c.in_err-framed.field-0.0
     (λ is. c.in_err-framed.ensures.no_payload (ap Err is))
     (λ is. c.in_err-framed.ensures.spent (ap Err is)))
 
@@ -23,16 +23,16 @@ pub returns-clause-started : goal.returns-clause-started
 returns-clause-started g c =
     started_is c.args.me c.args.limits c.args.peers.now c.args.contact c.args.seq_spent
     c.args.frames_spent c.active-allowed.ensures.allowed c.greet.new.membership
-    (c.in_ok-effects.ensures.same ∙ c.in_ok-membership.ensures)
+    (c.in_ok-sends.ensures.same ∙ c.in_ok-membership.ensures)
     c.in_ok-gossip.gossip
     (rw c.keep.ensures.value at (rw c.threshold.ensures.value at c.in_ok-gossip.ensures))
-    c.in_ok-effects.effects c.in_ok-effects.ensures.opening c.args.out.now c.append_numbered.new.out
+    c.in_ok-sends.sends c.in_ok-sends.ensures.opening c.args.out.now c.append_list.new.out
     c.in_ok-framed.ensures.ok c.in_ok-framed.framed c.in_ok-framed.ensures.last
 
-pub returns-in_err-effects-clause-refused : goal.returns-in_err-effects-clause-refused
-returns-in_err-effects-clause-refused g c =
-    passed_on c.from_residual-in_err-effects.result
-    (IsRefusal c.args.contact c.args.frames_spent) OutOfMemory c.from_residual-in_err-effects.ensures.1 (inl refl)
+pub returns-in_err-sends-clause-refused : goal.returns-in_err-sends-clause-refused
+returns-in_err-sends-clause-refused g c =
+    passed_on c.from_residual-in_err-sends.result
+    (IsRefusal c.args.contact c.args.frames_spent) OutOfMemory c.from_residual-in_err-sends.ensures.1 (inl refl)
 
 pub returns-clause-lawful : goal.returns-clause-lawful
 returns-clause-lawful g c =
