@@ -150,8 +150,8 @@ fn unmoved<A: Allocator>(framed: u64) -> Result<Prepared<PreparedStep<A>>, CoreE
     })
 }
 
-/// Prepares what the part does: appends what it sends, numbered from `framed` + 1 on, and what it delivers. Nothing else
-/// changes.
+/// Prepares what the part does: appends what it sends, numbered from `framed` + 1 on, and what it delivers. Nothing
+/// else changes.
 pub(crate) fn prepare_part<A: Allocator + Copy>(
     me: &Origin,
     framed: u64,

@@ -36,9 +36,11 @@ returns-clause-turn g c =
     subst (λ (core : Plum). IfOk c.prepare_part.result (λ prepared. IsTurn core (lent c.args.stimulus.now) prepared.turn)) c.self.view_is
     (keeps_turn c.prepare_part.result core (lent c.args.stimulus.now)
     (ok_allowed c.prepare_part.result (lent c.args.stimulus.now) (returns-clause-too_long g c))
-    (subst (λ (t : Turned). IfOk c.prepare_part.result (λ prepared. Makes core.membership core.gossip t prepared.turn.moved prepared.turn.row)) (part_does core (lent c.args.stimulus.now) c.part_of-part.ensures)
+    (subst (λ (t : Turned). IfOk c.prepare_part.result (λ prepared. Makes core.membership core.gossip t prepared.turn.moved prepared.turn.row))
+    (part_does core (lent c.args.stimulus.now) c.part_of-part.ensures)
     c.prepare_part.ensures.makes)
-    (subst (λ (t : Turned). IfOk c.prepare_part.result (λ prepared. prepared.turn.framed ≡ core.framed + length t.sends)) (part_does core (lent c.args.stimulus.now) c.part_of-part.ensures)
+    (subst (λ (t : Turned). IfOk c.prepare_part.result (λ prepared. prepared.turn.framed ≡ core.framed + length t.sends))
+    (part_does core (lent c.args.stimulus.now) c.part_of-part.ensures)
     c.prepare_part.ensures.last))
 
 pub returns-clause-stepped : goal.returns-clause-stepped
@@ -48,7 +50,8 @@ returns-clause-stepped g c =
     (plum_after core (lent c.args.stimulus.now)) c.prepare_part.new.out)) c.self.view_is
     (gives_step c.prepare_part.result core (lent c.args.stimulus.now) c.args.out.now c.prepare_part.new.out
     (ok_allowed c.prepare_part.result (lent c.args.stimulus.now) (returns-clause-too_long g c))
-    (subst (λ (t : Turned). OnOk c.prepare_part.result (c.prepare_part.new.out ≡ appended core.me core.framed t.sends t.delivered c.args.out.now)) (part_does core (lent c.args.stimulus.now) c.part_of-part.ensures)
+    (subst (λ (t : Turned). OnOk c.prepare_part.result (c.prepare_part.new.out ≡ appended core.me core.framed t.sends t.delivered c.args.out.now))
+    (part_does core (lent c.args.stimulus.now) c.part_of-part.ensures)
     c.prepare_part.ensures.ok))
 
 pub returns-clause-moved : goal.returns-clause-moved
@@ -67,7 +70,8 @@ returns-clause-spent g c is =
     subst (λ (core : Plum). PlumIsSpent core (lent c.args.stimulus.now)) c.self.view_is
     (elim (c.prepare_part.ensures.spent is) [
       | inl used ↦ inl ((spent_by core (lent c.args.stimulus.now)).0 (subst (IsSpentPart core.gossip) c.part_of-part.ensures used))
-      | inr more ↦ inr (subst (λ (t : Turned). 2 ^ 64 - 1 < core.framed + length t.sends) (part_does core (lent c.args.stimulus.now) c.part_of-part.ensures) more)
+      | inr more ↦ inr (subst (λ (t : Turned). 2 ^ 64 - 1 < core.framed + length t.sends)
+          (part_does core (lent c.args.stimulus.now) c.part_of-part.ensures) more)
     ])
 
 pub returns-clause-numbers : goal.returns-clause-numbers
