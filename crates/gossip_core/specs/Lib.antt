@@ -1,4 +1,5 @@
 pub mod Effects
+pub mod Answers
 pub mod Fault
 pub mod State
 pub mod Announcements

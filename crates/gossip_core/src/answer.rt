@@ -1,71 +1,56 @@
 //! What one call of a node's gossip will yield.
-ghost use Rattle.std.specs.Prelude.{◌≡◌, [], ◌∷◌, ◌++◌, None, OnOk};
-
 use bytes::Bytes;
 use frames::Body;
 use node_names::{Listed, MsgId, NodeName};
-use std::alloc::{AllocError, Allocator, Global};
-use std::marker::Model;
+use peer_sets::Member;
+use std::alloc::Global;
 
-/// What one call will send and deliver.
-///
-/// Contracts see it as `Effects`: its first packet, if there is one, and then the others. The first has a place of its
-/// own, so that a call that sends one packet, as another copy of a known message does, takes no memory for a list.
+/// A message that goes on, to all eager members but one and to the application. Generic in the types of the members and
+/// of the payload.
 #[derive(Drop)]
-pub struct Answer<A: Allocator = Global> {
-    /// The first packet, with its receiver's name. It may stand in `others` too.
-    pub first: Option<(NodeName, Body<A>)>,
-    /// The other packets in order, each with its receiver's name.
-    pub others: Listed<(NodeName, Body<A>), A>,
-    /// The message for the application.
-    pub delivered: Option<(MsgId, Bytes<A>)>,
+pub struct SpreadOf<M, P> {
+    /// The members, of which the eager ones get the message.
+    pub members: M,
+    /// The member that does not get it, since it sent it.
+    pub left_out: Option<NodeName>,
+    /// The message's id.
+    pub id: MsgId,
+    /// The round of the packets that carry it.
+    pub round: u32,
+    /// The message's payload.
+    pub payload: P,
 }
 
-impl<A: Allocator> Model for Answer<A> {
-    ghost use Rattle.std.specs.Prelude.{◌++◌};
-    ghost use Rattle.std.specs.Option.{option_to_list};
-    ghost use Rattle.gossip_core.specs.Effects.{Effects};
+/// A message that goes on, with its payload and the members borrowed.
+pub type Spread<'a, A = Global> = SpreadOf<&'a [Member], &'a Bytes<A>>;
 
-    ghost Value = { Effects };
-
-    ghost view = { λ a. record { sends = option_to_list a.first ++ a.others; delivered = a.delivered } };
+/// What one call will send and deliver. Generic in the types of a packet's body, of a list of packets and of a message
+/// that goes on.
+#[derive(Drop)]
+pub enum AnswerOf<B, L, S> {
+    /// Nothing is sent or delivered.
+    Nothing,
+    /// One packet is sent.
+    Packet {
+        /// Its receiver.
+        to: NodeName,
+        /// What it says.
+        body: B,
+    },
+    /// These packets are sent, in order.
+    Packets {
+        /// The packets, each with its receiver's name.
+        sends: L,
+    },
+    /// A message goes on, and these packets are sent behind it.
+    Message {
+        /// The message, and to whom it goes.
+        spread: S,
+        /// The packets, each with its receiver's name.
+        others: L,
+    },
 }
 
-impl<A: Allocator + Copy> Answer<A> {
-    /// Creates an answer that sends and delivers nothing. Does not allocate.
-    pub fn new(alloc: A) -> Self
-        ensures { result ≡ record { sends = []; delivered = None } }
-    {
-        Answer::of_sends(Listed::new(alloc))
-    }
-
-    /// Creates an answer that sends these packets and delivers nothing.
-    pub fn of_sends(sends: Listed<(NodeName, Body<A>), A>) -> Self
-        ensures { result ≡ record { sends = sends; delivered = None } }
-    {
-        Answer {
-            first: None,
-            others: sends,
-            delivered: None,
-        }
-    }
-
-    /// Creates an answer that sends one packet and delivers nothing. Does not allocate.
-    pub fn packet(alloc: A, to: &NodeName, body: Body<A>) -> Self
-        ensures { result ≡ record { sends = (to.now, body) ∷ []; delivered = None } }
-    {
-        Answer {
-            first: Some((*to, body)),
-            others: Listed::new(alloc),
-            delivered: None,
-        }
-    }
-
-    /// Appends a packet.
-    pub(crate) fn send(&mut self, to: &NodeName, body: Body<A>) -> Result<(), AllocError>
-        ensures { OnOk result (self.new ≡ record self.old { sends = self.old.sends ++ (to.now, body) ∷ [] }) }
-    {
-        self.others.push((*to, body))?;
-        Ok(())
-    }
-}
+/// What one call will send and deliver. A message that goes on is borrowed, so only packets behind it and announcements
+/// take memory.
+pub type Answer<'a, A = Global> = AnswerOf<Body<A>, Listed<(NodeName, Body<A>), A>, Spread<'a, A>>;

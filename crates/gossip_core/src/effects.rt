@@ -1,10 +1,12 @@
 //! What a node's gossip yields: packets to send, and a message to deliver.
-ghost use Rattle.std.specs.Prelude.{◌≡◌, [], ◌++◌, take, None, OnOk, OnErr};
-ghost use Rattle.std.specs.Option.{option_to_list};
+ghost use Rattle.std.specs.Prelude.{◌≡◌, [], ◌∷◌, ◌++◌, take, None, Some, IfOk, OnOk, OnErr};
+ghost use Rattle.gossip_core.specs.Answers.{effects_of, pushes};
 
+use crate::answer::{Answer, AnswerOf, Spread};
+use crate::table::gossip;
 use bytes::Bytes;
 use frames::Body;
-use node_names::{Listed, MsgId, NodeName};
+use node_names::{Listed, MsgId, NodeName, is_left_out};
 use std::alloc::{AllocError, Allocator, Global};
 use std::marker::Model;
 
@@ -30,6 +32,22 @@ impl<A: Allocator> Model for Effects<A> {
     ghost inverse_ok = { λ effects held. refl };
 }
 
+/// Makes the packets that carry the message.
+fn pushes<A: Allocator + Copy>(
+    alloc: A,
+    spread: &Spread<'_, A>,
+) -> Result<Vec<(NodeName, Body<A>), A>, AllocError>
+    ensures { IfOk result (λ sends. sends.items ≡ pushes spread.now) }
+{
+    let mut sends = Vec::new(alloc);
+    for member in spread.members {
+        if member.1.is_eager() && !is_left_out(&spread.left_out, &member.0) {
+            sends.push((member.0, gossip(&spread.id, spread.round, spread.payload)?))?;
+        }
+    }
+    Ok(sends)
+}
+
 impl<A: Allocator + Copy> Effects<A> {
     ghost use Rattle.gossip_core.specs.Table.{latest};
 
@@ -44,33 +62,58 @@ impl<A: Allocator + Copy> Effects<A> {
         }
     }
 
-    /// Appends a packet, if there is one.
-    fn send(&mut self, packet: Option<(NodeName, Body<A>)>) -> Result<(), AllocError>
-        ensures ok { OnOk result (self.new ≡ record self.old { sends = self.old.sends ++ option_to_list packet }) }
-        ensures err { OnErr result (self.new ≡ self.old) }
+    /// Creates what the answer sends and delivers.
+    pub fn of(alloc: A, answer: Answer<'_, A>) -> Result<Self, AllocError>
+        ensures { IfOk result (λ effects. effects ≡ effects_of answer.entry) }
     {
-        if let Some(packet) = packet {
-            self.sends.push(packet)?;
+        match answer {
+            AnswerOf::Nothing => Ok(Effects::new(alloc)),
+            AnswerOf::Packet { to, body } => Effects::of_packet(alloc, to, body),
+            AnswerOf::Packets { sends } => Ok(Effects {
+                sends,
+                delivered: None,
+            }),
+            AnswerOf::Message { spread, others } => Effects::of_message(alloc, &spread, others),
         }
-        Ok(())
     }
 
-    /// Appends the packets of an answer, the first and the others.
+    /// Creates effects with one packet to send.
+    fn of_packet(alloc: A, to: NodeName, body: Body<A>) -> Result<Self, AllocError>
+        ensures { IfOk result (λ effects. effects ≡ record { sends = (to, body) ∷ []; delivered = None }) }
+    {
+        let mut effects = Effects::new(alloc);
+        effects.sends.push((to, body))?;
+        Ok(effects)
+    }
+
+    /// Creates what a message that goes on is, with the packets behind it.
+    fn of_message(
+        alloc: A,
+        spread: &Spread<'_, A>,
+        others: Listed<(NodeName, Body<A>), A>,
+    ) -> Result<Self, AllocError>
+        ensures { IfOk result (λ effects. effects ≡ record {
+          sends = pushes spread.now ++ others;
+          delivered = Some (spread.now.id, spread.now.payload.now);
+        }) }
+    {
+        let mut sends = Listed::from_vec(pushes(alloc, spread)?);
+        sends.append(others.into_vec())?;
+        Ok(Effects {
+            sends,
+            delivered: Some((spread.id, spread.payload.clone()?)),
+        })
+    }
+
+    /// Appends packets.
     pub(crate) fn send_all(
         &mut self,
-        first: Option<(NodeName, Body<A>)>,
-        others: Listed<(NodeName, Body<A>), A>,
+        sends: Listed<(NodeName, Body<A>), A>,
     ) -> Result<(), AllocError>
-        ensures ok { OnOk result
-            (self.new ≡ record self.old { sends = self.old.sends ++ (option_to_list first ++ others) }) }
+        ensures ok { OnOk result (self.new ≡ record self.old { sends = self.old.sends ++ sends }) }
         ensures err { OnErr result (self.new ≡ self.old) }
     {
-        let kept = self.sends.len();
-        self.send(first)?;
-        if self.sends.append(others.into_vec()).is_err() {
-            self.sends.truncate(kept);
-            return Err(AllocError);
-        }
+        self.sends.append(sends.into_vec())?;
         Ok(())
     }
 

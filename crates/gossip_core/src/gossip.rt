@@ -8,6 +8,7 @@ ghost use Rattle.std.specs.Option.{option_copied};
 ghost use Rattle.node_names.specs.Same.{same_id, same_name};
 ghost use Rattle.known_messages.specs.Known.{IsSpan};
 ghost use Rattle.peer_sets.specs.Members.{all_eager};
+ghost use Rattle.gossip_core.specs.Answers.{effects_of};
 ghost use Rattle.gossip_core.specs.Refusals.{CanTake, IsTooLong, IsSpent};
 ghost use Rattle.gossip_core.specs.Rows.{CanChange, Leads, changed};
 ghost use Rattle.gossip_core.specs.State.{GossipState, IsSound};
@@ -17,7 +18,6 @@ ghost use Rattle.gossip_core.specs.declared.call.CallOf.TheVariants.{Broadcast, 
 ghost use Rattle.gossip_core.specs.declared.call.CallOf.TheVariants.{OnGraftPeer, OnPrune, Flush, Up, Down};
 ghost use Rattle.gossip_core.specs.declared.row.RowOf.TheVariants as row;
 
-use crate::answer::Answer;
 use crate::call::{Call, CallOf};
 use crate::effects::Effects;
 use crate::fault::GossipFault;
@@ -140,9 +140,9 @@ impl<A: Allocator + Copy> Gossip<A> {
 
     /// Decides the call: which row of the table it is, and what it will send and deliver. Changes nothing. Errors are
     /// tested in the order of `GossipFault`.
-    pub fn answer(&self, call: &Call<'_, A>) -> Result<Decided<A>, GossipFault>
+    pub fn answer<'a>(&'a self, call: &'a Call<'_, A>) -> Result<Decided<'a, A>, GossipFault>
         ensures row { IfOk result (λ decided. Leads self.now (outcome self.now (lent call.now)).state decided.row) }
-        ensures ok { IfOk result (λ decided. decided.answer ≡ record {
+        ensures ok { IfOk result (λ decided. effects_of decided.answer ≡ record {
           sends = (outcome self.now (lent call.now)).sends;
           delivered = (outcome self.now (lent call.now)).delivered;
         }) }
@@ -344,22 +344,33 @@ impl<A: Allocator + Copy> Gossip<A> {
         }
     }
 
+    /// Decides the call: which row of the table it is, and its packets and its delivery.
+    fn foresee(&self, call: &Call<'_, A>) -> Result<(Row<A>, Effects<A>), AllocError>
+        requires { CanTake self.now (lent call.now) }
+        ensures row { IfOk result (λ p. Leads self.now (outcome self.now (lent call.now)).state p.0) }
+        ensures effects { IfOk result (λ p. p.1 ≡ record {
+          sends = (outcome self.now (lent call.now)).sends;
+          delivered = (outcome self.now (lent call.now)).delivered;
+        }) }
+    {
+        let alloc = *self.held.allocator();
+        let Ok(Decided { row, answer }) = decide(alloc, self, call) else {
+            return Err(AllocError);
+        };
+        let effects = Effects::of(alloc, answer)?;
+        Ok((row, effects))
+    }
+
     /// Makes the call, and appends what it sends and delivers.
     fn make(&mut self, call: &Call<'_, A>, out: &mut Effects<A>) -> Result<(), AllocError>
         requires { CanTake self.old (lent call.now) }
         ensures ok { OnOk result (Does (lent call.now) self.old out.old self.new out.new) }
         ensures err { OnErr result ((self.new ≡ self.old) × (out.new ≡ out.old)) }
     {
-        let Ok(Decided { row, answer }) = decide(*self.held.allocator(), self, call) else {
-            return Err(AllocError);
-        };
-        let Answer {
-            first,
-            others,
-            delivered,
-        } = answer;
+        let (row, given) = self.foresee(call)?;
+        let Effects { sends, delivered } = given;
         let kept = out.sends.len();
-        out.send_all(first, others)?;
+        out.send_all(sends)?;
         match self.take(row) {
             Ok(()) => {
                 out.deliver(delivered);

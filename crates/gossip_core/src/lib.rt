@@ -11,7 +11,7 @@ mod row;
 mod store;
 mod table;
 
-pub use answer::Answer;
+pub use answer::{Answer, AnswerOf, Spread, SpreadOf};
 pub use call::{Call, CallOf};
 pub use effects::Effects;
 pub use fault::GossipFault;

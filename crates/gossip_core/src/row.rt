@@ -71,9 +71,9 @@ pub type Row<A = Global> = RowOf<Bytes<A>, Listed<(MsgId, u32), A>>;
 
 /// A call that was decided, and not yet made.
 #[derive(Drop)]
-pub struct Decided<A: Allocator = Global> {
+pub struct Decided<'a, A: Allocator = Global> {
     /// The row that the call is, for `Gossip::take`.
     pub row: Row<A>,
     /// What the call will send and deliver.
-    pub answer: Answer<A>,
+    pub answer: Answer<'a, A>,
 }

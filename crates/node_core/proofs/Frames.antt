@@ -28,6 +28,23 @@ numbered-push me framed (first ∷ sends) send number e =
     shift : (a b : ℕ) → a + suc b ≡ (a + 1) + b
     shift a b = omega arith
 
+-- those behind others have the numbers behind theirs
+pub numbered-append : (me : Origin) (framed : ℕ) (sends more : List (Name × Body)) (number : ℕ) →
+    number ≡ framed + length sends →
+    numbered me framed (sends ++ more) ≡ numbered me framed sends ++ numbered me number more
+numbered-append me framed [] more number e = ap (λ n. numbered me n more) (omega (arith, e))
+numbered-append me framed (first ∷ sends) more number e =
+    ap (λ rest. (first.0, record { sender = me; number = framed + 1; body = first.1 }) ∷ rest)
+    (numbered-append me (framed + 1) sends more number (e ∙ shift framed (length sends)))
+  where
+    shift : (a b : ℕ) → a + suc b ≡ (a + 1) + b
+    shift a b = omega arith
+
+-- what fits behind others fits
+pub behind_fits : (sends more : List (Name × Body)) → AreFit (sends ++ more) → AreFit more
+behind_fits [] more fit = fit
+behind_fits (first ∷ sends) more fit = behind_fits sends more fit.1
+
 -- what came before an item that was appended is still there, if the item is
 pub back_within : {X : Type 0} (old more mid new : List X) → mid ≡ old ++ more → take (length mid) new ≡ mid → take (length old) new ≡ old
 back_within old more mid new is_mid kept =

@@ -6,3 +6,4 @@ pub mod SameSets
 pub mod PartsAgree
 pub mod Slots
 pub mod NewsLemmas
+pub mod Pushes

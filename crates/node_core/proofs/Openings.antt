@@ -1,5 +1,5 @@
 -- What a core starts with.
-use Rattle.std.specs.Prelude.{◌≡◌, ◌+◌, ◌++◌, ◌⊎◌, ◌<◌, ◌≤◌, ◌^◌, ◌-◌, ℕ, List, [], Option, None, Some, IsSome, length, refl, IfErr, IsErrAnd}
+use Rattle.std.specs.Prelude.{◌≡◌, ◌+◌, ◌++◌, ◌⊎◌, ◌^◌, ◌-◌, ℕ, List, [], Option, None, Some, IsSome, length, refl, IfErr, IsErrAnd}
 use Rattle.std.specs.declared.result.Result.{Result}
 use Rattle.std.specs.declared.result.Result.TheVariants.{Ok, Err}
 use Rattle.std.proofs.Common.{◌∙◌, ap, arith, inl, inr, subst, sym}
@@ -12,14 +12,13 @@ use Rattle.frames.specs.Body.{Body}
 use Rattle.frames.specs.Frame.{Frame}
 use Rattle.protocol.specs.Output.{Output}
 use Rattle.protocol.specs.declared.protocol.CoreError.{CoreError}
-use Rattle.protocol.specs.declared.protocol.CoreError.TheVariants.{PayloadTooLong, SeqSpent, OutOfMemory}
+use Rattle.protocol.specs.declared.protocol.CoreError.TheVariants.{SeqSpent, OutOfMemory}
 use Rattle.membership.specs.declared.event.EventOf.TheVariants as on
 use Rattle.membership.specs.Membership.{Membership, Moves, Ends, still}
 use Rattle.membership.specs.Table.{table}
-use Rattle.gossip_core.specs.Effects.{Effects}
 use Rattle.gossip_core.specs.State.{GossipState}
 use Rattle.node_core.specs.Fits.{FitsFrames, AreFit}
-use Rattle.node_core.specs.Steps.{PlumStartsCounted, newcomer, numbered, delivered_at, opening}
+use Rattle.node_core.specs.Steps.{PlumStartsCounted, appended, newcomer, numbered, opening}
 
 -- the packets of a start fit frames
 pub opening_fits : (contact : Option Name) → AreFit (opening contact)
@@ -52,54 +51,28 @@ pub started_is : (me : Origin) (limits : Limits) (peers : List Name) (contact : 
     m ≡ (newcomer me limits peers spent framed).membership →
     (g : GossipState) →
     g ≡ (newcomer me limits peers spent framed).gossip →
-    (effects : Effects) →
-    effects ≡ record { sends = opening contact; delivered = None } →
+    (given : List (Name × Body)) →
+    given ≡ opening contact →
     (before after : Output Frame) →
-    after ≡ record { sends = before.sends ++ numbered me framed effects.sends; deliveries = before.deliveries ++ delivered_at me effects.delivered } →
+    after ≡ appended me framed given None before →
     (last : ℕ) →
-    last ≡ framed + length effects.sends →
+    last ≡ framed + length given →
     (sends : List (Name × Frame))
     × PlumStartsCounted spent framed me limits peers contact sends (record { me = me; membership = m; gossip = g; framed = last })
     × (after ≡ record before { sends = before.sends ++ sends })
-started_is me limits peers contact spent framed allowed m is_m g is_g effects is_effects before after is_after last is_last = (
-  numbered me framed effects.sends,
+started_is me limits peers contact spent framed allowed m is_m g is_g given is_given before after is_after last is_last = (
+  numbered me framed given,
   record {
     allowed = allowed;
-    leaves = λ i. record { me = me; membership = is_m i; gossip = is_g i; framed = (is_last ∙ ap (λ (e : Effects). framed + length e.sends) is_effects) i };
-    sent = ap (λ (e : Effects). numbered me framed e.sends) is_effects;
+    leaves = λ i. record { me = me; membership = is_m i; gossip = is_g i; framed = (is_last ∙ ap (λ sends. framed + length sends) is_given) i };
+    sent = ap (numbered me framed) is_given;
   },
-  is_after
-      ∙ ap (λ (e : Effects). record { sends = before.sends ++ numbered me framed effects.sends; deliveries = before.deliveries ++ delivered_at me e.delivered })
-      is_effects
-      ∙ ap (λ deliveries. record { sends = before.sends ++ numbered me framed effects.sends; deliveries = deliveries }) (append-nil before.deliveries),
+  is_after ∙ ap (λ deliveries. record { sends = before.sends ++ numbered me framed given; deliveries = deliveries }) (append-nil before.deliveries),
 )
 
 -- Why a start is refused.
 abbrev pub IsRefusal : Option Name → ℕ → CoreError → Type 0
 IsRefusal contact framed e = (e ≡ OutOfMemory) ⊎ ((e ≡ SeqSpent) × IsSome contact × (framed ≡ 2 ^ 64 - 1))
-
--- more numbers are needed than are left: those of the JOIN
-join_needs_one : (contact : Option Name) (framed : ℕ) →
-    framed ≤ 2 ^ 64 - 1 →
-    2 ^ 64 - 1 < framed + length (opening contact) →
-    IsSome contact × (framed ≡ 2 ^ 64 - 1)
-join_needs_one None framed fits more = absurd (omega (arith, fits, more))
-join_needs_one (Some contact) framed fits more = (refl, omega (arith, fits, more))
-
-pub refused_for : (contact : Option Name) (framed : ℕ) →
-    framed ≤ 2 ^ 64 - 1 →
-    (effects : Effects) →
-    effects ≡ record { sends = opening contact; delivered = None } →
-    (e : CoreError) →
-    (e ≡ PayloadTooLong → ⊥) →
-    (e ≡ SeqSpent → 2 ^ 64 - 1 < framed + length effects.sends) →
-    IsRefusal contact framed e
-refused_for contact framed fits effects is_effects PayloadTooLong no_payload spent = absurd (no_payload refl)
-refused_for contact framed fits effects is_effects SeqSpent no_payload spent =
-    let more : 2 ^ 64 - 1 < framed + length (opening contact) = subst (λ (e : Effects). 2 ^ 64 - 1 < framed + length e.sends) is_effects (spent refl) in
-    let needed : IsSome contact × (framed ≡ 2 ^ 64 - 1) = join_needs_one contact framed fits more in
-    inr (refl, needed.0, needed.1)
-refused_for contact framed fits effects is_effects OutOfMemory no_payload spent = inl refl
 
 -- if no number is spent, one is left
 pub only_memory : {T : Type 0} (result : Result T CoreError) (contact : Option Name) → IfErr result (IsRefusal contact 0) → IfErr result (λ e. e ≡ OutOfMemory)

@@ -3,7 +3,7 @@ use Rattle.std.proofs.Common.{◌≡◌, ◌∙◌, ◌+◌, ◌<◌, ℕ, List,
 use Rattle.std.specs.Prelude.{Bool, Option, Some, None, cond, MatchBool}
 use Rattle.std.specs.Iterator.Adapters.{option_iter_done, option_iter_item, option_iter_steps}
 use Rattle.std.specs.List.{flat_map}
-use Rattle.std.specs.Option.{option_copied, option_to_list}
+use Rattle.std.specs.Option.{option_to_list}
 use Rattle.std.proofs.lemmas.Iterator.{YieldsList}
 use Rattle.std.proofs.lemmas.List.{take_more}
 use Rattle.std.proofs.lemmas.Iterator.Consumers.{YieldsList-from_shown}

@@ -15,10 +15,10 @@ ghost use Rattle.node_core.specs.Steps.{appended};
 
 use crate::dispatch::{Part, PartOf};
 use crate::names::are_same;
-use crate::output::append_numbered;
+use crate::output::{append_list, append_numbered, append_one};
 use crate::prepared_step::{BoxedViewChange, PreparedStep, ViewChange};
 use frames::{BodyOf, Frame};
-use gossip_core::{Answer, Call, Decided, Gossip, Row, RowOf};
+use gossip_core::{Call, Decided, Gossip, Row, RowOf};
 use membership::{Event, Membership, Moves};
 use node_names::{Dice, NodeName, Origin};
 use protocol::{CoreError, Out, Prepared};
@@ -64,7 +64,7 @@ fn prepare_event<A: Allocator + Copy>(
         ups,
     };
     let moved = boxed(*out.sends.allocator(), change)?;
-    let framed = append_numbered(me, framed, Answer::of_sends(sends), out)?;
+    let framed = append_list(me, framed, sends, out)?;
     Ok(Prepared {
         turn: PreparedStep {
             moved: Some(moved),
@@ -129,8 +129,7 @@ fn prepare_greeting<A: Allocator + Copy>(
     ensures spent { IsErrOf result CoreError.SeqSpent → u64.MAX < framed + 1 }
     ensures err { OnErr result (out.new ≡ out.old) }
 {
-    let join = Answer::packet(*out.sends.allocator(), contact, BodyOf::Join);
-    let framed = append_numbered(me, framed, join, out)?;
+    let framed = append_one(me, framed, *contact, BodyOf::Join, out)?;
     unmoved(framed)
 }
 

@@ -7,17 +7,17 @@ ghost use Rattle.protocol.specs.Peers.{are_peers};
 ghost use Rattle.protocol.specs.Stimulus.{lent};
 ghost use Rattle.node_core.specs.Fits.{ComesFit};
 ghost use Rattle.node_core.specs.Started.{IsStarted};
-ghost use Rattle.node_core.specs.Steps.{IsAllowed, PlumStartsCounted, opening};
+ghost use Rattle.node_core.specs.Steps.{IsAllowed, PlumStartsCounted, appended, opening};
 
 use crate::dispatch::part_of;
-use crate::output::append_numbered;
+use crate::output::append_list;
 use crate::parts::{commit, prepare_part};
 use crate::prepared_step::PreparedStep;
 use bytes::Bytes;
-use frames::Frame;
-use gossip_core::{Answer, Gossip};
+use frames::{Body, Frame};
+use gossip_core::Gossip;
 use membership::{Membership, Moves};
-use node_names::{Limits, MsgId, NameSet, NodeName, Origin};
+use node_names::{Limits, Listed, MsgId, NameSet, NodeName, Origin};
 use peer_sets::PeerSets;
 use protocol::{Core, CoreError, Out, Prepared, StimulusOf, StimulusRef};
 use std::alloc::{AllocError, Allocator, Global};
@@ -60,17 +60,39 @@ fn greet<A: Allocator + Copy>(
     alloc: A,
     membership: &mut Membership<A>,
     contact: Option<NodeName>,
-) -> Result<Answer<A>, AllocError>
+) -> Result<Listed<(NodeName, Body<A>), A>, AllocError>
     ensures same { OnOk result (membership.new ≡ membership.old) }
-    ensures opening { IfOk result (λ effects. effects ≡ record { sends = opening contact; delivered = None }) }
+    ensures opening { IfOk result (λ sends. sends ≡ opening contact) }
 {
     let Some(contact) = contact else {
-        return Ok(Answer::new(alloc));
+        return Ok(Listed::new(alloc));
     };
     let mut moves = Moves::new(alloc);
     membership.join(contact, &mut moves)?;
     let Moves { sends, .. } = moves;
-    Ok(Answer::of_sends(sends))
+    Ok(sends)
+}
+
+/// Sends JOIN to the contact, if there is one, with the number behind `framed`, and returns the last number.
+/// `SeqSpent`: there is a contact, and no number is left.
+fn open<A: Allocator + Copy>(
+    alloc: A,
+    me: &Origin,
+    framed: u64,
+    membership: &mut Membership<A>,
+    contact: Option<NodeName>,
+    out: &mut Out<Frame<A>, A>,
+) -> Result<u64, CoreError>
+    ensures same { OnOk result (membership.new ≡ membership.old) }
+    ensures last { IfOk result (λ last. last ≡ framed + length (opening contact)) }
+    ensures ok { OnOk result (out.new ≡ appended me.now framed (opening contact) None out.old) }
+    ensures refused { IfErr result (λ e.
+        (e ≡ CoreError.OutOfMemory) ⊎ ((e ≡ CoreError.SeqSpent) × IsSome contact × (framed ≡ u64.MAX))) }
+    ensures err { OnErr result (out.new ≡ out.old) }
+{
+    let sends = greet(alloc, membership, contact)?;
+    let last = append_list(me, framed, sends, out)?;
+    Ok(last)
 }
 
 impl<A: Allocator + Copy> PlumCore<A> {
@@ -108,8 +130,7 @@ impl<A: Allocator + Copy> PlumCore<A> {
             limits.threshold(),
             limits.keep(),
         )?;
-        let effects = greet(alloc, &mut membership, contact)?;
-        let framed = append_numbered(&me, frames_spent, effects, out)?;
+        let framed = open(alloc, &me, frames_spent, &mut membership, contact, out)?;
         Ok(PlumCore {
             me,
             membership,

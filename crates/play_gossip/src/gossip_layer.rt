@@ -1,8 +1,11 @@
 //! The gossip of one node: `start` makes it, and the others are its calls.
+ghost use Rattle.std.specs.Prelude.{IfOk};
+ghost use Rattle.gossip_core.specs.Rows.{CanChange};
+
 use crate::distinct::are_distinct;
 use crate::gossip_calls::{OwnedCall, call_of, lent, message_of};
-use crate::gossip_texts::{push_given, push_gossip};
-use gossip_core::{Answer, Call, CallOf, Decided, Effects, Gossip, GossipFault};
+use crate::gossip_texts::{Given, push_given, push_gossip};
+use gossip_core::{AnswerOf, Call, CallOf, Decided, Effects, Gossip, GossipFault, Row};
 use node_names::MsgId;
 use play_script::layer::{Layer, Outcome, Turn, fill, in_memory};
 use play_script::lists::yes_or_no;
@@ -47,41 +50,40 @@ fn make<A: Allocator + Copy>(
     Ok(())
 }
 
-/// Makes a call at once.
-fn make_whole<A: Allocator + Copy>(
+/// Makes a call in two halves: first it is decided, and then the node takes the row that it is.
+fn make_halves<A: Allocator + Copy>(
     alloc: A,
     node: &mut Gossip<A>,
     call: &Call<'_, A>,
-    out: &mut Answer<A>,
+    out: &mut Given<A>,
 ) -> Result<(), GossipFault> {
-    let mut effects = Effects::new(alloc);
-    make(node, call, &mut effects)?;
-    let Effects { sends, delivered } = effects;
-    *out = Answer {
-        first: None,
-        others: sends,
-        delivered,
-    };
+    let row = decide(alloc, node, call, out)?;
+    node.take(row)?;
     Ok(())
 }
 
-/// Makes a call in two halves: first it is decided, and then the node takes the row that it is.
-fn make_halves<A: Allocator + Copy>(
-    node: &mut Gossip<A>,
+/// Decides a call, and answers its row.
+fn decide<A: Allocator + Copy>(
+    alloc: A,
+    node: &Gossip<A>,
     call: &Call<'_, A>,
-    out: &mut Answer<A>,
-) -> Result<(), GossipFault> {
+    out: &mut Given<A>,
+) -> Result<Row<A>, GossipFault>
+    ensures { IfOk result (λ row. CanChange node.now row) }
+{
     let Decided { row, answer } = node.answer(call)?;
-    node.take(row)?;
-    *out = answer;
-    Ok(())
+    match answer {
+        AnswerOf::Packet { to, body } => out.first = Some((to, body)),
+        answer => out.others = Effects::of(alloc, answer)?,
+    }
+    Ok(row)
 }
 
 /// Appends what a call answered.
 fn push_answer<A: Allocator>(
     said: &mut String,
     answer: Result<(), GossipFault>,
-    out: &Answer<A>,
+    out: &Given<A>,
 ) -> Result<Outcome, AllocError> {
     match answer {
         Ok(()) => push_given(said, out)?,
@@ -152,18 +154,21 @@ impl<A: Allocator + Copy> GossipLayer<A> {
         let Some(node) = &mut self.node else {
             return Ok(Outcome::Unknown);
         };
-        let mut out = Answer::new(self.alloc);
+        let mut out = Given {
+            first: None,
+            others: Effects::new(self.alloc),
+        };
         turn.begin();
         let answer = if by_halves {
-            make_halves(node, &lent(call), &mut out)
+            make_halves(self.alloc, node, &lent(call), &mut out)
         } else {
-            make_whole(self.alloc, node, &lent(call), &mut out)
+            make(node, &lent(call), &mut out.others)
         };
         turn.end();
         let outcome = push_answer(said, answer, &out)?;
         if outcome == Outcome::Done {
             self.note(message_of(call))?;
-            self.note(out.delivered.as_ref().map(|delivered| delivered.0))?;
+            self.note(out.others.delivered.as_ref().map(|delivered| delivered.0))?;
         }
         Ok(outcome)
     }

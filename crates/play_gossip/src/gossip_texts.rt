@@ -1,6 +1,6 @@
 //! What a node's gossip shows and gives, as text.
 use frames::Body;
-use gossip_core::{Answer, Gossip};
+use gossip_core::{Effects, Gossip};
 use missing::{Missing, Want};
 use node_names::{MsgId, NodeName};
 use peer_sets::PeerSets;
@@ -141,12 +141,20 @@ fn push_send<A: Allocator>(
     Ok(())
 }
 
+/// What a call gave. The only packet of an answer has a place of its own, so that a sweep shows that it takes no
+/// memory.
+#[derive(Drop)]
+pub(crate) struct Given<A: Allocator> {
+    pub(crate) first: Option<(NodeName, Body<A>)>,
+    pub(crate) others: Effects<A>,
+}
+
 /// Appends what a call gave: the message that was delivered, and each packet with its receiver.
 pub(crate) fn push_given<A: Allocator>(
     text: &mut String,
-    given: &Answer<A>,
+    given: &Given<A>,
 ) -> Result<(), AllocError> {
-    if let Some((id, payload)) = &given.delivered {
+    if let Some((id, payload)) = &given.others.delivered {
         write!(text, "deliver {id} ")?;
         push_payload(text, payload.as_slice())?;
         text.push('\n')?;
@@ -154,7 +162,7 @@ pub(crate) fn push_given<A: Allocator>(
     if let Some(send) = &given.first {
         push_send(text, send)?;
     }
-    for send in given.others.as_slice() {
+    for send in given.others.sends.as_slice() {
         push_send(text, send)?;
     }
     Ok(())

@@ -1,8 +1,5 @@
 -- The contact is sent JOIN.
-use Rattle.std.specs.Prelude.{List, None}
-use Rattle.std.proofs.Common.{◌∙◌, ap}
-use Rattle.node_names.specs.NodeName.{Name}
-use Rattle.frames.specs.Body.{Body}
+use Rattle.std.proofs.Common.{ap}
 use Rattle.membership.specs.Membership.{Moves}
 use Rattle.node_core.proofs.Openings.{greets}
 use Rattle.node_core.proofs.plum_core.greet.Goals as goal
@@ -14,7 +11,5 @@ returns-clause-same g c =
 
 pub returns-clause-opening : goal.returns-clause-opening
 returns-clause-opening g c =
-    c.of_sends.ensures
-    ∙ ap (λ (sends : List (Name × Body)). record { sends = sends; delivered = None })
     (greets c.args.membership.now c.args.contact c.in-Some.contact c.in-Some.is c.new-moves.result c.join.new.moves
     c.join.new.self c.new-moves.ensures c.in_ok-join.ensures.ok c.moves.inside.sends (ap (λ (m : Moves). m.sends) c.moves.view_is)).1

@@ -1,7 +1,0 @@
-use Rattle.std.proofs.Common.{◌≡◌, map, take}
-use Rattle.peer_sets.specs.Members.{eager_but}
-use Rattle.gossip_core.specs.Table.{gossip_to}
-use Rattle.gossip_core.proofs.table.pushes.Given as goal
-
-abbrev pub invariant-loop-member : goal.invariant-loop-member
-invariant-loop-member g l = l.sends.items ≡ map (gossip_to l.id l.round l.payload) (eager_but l.left_out (take l.member-index l.members))
