@@ -8,7 +8,6 @@ use crate::version::VERSION;
 use clap::error::ErrorKind;
 use clap::{Arg, ArgAction, ArgMatches, Command, Error};
 use node_names::{Incarnation, MsgId, NodeName, Origin};
-use scenario::Purpose;
 use simulation::Form;
 use std::alloc::{AllocError, Global};
 
@@ -30,16 +29,6 @@ pub enum Task {
     Play,
     /// Its nodes are run.
     Run(Host),
-}
-
-impl Task {
-    /// What the scenario has to have something for.
-    pub fn purpose(self) -> Purpose {
-        match self {
-            Task::Play => Purpose::Play,
-            Task::Run(_) => Purpose::Run,
-        }
-    }
 }
 
 /// By what nodes are run.

@@ -11,9 +11,9 @@ use crate::run_group::{GroupError, run_group};
 use clap::error::ErrorKind;
 use loopback::Machine;
 use node_command::System;
-use scenario::{ScenarioError, Unfit, read_text, unfit_for};
+use scenario::{Purpose, ScenarioError, Unfit, read_text, unfit_for};
 use simulation::{
-    Form, play_input, report, report_unknown, report_unread, report_value, status_after,
+    Form, play_read, read_events, report, report_unknown, report_unread, report_value, status_after,
 };
 use status_command::run_status;
 use std::alloc::Global;
@@ -160,9 +160,7 @@ where
     }
 }
 
-/// Plays or runs the scenario of a text. What a strict reader rejects ends it before; otherwise what the scenario lacks
-/// for the task is reported once that is done, and only if it ended well: a fault stays the only line on standard
-/// error.
+/// Plays or runs the scenario of a text.
 fn perform_text<R, W, F>(
     rt: &R,
     task: Task,
@@ -178,11 +176,48 @@ where
     F: Write,
     ensures { result ≤ 2 }
 {
-    let unfit = unfit_for(rt.alloc(), task.purpose(), text);
-    if is_strict && let Some(status) = reject(rt.alloc(), text, unfit, faults) {
+    match task {
+        Task::Play => play_text(rt.alloc(), form, is_strict, text, out, faults),
+        Task::Run(host) => run_text(rt, host, form, is_strict, text, out, faults),
+    }
+}
+
+/// Plays the scenario of a text. What a strict reader rejects ends it before; otherwise what the scenario lacks is
+/// reported once it is played, and only if that ended well: a fault stays the only line on standard error.
+fn play_text<W: Write, F: Write>(
+    alloc: Global,
+    form: Form,
+    is_strict: bool,
+    text: &[u8],
+    out: &mut W,
+    faults: &mut F,
+) -> u8
+    ensures { result ≤ 2 }
+{
+    let (read, has_events) = read_events(alloc, text);
+    let unfit = if has_events {
+        None
+    } else {
+        unfit_for(alloc, Purpose::Play, text)
+    };
+    if is_strict && let Some(status) = reject(alloc, text, unfit, faults) {
         return status;
     }
-    let status = play_or_run(rt, task, form, is_strict, text, out, faults);
+    let status = play_read(alloc, form, is_strict, text, read, out, faults);
+    conclude_lenient(status, is_strict, unfit, faults)
+}
+
+/// Reports what a scenario lacks after it was played or run with this status, if that ended well and reading is not
+/// strict. Returns the exit status.
+fn conclude_lenient<F: Write>(
+    status: u8,
+    is_strict: bool,
+    unfit: Option<Unfit>,
+    faults: &mut F,
+) -> u8
+    requires { status ≤ 2 }
+    ensures { result ≤ 2 }
+{
     if status == 0 && !is_strict {
         note_unfit(unfit, faults)
     } else {
@@ -214,10 +249,10 @@ fn note_unfit<F: Write>(unfit: Option<Unfit>, faults: &mut F) -> u8
     }
 }
 
-/// Plays or runs the scenario of a text.
-fn play_or_run<R, W, F>(
+/// Runs the nodes of a text's scenario, as `play_text` plays its events.
+fn run_text<R, W, F>(
     rt: &R,
-    task: Task,
+    host: Host,
     form: Form,
     is_strict: bool,
     text: &[u8],
@@ -230,15 +265,16 @@ where
     F: Write,
     ensures { result ≤ 2 }
 {
-    let mut input = text;
-    match task {
-        Task::Play => play_input(rt.alloc(), form, is_strict, &mut input, out, faults),
-        Task::Run(host) => run_text(rt, host, form, is_strict, text, out, faults),
+    let unfit = unfit_for(rt.alloc(), Purpose::Run, text);
+    if is_strict && let Some(status) = reject(rt.alloc(), text, unfit, faults) {
+        return status;
     }
+    let status = run_known(rt, host, form, is_strict, text, out, faults);
+    conclude_lenient(status, is_strict, unfit, faults)
 }
 
 /// Runs the nodes of a text's scenario, without looking for unknown keys.
-fn run_text<R, W, F>(
+fn run_known<R, W, F>(
     rt: &R,
     host: Host,
     form: Form,

@@ -133,7 +133,7 @@ pub fn play_and_print<A: Allocator + Copy, W: Write>(
 }
 
 /// Plays a scenario and draws its outcome.
-fn play_and_draw<A: Allocator + Copy, W: Write>(
+pub(crate) fn play_and_draw<A: Allocator + Copy, W: Write>(
     alloc: A,
     scenario: &Scenario,
     only: &Option<MsgId>,

@@ -1,21 +1,22 @@
 //! What the program does for a scenario that it plays: it writes the outcome, reports why the run ended early, and
 //! returns an exit status.
-ghost use Rattle.std.specs.Prelude.{◌≡◌, ◌≢◌, ◌⊎◌, false, ◌≤◌, ◌<◌, ℕ, List, Option, Err, IfSome, IsOk, OnOk};
+ghost use Rattle.std.specs.Prelude.{◌≡◌, ◌≢◌, ◌⊎◌, false, ◌≤◌, ◌<◌, ℕ, List, Option, Ok, Err, IfSome, IsOk, OnOk};
 ghost use Rattle.node_names.specs.Limits.{Limits as Sizes};
 ghost use Rattle.simulation.specs.declared.play.TheConstants.{MAX_ARRIVALS};
 ghost use Rattle.scenario.specs.declared.read.TheConstants.{MAX_SCENARIO_BYTES};
 ghost use Rattle.scenario.specs.declared.scenario.TheConstants.{MAX_EVENTS};
 ghost use Rattle.scenario.specs.declared.action.Action.{Action};
 ghost use Rattle.scenario.specs.declared.error.ScenarioError.{ScenarioError};
+ghost use Rattle.scenario.specs.declared.scenario.Scenario.{Scenario};
 ghost use Rattle.simulation.specs.Form.{IsWritten};
 ghost use Rattle.scenario.specs.Scenario.{IsScenario};
 
 use crate::error::SimulationError;
 use crate::form::Form;
-use crate::outcome::{draw, simulate, trace};
+use crate::outcome::{play_and_draw, play_and_print, play_and_trace};
 use crate::play::PlayError;
 use crate::strict::{report_idle, report_unknown, report_value};
-use scenario::{ScenarioError, read_text};
+use scenario::{Scenario, ScenarioError, read_scenario, read_text};
 use std::alloc::Global;
 use std::fmt::Display;
 use std::io;
@@ -90,7 +91,31 @@ fn play_known<W: Write, F: Write>(
         → (seed : Option ℕ) (sizes : Sizes) (actions : List Action)
         → ¬ IsScenario MAX_SCENARIO_BYTES MAX_EVENTS text.now seed sizes actions }
 {
-    let ended = write_outcome(alloc, form, is_strict, text, out);
+    let read = read_scenario(alloc, text);
+    play_read(alloc, form, is_strict, text, read, out, faults)
+}
+
+/// Plays a scenario like `play_input`, for a caller that has read it, and without looking for unknown keys. `read` is
+/// what reading its text gave, and `text` the text, in which a fault's line is found.
+pub fn play_read<W: Write, F: Write>(
+    alloc: Global,
+    form: Form,
+    is_strict: bool,
+    text: &[u8],
+    read: Result<Scenario, ScenarioError>,
+    out: &mut W,
+    faults: &mut F,
+) -> u8
+    ensures status { result ≤ 2 }
+    ensures quiet { result ≡ 0 → faults.new ≡ faults.old }
+    ensures unplayed { result ≡ 2 → out.new ≡ out.old }
+    ensures played { result ≡ 0 → (scenario : Scenario) × (read ≡ Ok scenario)
+        × IsWritten MAX_ARRIVALS form scenario.seed scenario.limits scenario.actions.items
+        (W.contents out.old) (W.contents out.new) }
+    ensures refused { result ≡ 2
+        → (fault : ScenarioError) × (read ≡ Err fault) × (fault ≢ ScenarioError.OutOfMemory) }
+{
+    let ended = write_outcome(alloc, form, is_strict, text, read, out);
     if let Err(SimulationError::Stopped(PlayError::Idle { event, why })) = ended {
         return report_idle(alloc, text, event, why, faults);
     }
@@ -102,28 +127,44 @@ fn play_known<W: Write, F: Write>(
     conclude(ended, faults)
 }
 
-/// Plays the scenario of a text and writes its outcome in this form.
+/// Plays a scenario that was read and writes its outcome in this form.
 fn write_outcome<W: Write>(
     alloc: Global,
     form: Form,
     is_strict: bool,
     text: &[u8],
+    read: Result<Scenario, ScenarioError>,
     out: &mut W,
 ) -> Result<(), SimulationError>
-    ensures played { OnOk result ((seed : Option ℕ) × (sizes : Sizes) × (actions : List Action)
-        × IsScenario MAX_SCENARIO_BYTES MAX_EVENTS text.now seed sizes actions
-        × IsWritten MAX_ARRIVALS form seed sizes actions (W.contents out.old) (W.contents out.new)) }
-    ensures refused { (fault : ScenarioError)
-        → result ≡ Err (SimulationError.Refused fault)
-        → fault ≢ ScenarioError.OutOfMemory
-        → (seed : Option ℕ) (sizes : Sizes) (actions : List Action)
-        → ¬ IsScenario MAX_SCENARIO_BYTES MAX_EVENTS text.now seed sizes actions }
+    ensures played { OnOk result ((scenario : Scenario) × (read ≡ Ok scenario)
+        × IsWritten MAX_ARRIVALS form scenario.seed scenario.limits scenario.actions.items
+        (W.contents out.old) (W.contents out.new)) }
+    ensures refused { (fault : ScenarioError) → result ≡ Err (SimulationError.Refused fault) → read ≡ Err fault }
     ensures unplayed { (fault : ScenarioError) → result ≡ Err (SimulationError.Refused fault) → out.new ≡ out.old }
 {
+    match read {
+        Ok(scenario) => write_played(alloc, form, is_strict, text, &scenario, out),
+        Err(fault) => Err(SimulationError::Refused(fault)),
+    }
+}
+
+/// Plays a scenario and writes its outcome in this form. `text` is its text.
+fn write_played<W: Write>(
+    alloc: Global,
+    form: Form,
+    is_strict: bool,
+    text: &[u8],
+    scenario: &Scenario,
+    out: &mut W,
+) -> Result<(), SimulationError>
+    ensures played { OnOk result (IsWritten MAX_ARRIVALS form scenario.now.seed scenario.now.limits
+        scenario.now.actions.items (W.contents out.old) (W.contents out.new)) }
+    ensures read { (fault : ScenarioError) → result ≢ Err (SimulationError.Refused fault) }
+{
     match form {
-        Form::Lines => simulate(alloc, text, is_strict, out),
-        Form::Graph(only) => draw(alloc, text, &only, is_strict, out),
-        Form::Trace => trace(alloc, text, is_strict, out),
+        Form::Lines => play_and_print::<Global, W>(alloc, scenario, is_strict, out),
+        Form::Graph(only) => play_and_draw::<Global, W>(alloc, scenario, &only, is_strict, out),
+        Form::Trace => play_and_trace::<Global, W>(alloc, scenario, text, is_strict, out),
     }
 }
 

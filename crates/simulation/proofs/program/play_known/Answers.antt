@@ -1,16 +1,30 @@
--- The text is refused in each form if it is not a scenario.
-use Rattle.std.proofs.Common.{◌≡◌, Err, rules}
-use Rattle.simulation.specs.declared.error.SimulationError.TheVariants as program
-use Rattle.scenario.specs.declared.error.ScenarioError.TheVariants.{Refused, OutOfMemory}
+-- What was read of the text is what is played, and a text that is refused was not read.
+use Rattle.std.proofs.Common.{◌≢◌, ℕ, List}
+use Rattle.std.specs.Prelude.{Option}
+use Rattle.std.proofs.lemmas.Result.{IfOk-at_ok, IfErr-at_err}
+use Rattle.node_names.specs.Limits.{Limits as Sizes}
+use Rattle.scenario.specs.Scenario.{IsScenario}
+use Rattle.scenario.specs.declared.read.TheConstants.{MAX_SCENARIO_BYTES}
+use Rattle.scenario.specs.declared.scenario.TheConstants.{MAX_EVENTS}
+use Rattle.scenario.specs.declared.scenario.Scenario.{Scenario}
+use Rattle.scenario.specs.declared.action.Action.{Action}
+use Rattle.scenario.specs.declared.error.ScenarioError.{ScenarioError}
+use Rattle.scenario.specs.declared.error.ScenarioError.TheVariants.{OutOfMemory}
 use Rattle.simulation.proofs.program.play_known.Goals as goal
+
+pub returns-clause-played : goal.returns-clause-played
+returns-clause-played g c ended =
+    let (scenario, is, written) = c.play_read.ensures.played ended in
+    let IsRead : Scenario → Type 0 =
+    λ s. IsScenario MAX_SCENARIO_BYTES MAX_EVENTS c.args.text.now s.seed s.limits s.actions.items in
+    (scenario.seed, scenario.limits, scenario.actions.items, IfOk-at_ok IsRead is c.read_scenario-read.ensures.ok, written)
 
 pub returns-clause-refused : goal.returns-clause-refused
 returns-clause-refused g c status =
-    let found = c.in-Err-Refused-Refused in
-    let is : c.write_outcome-ended.result ≡ Err (program.Refused (Refused found.place found.key)) = search rules in
-    c.write_outcome-ended.ensures.refused (Refused found.place found.key) is (λ same. let no : Refused found.place found.key ≡ OutOfMemory = same in cc)
-
-pub returns-2-clause-refused : goal.returns-2-clause-refused
-returns-2-clause-refused g c status =
-    let (fault, is, has_memory) = c.conclude.ensures.refused status in
-    c.write_outcome-ended.ensures.refused fault is has_memory
+    let (fault, is, has_memory) = c.play_read.ensures.refused status in
+    let IsNone : ScenarioError → Type 0 =
+    λ f. f ≢ OutOfMemory →
+    (seed : Option ℕ) (sizes : Sizes) (actions : List Action) →
+    IsScenario MAX_SCENARIO_BYTES MAX_EVENTS c.args.text.now seed sizes actions →
+    ⊥ in
+    IfErr-at_err IsNone is c.read_scenario-read.ensures.refused has_memory
