@@ -1,10 +1,11 @@
 //! Broadcasts in a group of 64 Plumtree nodes: how many packets each of the first few takes, how long a given number of
 //! them takes, how far messages go when branches are swapped, how long it takes to bring the group to rest, and to find
-//! who is in reach.
+//! who is in reach, and the tree of a message.
 pub(crate) mod hops;
 mod play;
 pub(crate) mod reaching;
 pub(crate) mod settling;
+pub(crate) mod trees;
 
 use crate::broadcasts::play::broadcast;
 use crate::clock::micros_since;
@@ -87,10 +88,11 @@ fn measure_in<R: Print + Clock, C: Core<Global>>(
     tell_time(rt, count, events, packets, micros)
 }
 
-/// Prints how many packets each of the first broadcasts takes.
+/// Prints how many packets each of the first broadcasts takes, and the size of the first one's tree.
 pub(crate) fn tell<R: Print, C: Core<Global>>(rt: &R, alloc: Global) -> Result<()> {
     let mut group = group_of::<C>(alloc, Limits::STANDARD)?;
-    tell_of(rt, &mut group, &payload(alloc, LENGTH)?)
+    tell_of(rt, &mut group, &payload(alloc, LENGTH)?)?;
+    trees::tell(rt, alloc, &group)
 }
 
 /// Prints how long `count` broadcasts take.

@@ -16,7 +16,7 @@ mod steps;
 mod streams;
 mod words;
 
-use crate::broadcasts::{hops, reaching, settling};
+use crate::broadcasts::{hops, reaching, settling, trees};
 use crate::groups::{Group, Host};
 use crate::plumtree::{MeasuredGroup, MeasuredNode};
 use crate::words::{number, size, small};
@@ -82,6 +82,7 @@ where
         "hops" => hops::measure::<R, C>(rt, alloc, small(words, 2, 0)?),
         "settle" => settling::measure::<R, C>(rt, alloc, size(words, 2, 10_000)?),
         "reach" => reaching::measure::<R, C>(rt, alloc, size(words, 2, 1_000)?),
+        "tree" => trees::measure::<R, C>(rt, alloc, size(words, 2, 500)?),
         _ => merges::measure::<R, C>(rt, alloc, words),
     }
 }
@@ -105,7 +106,7 @@ where
     R: AllocGlobal + Print + Files + Machine,
 {
     match what {
-        "broadcasts" | "hops" | "settle" | "reach" | "merge" => {
+        "broadcasts" | "hops" | "settle" | "reach" | "tree" | "merge" => {
             measure_simulated::<R, PlumCore>(&rt, alloc, what, words)
         }
         "frames" => streams::run_all(&rt, alloc, Some(number(words, 2, 32)?)),

@@ -1,6 +1,6 @@
-//! Merges of the traces of a group of Plumtree nodes: how many events the merge of a small group has, and how long a
-//! merge takes for a given number of nodes, of steps of each, and of packets in flight meanwhile, and for packets that
-//! arrive oldest first, newest first or at random.
+//! Merges of the traces of a group of Plumtree nodes: how many events the merge of a small group has, and how long it
+//! takes to project and to merge the traces for a given number of nodes, of steps of each, and of packets in flight
+//! meanwhile, and for packets that arrive oldest first, newest first or at random.
 mod plan;
 mod play;
 
@@ -99,24 +99,39 @@ fn measure_of<R: Print + Clock>(rt: &R, alloc: Global, traces: &[Trace<Frame>]) 
     tell_time(rt, traces.len(), steps, events, micros)
 }
 
-/// The traces of a group that is played according to the plan.
-fn played_traces<C: MeasuredGroup>(alloc: Global, plan: &Plan) -> Result<Vec<Trace<Frame>>> {
-    let group = played::<C>(alloc, plan)?;
-    traces_of(alloc, &group, plan.nodes)
+/// Prints how long it takes to project the traces of this group, and returns them.
+fn measure_traces<R: Print + Clock, C: MeasuredGroup>(
+    rt: &R,
+    alloc: Global,
+    group: &World<C>,
+    nodes: usize,
+) -> Result<Vec<Trace<Frame>>> {
+    let start = Instant::now(rt)?;
+    let traces = traces_of(alloc, group, nodes)?;
+    let micros = micros_since(rt, start)? / (nodes as u64).max(1);
+    println!(rt;
+        "{} events, each trace in {micros} microseconds",
+        group.log().len()
+    )?;
+    Ok(traces)
 }
 
 /// Prints how many events the merge of a small group's traces has.
 pub(crate) fn tell<R: Print, C: MeasuredGroup>(rt: &R, alloc: Global) -> Result<()> {
-    let traces = played_traces::<C>(alloc, &SMALL)?;
+    let group = played::<C>(alloc, &SMALL)?;
+    let traces = traces_of(alloc, &group, SMALL.nodes)?;
     tell_of(rt, alloc, traces.as_slice())
 }
 
-/// Prints how long the merge of a group's traces takes. The arguments give the plan.
+/// Prints how long it takes to project and to merge the traces of a group. The arguments give the plan.
 pub(crate) fn measure<R: Print + Clock, C: MeasuredGroup>(
     rt: &R,
     alloc: Global,
     words: &[String],
 ) -> Result<()> {
-    let traces = played_traces::<C>(alloc, &Plan::parse(words)?)?;
+    let plan = Plan::parse(words)?;
+    let group = played::<C>(alloc, &plan)?;
+    let traces = measure_traces(rt, alloc, &group, plan.nodes)?;
+    drop(group);
     measure_of(rt, alloc, traces.as_slice())
 }

@@ -1,7 +1,9 @@
 //! What the parts of a node cost alone: the result of a few messages, and how long it takes with more.
 mod cell_steps;
 mod core_steps;
+mod forgetting;
 mod known;
+mod members;
 mod messages;
 mod nothing_new;
 mod sealing;
@@ -10,7 +12,9 @@ mod wanted;
 use crate::plumtree::MeasuredNode;
 use crate::steps::cell_steps::step_cell;
 use crate::steps::core_steps::{see_all, step_core};
+use crate::steps::forgetting::{compare, forget};
 use crate::steps::known::know_all;
+use crate::steps::members::{join, lose_announcer, lose_lazy};
 use crate::steps::messages::Taken;
 use crate::steps::nothing_new::{hear_known, take_again, take_prunes};
 use crate::steps::sealing::seal;
@@ -32,7 +36,7 @@ const KEPT: u32 = 1_000;
 /// Prints how many messages came in and frames went out, and how long it took, if that is asked for.
 fn tell_taken(rt: &impl Print, what: &str, taken: Taken, is_timed: bool) -> Result<()> {
     let Taken { came, sent, nanos } = taken;
-    println!(rt; "{what:5} {came:8} in {sent:8} out")?;
+    println!(rt; "{what:7} {came:8} in {sent:8} out")?;
     if is_timed {
         let (each, all) = (nanos / came.max(1), nanos / 1_000);
         println!(rt; "{each} nanoseconds each, {all} microseconds in all")?;
@@ -55,6 +59,9 @@ fn step<R: Print + Clock, C: MeasuredNode>(
         "again" => take_again::<R, C>(rt, alloc, count)?,
         "told" => hear_known::<R, C>(rt, alloc, count)?,
         "prune" => take_prunes::<R, C>(rt, alloc, count)?,
+        "down" => lose_announcer::<R, C>(rt, alloc, count)?,
+        "lazy" => lose_lazy::<R, C>(rt, alloc, count)?,
+        "join" => join::<R, C>(rt, alloc, count)?,
         "cell" => step_cell::<R, C>(rt, alloc, count, 0)?,
         "wide" => step_cell::<R, C>(rt, alloc, count, IDLE)?,
         "ids" => know_all(rt, alloc, count, 0)?,
@@ -63,8 +70,10 @@ fn step<R: Print + Clock, C: MeasuredNode>(
         "kept" => see_all::<R, C>(rt, alloc, count, KEPT)?,
         "seal" => seal::<R, C>(rt, alloc, count, false)?,
         "copy" => seal::<R, C>(rt, alloc, count, true)?,
+        "compare" => compare::<R, C>(rt, alloc, count)?,
+        "forget" => forget::<R, C>(rt, alloc, count)?,
         _ => bail!(
-            "broadcasts, hops, settle, reach, frames, merge, node, groups, core, asks, comes, again, told, prune, cell, wide, ids, gaps, seen, kept, seal or copy"
+            "broadcasts, hops, settle, reach, tree, frames, merge, node, groups, loops, core, asks, comes, again, told, prune, down, lazy, join, cell, wide, ids, gaps, seen, kept, seal, copy, compare or forget"
         ),
     };
     tell_taken(rt, word, taken, is_timed)
@@ -73,8 +82,8 @@ fn step<R: Print + Clock, C: MeasuredNode>(
 /// Prints the result of a few messages, for each part.
 pub(crate) fn tell<R: Print + Clock, C: MeasuredNode>(rt: &R, alloc: Global) -> Result<()> {
     for word in [
-        "core", "asks", "comes", "again", "told", "prune", "cell", "wide", "ids", "gaps", "seen",
-        "kept", "seal", "copy",
+        "core", "asks", "comes", "again", "told", "prune", "down", "lazy", "join", "cell", "wide",
+        "ids", "gaps", "seen", "kept", "seal", "copy", "compare", "forget",
     ] {
         step::<R, C>(rt, alloc, word, TOLD, false)?;
     }

@@ -28,7 +28,7 @@ fn queued_at<C: Core<Global>>(node: &NodeState<C>) -> usize {
 }
 
 /// How many announcements all nodes have queued.
-fn queued<C: Core<Global>>(group: &World<C>) -> usize {
+pub(crate) fn queued<C: Core<Global>>(group: &World<C>) -> usize {
     let mut count = 0usize;
     for node in group.nodes() {
         count = count.saturating_add(queued_at(node));

@@ -29,7 +29,7 @@ fn open_link<C: NodeCore<Global> + Drop>(
 }
 
 /// Opens a link to each peer.
-fn open_links<C: NodeCore<Global> + Drop>(
+pub(crate) fn open_links<C: NodeCore<Global> + Drop>(
     cell: &mut NodeCell<C>,
     outlets: &mut Vec<Outlet>,
 ) -> Result<()> {
@@ -70,7 +70,7 @@ fn empty_all(outlets: &mut Vec<Outlet>) -> Result<()> {
 }
 
 /// How many frames were taken out of the links.
-fn taken(outlets: &[Outlet]) -> u64 {
+pub(crate) fn taken(outlets: &[Outlet]) -> u64 {
     let mut taken: u64 = 0;
     for outlet in outlets {
         taken = taken.saturating_add(outlet.taken());
@@ -88,7 +88,7 @@ fn take<C: NodeCore<Global> + Drop>(
 }
 
 /// Lets a cell take stimuli, and empties the links after each.
-fn take_all<C: NodeCore<Global> + Drop>(
+pub(crate) fn take_all<C: NodeCore<Global> + Drop>(
     cell: &mut NodeCell<C>,
     outlets: &mut Vec<Outlet>,
     stimuli: Vec<Stimulus<Frame>>,

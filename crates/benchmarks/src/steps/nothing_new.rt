@@ -29,7 +29,7 @@ fn push_announcements(alloc: Global, stimuli: &mut Vec<Stimulus<Frame>>, count: 
 }
 
 /// Appends `count` PRUNEs of the second peer.
-fn push_prunes(stimuli: &mut Vec<Stimulus<Frame>>, count: u64) -> Result<()> {
+pub(crate) fn push_prunes(stimuli: &mut Vec<Stimulus<Frame>>, count: u64) -> Result<()> {
     let sender = origin_named("q")?;
     for k in 0..count {
         stimuli.push(arrival(Frame::new(sender, k.saturating_add(2), Body::Prune)?))?;

@@ -28,7 +28,7 @@ pub(crate) fn push_announcement(
 }
 
 /// Makes a core to which `frames` times 64 messages of the first peer were announced by the second.
-fn wanting<C: Core<Global, Note = Frame>>(alloc: Global, frames: u64) -> Result<C> {
+pub(crate) fn wanting<C: Core<Global, Note = Frame>>(alloc: Global, frames: u64) -> Result<C> {
     let mut stimuli = Vec::new(alloc);
     push_requests(&mut stimuli)?;
     for frame in 0..frames {
