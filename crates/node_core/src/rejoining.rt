@@ -1,7 +1,8 @@
 //! By whom a node without neighbours joins again, and when.
-ghost use Rattle.std.specs.Prelude.{◌≡◌, ◌≤◌, ◌<◌, ◌+◌, ◌*◌, ◌^◌, Contains, IfSome, IsSome};
-ghost use Rattle.std.specs.Prelude.{IsSomeAnd, IsTrue, None, [], OnErr, OnOk, false, min};
-ghost use Rattle.node_core.specs.declared.rejoining.TheConstants.{FIRST, LONGEST};
+ghost use Rattle.std.specs.Prelude.{◌≡◌, ◌≤◌, ◌<◌, ◌+◌, ◌*◌, ◌^◌, ◌↔◌, Contains, IfSome, IsSome, IsTrue};
+ghost use Rattle.std.specs.Prelude.{IsSomeAnd, None, [], OnErr, OnOk, Some, false, length, slice_get};
+ghost use Rattle.node_core.specs.Rejoining.{BeginsPause, IsDue, turn_after};
+ghost use Rattle.node_core.specs.declared.rejoining.TheConstants.{FIRST};
 
 use node_names::NodeName;
 use rand_core::Rng;
@@ -14,7 +15,7 @@ pub const FIRST: u64 = 4;
 /// How many ticks a pause takes at most.
 pub const LONGEST: u64 = 256;
 
-/// Draws how many ticks a pause takes that may take so many: at least half of them.
+/// Draws how many ticks a pause takes that may take `longest`: at least half of them.
 fn draw_pause<G: Rng>(longest: u64, generator: &mut G) -> u64
     requires { longest < 2 ^ 63 }
     ensures most { result ≤ longest }
@@ -24,11 +25,12 @@ fn draw_pause<G: Rng>(longest: u64, generator: &mut G) -> u64
     half + generator.next_u64() % (longest - half + 1)
 }
 
-/// The contact at this place.
-fn contact_at(contacts: &[NodeName], place: usize) -> Option<NodeName>
-    ensures { IfSome result (λ name. Contains contacts.now name) }
+/// The place of the contact whose turn is after this one's.
+fn turn_after(count: usize, place: usize) -> usize
+    requires { place < count }
+    ensures { result ≡ turn_after count place }
 {
-    contacts.get(place).copied()
+    if place + 1 < count { place + 1 } else { 0 }
 }
 
 /// By whom a node joins again while its active view is empty, and when: by its contacts in turn, with pauses that grow.
@@ -47,20 +49,21 @@ pub struct Rejoining<A: Allocator> {
 }
 
 impl<A: Allocator> Model for Rejoining<A> {
-    ghost use Rattle.std.specs.Prelude.{◌≤◌};
+    ghost use Rattle.std.specs.Prelude.{◌≡◌, ◌⊎◌, ◌<◌, ◌≤◌, length};
     ghost use Rattle.node_core.specs.Rejoining.{Rejoining};
 
     ghost Value = { Rejoining };
 
-    ghost view = { λ r. record { contacts = r.contacts.items; pause = r.pause; due = r.due } };
+    ghost view = { λ r. record { contacts = r.contacts.items; next = r.next; pause = r.pause; due = r.due } };
 
-    ghost invariant = { λ r. r.pause ≤ 256 };
+    // A turn is a contact's, or the first, where there is none.
+    ghost invariant = { λ r. (r.pause ≤ 256) × ((r.next ≡ 0) ⊎ (r.next < length r.contacts.items)) };
 }
 
 impl<A: Allocator + Copy> Rejoining<A> {
     /// Has no contacts, so that a node that is alone stays so.
     pub fn new(alloc: A) -> Rejoining<A>
-        ensures { result ≡ record { contacts = []; pause = FIRST; due = None } }
+        ensures { result ≡ record { contacts = []; next = 0; pause = FIRST; due = None } }
     {
         Rejoining {
             contacts: Vec::new(alloc),
@@ -72,7 +75,7 @@ impl<A: Allocator + Copy> Rejoining<A> {
 
     /// Sets the contacts, of which the first is next. If memory is refused, nothing changes.
     pub fn set_contacts(&mut self, contacts: &[NodeName]) -> Result<(), AllocError>
-        ensures ok { OnOk result (self.new ≡ record self.old { contacts = contacts.now }) }
+        ensures ok { OnOk result (self.new ≡ record self.old { contacts = contacts.now; next = 0 }) }
         ensures err { OnErr result (self.new ≡ self.old) }
     {
         let contacts = Vec::from_slice(*self.contacts.allocator(), contacts)?;
@@ -82,7 +85,17 @@ impl<A: Allocator + Copy> Rejoining<A> {
     }
 
     /// By whom the node joins at this tick, if it does: asked at each tick, with whether the node has no neighbour.
+    ///
+    /// The first time that it is alone it begins a pause, and it begins another each time that it joins.
     pub fn due<G: Rng>(&mut self, now: u64, is_alone: bool, generator: &mut G) -> Option<NodeName>
+        ensures when { IsSome result ↔ IsDue now is_alone self.old }
+        ensures whom { IfSome result (λ name. slice_get self.old.contacts self.old.next ≡ Some name) }
+        ensures turn { IsSome result → self.new.next ≡ turn_after (length self.old.contacts) self.old.next }
+        ensures pauses { IsSome result → BeginsPause now self.old self.new }
+        ensures first { IsTrue is_alone → ¬ (self.old.contacts ≡ []) → self.old.due ≡ None
+            → BeginsPause now self.old self.new }
+        ensures waits { IsTrue is_alone → ¬ (self.old.contacts ≡ []) → IsSomeAnd self.old.due (λ at. now < at)
+            → self.new ≡ self.old }
         ensures contact { IfSome result (λ name. Contains self.old.contacts name) }
         ensures alone { IsSome result → IsTrue is_alone }
         ensures due { IsSome result → IsSomeAnd self.old.due (λ at. at ≤ now) }
@@ -109,25 +122,24 @@ impl<A: Allocator + Copy> Rejoining<A> {
 
     /// Begins a pause, and has the next one be longer.
     fn begin_pause<G: Rng>(&mut self, now: u64, generator: &mut G)
+        ensures pause { BeginsPause now self.old self.new }
         ensures contacts { self.new.contacts ≡ self.old.contacts }
-        ensures due { IsSomeAnd self.new.due (λ at. at ≤ now + self.old.pause) }
-        ensures longer { self.new.pause ≡ min (2 * self.old.pause) LONGEST }
+        ensures next { self.new.next ≡ self.old.next }
     {
         let ticks = draw_pause(self.pause, generator);
         self.due = Some(now.saturating_add(ticks));
         self.pause = self.pause.saturating_mul(2).min(LONGEST);
     }
 
-    /// The contact whose turn it is.
+    /// The contact whose turn it is, if there is one; the turn is the next one's then.
     fn next_contact(&mut self) -> Option<NodeName>
-        ensures contact { IfSome result (λ name. Contains self.old.contacts name) }
-        ensures contacts { self.new.contacts ≡ self.old.contacts }
+        ensures whom { result ≡ slice_get self.old.contacts self.old.next }
+        ensures turn { IsSome result
+            → self.new ≡ record self.old { next = turn_after (length self.old.contacts) self.old.next } }
+        ensures stays { result ≡ None → self.new ≡ self.old }
     {
-        let contact = contact_at(self.contacts.as_slice(), self.next)?;
-        self.next = self.next.saturating_add(1);
-        if self.next >= self.contacts.len() {
-            self.next = 0;
-        }
+        let contact = *self.contacts.get(self.next)?;
+        self.next = turn_after(self.contacts.len(), self.next);
         Some(contact)
     }
 }
