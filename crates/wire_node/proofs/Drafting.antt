@@ -7,6 +7,7 @@ use Rattle.std.proofs.lemmas.List.Elements.{All-head, All-tail}
 use Rattle.node_names.specs.NodeName.{Name}
 use Rattle.node_names.specs.Same.{same_name, same_name-Decides}
 use Rattle.frames.specs.Frame.{Frame}
+use Rattle.wire_node.specs.Acting.{AreSettled}
 use Rattle.wire_node.specs.Waiting.{KeepsSettled, Waiting, all_drafted, drafted, drafted_for, mail_for}
 use Rattle.wire_node.specs.Waiting.{mail_of, settled, settled_for, spelling, undrafted, with_draft}
 
@@ -120,8 +121,8 @@ pub keeps_same : (ws : List Waiting) → KeepsSettled ws ws
 keeps_same ws = ap (map undrafted) (take_all (length ws) ws (omega arith))
 
 -- what was drafted is dropped
-pub undrafted_back : (old new : List Waiting) (len : ℕ) → KeepsSettled old new → map undrafted old ≡ old → len ≡ length old → map undrafted (take len new) ≡ old
-undrafted_back old new len keeps rest e = ap (λ n. map undrafted (take n new)) e ∙ keeps ∙ rest
+pub undrafted_back : (old new : List Waiting) (len : ℕ) → KeepsSettled old new → AreSettled old → len ≡ length old → map undrafted (take len new) ≡ old
+undrafted_back old new len keeps rest e = ap (λ n. map undrafted (take n new)) e ∙ keeps ∙ rest.0
 
 -- one entry changed its drafts alone
 pub keeps_set : (ws : List Waiting) (i : ℕ) (old new : Waiting) →

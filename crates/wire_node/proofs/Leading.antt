@@ -1,5 +1,5 @@
 -- Steps that are noted lead on from the core before them.
-use Rattle.std.proofs.Common.{◌≡◌, ◌∙◌, List, [], ◌∷◌, ◌++◌, Option, None, Some, ap, append_assoc, refl, subst, sym}
+use Rattle.std.proofs.Common.{◌≡◌, ◌∙◌, ℕ, List, [], ◌∷◌, ◌++◌, Option, None, Some, ap, append_assoc, refl, subst, sym}
 use Rattle.std.proofs.lemmas.List.{append-nil}
 use Rattle.node_names.specs.NodeName.{Name}
 use Rattle.node_names.specs.declared.dice.Dice.{Dice}
@@ -44,13 +44,14 @@ on_down old name dice new g = let a = on_acts old _ g.told g.acts in record {
   notes = ap (λ (m : Machine). m.noted) g.dropped ∙ a.notes;
 }
 
-on_downs : (old : Machine) (names : List Name) (dice : Dice) (new : Machine) → GoDown old names dice new → LeadsOn old new
-on_downs old [] dice new g = subst (λ (m : Machine). LeadsOn old m) g (on_none old)
-on_downs old (name ∷ names) dice new g = on_then old g.0 new (on_down old name dice g.0 g.1) (on_downs g.0 names dice new g.2)
+on_downs : (limit : ℕ) (old : Machine) (names : List Name) (dice : Dice) (new : Machine) → GoDown limit old names dice new → LeadsOn old new
+on_downs limit old [] dice new g = subst (λ (m : Machine). LeadsOn old m) g (on_none old)
+on_downs limit old (name ∷ names) dice new g = on_then old g.0 new (on_down old name dice g.0 g.2) (on_downs limit g.0 names dice new g.3)
 
 on_moves : (old : Engine) (m : Move) (new : Engine) → Moves old m.0 m.1 new → LeadsOn old.machine new.machine
 on_moves old m new h =
-    on_then old.machine h.stepped new.machine (on_acts old.machine m.0 h.stepped h.acts) (on_downs h.stepped h.relieves.names m.1 new.machine h.relieves.downs)
+    on_then old.machine h.stepped new.machine (on_acts old.machine m.0 h.stepped h.acts)
+    (on_downs old.limit h.stepped h.relieves.names m.1 new.machine h.relieves.downs)
 
 pub moved : (old : Engine) (moves : List Move) (new : Engine) → MovesAll old moves new → LeadsOn old.machine new.machine
 moved old [] new h = subst (λ (e : Engine). LeadsOn old.machine e.machine) h (on_none old.machine)

@@ -1,3 +1,4 @@
+pub mod Apart
 pub mod Drafting
 pub mod Ends
 pub mod Filling
@@ -8,6 +9,7 @@ pub mod Lasts
 pub mod Leading
 pub mod Sending
 pub mod Stepping
+pub mod Stops
 pub mod Taking
 pub mod Turns
 pub mod Weaving

@@ -5,7 +5,7 @@ use Rattle.std.proofs.lemmas.List.{drop_all, drop_min}
 use Rattle.std.proofs.lemmas.List.Elements.{All-head, All-tail}
 use Rattle.node_names.specs.NodeName.{Name}
 use Rattle.node_names.specs.Same.{same_name, same_name-Decides}
-use Rattle.wire_node.specs.Acting.{AreSettled, without}
+use Rattle.wire_node.specs.Acting.{without}
 use Rattle.wire_node.specs.Waiting.{Waiting, settled_for, undrafted}
 use Rattle.wire_node.proofs.Drafting.{IsOther, made, other_name}
 
@@ -36,13 +36,13 @@ waits_none (w ∷ ws) name all =
     ∙ waits_none ws name (All-tail (IsOther name) w ws all)
 
 -- each entry is settled
-pub settled_at : (ws : List Waiting) (i : ℕ) (d : Waiting) → AreSettled ws → i < length ws → undrafted (get_or ws i d) ≡ get_or ws i d
+pub settled_at : (ws : List Waiting) (i : ℕ) (d : Waiting) → map undrafted ws ≡ ws → i < length ws → undrafted (get_or ws i d) ≡ get_or ws i d
 settled_at [] i d rest within = absurd (omega arith)
 settled_at (w ∷ ws) zero d rest within = ap (λ (l : List Waiting). get_or l 0 w) rest
 settled_at (w ∷ ws) (suc i) d rest within = settled_at ws i d (ap (drop 1) rest) (omega arith)
 
 -- one entry was exchanged for a settled one
-pub settled_set : (ws : List Waiting) (i : ℕ) (new : Waiting) → AreSettled ws → undrafted new ≡ new → AreSettled (set ws i new)
+pub settled_set : (ws : List Waiting) (i : ℕ) (new : Waiting) → map undrafted ws ≡ ws → undrafted new ≡ new → map undrafted (set ws i new) ≡ set ws i new
 settled_set [] i new rest its = refl
 settled_set (w ∷ ws) zero new rest its = ap (λ (u : Waiting). u ∷ map undrafted ws) its ∙ ap (λ (l : List Waiting). new ∷ l) (ap (drop 1) rest)
 settled_set (w ∷ ws) (suc i) new rest its =

@@ -14,9 +14,10 @@ use Rattle.node_core.specs.Steps.{PlumSteps}
 use Rattle.wire_node.specs.Acting.{Acts, AreSettled, machine, without}
 use Rattle.node_core.specs.News.{Telling, all_news}
 use Rattle.wire_node.specs.Recording.{Noted, with_step}
-use Rattle.wire_node.specs.Waiting.{Waiting, all_drafted, mail_for, settled, settled_for, undrafted}
+use Rattle.wire_node.specs.Waiting.{AreApart, Waiting, all_drafted, mail_for, settled, settled_for, undrafted}
 use Rattle.node_core.specs.declared.news.News.{News}
-use Rattle.wire_node.proofs.Drafting.{waits_more}
+use Rattle.wire_node.proofs.Apart.{apart_all, apart_settled, apart_without}
+use Rattle.wire_node.proofs.Drafting.{settled_rest, waits_more}
 use Rattle.node_core.proofs.NewsLemmas.{TellsOf}
 
 pub on_err : {X E : Type 0} (P : Type 0) (r : Result X E) → P → OnErr r P
@@ -58,7 +59,7 @@ step_acts core core' after olds news pending pending' noted noted' telling telli
       stepped = subst (λ c. PlumSteps core s st.sends st.given c) (sym advanced) (subst (λ t. PlumSteps core t st.sends st.given after) its st.stepped);
       waits =
           λ name. ap (λ (ws : List Waiting). settled_for ws name) waits
-          ∙ waits_more olds out.sends name rest
+          ∙ waits_more olds out.sends name rest.0
           ∙ ap (λ (t : List (Name × Frame)). settled_for olds name ++ mail_for t name) sent;
       delivers = delivers ∙ ap (λ (t : List Delivery). pending ++ t) given;
       notes = notes ∙ ap (λ (o : Output Frame). with_step noted (record { stimulus = s; out = o })) (same_out out st.sends st.given sent given);
@@ -89,15 +90,26 @@ pub err_then : {X E : Type 0} (P Q : Type 0) (r : Result X E) → OnErr r P → 
 err_then P Q (Ok x) h f = tt
 err_then P Q (Err x) h f = f h
 
+pub err_both : {X E : Type 0} {P Q S : Type 0} (r : Result X E) → OnErr r P → OnErr r Q → (P → Q → S) → OnErr r S
+err_both (Ok x) one two goes = tt
+err_both (Err x) one two goes = goes one two
+
 -- nothing is drafted for the others, if nothing is
-pub settled_without : (name : Name) (ws : List Waiting) → AreSettled ws → AreSettled (without name ws)
-settled_without name [] rest = refl
-settled_without name (w ∷ ws) rest =
-    go (not (same_name name w.name)) (ap (λ (l : List Waiting). get_or l 0 w) rest) (settled_without name ws (ap (drop 1) rest))
+rest_without : (name : Name) (ws : List Waiting) → map undrafted ws ≡ ws → map undrafted (without name ws) ≡ without name ws
+rest_without name [] rest = refl
+rest_without name (w ∷ ws) rest =
+    go (not (same_name name w.name)) (ap (λ (l : List Waiting). get_or l 0 w) rest) (rest_without name ws (ap (drop 1) rest))
   where
     go : (b : Bool) →
         undrafted w ≡ w →
-        AreSettled (without name ws) →
+        map undrafted (without name ws) ≡ without name ws →
         map undrafted (if b then w ∷ without name ws else without name ws) ≡ (if b then w ∷ without name ws else without name ws)
     go true its more = ap (λ (u : Waiting). u ∷ map undrafted (without name ws)) its ∙ ap (λ (t : List Waiting). w ∷ t) more
     go false its more = more
+
+pub settled_without : (name : Name) (ws : List Waiting) → AreSettled ws → AreSettled (without name ws)
+settled_without name ws rest = (rest_without name ws rest.0, apart_without name ws rest.1)
+
+-- nothing is drafted once the packets of a step wait
+pub settled_more : (ws : List Waiting) (sends : List (Name × Frame)) → AreApart ws → AreSettled (map settled (all_drafted ws sends))
+settled_more ws sends apart = (settled_rest (all_drafted ws sends), apart_settled (all_drafted ws sends) (apart_all ws sends apart))

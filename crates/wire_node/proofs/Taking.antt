@@ -13,7 +13,7 @@ use Rattle.frames.specs.Grammar.{IsSpelling, layout, spelled}
 use Rattle.frames.specs.Reading.{read}
 use Rattle.frames.specs.declared.fault.FrameFault.TheVariants.{OutOfMemory, Short}
 use Rattle.wire_node.specs.Moving.{Engine, Move, Moves, MovesAll, arrival}
-use Rattle.wire_node.specs.Receiving.{IsPartial, Taken, Takes, frames_of, peer_of}
+use Rattle.wire_node.specs.Receiving.{AreDealt, Draws, IsPartial, Taken, Takes, after_one, frames_of, peer_of}
 
 -- a frame takes bytes
 pub spelling_long : (f : Frame) (bytes : List ℕ) → IsSpelling f bytes → 3 < length bytes
@@ -43,15 +43,20 @@ peer_none : (p : Option Name) → p ≡ peer_of p []
 peer_none (Some p) = refl
 peer_none None = refl
 
+-- dice and then others
+dealt_then : (fs gs : List Taken) (d e f : Draws) → AreDealt fs d e → AreDealt gs e f → AreDealt (fs ++ gs) d f
+dealt_then [] gs d e f a b = subst (λ x. AreDealt gs x f) (sym a) b
+dealt_then (t ∷ ts) gs d e f a b = (a.0, dealt_then ts gs (after_one d) e f a.1 b)
+
 -- no frame
-pub takes_none : (old : Engine) (p : Option Name) (bytes : List ℕ) → Takes old p bytes old p bytes
-takes_none old p bytes = record { taken = []; stream = refl; moves = refl; its_peer = peer_none p }
+pub takes_none : (old : Engine) (p : Option Name) (bytes : List ℕ) (d : Draws) → Takes old p bytes d old p bytes d
+takes_none old p bytes d = record { taken = []; stream = refl; moves = refl; its_peer = peer_none p; dealt = refl }
 
 -- frames and then others
-pub takes_then : (old : Engine) (p : Option Name) (bytes : List ℕ) (mid : Engine)
-    (q : Option Name) (rest : List ℕ) (new : Engine) (r : Option Name) (after : List ℕ)
-    → Takes old p bytes mid q rest → Takes mid q rest new r after → Takes old p bytes new r after
-takes_then old p bytes mid q rest new r after a b = record {
+pub takes_then : (old : Engine) (p : Option Name) (bytes : List ℕ) (d : Draws) (mid : Engine)
+    (q : Option Name) (rest : List ℕ) (e : Draws) (new : Engine) (r : Option Name) (after : List ℕ) (f : Draws)
+    → Takes old p bytes d mid q rest e → Takes mid q rest e new r after f → Takes old p bytes d new r after f
+takes_then old p bytes d mid q rest e new r after f a b = record {
   taken = a.taken ++ b.taken;
   stream =
       subst (λ fs. Begins fs bytes after) (sym (map-append (λ (t : Taken). t.0) a.taken b.taken))
@@ -60,13 +65,20 @@ takes_then old p bytes mid q rest new r after a b = record {
       subst (λ ss. MovesAll old ss new) (sym (map-append arrival a.taken b.taken))
       (moves_then old (map arrival a.taken) (map arrival b.taken) mid new a.moves b.moves);
   its_peer = b.its_peer ∙ ap (λ x. peer_of x b.taken) a.its_peer ∙ sym (peer_then p a.taken b.taken);
+  dealt = dealt_then a.taken b.taken d e f a.dealt b.dealt;
 }
 
 -- one frame
-pub takes_one : (old : Engine) (p : Option Name) (bytes : List ℕ) (new : Engine) (q : Option Name) (rest : List ℕ) (f : Frame)
-    → Cuts f bytes rest → (dice : Dice) × Moves old (arrival (f, dice)).0 dice new × (q ≡ peer_of p ((f, dice) ∷ [])) → Takes old p bytes new q rest
-takes_one old p bytes new q rest f c a =
-    record { taken = (f, a.0) ∷ []; stream = (rest, c, refl); moves = moves_one old (arrival (f, a.0)) new a.1; its_peer = a.2 }
+pub takes_one : (old : Engine) (p : Option Name) (bytes : List ℕ) (d : Draws) (new : Engine) (q : Option Name) (rest : List ℕ) (e : Draws) (f : Frame)
+    → Cuts f bytes rest → (dice : Dice) × Moves old (arrival (f, dice)).0 dice new × (q ≡ peer_of p ((f, dice) ∷ [])) × (dice ≡ d 0) → e ≡ after_one d
+    → Takes old p bytes d new q rest e
+takes_one old p bytes d new q rest e f c a drawn = record {
+  taken = (f, a.0) ∷ [];
+  stream = (rest, c, refl);
+  moves = moves_one old (arrival (f, a.0)) new a.1;
+  its_peer = a.2;
+  dealt = (a.3, sym drawn);
+}
 
 -- a frame at a place
 pub cuts_at : (f : Frame) (bytes : List ℕ) (at len : ℕ) → IsSpelling f (take len (drop at bytes)) → Cuts f (drop at bytes) (drop (at + len) bytes)
@@ -111,36 +123,40 @@ completed f left bytes whole now count len e s n =
     subst (λ (t : List ℕ). Cuts f t (now ++ drop count bytes)) parts
     (subst (λ (t : List ℕ). Cuts f (whole ++ drop count bytes) (t ++ drop count bytes)) (sym n) (cuts_before f whole (drop count bytes) len s))
 
-module _ (mid new : Engine) (p q : Option Name) (left now bytes rest : List ℕ) (at : ℕ) (from : rest ≡ drop at bytes) where
+module _ (mid new : Engine) (p q : Option Name) (left now bytes rest : List ℕ) (at : ℕ) (from : rest ≡ drop at bytes) (d e : Draws) where
   -- and others follow from its place on
   pub resumed : (count : ℕ) →
-      Takes mid p (left ++ rest) new q (now ++ drop count rest) →
-      Takes mid p (left ++ drop at bytes) new q (now ++ drop (at + count) bytes)
+      Takes mid p (left ++ rest) d new q (now ++ drop count rest) e →
+      Takes mid p (left ++ drop at bytes) d new q (now ++ drop (at + count) bytes) e
   resumed count t =
-      subst (λ (b : List ℕ). Takes mid p (left ++ drop at bytes) new q (now ++ b)) (drop-drop count at bytes)
-      (subst (λ (b : List ℕ). Takes mid p (left ++ b) new q (now ++ drop count b)) from t)
+      subst (λ (b : List ℕ). Takes mid p (left ++ drop at bytes) d new q (now ++ b) e) (drop-drop count at bytes)
+      (subst (λ (b : List ℕ). Takes mid p (left ++ b) d new q (now ++ drop count b) e) from t)
 
   -- all that came is kept
-  pub kept_all : Takes mid p (left ++ rest) new q now → Takes mid p (left ++ drop at bytes) new q (now ++ drop (length bytes) bytes)
+  pub kept_all : Takes mid p (left ++ rest) d new q now e → Takes mid p (left ++ drop at bytes) d new q (now ++ drop (length bytes) bytes) e
   kept_all t =
-      subst (λ (b : List ℕ). Takes mid p (left ++ drop at bytes) new q b)
+      subst (λ (b : List ℕ). Takes mid p (left ++ drop at bytes) d new q b e)
       (sym (append-nil now) ∙ ap (λ (b : List ℕ). now ++ b) (sym (drop_all (length bytes) bytes (omega arith))))
-      (subst (λ (b : List ℕ). Takes mid p (left ++ b) new q now) from t)
+      (subst (λ (b : List ℕ). Takes mid p (left ++ b) d new q now e) from t)
 
   -- nothing was left of a frame
   pub from_none : (count : ℕ) →
       left ≡ [] →
-      Takes mid p rest new q (drop count rest) →
-      Takes mid p (left ++ drop at bytes) new q (left ++ drop (at + count) bytes)
+      Takes mid p rest d new q (drop count rest) e →
+      Takes mid p (left ++ drop at bytes) d new q (left ++ drop (at + count) bytes) e
   from_none count none t =
-      subst (λ (l : List ℕ). Takes mid p (l ++ drop at bytes) new q (l ++ drop (at + count) bytes)) (sym none)
-      (subst (λ (b : List ℕ). Takes mid p (drop at bytes) new q b) (drop-drop count at bytes)
-      (subst (λ (b : List ℕ). Takes mid p b new q (drop count b)) from t))
+      subst (λ (l : List ℕ). Takes mid p (l ++ drop at bytes) d new q (l ++ drop (at + count) bytes) e) (sym none)
+      (subst (λ (b : List ℕ). Takes mid p (drop at bytes) d new q b e) (drop-drop count at bytes)
+      (subst (λ (b : List ℕ). Takes mid p b d new q (drop count b) e) from t))
 
   -- nothing was left of a frame, and what is no whole frame yet is kept
-  pub from_none_kept : (count : ℕ) (last : List ℕ) → left ≡ [] → last ≡ drop (at + count) bytes → now ≡ left ++ last → Takes mid p rest new q (drop count rest)
-      → Takes mid p (left ++ drop at bytes) new q (now ++ drop (length bytes) bytes)
+  pub from_none_kept : (count : ℕ) (last : List ℕ) →
+      left ≡ [] →
+      last ≡ drop (at + count) bytes →
+      now ≡ left ++ last →
+      Takes mid p rest d new q (drop count rest) e
+      → Takes mid p (left ++ drop at bytes) d new q (now ++ drop (length bytes) bytes) e
   from_none_kept count last none its kept t =
       let all : now ++ drop (length bytes) bytes ≡ left ++ drop (at + count) bytes =
       ap (λ (b : List ℕ). now ++ b) (drop_all (length bytes) bytes (omega arith)) ∙ append-nil now ∙ kept ∙ ap (λ (b : List ℕ). left ++ b) its in
-      subst (λ (b : List ℕ). Takes mid p (left ++ drop at bytes) new q b) (sym all) (from_none count none t)
+      subst (λ (b : List ℕ). Takes mid p (left ++ drop at bytes) d new q b e) (sym all) (from_none count none t)

@@ -1,5 +1,5 @@
 -- The steps of a node of bytes: what each does to the core, to what waits, and to the deliveries.
-use Rattle.std.specs.Prelude.{◌≡◌, ◌++◌, Bool, List, [], ◌∷◌, Option, map, not, filter, if◌then◌else◌}
+use Rattle.std.specs.Prelude.{◌≡◌, ◌++◌, ◌<◌, ℕ, Bool, List, [], ◌∷◌, Option, length, map, not, filter, if◌then◌else◌}
 use Rattle.node_names.specs.NodeName.{Name}
 use Rattle.node_names.specs.Same.{same_name}
 use Rattle.node_names.specs.declared.dice.Dice.{Dice}
@@ -13,7 +13,7 @@ use Rattle.node_core.specs.Plum.{Plum, plum_state}
 use Rattle.node_core.specs.Steps.{PlumSteps}
 use Rattle.node_core.specs.News.{Telling, all_news, news_of}
 use Rattle.wire_node.specs.Recording.{Leads, Noted, with_step, with_steps}
-use Rattle.wire_node.specs.Waiting.{Waiting, mail_for, settled_for, undrafted}
+use Rattle.wire_node.specs.Waiting.{AreApart, Waiting, mail_for, settled_for, undrafted}
 use Rattle.node_core.specs.declared.news.News.{News}
 
 -- A core, what waits to go out, the deliveries that were not taken yet, and what is noted, if anything is; the news of
@@ -31,9 +31,9 @@ abbrev pub machine : Plum → List Waiting → List Delivery → Option Noted �
 machine core waiting pending noted telling =
     record { core = core; waiting = waiting; pending = pending; noted = noted; news = all_news telling (plum_state core).active; tells = telling.tells }
 
--- No step is under way: nothing is drafted.
+-- No step is under way: nothing is drafted. No name is there twice.
 abbrev pub AreSettled : List Waiting → Type 0
-AreSettled waiting = map undrafted waiting ≡ waiting
+AreSettled waiting = (map undrafted waiting ≡ waiting) × AreApart waiting
 
 -- The core made one step. For each name, the bytes of the frames that go to it wait behind what waited, in their order,
 -- what the step delivers waits behind what was delivered before, and the step is noted behind those before it. Where
@@ -57,10 +57,14 @@ pub record GoesDown (old : Machine) (name : Name) (dice : Dice) (new : Machine) 
   pub acts : Acts old (Down name dice) told
   pub dropped : new ≡ record told { waiting = without name told.waiting }
 
--- These names went down, one after the other.
-abbrev pub GoDown : Machine → List Name → Dice → Machine → Type 0
-GoDown old [] dice new = old ≡ new
-GoDown old (name ∷ names) dice new = (mid : Machine) × GoesDown old name dice mid × GoDown mid names dice new
+-- More bytes than the limit wait for the name.
+abbrev pub IsOverfull : ℕ → Machine → Name → Type 0
+IsOverfull limit machine name = limit < length (settled_for machine.waiting name)
+
+-- These names went down, one after the other, each because more than the limit waited for it.
+abbrev pub GoDown : ℕ → Machine → List Name → Dice → Machine → Type 0
+GoDown limit old [] dice new = old ≡ new
+GoDown limit old (name ∷ names) dice new = (mid : Machine) × IsOverfull limit old name × GoesDown old name dice mid × GoDown limit mid names dice new
 
 -- Steps lead from the old core to the new one, and just these were noted, behind those before them.
 pub record LeadsOn (old new : Machine) : Type 0 where

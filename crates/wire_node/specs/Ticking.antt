@@ -1,5 +1,6 @@
 -- What a node of bytes does at a tick.
-use Rattle.std.specs.Prelude.{◌≡◌, ◌≢◌, ◌<◌, ◌≤◌, ◌-◌, ◌%◌, ◌⊎◌, ◌++◌, ◌&&◌, ℕ, Bool, List, [], filter, length, map, nat_eq, not, if◌then◌else◌}
+use Rattle.std.specs.Prelude.{◌≡◌, ◌≢◌, ◌<◌, ◌≤◌, ◌-◌, ◌%◌, ◌⊎◌, ◌++◌, ◌&&◌, ℕ, Bool, List, [], filter, length, map, nat_eq, not, take}
+use Rattle.std.specs.Prelude.{if◌then◌else◌}
 use Rattle.node_names.specs.Same.{has_id}
 use Rattle.node_names.specs.declared.dice.Dice.{Dice}
 use Rattle.node_names.specs.declared.ids.MsgId.{MsgId}
@@ -68,6 +69,36 @@ pub record TickSteps (old : Engine) (asking : Asking) (ticks : ℕ) (dice : Dice
   pub asks : AsksAt flushed asking ticks dice asked asking'
   pub shuffles : ticks % 10 ≡ 0 → Moves asked (Shuffle dice) dice new
   pub stays : ticks % 10 ≢ 0 → new ≡ asked
+
+-- Asking was refused on the way: of what was due at this tick, the first timers fired, and all of it is due still. What
+-- may be on its way was looked through, or not yet.
+pub record IsDueStill (old : Engine) (asking : Asking) (ticks : ℕ) (dice : Dice) (new : Engine) (asking' : Asking) : Type 0 where
+  pub count : ℕ
+  pub fires : MovesAll old (map (firing dice) (take count (armed_of old (due_at asking ticks)))) new
+  pub due : asking'.due ≡ due_at asking ticks
+  pub waits : asking'.waited ≡ (if is_turn asking ticks then [] else asking.waited)
+  pub asked : (asking'.asked ≡ asking.asked) ⊎ (asking'.asked ≡ awaited_at old asking.asked ticks)
+
+-- All was asked for that may be. What is missing at the end of the turn was noted, or memory was refused for that.
+pub record IsAskedFor (old : Engine) (asking : Asking) (ticks : ℕ) (dice : Dice) (new : Engine) (asking' : Asking) : Type 0 where
+  pub asks : Asks old (due_at asking ticks) (awaited_at old asking.asked ticks) dice new asking'.due asking'.asked
+  pub waits : (asking'.waited ≡ waits_at asking ticks asking'.due new) ⊎ (asking'.waited ≡ (if is_turn asking ticks then [] else asking.waited))
+
+-- What a refused tick leaves to be asked for: nothing of it is forgotten.
+abbrev pub LeavesAsking : Engine → Asking → ℕ → Dice → Engine → Asking → Type 0
+LeavesAsking old asking ticks dice new asking' =
+    (asking' ≡ asking)
+    ⊎ ((flushed : Engine)
+    × Moves old Flush dice flushed
+    × (IsDueStill flushed asking ticks dice new asking' ⊎ IsAskedFor flushed asking ticks dice new asking'))
+
+-- Between ticks asking was refused on the way.
+pub record AsksInPart (old : Engine) (asking : Asking) (dice : Dice) (new : Engine) (asking' : Asking) : Type 0 where
+  pub count : ℕ
+  pub fires : MovesAll old (map (firing dice) (take count (armed_of old asking.due))) new
+  pub due : asking'.due ≡ asking.due
+  pub waits : asking'.waited ≡ asking.waited
+  pub asked : (asking'.asked ≡ asking.asked) ⊎ (asking'.asked ≡ lacked_of old asking.asked)
 
 -- Of the steps of a tick that was refused, these were made: the flush, and behind it timers fired.
 pub record Flushes (old : Engine) (dice : Dice) (new : Engine) : Type 0 where

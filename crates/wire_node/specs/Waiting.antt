@@ -1,6 +1,6 @@
 -- What waits for each name, and what the frames of a step add to it.
 use Rattle.std.specs.Prelude.{◌≡◌, ℕ, List, [], ◌∷◌, ◌++◌, length, map, nat_lt, take, if◌then◌else◌}
-use Rattle.std.specs.List.{flat_map}
+use Rattle.std.specs.List.{IsDistinct, flat_map}
 use Rattle.std.specs.Int.{w32, to_be_bytes}
 use Rattle.node_names.specs.NodeName.{Name}
 use Rattle.node_names.specs.Same.{same_name}
@@ -12,6 +12,14 @@ pub record Waiting : Type 0 where
   pub name : Name
   pub settled : List ℕ
   pub drafted : List ℕ
+
+-- the names for whom something is kept
+abbrev pub names_of : List Waiting → List Name
+names_of waiting = map (λ (w : Waiting). w.name) waiting
+
+-- No name is there twice.
+abbrev pub AreApart : List Waiting → Type 0
+AreApart waiting = IsDistinct same_name (names_of waiting)
 
 -- the bytes of a frame
 unfoldable pub spelling : Frame → List ℕ

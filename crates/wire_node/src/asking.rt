@@ -1,9 +1,11 @@
 //! What a node asks for: messages that were announced and did not come.
-ghost use Rattle.std.specs.Prelude.{◌≡◌, ◌<◌, ◌≤◌, ◌&&◌, ℕ, List, [], IfOk, OnErr};
+ghost use Rattle.std.specs.Prelude.{◌≡◌, ◌<◌, ◌≤◌, ◌&&◌, ◌⊎◌, ℕ, List, [], IfErr, IfOk, OnErr};
 ghost use Rattle.std.specs.Prelude.{OnOk, length, map, nat_eq, take, if◌then◌else◌};
 ghost use Rattle.node_names.specs.declared.ids.MsgId.{MsgId as Id};
 ghost use Rattle.wire_node.specs.Moving.{MovesAll, firing};
-ghost use Rattle.wire_node.specs.Ticking.{Asks, AsksAt, AsksOn, armed_of, awaited_at, is_turn, lacked_of};
+ghost use Rattle.wire_node.specs.Refusing.{IsAskRefusal, refusal_of};
+ghost use Rattle.wire_node.specs.Ticking.{Asks, AsksAt, AsksInPart, AsksOn, IsAskedFor, IsDueStill};
+ghost use Rattle.wire_node.specs.Ticking.{armed_of, awaited_at, is_turn, lacked_of};
 
 use crate::connections::drop_front;
 use crate::engine::Engine;
@@ -120,6 +122,7 @@ fn fire_each<A: Allocator + Copy, R: Record<A> + Drop>(
     ensures ok { OnOk result (MovesAll engine.old (map (firing dice.now) ids.now) engine.new) }
     ensures err { OnErr result
         ((count : ℕ) × MovesAll engine.old (map (firing dice.now) (take count ids.now)) engine.new) }
+    ensures why { IfErr result (λ e. IsAskRefusal engine.new.machine.core (refusal_of e)) }
 {
     for id in ids {
         engine.step(&StimulusOf::Fire(*id), dice)?;
@@ -137,7 +140,10 @@ fn ask_front<A: Allocator + Copy, R: Record<A> + Drop>(
 ) -> Result<(), CoreError>
     ensures ok { OnOk result
         (Asks engine.old due.old.items asked.old.items dice.now engine.new due.new.items asked.new.items) }
-    ensures err { OnErr result ((ids : List Id) × MovesAll engine.old (map (firing dice.now) ids) engine.new) }
+    ensures err { OnErr result ((count : ℕ)
+        × MovesAll engine.old (map (firing dice.now) (take count (armed_of engine.old due.old.items))) engine.new) }
+    ensures kept { OnErr result ((due.new.items ≡ due.old.items) × (asked.new.items ≡ asked.old.items)) }
+    ensures why { IfErr result (λ e. IsAskRefusal engine.new.machine.core (refusal_of e)) }
 {
     let most = MOST_ASKED.saturating_sub(asked.len());
     let (armed, count) = front_armed(engine, due.as_slice(), most)?;
@@ -174,11 +180,12 @@ fn end<A: Allocator + Copy, R: Record<A> + Drop>(
     asking: &mut Asking<A>,
     is_turn: bool,
 ) -> Result<(), AllocError>
-    ensures { OnOk result (asking.new ≡ record asking.old {
+    ensures ok { OnOk result (asking.new ≡ record asking.old {
       waited = (if is_turn && nat_eq (length asking.old.due) 0
           then engine.now.machine.core.gossip.missing.timers
           else asking.old.waited);
     }) }
+    ensures err { OnErr result (asking.new ≡ asking.old) }
 {
     if is_turn && asking.due.is_empty() {
         asking.waited = engine.armed()?;
@@ -197,7 +204,13 @@ fn ask_for<A: Allocator + Copy, R: Record<A> + Drop>(
     ensures ok { OnOk result (Asks engine.old asking.old.due
         (awaited_at engine.old asking.old.asked ticks) dice.now engine.new asking.new.due asking.new.asked) }
     ensures rest { OnOk result (asking.new.waited ≡ asking.old.waited) }
-    ensures err { OnErr result ((ids : List Id) × MovesAll engine.old (map (firing dice.now) ids) engine.new) }
+    ensures err { OnErr result ((count : ℕ)
+        × MovesAll engine.old (map (firing dice.now) (take count (armed_of engine.old asking.old.due))) engine.new) }
+    ensures kept { OnErr result ((asking.new.due ≡ asking.old.due)
+        × (asking.new.waited ≡ asking.old.waited)
+        × ((asking.new.asked ≡ asking.old.asked)
+        ⊎ (asking.new.asked ≡ awaited_at engine.old asking.old.asked ticks))) }
+    ensures why { IfErr result (λ e. IsAskRefusal engine.new.machine.core (refusal_of e)) }
 {
     asking.asked = awaited_of(engine, asking.asked.as_slice(), ticks)?;
     ask_front(engine, &mut asking.due, &mut asking.asked, dice)
@@ -213,6 +226,9 @@ pub(crate) fn ask<A: Allocator + Copy, R: Record<A> + Drop>(
 ) -> Result<(), CoreError>
     ensures ok { OnOk result (AsksAt engine.old asking.old ticks dice.now engine.new asking.new) }
     ensures err { OnErr result ((ids : List Id) × MovesAll engine.old (map (firing dice.now) ids) engine.new) }
+    ensures left { OnErr result (IsDueStill engine.old asking.old ticks dice.now engine.new asking.new
+        ⊎ IsAskedFor engine.old asking.old ticks dice.now engine.new asking.new) }
+    ensures why { IfErr result (λ e. IsAskRefusal engine.new.machine.core (refusal_of e)) }
 {
     let is_turn = is_turn(asking, ticks);
     begin(engine.alloc(), asking, is_turn);
@@ -230,7 +246,8 @@ pub(crate) fn ask_on<A: Allocator + Copy, R: Record<A> + Drop>(
     dice: &Dice,
 ) -> Result<(), CoreError>
     ensures ok { OnOk result (AsksOn engine.old asking.old dice.now engine.new asking.new) }
-    ensures err { OnErr result ((ids : List Id) × MovesAll engine.old (map (firing dice.now) ids) engine.new) }
+    ensures err { OnErr result (AsksInPart engine.old asking.old dice.now engine.new asking.new) }
+    ensures why { IfErr result (λ e. IsAskRefusal engine.new.machine.core (refusal_of e)) }
 {
     if asking.due.is_empty() {
         return Ok(());

@@ -1,10 +1,9 @@
 //! The calls that make a node of bytes step.
-ghost use Rattle.std.specs.Prelude.{◌≡◌, List, IfErr, IfOk, OnErr, OnOk, length, map, nat_eq, not};
-ghost use Rattle.node_names.specs.declared.ids.MsgId.{MsgId as Id};
-ghost use Rattle.wire_node.specs.Moving.{Broadcasts, GoesAway, Moves, MovesAll, firing};
+ghost use Rattle.std.specs.Prelude.{◌≡◌, ◌+◌, ◌%◌, ◌^◌, IfErr, IfOk, OnErr, OnOk, length, nat_eq, not};
+ghost use Rattle.wire_node.specs.Moving.{Broadcasts, GoesAway, Moves};
 ghost use Rattle.wire_node.specs.Node.{Ticks};
-ghost use Rattle.wire_node.specs.Refusing.{IsRefusal};
-ghost use Rattle.wire_node.specs.Ticking.{AsksOn, IsCutShort};
+ghost use Rattle.wire_node.specs.Refusing.{IsAskRefusal, IsRefusal, IsTickRefusal};
+ghost use Rattle.wire_node.specs.Ticking.{AsksInPart, AsksOn, IsCutShort, LeavesAsking};
 
 use crate::asking::ask_on;
 use crate::error::WireError;
@@ -70,6 +69,10 @@ impl<A: Allocator + Copy, R: Record<A> + Drop> WireNode<A, R> {
         ensures ok { OnOk result (Ticks self.old dice.now self.new) }
         ensures err { OnErr result (self.new ≡ record self.old { engine = self.new.engine; asking = self.new.asking }) }
         ensures made { OnErr result (IsCutShort self.old.engine dice.now self.new.engine) }
+        ensures left { OnErr result (LeavesAsking self.old.engine self.old.asking
+            ((self.old.ticks + 1) % 2 ^ 64)
+            dice.now self.new.engine self.new.asking) }
+        ensures why { IfErr result (IsTickRefusal self.new.engine.machine.core dice.now) }
     {
         let ticks = self.ticks.wrapping_add(1);
         if let Err(error) = make_tick(&mut self.engine, &mut self.asking, ticks, dice) {
@@ -94,7 +97,8 @@ impl<A: Allocator + Copy, R: Record<A> + Drop> WireNode<A, R> {
         ensures ok { OnOk result (AsksOn self.old.engine self.old.asking dice.now self.new.engine self.new.asking) }
         ensures rest { self.new ≡ record self.old { engine = self.new.engine; asking = self.new.asking } }
         ensures made { OnErr result
-            ((ids : List Id) × MovesAll self.old.engine (map (firing dice.now) ids) self.new.engine) }
+            (AsksInPart self.old.engine self.old.asking dice.now self.new.engine self.new.asking) }
+        ensures why { IfErr result (IsAskRefusal self.new.engine.machine.core) }
     {
         if let Err(error) = ask_on(&mut self.engine, &mut self.asking, dice) {
             return Err(WireError::of_core(error));

@@ -1,8 +1,12 @@
 //! The connections of a node of bytes, and what came over each and is no whole frame yet.
-ghost use Rattle.std.specs.Prelude.{◌≡◌, ◌⊎◌, ◌∷◌, ◌++◌, ◌<◌, ◌≤◌, [], ℕ, None, filter, length, nat_eq, not, position};
+ghost use Rattle.std.specs.Prelude.{◌≡◌, ◌⊎◌, ◌∷◌, ◌++◌, ◌+◌, ◌<◌, ◌≤◌, [], ℕ, None};
+ghost use Rattle.std.specs.Prelude.{Some, filter, length, nat_eq, not, position};
+ghost use Rattle.node_names.specs.NodeName.{Name};
+ghost use Rattle.protocol.specs.declared.stimulus.StimulusOf.TheVariants.{Down};
 ghost use Rattle.std.specs.Prelude.{drop, take, IfErr, IfOk, OnErr, OnOk};
-ghost use Rattle.wire_node.specs.Node.{Closes, EndsPeer, Hears, has_other, has_peer};
-ghost use Rattle.wire_node.specs.Receiving.{IsPartial, Receives};
+ghost use Rattle.wire_node.specs.Node.{Closes, EndsPeer, HasNone, Hears, HearsFirst, has_other, has_peer};
+ghost use Rattle.wire_node.specs.Receiving.{Draws, IsLeft, IsPartial, Receives};
+ghost use Rattle.wire_node.specs.Refusing.{IsRefusal, IsStop, RefusesEnd, refusal_of};
 
 use crate::engine::Engine;
 use crate::error::WireError;
@@ -130,6 +134,7 @@ pub(crate) fn top_up<A: Allocator>(left: &mut Vec<u8, A>, bytes: &[u8]) -> Resul
     requires { length left.old.items ≤ MAX_FRAME }
     ensures within { IfOk result (λ count. count ≤ length bytes.now) }
     ensures ok { IfOk result (λ count. left.new.items ≡ left.old.items ++ take count bytes.now) }
+    ensures some { IfOk result (λ count. length left.old.items < MAX_FRAME → 0 < length bytes.now → 0 < count) }
     ensures few { length left.new.items ≤ MAX_FRAME }
     ensures err { OnErr result (left.new.items ≡ left.old.items) }
 {
@@ -176,8 +181,11 @@ fn receive_at<A: Allocator + Copy, R: Record<A> + Drop, D: DiceSource>(
     bytes: &[u8],
     source: &mut D,
 ) -> (usize, Result<(), WireError>)
-    ensures receives { Receives engine.old link.old bytes.now result.0 engine.new link.new }
+    ensures receives { (dealt : Draws)
+        × Receives engine.old link.old bytes.now (D.to_come source.old) result.0 engine.new link.new dealt
+        × IsLeft result.1 dealt (D.to_come source.new) }
     ensures partial { OnOk result.1 ((result.0 ≡ length bytes.now) × IsPartial link.new.left) }
+    ensures why { IfErr result.1 (IsStop engine.new.machine.core link.new.left (drop result.0 bytes.now)) }
 {
     receive_on(engine, &mut link.left, &mut link.peer, bytes, source)
 }
@@ -201,6 +209,9 @@ fn end_peer<A: Allocator + Copy, R: Record<A> + Drop>(
 ) -> Result<(), CoreError>
     ensures ok { OnOk result (EndsPeer engine.old connections.now id.0 peer dice.now engine.new) }
     ensures err { OnErr result (engine.new ≡ engine.old) }
+    ensures why { IfErr result (λ e. (name : Name)
+        × (peer ≡ Some name)
+        × IsRefusal engine.old.machine.core (Down name dice.now) (refusal_of e)) }
 {
     let Some(name) = peer else {
         return Ok(());
@@ -223,12 +234,17 @@ fn forget_link<A: Allocator>(connections: &mut Vec<Connection<A>, A>, number: u6
 }
 
 impl<A: Allocator + Copy, R: Record<A> + Drop> WireNode<A, R> {
-    /// Accepts a connection, over which bytes may come from now on.
+    /// Accepts a connection, over which bytes may come from now on. Its number is greater than that of each that was
+    /// accepted before. `NoConnection`: no number is left.
     pub fn accept(&mut self) -> Result<ConnectionId, WireError>
         ensures ok { IfOk result (λ id. self.new ≡ record self.old {
           connections = self.old.connections ++ record { number = id.0; left = []; peer = None } ∷ [];
+          numbered = id.0;
         }) }
+        ensures number { IfOk result (λ id. id.0 ≡ self.old.numbered + 1) }
         ensures err { OnErr result (self.new ≡ self.old) }
+        ensures why { IfErr result (λ e. ((e ≡ WireError.NoConnection) × (self.old.numbered ≡ u64.MAX))
+            ⊎ ((e ≡ WireError.OutOfMemory) × (self.old.numbered < u64.MAX))) }
     {
         let Some(number) = self.numbered.checked_add(1) else {
             return Err(WireError::NoConnection);
@@ -253,9 +269,17 @@ impl<A: Allocator + Copy, R: Record<A> + Drop> WireNode<A, R> {
         source: &mut D,
     ) -> Result<(), ReceiveError>
         ensures ok { OnOk result
-            ((hears : Hears self.old id.0 bytes.now (length bytes.now) self.new) × IsPartial hears.link'.left) }
-        ensures err { IfErr result (λ failed. Hears self.old id.0 bytes.now failed.taken self.new
-            ⊎ ((self.new ≡ self.old) × (failed ≡ record { taken = 0; error = WireError.NoConnection }))) }
+            ((hears : Hears self.old id.0 bytes.now (D.to_come source.old)
+            (length bytes.now)
+            self.new
+            (D.to_come source.new))
+            × IsPartial hears.link'.left) }
+        ensures err { IfErr result (λ failed.
+            HearsFirst self.old id.0 bytes.now (D.to_come source.old) failed self.new (D.to_come source.new)
+            ⊎ ((self.new ≡ self.old)
+            × (failed ≡ record { taken = 0; error = WireError.NoConnection })
+            × HasNone self.old.connections id.0
+            × (D.to_come source.new ≡ D.to_come source.old))) }
     {
         let Some(place) = place_of(&self.connections, id) else {
             return Err(ReceiveError {
@@ -280,12 +304,16 @@ impl<A: Allocator + Copy, R: Record<A> + Drop> WireNode<A, R> {
     pub fn ended(&mut self, id: ConnectionId, dice: &Dice) -> Result<(), WireError>
         ensures ok { OnOk result (Closes self.old id.0 dice.now self.new) }
         ensures err { OnErr result (self.new ≡ self.old) }
+        ensures why { IfErr result (λ e. ((e ≡ WireError.NoConnection) × HasNone self.old.connections id.0)
+            ⊎ RefusesEnd self.old.engine.machine.core self.old.connections id.0 dice.now e) }
     {
         let Some(place) = place_of(&self.connections, id) else {
             return Err(WireError::NoConnection);
         };
         let peer = self.connections[place].peer();
-        end_peer(&mut self.engine, &self.connections, id, peer, dice)?;
+        if let Err(error) = end_peer(&mut self.engine, &self.connections, id, peer, dice) {
+            return Err(WireError::of_core(error));
+        }
         forget_link(&mut self.connections, id.0);
         Ok(())
     }

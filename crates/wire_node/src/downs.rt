@@ -1,11 +1,13 @@
 //! Names that are down: the core is told, and what waited for them is dropped.
-ghost use Rattle.std.specs.Prelude.{◌≡◌, ◌≤◌, ◌∷◌, ◌++◌, [], All, IsErrOf, IsNone, OnErr, OnOk, length, not};
+ghost use Rattle.std.specs.Prelude.{◌≡◌, ◌≤◌, ◌<◌, ◌∷◌, ◌++◌, [], IfNone, IfSome, IsErrOf, OnErr, OnOk, length, not};
+ghost use Rattle.node_names.specs.NodeName.{Name};
 ghost use Rattle.node_names.specs.Same.{same_name};
 ghost use Rattle.protocol.specs.IdentityLaw.{IsTooLong};
 ghost use Rattle.frames.specs.Frame.{Frame as Sent};
 ghost use Rattle.node_core.specs.Steps.{PlumIsSpent};
 ghost use Rattle.wire_node.specs.Acting.{AreSettled, GoesDown, machine, without};
 ghost use Rattle.wire_node.specs.Moving.{Relieves};
+ghost use Rattle.wire_node.specs.Waiting.{AreApart, settled_for};
 
 use crate::drafts::Entry;
 use crate::step::{Record, make_step};
@@ -71,7 +73,9 @@ pub(crate) fn take_down<A: Allocator + Copy, R: Record<A>>(
 
 /// The first name for whom more than `limit` bytes wait.
 fn overfull<A: Allocator + Copy>(entries: &[Entry<A>], limit: usize) -> Option<NodeName>
-    ensures none { IsNone result → All (λ waiting. length waiting.settled ≤ limit) entries.now }
+    requires { AreApart entries.now }
+    ensures some { IfSome result (λ name. limit < length (settled_for entries.now name)) }
+    ensures none { IfNone result ((name : Name) → length (settled_for entries.now name) ≤ limit) }
 {
     for entry in entries {
         if entry.len() > limit {
@@ -81,8 +85,8 @@ fn overfull<A: Allocator + Copy>(entries: &[Entry<A>], limit: usize) -> Option<N
     None
 }
 
-/// Takes the names down for whom more than `limit` bytes wait, until there are none or a step is refused.
-#[tactic(auto, using(crate::proofs::GoingDown::relieves_none))]
+/// Takes names down for whom more than `limit` bytes wait: until there are none, or as many went down as there were
+/// names, since others may have become overfull by that. Returns whether the step of one was refused.
 pub(crate) fn relieve<A: Allocator + Copy, R: Record<A>>(
     core: &mut PlumCore<A>,
     entries: &mut Vec<Entry<A>, A>,
@@ -92,19 +96,25 @@ pub(crate) fn relieve<A: Allocator + Copy, R: Record<A>>(
     lost: &mut Listed<NodeName, A>,
     limit: usize,
     dice: &Dice,
-)
+) -> bool
     requires { AreSettled entries.old.items }
-    ensures relieved { Relieves (machine core.old entries.old.items pending.old (R.noted notes.old) telling.old)
-        lost.old dice.now (machine core.new entries.new.items pending.new (R.noted notes.new) telling.new) lost.new }
+    ensures relieved { Relieves limit (machine core.old entries.old.items pending.old (R.noted notes.old) telling.old)
+        lost.old dice.now
+        (machine core.new entries.new.items pending.new (R.noted notes.new) telling.new)
+        lost.new
+        result }
     ensures settled { AreSettled entries.new.items }
 {
-    for _ in 0..entries.len() {
+    let most = entries.len();
+    let mut count: usize = 0;
+    while count < most {
         let Some(name) = overfull(entries, limit) else {
-            return;
+            return false;
         };
         match take_down(core, entries, pending, notes, telling, lost, name, dice) {
-            Ok(()) => {}
-            Err(_) => return,
+            Ok(()) => count += 1,
+            Err(_) => return true,
         }
     }
+    false
 }

@@ -1,13 +1,11 @@
 //! The core of a node, with what its steps leave to be taken.
-ghost use Rattle.std.specs.Prelude.{◌≡◌, List, ◌∷◌, [], ◌++◌, Some, IfOk, IsErrOf, OnErr, OnOk, length};
+ghost use Rattle.std.specs.Prelude.{◌≡◌, List, ◌∷◌, [], ◌++◌, Some, IfErr, IfOk, OnErr, OnOk, length};
 ghost use Rattle.node_names.specs.Same.{has_id};
-ghost use Rattle.protocol.specs.IdentityLaw.{IsTooLong};
 ghost use Rattle.protocol.specs.Delivery.{Delivery as Given};
-ghost use Rattle.frames.specs.Frame.{Frame as Sent};
 ghost use Rattle.node_core.specs.Plum.{plum_state};
-ghost use Rattle.node_core.specs.Steps.{PlumIsSpent};
 ghost use Rattle.wire_node.specs.Moving.{Broadcasts, GoesAway, Moves};
 ghost use Rattle.wire_node.specs.Node.{is_up};
+ghost use Rattle.wire_node.specs.Refusing.{IsRefusal, refusal_of};
 ghost use Rattle.wire_node.specs.Waiting.{settled_for};
 
 use crate::downs::{relieve, take_down};
@@ -35,6 +33,8 @@ pub(crate) struct Engine<A: Allocator, R: Record<A> + Drop> {
     pub(crate) lost: Listed<NodeName, A>,
     /// How many bytes may wait for a name.
     pub(crate) limit: usize,
+    /// Whether after the last step a name for whom too much waited could not go down: the step of that was refused.
+    pub(crate) is_behind: bool,
     /// How many names it may keep bytes for before it looks for those for whom nothing waits.
     pub(crate) names: usize,
 }
@@ -54,6 +54,8 @@ impl<A: Allocator, R: Record<A> + Drop> Model for Engine<A, R> {
     ghost view = { λ e. record {
       machine = machine e.core e.entries.items e.pending (R.noted e.record) e.telling;
       lost = e.lost;
+      limit = e.limit;
+      is_behind = e.is_behind;
     } };
 
     ghost invariant = { λ e. AreSettled e.entries.items };
@@ -89,6 +91,13 @@ impl<A: Allocator + Copy, R: Record<A> + Drop> Engine<A, R> {
         ensures { R.noted result.now ≡ self.now.machine.noted }
     {
         &self.record
+    }
+
+    /// Whether after the last step a name for whom too much waited could not go down.
+    pub(crate) fn is_behind(&self) -> bool
+        ensures { result ≡ self.now.is_behind }
+    {
+        self.is_behind
     }
 
     /// Whether the timer of the id is armed.
@@ -136,8 +145,7 @@ impl<A: Allocator + Copy, R: Record<A> + Drop> Engine<A, R> {
     ) -> Result<(), CoreError>
         ensures ok { OnOk result (Moves self.old stimulus.now dice.now self.new) }
         ensures err { OnErr result (self.new ≡ self.old) }
-        ensures too_long { IsErrOf result CoreError.PayloadTooLong → IsTooLong stimulus.now }
-        ensures spent { IsErrOf result CoreError.SeqSpent → PlumIsSpent self.old.machine.core stimulus.now }
+        ensures why { IfErr result (λ e. IsRefusal self.old.machine.core stimulus.now (refusal_of e)) }
     {
         make_step(
             &mut self.core,
@@ -147,7 +155,7 @@ impl<A: Allocator + Copy, R: Record<A> + Drop> Engine<A, R> {
             &mut self.telling,
             stimulus,
         )?;
-        relieve(
+        let is_behind = relieve(
             &mut self.core,
             &mut self.entries,
             &mut self.pending,
@@ -157,6 +165,7 @@ impl<A: Allocator + Copy, R: Record<A> + Drop> Engine<A, R> {
             self.limit,
             dice,
         );
+        self.is_behind = is_behind;
         Ok(())
     }
 
@@ -165,10 +174,8 @@ impl<A: Allocator + Copy, R: Record<A> + Drop> Engine<A, R> {
     pub(crate) fn broadcast(&mut self, payload: Bytes<A>) -> Result<MsgId, CoreError>
         ensures ok { IfOk result (λ id. Broadcasts self.old payload id self.new) }
         ensures err { OnErr result (self.new ≡ self.old) }
-        ensures too_long { IsErrOf result CoreError.PayloadTooLong
-            → IsTooLong {N = Sent} (StimulusOf.Broadcast payload) }
-        ensures spent { IsErrOf result CoreError.SeqSpent
-            → PlumIsSpent self.old.machine.core (StimulusOf.Broadcast payload) }
+        ensures why { IfErr result
+            (λ e. IsRefusal self.old.machine.core (StimulusOf.Broadcast payload) (refusal_of e)) }
     {
         make_step(
             &mut self.core,
@@ -181,7 +188,7 @@ impl<A: Allocator + Copy, R: Record<A> + Drop> Engine<A, R> {
         let Some(id) = last_id(&self.pending) else {
             unreachable!()
         };
-        relieve(
+        let is_behind = relieve(
             &mut self.core,
             &mut self.entries,
             &mut self.pending,
@@ -191,6 +198,7 @@ impl<A: Allocator + Copy, R: Record<A> + Drop> Engine<A, R> {
             self.limit,
             &Dice::ZEROS,
         );
+        self.is_behind = is_behind;
         Ok(id)
     }
 
@@ -198,10 +206,8 @@ impl<A: Allocator + Copy, R: Record<A> + Drop> Engine<A, R> {
     pub(crate) fn take_down(&mut self, name: NodeName, dice: &Dice) -> Result<(), CoreError>
         ensures ok { OnOk result (GoesAway self.old name dice.now self.new) }
         ensures err { OnErr result (self.new ≡ self.old) }
-        ensures too_long { IsErrOf result CoreError.PayloadTooLong
-            → IsTooLong {N = Sent} (StimulusOf.Down name dice.now) }
-        ensures spent { IsErrOf result CoreError.SeqSpent
-            → PlumIsSpent self.old.machine.core (StimulusOf.Down name dice.now) }
+        ensures why { IfErr result
+            (λ e. IsRefusal self.old.machine.core (StimulusOf.Down name dice.now) (refusal_of e)) }
     {
         take_down(
             &mut self.core,

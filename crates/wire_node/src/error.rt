@@ -1,6 +1,6 @@
 //! Why a node of bytes refuses a call.
 ghost use Rattle.std.specs.Prelude.{◌≡◌};
-ghost use Rattle.wire_node.specs.Refusing.{refusal_of};
+ghost use Rattle.wire_node.specs.Refusing.{fault_of, refusal_of};
 
 use frames::FrameFault;
 use protocol::CoreError;
@@ -39,7 +39,9 @@ impl WireError {
     }
 
     /// The refusal of bytes that are no frame.
-    pub(crate) fn of_frame(fault: FrameFault) -> WireError {
+    pub(crate) fn of_frame(fault: FrameFault) -> WireError
+        ensures { result ≡ fault_of fault }
+    {
         match fault {
             FrameFault::OutOfMemory => WireError::OutOfMemory,
             _ => WireError::Frame(fault),
@@ -59,6 +61,11 @@ impl From<AllocError> for WireError {
 }
 
 impl From<CoreError> for WireError {
+    ghost use Rattle.std.specs.Prelude.{◌≡◌};
+    ghost use Rattle.wire_node.specs.Refusing.{refusal_of};
+
+    ghost from_gives = { λ error e. e ≡ refusal_of error };
+
     fn from(error: CoreError) -> WireError {
         WireError::of_core(error)
     }

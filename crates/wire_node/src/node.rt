@@ -1,5 +1,6 @@
 //! A node of bytes.
-ghost use Rattle.std.specs.Prelude.{◌≡◌, [], IfOk};
+ghost use Rattle.std.specs.Prelude.{◌≡◌, ◌⊎◌, false, IfErr, IfOk, IsTrue};
+ghost use Rattle.protocol.specs.Peers.{are_peers};
 ghost use Rattle.wire_node.specs.Node.{Starts};
 
 use crate::asking::Asking;
@@ -26,7 +27,7 @@ pub(crate) const NAMES: usize = 16;
 pub struct WireNode<A: Allocator = Global, R: Record<A> + Drop = Unrecorded> {
     pub(crate) engine: Engine<A, R>,
     pub(crate) connections: Vec<Connection<A>, A>,
-    /// How many connections were numbered.
+    /// The number of the last connection that was accepted.
     pub(crate) numbered: u64,
     pub(crate) ticks: u64,
     pub(crate) asking: Asking<A>,
@@ -43,13 +44,18 @@ impl<A: Allocator, R: Record<A> + Drop> Model for WireNode<A, R> {
 
     ghost coded = { Prim.hlevel (codes, set.code {R = id_cmp} id.the_row.coded) };
 
-    ghost view = { λ n.
-        record { engine = n.engine; connections = n.connections.items; ticks = n.ticks; asking = n.asking } };
+    ghost view = { λ n. record {
+      engine = n.engine;
+      connections = n.connections.items;
+      numbered = n.numbered;
+      ticks = n.ticks;
+      asking = n.asking;
+    } };
 }
 
 impl<A: Allocator + Copy, R: Record<A> + Drop> WireNode<A, R> {
     /// Starts a node with these peers as its active view, and a contact, to whom it sends JOIN. Its steps are noted by
-    /// `notes`.
+    /// `notes`. `BadPeers`: the peers and the contact do not fit together.
     pub fn start(
         alloc: A,
         me: Origin,
@@ -58,7 +64,11 @@ impl<A: Allocator + Copy, R: Record<A> + Drop> WireNode<A, R> {
         contact: Option<NodeName>,
         mut notes: R,
     ) -> Result<WireNode<A, R>, WireError>
-        ensures { IfOk result (λ node. Starts me limits.core peers.now contact (R.noted notes) node) }
+        ensures ok { IfOk result
+            (λ node. Starts me limits.core limits.waiting peers.now contact (R.noted notes) node) }
+        ensures why { IfErr result (λ e.
+            ((e ≡ WireError.BadPeers) × (are_peers limits.core me.name peers.now contact ≡ false))
+            ⊎ ((e ≡ WireError.OutOfMemory) × IsTrue (are_peers limits.core me.name peers.now contact))) }
     {
         if !are_peers(&limits.core, &me.name, peers, &contact) {
             return Err(WireError::BadPeers);
@@ -76,6 +86,7 @@ impl<A: Allocator + Copy, R: Record<A> + Drop> WireNode<A, R> {
                 telling: Telling::new(alloc),
                 lost: Listed::new(alloc),
                 limit: limits.waiting,
+                is_behind: false,
                 names: NAMES,
             },
             connections: Vec::new(alloc),
@@ -97,6 +108,14 @@ impl<A: Allocator + Copy, R: Record<A> + Drop> WireNode<A, R> {
         ensures { R.noted result.now ≡ self.now.engine.machine.noted }
     {
         self.engine.record()
+    }
+
+    /// Whether more bytes than the limit wait for a name that is still up: after the last step it could not be taken
+    /// down, because the step of that was refused. The next step tries again.
+    pub fn is_behind(&self) -> bool
+        ensures { result ≡ self.now.engine.is_behind }
+    {
+        self.engine.is_behind()
     }
 
     /// How many ticks were made.

@@ -1,5 +1,5 @@
 //! The start of a node: its core, and what its first frames have wait.
-ghost use Rattle.std.specs.Prelude.{◌≡◌, [], List, Result, IfOk, IsTrue, OnOk};
+ghost use Rattle.std.specs.Prelude.{◌≡◌, [], List, Result, IfErr, IfOk, IsTrue, OnOk};
 ghost use Rattle.node_names.specs.NodeName.{Name};
 ghost use Rattle.frames.specs.Frame.{Frame as Sent};
 ghost use Rattle.protocol.specs.Peers.{are_peers};
@@ -31,6 +31,7 @@ pub(crate) fn start_core<A: Allocator + Copy>(
     requires empty { (out.old.sends ≡ []) × (out.old.deliveries ≡ []) }
     ensures started { IfOk result (λ core. PlumStarts me limits.now.core peers.now contact out.new.sends core) }
     ensures nothing { OnOk result (out.new.deliveries ≡ []) }
+    ensures refused { IfErr result (λ e. e ≡ WireError.OutOfMemory) }
 {
     match PlumCore::start(alloc, me, limits.core, peers, contact, out) {
         Ok(core) => Ok(core),
@@ -62,6 +63,7 @@ pub(crate) fn first_mail<A: Allocator + Copy, R: Record<A>>(
         (λ entries. (name : Name) → settled_for entries.items name ≡ mail_for out.now.sends name) }
     ensures settled { IfOk result (λ entries. AreSettled entries.items) }
     ensures notes { OnOk result (R.noted notes.new ≡ opened (R.noted notes.old) out.now) }
+    ensures refused { IfErr result (λ e. e ≡ WireError.OutOfMemory) }
 {
     let entries = first_entries(alloc, out.sends.as_slice())?;
     notes.open(out)?;
@@ -71,7 +73,8 @@ pub(crate) fn first_mail<A: Allocator + Copy, R: Record<A>>(
 /// The core beside the rest of the node, if there is one. It names no core's type, so that the prover follows the drop
 /// of the core by its trait alone.
 pub(crate) fn beside<C: Drop, T: Drop, E: Drop>(core: C, rest: Result<T, E>) -> Result<(C, T), E>
-    ensures { IfOk result (λ both. (both.0 ≡ core) × (rest ≡ Result.Ok both.1)) }
+    ensures ok { IfOk result (λ both. (both.0 ≡ core) × (rest ≡ Result.Ok both.1)) }
+    ensures err { IfErr result (λ error. rest ≡ Result.Err error) }
 {
     match rest {
         Ok(rest) => Ok((core, rest)),

@@ -1,11 +1,13 @@
 //! What a node of bytes has for its driver: bytes by the name that they go to, deliveries, news, and names that are
 //! down.
-ghost use Rattle.std.specs.Prelude.{◌≡◌, ◌<◌, ◌++◌, ◌∷◌, ℕ, List, [], IfOk, OnErr, OnOk, drop, length, if◌then◌else◌};
+ghost use Rattle.std.specs.Prelude.{◌≡◌, ◌<◌, ◌++◌, ◌∷◌, ℕ, List, [], IfOk, OnErr, OnOk, drop, length, nat_lt};
+ghost use Rattle.std.specs.Prelude.{if◌then◌else◌};
 ghost use Rattle.bytes.specs.Unread.{concat_slices};
 ghost use Rattle.node_names.specs.NodeName.{Name};
-ghost use Rattle.node_names.specs.Same.{same_name};
+ghost use Rattle.node_names.specs.Same.{has_name, same_name};
+ghost use Rattle.std.specs.List.{IsDistinct};
 ghost use Rattle.wire_node.specs.Acting.{AreSettled};
-ghost use Rattle.wire_node.specs.Waiting.{receivers_of, settled_for};
+ghost use Rattle.wire_node.specs.Waiting.{AreApart, receivers_of, settled_for};
 
 use crate::drafts::{Entry, place_of};
 use crate::engine::Engine;
@@ -36,7 +38,11 @@ fn receivers_of<A: Allocator + Copy>(
     alloc: A,
     entries: &[Entry<A>],
 ) -> Result<Vec<NodeName, A>, AllocError>
-    ensures { IfOk result (λ names. names.items ≡ receivers_of entries.now) }
+    requires { AreApart entries.now }
+    ensures names { IfOk result (λ names. names.items ≡ receivers_of entries.now) }
+    ensures once { IfOk result (λ names. IsDistinct same_name names.items) }
+    ensures all { IfOk result (λ names. (name : Name)
+        → has_name names.items name ≡ nat_lt 0 (length (settled_for entries.now name))) }
 {
     let mut names = Vec::new(alloc);
     for entry in entries {
@@ -105,7 +111,10 @@ fn take_and_sweep<A: Allocator + Copy>(
 impl<A: Allocator + Copy, R: Record<A> + Drop> Engine<A, R> {
     /// The names for whom bytes wait, in no order that is promised.
     pub(crate) fn receivers(&self) -> Result<Vec<NodeName, A>, AllocError>
-        ensures { IfOk result (λ names. names.items ≡ receivers_of self.now.machine.waiting) }
+        ensures names { IfOk result (λ names. names.items ≡ receivers_of self.now.machine.waiting) }
+        ensures once { IfOk result (λ names. IsDistinct same_name names.items) }
+        ensures all { IfOk result (λ names. (name : Name)
+            → has_name names.items name ≡ nat_lt 0 (length (settled_for self.now.machine.waiting name))) }
     {
         receivers_of(self.alloc(), &self.entries)
     }
@@ -178,7 +187,10 @@ impl<A: Allocator + Copy, R: Record<A> + Drop> Engine<A, R> {
 impl<A: Allocator + Copy, R: Record<A> + Drop> WireNode<A, R> {
     /// The names for whom bytes wait, each once.
     pub fn receivers(&self) -> Result<Vec<NodeName, A>, AllocError>
-        ensures { IfOk result (λ names. names.items ≡ receivers_of self.now.engine.machine.waiting) }
+        ensures names { IfOk result (λ names. names.items ≡ receivers_of self.now.engine.machine.waiting) }
+        ensures once { IfOk result (λ names. IsDistinct same_name names.items) }
+        ensures all { IfOk result (λ names. (name : Name)
+            → has_name names.items name ≡ nat_lt 0 (length (settled_for self.now.engine.machine.waiting name))) }
     {
         self.engine.receivers()
     }

@@ -1,9 +1,11 @@
 //! Taking frames off the bytes that come over a connection, by one step each, with dice of its own.
-ghost use Rattle.std.specs.Prelude.{◌≡◌, ◌<◌, ◌≤◌, ◌+◌, ◌++◌, ◌∷◌, [], true, false, drop, length, IfNone, IfOk, IfSome};
-ghost use Rattle.std.specs.Prelude.{OnErr, OnOk};
+ghost use Rattle.std.specs.Prelude.{◌≡◌, ◌≢◌, ◌⊎◌, ◌<◌, ◌≤◌, ◌+◌, ◌++◌, ◌∷◌, []};
+ghost use Rattle.std.specs.Prelude.{true, false, drop, length, IfNone, IfOk};
+ghost use Rattle.std.specs.Prelude.{IfErr, IfSome, OnErr, OnOk};
 ghost use Rattle.node_names.specs.declared.dice.Dice.{Dice as Drawn};
 ghost use Rattle.frames.specs.declared.TheConstants.{MAX_FRAME as FrameMost};
-ghost use Rattle.wire_node.specs.Receiving.{IsPartial, Takes, peer_of};
+ghost use Rattle.wire_node.specs.Receiving.{Draws, IsLeft, IsPartial, Takes, after_one, peer_of};
+ghost use Rattle.wire_node.specs.Refusing.{IsRefusal, IsStop, fault_of, refusal_of};
 ghost use Rattle.wire_node.specs.Moving.{Moves, arrival};
 
 use crate::connections::{after, drop_front, top_up};
@@ -15,14 +17,21 @@ use node_names::{Dice, NodeName};
 use protocol::{CoreError, StimulusOf};
 use std::alloc::Allocator;
 
-/// A source of dice. Each frame that comes is given dice of its own. Contracts say no more of it, since what comes of a
-/// step is stated for any dice.
+/// A source of dice. Each frame that comes is given the next dice of it.
 pub trait DiceSource {
+    /// The dice that it gives from now on, in their order.
+    ghost to_come: { Self → Draws };
+
     /// Draws the next dice.
-    fn draw(&mut self) -> Dice;
+    fn draw(&mut self) -> Dice
+        ensures next { result ≡ to_come self.old 0 }
+        ensures rest { to_come self.new ≡ after_one (to_come self.old) };
 }
 
+/// The same dice for each frame.
 impl DiceSource for Dice {
+    ghost to_come = { λ dice place. dice };
+
     fn draw(&mut self) -> Dice {
         *self
     }
@@ -37,8 +46,12 @@ pub(crate) fn take_frame<A: Allocator + Copy, R: Record<A> + Drop, D: DiceSource
 ) -> Result<(), CoreError>
     ensures ok { OnOk result ((dice : Drawn)
         × Moves engine.old (arrival (frame, dice)).0 dice engine.new
-        × (peer.new ≡ peer_of peer.old ((frame, dice) ∷ []))) }
+        × (peer.new ≡ peer_of peer.old ((frame, dice) ∷ []))
+        × (dice ≡ D.to_come source.old 0)) }
+    ensures drawn { D.to_come source.new ≡ after_one (D.to_come source.old) }
     ensures err { OnErr result ((engine.new ≡ engine.old) × (peer.new ≡ peer.old)) }
+    ensures why { IfErr result (λ e. (dice : Drawn)
+        × IsRefusal engine.old.machine.core (arrival (frame, dice)).0 (refusal_of e)) }
 {
     let name = frame.sender().name;
     let sender = frame.sender();
@@ -57,6 +70,17 @@ pub(crate) fn take_frame<A: Allocator + Copy, R: Record<A> + Drop, D: DiceSource
     Ok(())
 }
 
+/// What comes of bytes that no frame begins: nothing, if they end before it does, or their refusal.
+fn refused_by(fault: FrameFault) -> Result<(), WireError>
+    ensures ok { OnOk result (fault ≡ FrameFault.Short) }
+    ensures err { IfErr result (λ e. (e ≡ fault_of fault) × (fault ≢ FrameFault.Short)) }
+{
+    match fault {
+        FrameFault::Short => Ok(()),
+        _ => Err(WireError::of_frame(fault)),
+    }
+}
+
 /// Takes the whole frames that the bytes begin with, where they lie. Returns how many bytes they have, and why no more
 /// frames were taken: the rest is no whole frame (`Ok`), or is none at all, or a step was refused.
 fn take_frames<A: Allocator + Copy, R: Record<A> + Drop, D: DiceSource>(
@@ -66,8 +90,15 @@ fn take_frames<A: Allocator + Copy, R: Record<A> + Drop, D: DiceSource>(
     source: &mut D,
 ) -> (usize, Result<(), WireError>)
     ensures within { result.0 ≤ length bytes.now }
-    ensures taken { Takes engine.old peer.old bytes.now engine.new peer.new (drop result.0 bytes.now) }
+    ensures taken { (dealt : Draws)
+        × Takes engine.old peer.old bytes.now
+        (D.to_come source.old)
+        engine.new peer.new
+        (drop result.0 bytes.now)
+        dealt
+        × IsLeft result.1 dealt (D.to_come source.new) }
     ensures partial { OnOk result.1 (IsPartial (drop result.0 bytes.now)) }
+    ensures why { IfErr result.1 (IsStop engine.new.machine.core [] (drop result.0 bytes.now)) }
 {
     let alloc = engine.alloc();
     let mut at: usize = 0;
@@ -79,8 +110,7 @@ fn take_frames<A: Allocator + Copy, R: Record<A> + Drop, D: DiceSource>(
                 }
                 at += len;
             }
-            Err(FrameFault::Short) => return (at, Ok(())),
-            Err(fault) => return (at, Err(WireError::of_frame(fault))),
+            Err(fault) => return (at, refused_by(fault)),
         }
     }
 }
@@ -91,7 +121,7 @@ fn go_on(count: usize, len: usize) -> Result<Option<usize>, WireError>
     requires { count ≤ len }
     ensures some { IfOk result (λ r. IfSome r (λ some. (some ≡ count) × (0 < count))) }
     ensures none { IfOk result (λ r. IfNone r (count ≡ len)) }
-    ensures err { OnErr result (count ≡ 0) }
+    ensures err { IfErr result (λ e. (count ≡ 0) × (0 < len) × (e ≡ WireError.Frame FrameFault.TooLong)) }
 {
     if count == len {
         return Ok(None);
@@ -115,21 +145,33 @@ fn complete<A: Allocator + Copy, R: Record<A> + Drop, D: DiceSource>(
     ensures within { IfOk result (λ r. IfSome r
         (λ count. (count ≤ length bytes.now) × (length left.new.items < length left.old.items + (count + count)))) }
     ensures some { IfOk result (λ r. IfSome r (λ count. Takes engine.old peer.old
-        (left.old.items ++ bytes.now) engine.new peer.new (left.new.items ++ drop count bytes.now))) }
-    ensures none { IfOk result
-        (λ r. IfNone r (Takes engine.old peer.old (left.old.items ++ bytes.now) engine.new peer.new left.new.items
+        (left.old.items ++ bytes.now)
+        (D.to_come source.old)
+        engine.new peer.new
+        (left.new.items ++ drop count bytes.now)
+        (D.to_come source.new))) }
+    ensures none { IfOk result (λ r. IfNone r (Takes engine.old peer.old
+        (left.old.items ++ bytes.now)
+        (D.to_come source.old)
+        engine.new peer.new left.new.items
+        (D.to_come source.new)
         × IsPartial left.new.items)) }
     ensures few { length left.new.items ≤ FrameMost }
     ensures err { OnErr result ((engine.new ≡ engine.old) × (peer.new ≡ peer.old) × (left.new.items ≡ left.old.items)) }
+    ensures left { OnErr result (IsLeft result (D.to_come source.old) (D.to_come source.new)) }
+    ensures why { IfErr result (λ e. 0 < length left.old.items
+        → IsStop engine.old.machine.core left.old.items bytes.now e) }
 {
     let len = left.len();
     let count = top_up(left, bytes)?;
     let (frame, whole) = match decode(engine.alloc(), left.as_slice()) {
         Ok(decoded) => decoded,
-        Err(FrameFault::Short) => return go_on(count, bytes.len()),
         Err(fault) => {
-            left.truncate(len);
-            return Err(WireError::of_frame(fault));
+            if let Err(error) = refused_by(fault) {
+                left.truncate(len);
+                return Err(error);
+            }
+            return go_on(count, bytes.len());
         }
     };
     if let Err(error) = take_frame(engine, peer, frame, source) {
@@ -151,10 +193,15 @@ fn finish_cut<A: Allocator + Copy, R: Record<A> + Drop, D: DiceSource>(
 ) -> (usize, Result<bool, WireError>)
     requires { length left.old.items ≤ FrameMost }
     ensures within { result.0 ≤ length bytes.now }
-    ensures taken { Takes engine.old peer.old
+    ensures taken { (dealt : Draws)
+        × Takes engine.old peer.old
         (left.old.items ++ bytes.now)
+        (D.to_come source.old)
         engine.new peer.new
-        (left.new.items ++ drop result.0 bytes.now) }
+        (left.new.items ++ drop result.0 bytes.now)
+        dealt
+        × IsLeft result.1 dealt (D.to_come source.new) }
+    ensures why { IfErr result.1 (IsStop engine.new.machine.core left.new.items (drop result.0 bytes.now)) }
     ensures whole { IfOk result.1 (λ finished. finished ≡ true → left.new.items ≡ []) }
     ensures partial { IfOk result.1
         (λ finished. finished ≡ false → (result.0 ≡ length bytes.now) × IsPartial left.new.items) }
@@ -179,6 +226,8 @@ fn keep<A: Allocator>(left: &mut Vec<u8, A>, rest: &[u8]) -> Result<(), WireErro
     ensures ok { OnOk result (left.new.items ≡ rest.now) }
     ensures few { length left.new.items ≤ FrameMost }
     ensures err { OnErr result (left.new.items ≡ left.old.items) }
+    ensures why { IfErr result (λ e. (e ≡ WireError.OutOfMemory)
+        ⊎ ((e ≡ WireError.Frame FrameFault.TooLong) × (FrameMost ≤ length rest.now))) }
 {
     if rest.len() > MAX_FRAME {
         return Err(WireError::Frame(FrameFault::TooLong));
@@ -198,11 +247,16 @@ pub(crate) fn receive_on<A: Allocator + Copy, R: Record<A> + Drop, D: DiceSource
 ) -> (usize, Result<(), WireError>)
     requires { length left.old.items ≤ FrameMost }
     ensures within { result.0 ≤ length bytes.now }
-    ensures taken { Takes engine.old peer.old
+    ensures taken { (dealt : Draws)
+        × Takes engine.old peer.old
         (left.old.items ++ bytes.now)
+        (D.to_come source.old)
         engine.new peer.new
-        (left.new.items ++ drop result.0 bytes.now) }
+        (left.new.items ++ drop result.0 bytes.now)
+        dealt
+        × IsLeft result.1 dealt (D.to_come source.new) }
     ensures partial { OnOk result.1 ((result.0 ≡ length bytes.now) × IsPartial left.new.items) }
+    ensures why { IfErr result.1 (IsStop engine.new.machine.core left.new.items (drop result.0 bytes.now)) }
     ensures few { length left.new.items ≤ FrameMost }
 {
     let (at, finished) = finish_cut(engine, left, peer, bytes, source);

@@ -1,6 +1,7 @@
 //! The steps of a tick.
-ghost use Rattle.std.specs.Prelude.{OnErr, OnOk};
-ghost use Rattle.wire_node.specs.Ticking.{IsCutShort, TickSteps};
+ghost use Rattle.std.specs.Prelude.{IfErr, OnErr, OnOk};
+ghost use Rattle.wire_node.specs.Refusing.{IsTickRefusal, refusal_of};
+ghost use Rattle.wire_node.specs.Ticking.{IsCutShort, LeavesAsking, TickSteps};
 
 use crate::asking::{Asking, ask};
 use crate::engine::Engine;
@@ -21,6 +22,8 @@ pub(crate) fn make_tick<A: Allocator + Copy, R: Record<A> + Drop>(
 ) -> Result<(), CoreError>
     ensures ok { OnOk result (TickSteps engine.old asking.old ticks dice.now engine.new asking.new) }
     ensures err { OnErr result (IsCutShort engine.old dice.now engine.new) }
+    ensures left { OnErr result (LeavesAsking engine.old asking.old ticks dice.now engine.new asking.new) }
+    ensures why { IfErr result (λ e. IsTickRefusal engine.new.machine.core dice.now (refusal_of e)) }
 {
     engine.step(&StimulusOf::Flush, dice)?;
     ask(engine, asking, ticks, dice)?;

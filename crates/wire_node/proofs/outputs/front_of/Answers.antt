@@ -17,7 +17,7 @@ returns-in-Some-clause-front g c =
     let found = position-Some its ws place e (ap (position its) (sym c.deref.ensures.value) ∙ sym c.place_of.ensures.place ∙ c.in-Some.is) in
     let waits : settled_for ws name ≡ e.settled = waits_at ws name place e found.0 found.1 found.2 ∙ ap (λ (w : Waiting). w.settled) (sym c.index.ensures) in
     let none : e.drafted ≡ [] =
-    ap (λ (w : Waiting). w.drafted) c.index.ensures ∙ ap (λ (w : Waiting). w.drafted) (sym (settled_at ws place e c.requires found.0)) in
+    ap (λ (w : Waiting). w.drafted) c.index.ensures ∙ ap (λ (w : Waiting). w.drafted) (sym (settled_at ws place e c.requires.0 found.0)) in
     (c.slices.ensures.front.0, c.slices.ensures.front.1 ∙ ap (λ (t : List ℕ). e.settled ++ t) none ∙ append-nil e.settled ∙ sym waits)
 
 pub returns-in-Some-clause-some : goal.returns-in-Some-clause-some

@@ -1,9 +1,10 @@
-use Rattle.std.proofs.Common.{◌≡◌, ◌≤◌, ◌∙◌, All, IsNone, ap, arith, get_or, length, min, position, rules, set, subst, sym}
+use Rattle.std.proofs.Common.{◌≡◌, ◌≤◌, ◌∙◌, All, IsNone, ap, arith, get_or, length, min, position, refl, rules, set, subst, sym}
 use Rattle.std.proofs.lemmas.List.{get_or_default}
 use Rattle.std.proofs.lemmas.List.Quantifiers.{position-Some}
 use Rattle.node_names.specs.Same.{same_name}
 use Rattle.wire_node.specs.Acting.{AreSettled}
 use Rattle.wire_node.specs.Waiting.{Waiting, settled_for}
+use Rattle.wire_node.proofs.Apart.{apart_set}
 use Rattle.wire_node.proofs.Drafting.{IsOther}
 use Rattle.wire_node.proofs.Ends.{least}
 use Rattle.wire_node.proofs.Sending.{gone_at, gone_none, less_of, less_settled, settled_at, settled_set, with_less}
@@ -48,8 +49,10 @@ returns-clause-settled g c =
     c.min-taken.ensures ∙ ap (min count) (c.len.ensures ∙ ap (λ (w : Waiting). length w.settled) (c.index.ensures ∙ get_or_default ws place i d found.0)) in
     let new : c.advance.new.self ≡ with_less count e =
     less_of count d e c.advance.new.self c.min-taken.result c.index_mut.ensures.value few c.advance.ensures in
-    subst (λ (w : Waiting). AreSettled (set ws place w)) (sym new)
-    (settled_set ws place (with_less count e) c.requires (less_settled count e (settled_at ws place d c.requires found.0)))
+    subst (λ (w : Waiting). AreSettled (set ws place w)) (sym new) (
+      settled_set ws place (with_less count e) c.requires.0 (less_settled count e (settled_at ws place d c.requires.0 found.0)),
+      apart_set ws place (with_less count e) d found.0 refl c.requires.1,
+    )
 
 pub returns-clause-gone : goal.returns-clause-gone
 returns-clause-gone g c other =

@@ -1,4 +1,4 @@
-use Rattle.std.proofs.Common.{◌<◌, ◌≤◌, ◌+◌, ◌++◌, ℕ, ap, arith, drop, length}
+use Rattle.std.proofs.Common.{◌<◌, ◌≤◌, ◌+◌, ◌++◌, ℕ, ap, arith, drop, length, refl}
 use Rattle.std.proofs.lemmas.List.{length-drop}
 use Rattle.wire_node.specs.Receiving.{IsPartial, Takes}
 use Rattle.wire_node.proofs.Taking.{kept_all, none_at, resumed, some_at, takes_then}
@@ -16,16 +16,20 @@ loop-engine-preserved g c =
     let q = c.complete.new.peer in
     let mid = c.loop-engine.engine in
     let new = c.complete.new.engine in
+    let draws = g.D.DiceSource.to_come in
+    let d = draws c.loop-engine.source in
+    let e = draws c.complete.new.source in
     let few =
     some_at (λ (n : ℕ). (n ≤ length rest) × (length now < length left + (n + n)))
     c.in-Ok-Some.field-0 count c.in-Ok-Some.field-0-is c.in-Ok-Some.ensures.within in
     let more =
-    some_at (λ (n : ℕ). Takes mid p (left ++ rest) new q (now ++ drop n rest)) c.in-Ok-Some.field-0 count c.in-Ok-Some.field-0-is c.in-Ok-Some.ensures.some in (
+    some_at (λ (n : ℕ). Takes mid p (left ++ rest) d new q (now ++ drop n rest) e)
+    c.in-Ok-Some.field-0 count c.in-Ok-Some.field-0-is c.in-Ok-Some.ensures.some in (
       omega (arith, few.0, ap length c.after.ensures, length-drop at bytes, c.loop-engine.invariant.0),
       c.complete.ensures.few,
-      takes_then c.args.engine.now c.args.peer.now (c.args.left.now.items ++ bytes) mid p
-          (left ++ drop at bytes) new q (now ++ drop (at + count) bytes) c.loop-engine.invariant.2
-          (resumed mid new p q left now bytes rest at c.after.ensures count more),
+      takes_then c.args.engine.now c.args.peer.now (c.args.left.now.items ++ bytes) (draws c.args.source.now) mid p
+          (left ++ drop at bytes) d new q (now ++ drop (at + count) bytes) e c.loop-engine.invariant.2
+          (resumed mid new p q left now bytes rest at c.after.ensures d e count more),
     )
 
 pub returns-in-Ok-None-clause-taken : goal.returns-in-Ok-None-clause-taken
@@ -39,7 +43,13 @@ returns-in-Ok-None-clause-taken g c =
     let q = c.complete.new.peer in
     let mid = c.loop-engine.engine in
     let new = c.complete.new.engine in
-    let all = none_at (Takes mid p (left ++ rest) new q now × IsPartial now) c.in-Ok-None.field-0 c.in-Ok-None.field-0-is c.in-Ok-None.ensures.none in
-    takes_then c.args.engine.now c.args.peer.now (c.args.left.now.items ++ bytes) mid p
-    (left ++ drop at bytes) new q (now ++ drop (length bytes) bytes) c.loop-engine.invariant.2
-    (kept_all mid new p q left now bytes rest at c.after.ensures all.0)
+    let draws = g.D.DiceSource.to_come in
+    let d = draws c.loop-engine.source in
+    let e = draws c.complete.new.source in
+    let all = none_at (Takes mid p (left ++ rest) d new q now e × IsPartial now) c.in-Ok-None.field-0 c.in-Ok-None.field-0-is c.in-Ok-None.ensures.none in (
+      e,
+      takes_then c.args.engine.now c.args.peer.now (c.args.left.now.items ++ bytes) (draws c.args.source.now) mid p
+          (left ++ drop at bytes) d new q (now ++ drop (length bytes) bytes) e c.loop-engine.invariant.2
+          (kept_all mid new p q left now bytes rest at c.after.ensures d e all.0),
+      refl,
+    )

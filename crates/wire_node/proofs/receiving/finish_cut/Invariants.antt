@@ -8,7 +8,8 @@ abbrev pub invariant-loop-engine : goal.invariant-loop-engine
 invariant-loop-engine g l =
     (l.at ≤ length l.bytes)
     × (length l.left.items ≤ MAX_FRAME)
-    × Takes l.fn.engine l.fn.peer (l.fn.left.items ++ l.bytes) l.engine l.peer (l.left.items ++ drop l.at l.bytes)
+    × Takes l.fn.engine l.fn.peer (l.fn.left.items ++ l.bytes) (g.D.DiceSource.to_come l.fn.source) l.engine l.peer (l.left.items ++ drop l.at l.bytes)
+    (g.D.DiceSource.to_come l.source)
 
 abbrev pub decreases-loop-engine : goal.decreases-loop-engine
 decreases-loop-engine g l = (length l.bytes - l.at) + (length l.bytes - l.at) + length l.left.items

@@ -1,14 +1,14 @@
-use Rattle.std.proofs.Common.{◌≡◌, ◌∙◌, List, ap, map, refl, rules, subst, sym}
+use Rattle.std.proofs.Common.{◌≡◌, ◌∙◌, List, ap, length, map, refl, rules, subst, sym}
 use Rattle.node_names.specs.NodeName.{Name}
 use Rattle.protocol.specs.Stimulus.{lent}
 use Rattle.node_core.specs.Plum.{plum_state}
 use Rattle.node_core.specs.Steps.{plum_after}
 use Rattle.wire_node.specs.Acting.{AreSettled}
 use Rattle.wire_node.specs.Waiting.{settled}
-use Rattle.wire_node.proofs.Drafting.{settled_rest}
+use Rattle.wire_node.proofs.Drafting.{undrafted_back}
 use Rattle.wire_node.proofs.Filling.{cut_back}
 use Rattle.node_core.proofs.NewsLemmas.{TellsOf, kept_of, tells_of}
-use Rattle.wire_node.proofs.Stepping.{at_err, on_ok, step_acts}
+use Rattle.wire_node.proofs.Stepping.{at_err, on_ok, settled_more, step_acts}
 use Rattle.wire_node.proofs.step.make_next.Goals as goal
 
 pub returns-clause-acts : goal.returns-clause-acts
@@ -36,12 +36,18 @@ returns-clause-acts g c =
     c.in_ok-note_and_draft.ensures.noted tells
 
 pub returns-clause-settled : goal.returns-clause-settled
-returns-clause-settled g c = subst AreSettled (sym c.settle_all.ensures) (settled_rest c.note_and_draft.new.entries.items)
+returns-clause-settled g c =
+    subst AreSettled (sym (c.settle_all.ensures ∙ ap (map settled) c.in_ok-note_and_draft.ensures.drafted))
+    (settled_more c.args.entries.now.items c.prepare.new.out.sends c.requires.settled.1)
 
 pub returns-then-is_err-clause-err : goal.returns-then-is_err-clause-err
 returns-then-is_err-clause-err g c =
     let core : c.advance.new.self ≡ c.args.core.now = at_err _ c.advance.result (sym c.is_err.ensures.value ∙ c.if-is_err.true) c.advance.ensures.err in
-    let entries : c.undraft_all.new.entries.items ≡ c.args.entries.now.items = search rules in
+    let len : c.len-len.result ≡ length c.args.entries.now.items = search rules in
+    let entries : c.undraft_all.new.entries.items ≡ c.args.entries.now.items =
+    c.undraft_all.ensures
+    ∙ undrafted_back c.args.entries.now.items c.note_and_draft.new.entries.items c.len-len.result
+    c.note_and_draft.ensures.kept c.requires.settled len in
     let pending : c.truncate.new.self ≡ c.args.pending.now =
     c.truncate.ensures
     ∙ cut_back c.args.pending.now c.prepare.new.out.deliveries c.note_and_draft.new.pending

@@ -1,6 +1,6 @@
-use Rattle.std.proofs.Common.{arith, inr, map, refl, subst, sym}
+use Rattle.std.proofs.Common.{arith, inl, inr, map, refl, subst, sym}
 use Rattle.wire_node.specs.Moving.{Engine, MovesAll, firing}
-use Rattle.wire_node.specs.Ticking.{armed_of}
+use Rattle.wire_node.specs.Ticking.{IsAskedFor, armed_of}
 use Rattle.wire_node.proofs.Stepping.{on_err}
 use Rattle.wire_node.proofs.ticking.make_tick.Goals as goal
 
@@ -41,3 +41,19 @@ returns-clause-ok g c = record {
   shuffles = λ _. c.in_ok-step-2.ensures.ok;
   stays = λ other. absurd (omega (arith, other, c.if-ticks-ne0.false));
 }
+
+pub returns-in_err-ask-clause-left : goal.returns-in_err-ask-clause-left
+returns-in_err-ask-clause-left g c =
+    on_err _ c.from_residual-in_err-ask.result (inr (c.step.new.self, c.in_ok-step.ensures.ok, c.in_err-ask.ensures.left))
+
+pub returns-in_err-step-2-clause-left : goal.returns-in_err-step-2-clause-left
+returns-in_err-step-2-clause-left g c =
+    let asked = c.in_ok-ask.ensures.ok in
+    let all : IsAskedFor c.step.new.self c.args.asking.now c.args.ticks c.args.dice.now c.ask.new.engine c.ask.new.asking =
+    record { asks = asked.asks; waits = inl asked.waits } in
+    on_err _ c.from_residual-in_err-step-2.result (inr (
+      c.step.new.self,
+      c.in_ok-step.ensures.ok,
+      inr (subst (λ (e : Engine). IsAskedFor c.step.new.self c.args.asking.now c.args.ticks c.args.dice.now e c.ask.new.asking)
+          (sym c.in_err-step-2.ensures.err) all),
+    ))
