@@ -1,7 +1,7 @@
 -- A run goes on by one step more.
-use Rattle.std.proofs.Common.{◌≡◌, ◌<◌, ◌+◌, ℕ, List, [], ◌∷◌, ◌++◌, length, map, take, refl, ap, subst, sym, ◌∙◌}
+use Rattle.std.proofs.Common.{◌≡◌, ◌<◌, arith, ◌+◌, ℕ, List, [], ◌∷◌, ◌++◌, length, map, take, refl, ap, subst, sym, ◌∙◌}
 use Rattle.std.specs.Prelude.{get_or}
-use Rattle.std.proofs.lemmas.List.{map-append, take_more}
+use Rattle.std.proofs.lemmas.List.{map-append, take_all, take_more}
 use Rattle.node_names.specs.declared.ids.MsgId.{MsgId}
 use Rattle.protocol.specs.declared.stimulus.StimulusOf.TheVariants.{Fire}
 use Rattle.protocol.specs.Stimulus.{Stimulus}
@@ -25,3 +25,12 @@ fires_on old ids i id mid new within at run step =
     (sym
     (ap (λ (some : List MsgId). map fire some) (take_more ids i id within ∙ ap (λ x. take i ids ++ x ∷ []) (sym at)) ∙ map-append fire (take i ids) (id ∷ [])))
     (runs_on old (map fire (take i ids)) mid (fire id) new run step)
+
+-- No step counts a tick.
+pub runs_ticks : (old : NodeState) (stimuli : List (Stimulus Frame)) (new : NodeState) → Runs old stimuli new → new.ticks ≡ old.ticks
+runs_ticks old [] new run = ap (λ (n : NodeState). n.ticks) (sym run)
+runs_ticks old (stimulus ∷ stimuli) new run = runs_ticks run.0 stimuli new run.2 ∙ run.1.ticks
+
+-- The first of the timers fired, if all did.
+pub all_fired : (old : NodeState) (ids : List MsgId) (new : NodeState) → Runs old (map Fire ids) new → Runs old (map Fire (take (length ids) ids)) new
+all_fired old ids new run = subst (λ (some : List MsgId). Runs old (map fire some) new) (sym (take_all (length ids) ids (omega arith))) run

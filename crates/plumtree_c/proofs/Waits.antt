@@ -1,14 +1,15 @@
 -- What waits for the caller of a node of bytes, when some of it is taken.
 use Rattle.std.proofs.Common.{◌≡◌, ◌∙◌, ◌++◌, ◌+◌, ◌-◌, ◌≤◌, ℕ, zero, suc, List, [], ◌∷◌, ap, arith, drop, length, refl, subst, sym}
 use Rattle.std.proofs.lemmas.List.{append-nil, length-drop, nil_from_length}
-use Rattle.std.specs.Prelude.{IfNone, None, Option, Some}
+use Rattle.std.specs.Prelude.{IfNone, IfOk, None, Option, Some, Result, Ok, Err}
 use Rattle.node_names.specs.NodeName.{Name}
 use Rattle.node_names.specs.declared.ids.MsgId.{MsgId}
 use Rattle.protocol.specs.Delivery.{Delivery}
 use Rattle.node_core.specs.declared.news.News.{News}
 use Rattle.wire_node.specs.Node.{NodeState}
 use Rattle.plumtree_c.specs.State.{Gives}
-use Rattle.plumtree_c.specs.Wire.{Brings, Delivers, HasNoNews, Informs, IsSameBeside, Loses, Stays, Tells, WireState, deliveries_in, lost_in, news_in}
+use Rattle.plumtree_c.specs.Wire.{Brings, Delivers, HasNoDelivery, HasNoLost, HasNoNews, Informs, IsSameBeside}
+use Rattle.plumtree_c.specs.Wire.{Loses, Stays, Tells, WireState, deliveries_in, lost_in, news_in}
 use Rattle.plumtree_c.specs.declared.plain.PlainNews.{PlainNews}
 
 -- Nothing of an empty list waits.
@@ -99,7 +100,10 @@ beside_on : (a b c : NodeState) → IsSameBeside a b → IsSameBeside b c → Is
 beside_on a b c one two =
     two
     ∙ ap (λ (n : NodeState). record n {
-      engine = record { machine = record n.engine.machine { pending = c.engine.machine.pending; news = c.engine.machine.news }; lost = c.engine.lost };
+      engine = record n.engine {
+        machine = record n.engine.machine { pending = c.engine.machine.pending; news = c.engine.machine.news };
+        lost = c.engine.lost;
+      };
     })
     one
 
@@ -138,6 +142,24 @@ none_waits a b c stays all same none = record {
 pub stays_on : (a b c : WireState) → Stays a b → c ≡ b → Stays a c
 stays_on a b c stays same = subst (Stays a) (sym same) stays
 
+-- No delivery and no lost name waited, where none were taken of the node and it has none.
+pub no_delivery_waits : (a b c : WireState) →
+    Stays a b →
+    (b.deliveries ≡ [] → b.node.engine.machine.pending ≡ []) →
+    c ≡ b →
+    b.deliveries ≡ [] →
+    HasNoDelivery a c
+no_delivery_waits a b c stays all same none = record {
+  none = sym stays.deliveries ∙ ap (λ (ds : List Delivery). ds ++ b.node.engine.machine.pending) none ∙ all none;
+  stays = subst (Stays a) (sym same) stays;
+}
+
+pub no_lost_waits : (a b c : WireState) → Stays a b → (b.lost ≡ [] → b.node.engine.lost ≡ []) → c ≡ b → b.lost ≡ [] → HasNoLost a c
+no_lost_waits a b c stays all same none = record {
+  none = sym stays.lost ∙ ap (λ (names : List Name). names ++ b.node.engine.lost) none ∙ all none;
+  stays = subst (Stays a) (sym same) stays;
+}
+
 -- What follows where there is none.
 pub none_on : {A P Q : Type 0} (found : Option A) → (P → Q) → IfNone found P → IfNone found Q
 none_on None goes none = goes none
@@ -146,3 +168,7 @@ none_on (Some x) goes none = tt
 pub none_both : {A P Q R : Type 0} (found : Option A) → (P → Q → R) → IfNone found P → IfNone found Q → IfNone found R
 none_both None goes one two = goes one two
 none_both (Some x) goes one two = tt
+
+pub ok_both : {A E : Type 0} (result : Result A E) (P Q R : A → Type 0) → ((x : A) → P x → Q x → R x) → IfOk result P → IfOk result Q → IfOk result R
+ok_both (Ok x) P Q R goes one two = goes x one two
+ok_both (Err e) P Q R goes one two = tt

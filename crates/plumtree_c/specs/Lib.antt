@@ -4,4 +4,5 @@ pub mod Owned
 pub mod Plain
 pub mod Slots
 pub mod State
+pub mod Stirring
 pub mod Wire

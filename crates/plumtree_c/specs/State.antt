@@ -1,5 +1,5 @@
 -- What a node for C is, and what its calls do to it.
-use Rattle.std.specs.Prelude.{◌≡◌, ◌≢◌, ◌+◌, ◌%◌, ℕ, List, [], ◌∷◌, length, map, take, slice_get, Option, Some}
+use Rattle.std.specs.Prelude.{◌≡◌, ◌≢◌, ◌⊎◌, ◌+◌, ◌%◌, ◌^◌, ℕ, List, [], ◌∷◌, length, map, take, slice_get, Option, Some}
 use Rattle.node_names.specs.NodeName.{Name}
 use Rattle.node_names.specs.Limits.{Limits}
 use Rattle.node_names.specs.declared.dice.Dice.{Dice}
@@ -79,15 +79,28 @@ abbrev pub Runs : NodeState → List (Stimulus Frame) → NodeState → Type 0
 Runs old [] new = old ≡ new
 Runs old (stimulus ∷ stimuli) new = (mid : NodeState) × Steps old stimulus mid × Runs mid stimuli new
 
--- A tick was made: all that was queued was sent, each timer that was armed fired, and at a tenth tick the passive view
--- was shuffled.
+-- A tick was made and counted, where the count goes from 2 ^ 64 - 1 to 0: all that was queued was sent, each timer that
+-- was armed fired, and at a tenth tick the passive view was shuffled.
 pub record Ticks (old : NodeState) (dice : Dice) (new : NodeState) : Type 0 where
   pub flushed : NodeState
   pub fired : NodeState
   pub flushes : Steps old Flush flushed
   pub fires : Runs flushed (map Fire flushed.core.gossip.missing.timers) fired
+  pub counted : new.ticks ≡ (old.ticks + 1) % 2 ^ 64
   pub shuffles : new.ticks % 10 ≡ 0 → Steps fired (Shuffle dice) (record new { ticks = fired.ticks })
   pub stays : new.ticks % 10 ≢ 0 → new ≡ record fired { ticks = new.ticks }
+
+-- Of a tick these steps were made: all that was queued was sent, and the first `count` of the timers that were armed
+-- fired. It was not counted.
+pub record Begins (old new : NodeState) : Type 0 where
+  pub flushed : NodeState
+  pub count : ℕ
+  pub flushes : Steps old Flush flushed
+  pub fires : Runs flushed (map Fire (take count flushed.core.gossip.missing.timers)) new
+
+-- A tick was refused: none of its steps was made, or the first of them.
+abbrev pub IsCutShort : NodeState → NodeState → Type 0
+IsCutShort old new = (new ≡ old) ⊎ Begins old new
 
 -- These are how much the node has.
 pub record AreCounts (counts : Counts) (node : NodeState) : Type 0 where

@@ -1,10 +1,12 @@
 //! The calls that make a node step.
-ghost use Rattle.std.specs.Prelude.{◌≡◌};
+ghost use Rattle.std.specs.Prelude.{◌≡◌, ◌⊎◌, false, None, slice_get};
+ghost use Rattle.node_names.specs.Same.{has_id};
 ghost use Rattle.protocol.specs.declared.stimulus.StimulusOf.TheVariants as stimulus;
-ghost use Rattle.plumtree_c.specs.Answers.{IsDone};
+ghost use Rattle.plumtree_c.specs.Answers.{IsDone, IsNone};
 ghost use Rattle.plumtree_c.specs.Plain.{dice_of, id_of};
-ghost use Rattle.plumtree_c.specs.Slots.{Both};
-ghost use Rattle.plumtree_c.specs.State.{Broadcasts, FiresAt, Hears, Steps, Ticks};
+ghost use Rattle.plumtree_c.specs.Slots.{Both, Has};
+ghost use Rattle.plumtree_c.specs.State.{Broadcasts, FiresAt, Hears, IsCutShort, Steps, Ticks};
+ghost use Rattle.wire_node.specs.Receiving.{IsPartial};
 
 use crate::node::Node;
 use crate::plain::Id;
@@ -58,6 +60,7 @@ pub extern "C" fn plumtree_receive(
         (λ old new. Hears old bytes.now taken.new (dice_of dice.now) new) }
     ensures kept { (IsDone result → ⊥) → slot.new.held.value ≡ slot.old.held.value }
     ensures none_taken { (IsDone result → ⊥) → taken.new ≡ 0 }
+    ensures none { IsNone result → IsPartial bytes.now }
 {
     *taken = 0;
     let mut node = match slot.take::<Node>(alloc) {
@@ -101,6 +104,8 @@ pub extern "C" fn plumtree_flush(slot: &mut Slot, alloc: Global) -> i32
 pub extern "C" fn plumtree_fire(slot: &mut Slot, alloc: Global, id: &Id) -> i32
     ensures done { IsDone result
         → Both slot.old.held.value slot.new.held.value (λ old new. Steps old (stimulus.Fire (id_of id.now)) new) }
+    ensures none { IsNone result
+        → Has slot.old.held.value (λ node. has_id node.core.gossip.missing.timers (id_of id.now) ≡ false) }
     ensures kept { (IsDone result → ⊥) → slot.new.held.value ≡ slot.old.held.value }
 {
     let id = match id.read() {
@@ -127,6 +132,8 @@ pub extern "C" fn plumtree_fire(slot: &mut Slot, alloc: Global, id: &Id) -> i32
 #[unsafe(no_mangle)]
 pub extern "C" fn plumtree_fire_at(slot: &mut Slot, alloc: Global, place: usize) -> i32
     ensures done { IsDone result → Both slot.old.held.value slot.new.held.value (FiresAt place) }
+    ensures none { IsNone result
+        → Has slot.old.held.value (λ node. slice_get node.core.gossip.missing.timers place ≡ None) }
     ensures kept { (IsDone result → ⊥) → slot.new.held.value ≡ slot.old.held.value }
 {
     let mut node = match slot.take::<Node>(alloc) {
@@ -170,8 +177,10 @@ pub extern "C" fn plumtree_shuffle(slot: &mut Slot, alloc: Global, dice: &[u64; 
 /// If a step is refused, those before it are made, and the tick does not count: call again.
 #[unsafe(no_mangle)]
 pub extern "C" fn plumtree_tick(slot: &mut Slot, alloc: Global, dice: &[u64; 16]) -> i32
-    ensures { IsDone result
+    ensures done { IsDone result
         → Both slot.old.held.value slot.new.held.value (λ old new. Ticks old (dice_of dice.now) new) }
+    ensures over { (IsDone result → ⊥)
+        → Both slot.old.held.value slot.new.held.value IsCutShort ⊎ (slot.new.held.value ≡ slot.old.held.value) }
 {
     let mut node = match slot.take::<Node>(alloc) {
         Ok(node) => node,

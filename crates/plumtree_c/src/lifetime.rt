@@ -135,7 +135,7 @@ fn boxed_wire(
     contact: &[u8],
 ) -> Result<Box<Wire>, Refusal>
     ensures { IfOk result
-        (λ wire. WireStarts me limits.core (map name_of peers.now) (contact_of contact.now) wire.value) }
+        (λ wire. WireStarts me limits.core limits.waiting (map name_of peers.now) (contact_of contact.now) wire.value) }
 {
     let peers = read_names(alloc, peers)?;
     let contact = read_contact(contact)?;
@@ -154,7 +154,7 @@ fn start_wire(
     contact: &[u8],
 ) -> Result<(), Refusal>
     ensures ok { OnOk result (HasBytes slot.new.held.value
-        (WireStarts me (limits_of limits.now) (map name_of peers.now) (contact_of contact.now))) }
+        (WireStarts me (limits_of limits.now) waiting (map name_of peers.now) (contact_of contact.now))) }
     ensures free { OnOk result (slot.old.live ≡ 0) }
     ensures err { OnErr result (slot.new ≡ slot.old) }
 {
@@ -180,7 +180,7 @@ pub extern "C" fn plumtree_wire_start(
 ) -> i32
     ensures done { IsDone result
         → HasBytes slot.new.held.value (WireStarts (origin_of name.now incarnation)
-        (limits_of limits.now) (map name_of peers.now) (contact_of contact.now)) }
+        (limits_of limits.now) waiting (map name_of peers.now) (contact_of contact.now)) }
     ensures free { IsDone result → slot.old.live ≡ 0 }
     ensures kept { (IsDone result → ⊥) → slot.new ≡ slot.old }
 {

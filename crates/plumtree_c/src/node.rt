@@ -1,11 +1,13 @@
 //! A node: its core, and what it sends and delivers, until the caller takes that.
-ghost use Rattle.std.specs.Prelude.{◌≡◌, ◌≢◌, ◌+◌, ◌++◌, ◌%◌, List, [], ◌∷◌, length, map};
+ghost use Rattle.std.specs.Prelude.{◌≡◌, ◌≢◌, ◌+◌, ◌++◌, ◌%◌, ◌^◌, ℕ, List, [], ◌∷◌, length, map};
 ghost use Rattle.std.specs.Prelude.{slice_get, take, IfOk, IfSome, IfNone, IsTrue, OnOk, OnErr};
 ghost use Rattle.node_core.specs.Plum.{plum_state};
 ghost use Rattle.protocol.specs.Delivery.{Delivery};
 ghost use Rattle.protocol.specs.Peers.{are_peers};
 ghost use Rattle.plumtree_c.specs.Plain.{id_of, name_of};
-ghost use Rattle.plumtree_c.specs.State.{AreCounts, Given, Hears, Runs, Sent, Starts, Steps, Ticks};
+ghost use Rattle.node_names.specs.Same.{has_id};
+ghost use Rattle.plumtree_c.specs.State.{AreCounts, Given, Hears, IsCutShort, Runs, Sent, Starts, Steps, Ticks};
+ghost use Rattle.wire_node.specs.Receiving.{IsPartial};
 ghost use Rattle.protocol.specs.declared.stimulus.StimulusOf.TheVariants as stimulus;
 
 use crate::plain::{Counts, Id, Name};
@@ -128,7 +130,7 @@ impl Node {
     /// Takes the frame at the front of the bytes, and returns its length, or `None` if it is not whole yet.
     pub(crate) fn receive(&mut self, bytes: &[u8], dice: &Dice) -> Result<Option<usize>, Refusal>
         ensures some { IfOk result (λ taken. IfSome taken (λ taken. Hears self.old bytes.now taken dice.now self.new)) }
-        ensures none { IfOk result (λ taken. IfNone taken (self.new ≡ self.old)) }
+        ensures none { IfOk result (λ taken. IfNone taken ((self.new ≡ self.old) × IsPartial bytes.now)) }
         ensures err { OnErr result (self.new ≡ self.old) }
     {
         let alloc = *self.out.sends.allocator();
@@ -162,7 +164,9 @@ impl Node {
     }
 
     /// Whether the timer of the id is armed.
-    pub(crate) fn is_armed(&self, id: &MsgId) -> bool {
+    pub(crate) fn is_armed(&self, id: &MsgId) -> bool
+        ensures { result ≡ has_id self.now.core.gossip.missing.timers id.now }
+    {
         self.core.is_armed(id)
     }
 
@@ -200,7 +204,8 @@ impl Node {
 
     /// Lets the timers of these ids fire. If one is refused, those before have fired.
     fn fire_each(&mut self, ids: &[MsgId]) -> Result<(), Refusal>
-        ensures { OnOk result (Runs self.old (map stimulus.Fire ids.now) self.new) }
+        ensures ok { OnOk result (Runs self.old (map stimulus.Fire ids.now) self.new) }
+        ensures err { OnErr result ((count : ℕ) × Runs self.old (map stimulus.Fire (take count ids.now)) self.new) }
     {
         for id in ids {
             self.fire(*id)?;
@@ -210,7 +215,9 @@ impl Node {
 
     /// Lets each timer fire that is armed now. If one is refused, those before have fired.
     fn fire_all(&mut self) -> Result<(), Refusal>
-        ensures { OnOk result (Runs self.old (map stimulus.Fire self.old.core.gossip.missing.timers) self.new) }
+        ensures ok { OnOk result (Runs self.old (map stimulus.Fire self.old.core.gossip.missing.timers) self.new) }
+        ensures err { OnErr result ((count : ℕ)
+            × Runs self.old (map stimulus.Fire (take count self.old.core.gossip.missing.timers)) self.new) }
     {
         let alloc = *self.out.sends.allocator();
         let ids = armed_ids(alloc, self.core.timers())?;
@@ -237,6 +244,8 @@ impl Node {
         ensures shuffles { OnOk result (self.new.ticks % 10 ≡ 0
             → Steps self.old (stimulus.Shuffle dice.now) (record self.new { ticks = self.old.ticks })) }
         ensures stays { OnOk result (self.new.ticks % 10 ≢ 0 → self.new ≡ record self.old { ticks = self.new.ticks }) }
+        ensures counted { OnOk result (self.new.ticks ≡ (self.old.ticks + 1) % 2 ^ 64) }
+        ensures err { OnErr result (self.new ≡ self.old) }
     {
         let ticks = self.ticks().wrapping_add(1);
         if ticks % SHUFFLE_EVERY == 0 {
@@ -249,7 +258,8 @@ impl Node {
     /// Flushes, lets each armed timer fire, and at every tenth tick shuffles. If a step is refused, those before it are
     /// made, and the tick does not count: all or nothing would need a copy of the node for each tick.
     pub(crate) fn tick(&mut self, dice: &Dice) -> Result<(), Refusal>
-        ensures { OnOk result (Ticks self.old dice.now self.new) }
+        ensures ok { OnOk result (Ticks self.old dice.now self.new) }
+        ensures err { OnErr result (IsCutShort self.old self.new) }
     {
         self.flush()?;
         self.fire_all()?;
@@ -267,7 +277,7 @@ impl Node {
     ) -> Result<Option<Name>, Refusal>
         ensures some { IfOk result
             (λ to. IfSome to (λ to. Sent self.old (name_of to) (take length.new room.new) self.new)) }
-        ensures none { IfOk result (λ to. IfNone to (self.new ≡ self.old)) }
+        ensures none { IfOk result (λ to. IfNone to ((self.new ≡ self.old) × (self.old.out.sends ≡ []))) }
         ensures err { OnErr result (self.new ≡ self.old) }
     {
         let alloc = *self.out.sends.allocator();
@@ -293,7 +303,7 @@ impl Node {
     ) -> Result<Option<Id>, Refusal>
         ensures some { IfOk result
             (λ id. IfSome id (λ id. Given self.old (id_of id) (take length.new room.new) self.new)) }
-        ensures none { IfOk result (λ id. IfNone id (self.new ≡ self.old)) }
+        ensures none { IfOk result (λ id. IfNone id ((self.new ≡ self.old) × (self.old.out.deliveries ≡ []))) }
         ensures err { OnErr result (self.new ≡ self.old) }
     {
         let Some(id) = give(&mut self.out.deliveries, &mut self.given, room, length)? else {

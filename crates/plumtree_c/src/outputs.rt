@@ -1,8 +1,8 @@
 //! The calls that take what a node sends and delivers.
-ghost use Rattle.std.specs.Prelude.{◌≡◌, take};
-ghost use Rattle.plumtree_c.specs.Answers.{IsDone};
+ghost use Rattle.std.specs.Prelude.{◌≡◌, [], take};
+ghost use Rattle.plumtree_c.specs.Answers.{IsDone, IsNone};
 ghost use Rattle.plumtree_c.specs.Plain.{id_of, name_of};
-ghost use Rattle.plumtree_c.specs.Slots.{Both};
+ghost use Rattle.plumtree_c.specs.Slots.{Both, Has};
 ghost use Rattle.plumtree_c.specs.State.{Given, Sent};
 
 use crate::node::Node;
@@ -25,6 +25,7 @@ pub extern "C" fn plumtree_next_send(
     ensures done { IsDone result
         → Both slot.old.held.value slot.new.held.value
         (λ old new. Sent old (name_of to.new) (take length.new room.new) new) }
+    ensures none { IsNone result → Has slot.old.held.value (λ node. node.out.sends ≡ []) }
     ensures kept { (IsDone result → ⊥) → slot.new.held.value ≡ slot.old.held.value }
 {
     *length = 0;
@@ -60,6 +61,7 @@ pub extern "C" fn plumtree_next_delivery(
     ensures done { IsDone result
         → Both slot.old.held.value slot.new.held.value
         (λ old new. Given old (id_of id.new) (take length.new room.new) new) }
+    ensures none { IsNone result → Has slot.old.held.value (λ node. node.out.deliveries ≡ []) }
     ensures kept { (IsDone result → ⊥) → slot.new.held.value ≡ slot.old.held.value }
 {
     *length = 0;

@@ -22,7 +22,8 @@ fn at_of(bytes: &[u8]) -> *const u8
 impl Piece {
     /// The bytes, lent to C for as long as they stay where they are.
     pub(crate) fn of(bytes: &[u8]) -> Piece
-        ensures { result.length ≡ length bytes.now }
+        ensures at { result.at ≡ as_ptr bytes.entry }
+        ensures length { result.length ≡ length bytes.now }
     {
         Piece {
             at: at_of(bytes),

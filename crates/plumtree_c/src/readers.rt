@@ -1,7 +1,7 @@
 //! The calls that read a node, and change nothing in it.
-ghost use Rattle.std.specs.Prelude.{◌≡◌, true, Some, map, slice_get, take};
+ghost use Rattle.std.specs.Prelude.{◌≡◌, true, false, None, Some, map, slice_get, take};
 ghost use Rattle.node_core.specs.Plum.{plum_state};
-ghost use Rattle.plumtree_c.specs.Answers.{IsDone};
+ghost use Rattle.plumtree_c.specs.Answers.{IsDone, IsNone};
 ghost use Rattle.plumtree_c.specs.Plain.{id_of, name_of, origin_of};
 ghost use Rattle.plumtree_c.specs.Slots.{Has, HasCore};
 ghost use Rattle.plumtree_c.specs.State.{AreCounts};
@@ -222,6 +222,7 @@ pub extern "C" fn plumtree_counts_of(slot: &mut Slot, alloc: Global, counts: &mu
 fn knows_of<T: Lodger>(slot: &mut Slot, alloc: Global, id: &MsgId) -> i32
     ensures kept { slot.new.held.value ≡ slot.old.held.value }
     ensures done { IsDone result → HasCore slot.old.held.value (λ core. (plum_state core).has id.now ≡ true) }
+    ensures none { IsNone result → HasCore slot.old.held.value (λ core. (plum_state core).has id.now ≡ false) }
 {
     let node = match slot.take::<T>(alloc) {
         Ok(node) => node,
@@ -240,6 +241,7 @@ fn knows_of<T: Lodger>(slot: &mut Slot, alloc: Global, id: &MsgId) -> i32
 pub extern "C" fn plumtree_knows(slot: &mut Slot, alloc: Global, id: &Id) -> i32
     ensures kept { slot.new.held.value ≡ slot.old.held.value }
     ensures done { IsDone result → HasCore slot.old.held.value (λ core. (plum_state core).has (id_of id.now) ≡ true) }
+    ensures none { IsNone result → HasCore slot.old.held.value (λ core. (plum_state core).has (id_of id.now) ≡ false) }
 {
     let id = match id.read() {
         Ok(id) => id,
@@ -256,6 +258,8 @@ fn timer_of<T: Lodger>(slot: &mut Slot, alloc: Global, place: usize, id: &mut Id
     ensures kept { slot.new.held.value ≡ slot.old.held.value }
     ensures done { IsDone result
         → HasCore slot.old.held.value (λ core. slice_get core.gossip.missing.timers place ≡ Some (id_of id.new)) }
+    ensures none { IsNone result
+        → HasCore slot.old.held.value (λ core. slice_get core.gossip.missing.timers place ≡ None) }
 {
     let node = match slot.take::<T>(alloc) {
         Ok(node) => node,
@@ -278,6 +282,8 @@ pub extern "C" fn plumtree_timer(slot: &mut Slot, alloc: Global, place: usize, i
     ensures kept { slot.new.held.value ≡ slot.old.held.value }
     ensures done { IsDone result
         → HasCore slot.old.held.value (λ core. slice_get core.gossip.missing.timers place ≡ Some (id_of id.new)) }
+    ensures none { IsNone result
+        → HasCore slot.old.held.value (λ core. slice_get core.gossip.missing.timers place ≡ None) }
 {
     if slot.has_bytes() {
         return timer_of::<Wire>(slot, alloc, place, id);

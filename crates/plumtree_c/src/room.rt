@@ -72,6 +72,7 @@ pub(crate) fn give(
     ensures some { IfOk result (λ id. IfSome id (λ id.
         Gives (drop given.old deliveries.old) (id_of id) (take count.new room.new) (drop given.new deliveries.new))) }
     ensures none { IfOk result (λ id. IfNone id ((deliveries.new ≡ deliveries.old) × (given.new ≡ given.old))) }
+    ensures empty { IfOk result (λ id. IfNone id (drop given.old deliveries.old ≡ [])) }
     ensures err { OnErr result ((deliveries.new ≡ deliveries.old) × (given.new ≡ given.old)) }
     ensures few { given.new + given.new ≤ length deliveries.new }
 {
@@ -92,6 +93,7 @@ pub(crate) fn tell(names: &mut Listed<NodeName>, told: &mut usize) -> Option<Nam
     requires { told.old + told.old ≤ length names.old }
     ensures some { IfSome result (λ name. Tells (drop told.old names.old) (name_of name) (drop told.new names.new)) }
     ensures none { IfNone result ((names.new ≡ names.old) × (told.new ≡ told.old)) }
+    ensures empty { IfNone result (drop told.old names.old ≡ []) }
     ensures few { told.new + told.new ≤ length names.new }
 {
     let Some(first) = names.as_slice().get(*told) else {

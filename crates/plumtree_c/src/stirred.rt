@@ -1,4 +1,7 @@
 //! Dice for each of the frames that come with one call.
+ghost use Rattle.std.specs.Prelude.{◌≡◌, map};
+ghost use Rattle.plumtree_c.specs.Stirring.{mixed, next_dice, stirred};
+
 use node_names::Dice;
 use wire_node::DiceSource;
 
@@ -10,23 +13,36 @@ pub(crate) struct Stirred {
 
 impl Stirred {
     /// Begins with these dice.
-    pub(crate) fn new(dice: &Dice) -> Stirred {
+    pub(crate) fn new(dice: &Dice) -> Stirred
+        ensures { result.next ≡ dice.now }
+    {
         Stirred { next: *dice }
     }
 }
 
 impl DiceSource for Stirred {
+    ghost to_come = { λ source. stirred source.next };
+
     fn draw(&mut self) -> Dice {
         let drawn = self.next;
-        for word in &mut self.next.0 {
-            *word = mixed(*word);
-        }
+        mix_all(&mut self.next.0);
         drawn
     }
 }
 
+/// Puts each word through the generator SplitMix64.
+fn mix_all(words: &mut [u64])
+    ensures { words.new ≡ map mixed words.old }
+{
+    for i in 0..words.len() {
+        words[i] = mixed(words[i]);
+    }
+}
+
 /// The word after this one, by the generator SplitMix64.
-fn mixed(word: u64) -> u64 {
+fn mixed(word: u64) -> u64
+    ensures { result ≡ mixed word }
+{
     let word = word.wrapping_add(0x9e37_79b9_7f4a_7c15);
     let word = (word ^ (word >> 30)).wrapping_mul(0xbf58_476d_1ce4_e5b9);
     let word = (word ^ (word >> 27)).wrapping_mul(0x94d0_49bb_1331_11eb);

@@ -1,9 +1,11 @@
 //! A node of bytes, with what it gave and its caller has not got yet.
-ghost use Rattle.std.specs.Prelude.{◌≡◌, ◌⊎◌, ◌++◌, [], length, map, take, IfErr, IfNone, IfOk, IfSome, OnErr, OnOk};
+ghost use Rattle.std.specs.Prelude.{◌≡◌, ◌⊎◌, ◌<◌, ◌++◌, [], length, map, take, IfErr, IfNone, IfOk, IfSome};
+ghost use Rattle.std.specs.Prelude.{MatchBool, OnErr, OnOk};
 ghost use Rattle.plumtree_c.specs.Plain.{id_of, name_of};
 ghost use Rattle.plumtree_c.specs.Wire.{bytes_for, Accepts, AreWireCounts, Delivers, Does};
-ghost use Rattle.plumtree_c.specs.Wire.{HasNoNews, HearsAll, HearsSome, Informs, Joins, Leaves};
-ghost use Rattle.plumtree_c.specs.Wire.{Loses, Offers, Sends, Stays, TellsNews, Went, WireStarts};
+ghost use Rattle.plumtree_c.specs.Wire.{HasNoDelivery, HasNoLost, HasNoNews};
+ghost use Rattle.plumtree_c.specs.Wire.{HearsAll, HearsSome, Informs, Joins, Leaves};
+ghost use Rattle.plumtree_c.specs.Wire.{Loses, Offers, Sends, Stays, TellsNews, TicksInPart, Went, WireStarts};
 ghost use Rattle.wire_node.specs.Node.{Closes, Ticks};
 ghost use Rattle.wire_node.specs.Waiting.{receivers_of};
 
@@ -74,7 +76,7 @@ fn close(node: &mut WireNode, number: u64, dice: &Dice) -> bool
 
 /// Takes all the bytes that came over the connection. Where that is refused, the connection ends.
 fn receive_all(node: &mut WireNode, number: u64, bytes: &[u8], dice: &Dice) -> Result<(), Refusal>
-    ensures ok { OnOk result (HearsAll number bytes.now node.old node.new) }
+    ensures ok { OnOk result (HearsAll number bytes.now dice.now node.old node.new) }
     ensures err { OnErr result (HearsSome number bytes.now dice.now node.old node.new ⊎ (node.new ≡ node.old)) }
 {
     let mut source = Stirred::new(dice);
@@ -99,7 +101,7 @@ impl Wire {
         peers: &[NodeName],
         contact: Option<NodeName>,
     ) -> Result<Wire, Refusal>
-        ensures { IfOk result (λ wire. WireStarts me limits.core peers.now contact wire) }
+        ensures { IfOk result (λ wire. WireStarts me limits.core limits.waiting peers.now contact wire) }
     {
         let node = WireNode::start(alloc, me, limits, peers, contact, Unrecorded)?;
         Ok(Wire {
@@ -138,7 +140,7 @@ impl Wire {
 
     /// Takes all the bytes that came over the connection. Where that is refused, the connection ends.
     pub(crate) fn receive(&mut self, number: u64, bytes: &[u8], dice: &Dice) -> Result<(), Refusal>
-        ensures ok { OnOk result (Does (HearsAll number bytes.now) self.old self.new) }
+        ensures ok { OnOk result (Does (HearsAll number bytes.now dice.now) self.old self.new) }
         ensures err { OnErr result
             (Does (HearsSome number bytes.now dice.now) self.old self.new ⊎ (self.new ≡ self.old)) }
     {
@@ -174,7 +176,8 @@ impl Wire {
 
     /// Makes a tick. If a step is refused, those before it are made, and the tick does not count.
     pub(crate) fn tick(&mut self, dice: &Dice) -> Result<(), Refusal>
-        ensures { OnOk result (Does (λ old new. Ticks old dice.now new) self.old self.new) }
+        ensures ok { OnOk result (Does (λ old new. Ticks old dice.now new) self.old self.new) }
+        ensures err { OnErr result (Does (TicksInPart dice.now) self.old self.new) }
     {
         self.node.tick(dice)?;
         Ok(())
@@ -196,7 +199,8 @@ impl Wire {
 
     /// Lends the first of the bytes that wait for the name. Returns whether any do.
     pub(crate) fn transmit(&self, name: &NodeName, pieces: &mut [Piece; 4]) -> bool
-        ensures { Offers name.now pieces.new self.now }
+        ensures offers { Offers name.now pieces.new self.now }
+        ensures waits { MatchBool result (0 < length (bytes_for self.now name.now)) (bytes_for self.now name.now ≡ []) }
     {
         let [a, b, c, d] = self.node.transmit(name);
         *pieces = [Piece::of(a), Piece::of(b), Piece::of(c), Piece::of(d)];
@@ -212,7 +216,8 @@ impl Wire {
 
     /// Takes what the node delivered, if the caller has got all that was taken before.
     fn refill_deliveries(&mut self)
-        ensures { Stays self.old self.new }
+        ensures same { Stays self.old self.new }
+        ensures all { self.new.deliveries ≡ [] → self.new.node.engine.machine.pending ≡ [] }
     {
         if !self.deliveries.is_empty() {
             return;
@@ -226,6 +231,7 @@ impl Wire {
         ensures some { IfOk result
             (λ id. IfSome id (λ id. Delivers (id_of id) (take length.new room.new) self.old self.new)) }
         ensures none { IfOk result (λ id. IfNone id (self.new ≡ self.old)) }
+        ensures empty { IfOk result (λ id. IfNone id (self.old.deliveries ≡ [])) }
         ensures err { OnErr result (self.new ≡ self.old) }
     {
         give(&mut self.deliveries, &mut self.given, room, length)
@@ -240,7 +246,7 @@ impl Wire {
     ) -> Result<Option<Id>, Refusal>
         ensures some { IfOk result
             (λ id. IfSome id (λ id. Delivers (id_of id) (take length.new room.new) self.old self.new)) }
-        ensures none { IfOk result (λ id. IfNone id (Stays self.old self.new)) }
+        ensures none { IfOk result (λ id. IfNone id (HasNoDelivery self.old self.new)) }
         ensures err { OnErr result (Stays self.old self.new) }
     {
         self.refill_deliveries();
@@ -249,7 +255,8 @@ impl Wire {
 
     /// Takes the lost names of the node, if the caller has got all that were taken before.
     fn refill_lost(&mut self)
-        ensures { Stays self.old self.new }
+        ensures same { Stays self.old self.new }
+        ensures all { self.new.lost ≡ [] → self.new.node.engine.lost ≡ [] }
     {
         if !self.lost.is_empty() {
             return;
@@ -262,6 +269,7 @@ impl Wire {
     fn tell_first(&mut self) -> Option<Name>
         ensures some { IfSome result (λ name. Loses (name_of name) self.old self.new) }
         ensures none { IfNone result (self.new ≡ self.old) }
+        ensures empty { IfNone result (self.old.lost ≡ []) }
     {
         tell(&mut self.lost, &mut self.told)
     }
@@ -269,7 +277,7 @@ impl Wire {
     /// Takes the first lost name that waits.
     pub(crate) fn next_lost(&mut self) -> Option<Name>
         ensures some { IfSome result (λ name. Loses (name_of name) self.old self.new) }
-        ensures none { IfNone result (Stays self.old self.new) }
+        ensures none { IfNone result (HasNoLost self.old self.new) }
     {
         self.refill_lost();
         self.tell_first()

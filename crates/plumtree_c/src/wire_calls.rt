@@ -1,9 +1,9 @@
 //! The calls that make a node of bytes step, but for those of its connections.
-ghost use Rattle.std.specs.Prelude.{◌≡◌};
+ghost use Rattle.std.specs.Prelude.{◌≡◌, ◌⊎◌};
 ghost use Rattle.plumtree_c.specs.Answers.{IsDone};
 ghost use Rattle.plumtree_c.specs.Plain.{dice_of};
 ghost use Rattle.plumtree_c.specs.Slots.{BothBytes};
-ghost use Rattle.plumtree_c.specs.Wire.{Does, Joins, Leaves, Sends};
+ghost use Rattle.plumtree_c.specs.Wire.{Does, Joins, Leaves, Sends, TicksInPart};
 ghost use Rattle.wire_node.specs.Node.{Ticks};
 
 use crate::refusal::{DONE, Refusal};
@@ -104,8 +104,11 @@ pub extern "C" fn plumtree_wire_join(
 /// If a step is refused, those before it are made, and the tick does not count: call again.
 #[unsafe(no_mangle)]
 pub extern "C" fn plumtree_wire_tick(slot: &mut Slot, alloc: Global, dice: &[u64; 16]) -> i32
-    ensures { IsDone result
+    ensures done { IsDone result
         → BothBytes slot.old.held.value slot.new.held.value (Does (λ old new. Ticks old (dice_of dice.now) new)) }
+    ensures over { (IsDone result → ⊥)
+        → BothBytes slot.old.held.value slot.new.held.value (Does (TicksInPart (dice_of dice.now)))
+        ⊎ (slot.new.held.value ≡ slot.old.held.value) }
 {
     let mut wire = match slot.take::<Wire>(alloc) {
         Ok(wire) => wire,

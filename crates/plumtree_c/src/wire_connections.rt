@@ -47,7 +47,7 @@ pub extern "C" fn plumtree_wire_receive(
     dice: &[u64; 16],
 ) -> i32
     ensures done { IsDone result
-        → BothBytes slot.old.held.value slot.new.held.value (Does (HearsAll number bytes.now)) }
+        → BothBytes slot.old.held.value slot.new.held.value (Does (HearsAll number bytes.now (dice_of dice.now))) }
     ensures over { (IsDone result → ⊥)
         → BothBytes slot.old.held.value slot.new.held.value (Does (HearsSome number bytes.now (dice_of dice.now)))
         ⊎ (slot.new.held.value ≡ slot.old.held.value) }

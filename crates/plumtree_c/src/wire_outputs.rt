@@ -1,9 +1,10 @@
 //! The calls that take what a node of bytes gives: bytes by the name that they go to, deliveries, and lost names.
-ghost use Rattle.std.specs.Prelude.{◌≡◌, ◌⊎◌, length, map, take};
-ghost use Rattle.plumtree_c.specs.Answers.{IsDone};
+ghost use Rattle.std.specs.Prelude.{◌≡◌, ◌⊎◌, [], length, map, take};
+ghost use Rattle.plumtree_c.specs.Answers.{IsDone, IsNone};
 ghost use Rattle.plumtree_c.specs.Plain.{id_of, name_of};
 ghost use Rattle.plumtree_c.specs.Slots.{BothBytes, HasBytes};
-ghost use Rattle.plumtree_c.specs.Wire.{bytes_for, AreWireCounts, Delivers, Does, Loses, Offers, Stays, Went};
+ghost use Rattle.plumtree_c.specs.Wire.{bytes_for, AreWireCounts, Delivers, Does, HasNoDelivery, HasNoLost, Loses};
+ghost use Rattle.plumtree_c.specs.Wire.{Offers, Stays, Went};
 ghost use Rattle.wire_node.specs.Waiting.{receivers_of};
 
 use crate::piece::Piece;
@@ -87,6 +88,7 @@ pub extern "C" fn plumtree_wire_transmit(
 ) -> i32
     ensures kept { slot.new.held.value ≡ slot.old.held.value }
     ensures done { IsDone result → HasBytes slot.old.held.value (Offers name.now pieces.new) }
+    ensures none { IsNone result → HasBytes slot.old.held.value (λ wire. bytes_for wire name.now ≡ []) }
 {
     let name = match NodeName::parse(name) {
         Ok(name) => name,
@@ -142,6 +144,7 @@ pub extern "C" fn plumtree_wire_next_delivery(
 ) -> i32
     ensures done { IsDone result
         → BothBytes slot.old.held.value slot.new.held.value (Delivers (id_of id.new) (take length.new room.new)) }
+    ensures none { IsNone result → BothBytes slot.old.held.value slot.new.held.value HasNoDelivery }
     ensures stays { (IsDone result → ⊥)
         → BothBytes slot.old.held.value slot.new.held.value Stays ⊎ (slot.new.held.value ≡ slot.old.held.value) }
 {
@@ -170,6 +173,7 @@ pub extern "C" fn plumtree_wire_next_delivery(
 #[unsafe(no_mangle)]
 pub extern "C" fn plumtree_wire_next_lost(slot: &mut Slot, alloc: Global, name: &mut Name) -> i32
     ensures done { IsDone result → BothBytes slot.old.held.value slot.new.held.value (Loses (name_of name.new)) }
+    ensures none { IsNone result → BothBytes slot.old.held.value slot.new.held.value HasNoLost }
     ensures stays { (IsDone result → ⊥)
         → BothBytes slot.old.held.value slot.new.held.value Stays ⊎ (slot.new.held.value ≡ slot.old.held.value) }
 {

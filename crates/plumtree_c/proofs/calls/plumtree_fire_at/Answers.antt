@@ -9,3 +9,6 @@ returns-in-Ok-answer-clause-done c done = record {
   has = search rules;
   done = record { id = c.in-Some.id; armed = search rules; steps = c.in-Ok-answer.ensures.ok };
 }
+
+pub returns-in_default-clause-none : goal.returns-in_default-clause-none
+returns-in_default-clause-none c none = record { node = c.in-Ok.node.value; has = c.in-Ok.ensures.ok; holds = search rules }

@@ -10,8 +10,8 @@ returns c =
     let peers = map name_of c.args.peers.now in
     let contact = contact_of c.args.contact.now in
     let slice : c.as_slice.result.now ≡ peers = search rules in
-    let starts : WireStarts c.args.me core peers contact c.in_ok-wire.wire =
-    subst (λ it. WireStarts c.args.me core peers it c.in_ok-wire.wire) c.in_ok-contact.ensures
-    (subst (λ it. WireStarts c.args.me core it c.in_ok-contact.contact c.in_ok-wire.wire) slice c.in_ok-wire.ensures) in
-    IfOk-weaker c.boxed.result (λ made. made.value ≡ c.in_ok-wire.wire) (λ made. WireStarts c.args.me core peers contact made.value)
-    (λ made is. subst (λ wire. WireStarts c.args.me core peers contact wire) (sym is) starts) c.boxed.ensures
+    let starts : WireStarts c.args.me core c.args.limits.waiting peers contact c.in_ok-wire.wire =
+    subst (λ it. WireStarts c.args.me core c.args.limits.waiting peers it c.in_ok-wire.wire) c.in_ok-contact.ensures
+    (subst (λ it. WireStarts c.args.me core c.args.limits.waiting it c.in_ok-contact.contact c.in_ok-wire.wire) slice c.in_ok-wire.ensures) in
+    IfOk-weaker c.boxed.result (λ made. made.value ≡ c.in_ok-wire.wire) (λ made. WireStarts c.args.me core c.args.limits.waiting peers contact made.value)
+    (λ made is. subst (λ wire. WireStarts c.args.me core c.args.limits.waiting peers contact wire) (sym is) starts) c.boxed.ensures

@@ -8,6 +8,6 @@ returns-clause-ok c = record {
   wire = c.in_ok-wire.wire.value;
   has = search rules;
   holds =
-      subst (λ it. WireStarts c.args.me it (map name_of c.args.peers.now) (contact_of c.args.contact.now) c.in_ok-wire.wire.value)
+      subst (λ it. WireStarts c.args.me it c.args.waiting (map name_of c.args.peers.now) (contact_of c.args.contact.now) c.in_ok-wire.wire.value)
       c.in_ok-core.ensures c.in_ok-wire.ensures;
 }

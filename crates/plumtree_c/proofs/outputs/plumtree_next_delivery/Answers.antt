@@ -1,4 +1,4 @@
-use Rattle.std.proofs.Common.{rules, subst, take, IfSome}
+use Rattle.std.proofs.Common.{◌≡◌, [], IfNone, IfSome, None, rules, subst, take}
 use Rattle.plumtree_c.specs.Plain.{id_of}
 use Rattle.plumtree_c.specs.State.{Given}
 use Rattle.plumtree_c.proofs.outputs.plumtree_next_delivery.Goals as goal
@@ -14,3 +14,15 @@ returns-clause-done c done = record {
       (take c.next_delivery-answer.new.length c.next_delivery-answer.new.room) c.next_delivery-answer.new.self))
       c.in-Some.is c.in-Ok-answer.ensures.some;
 }
+
+pub returns-in_default-clause-none : goal.returns-in_default-clause-none
+returns-in_default-clause-none c none =
+    let found : c.in-Ok-answer.found ≡ None = search rules in
+    record {
+      node = c.deref_mut.result.now;
+      has = search rules;
+      holds =
+          (subst
+          (λ found. IfNone found ((c.next_delivery-answer.new.self ≡ c.deref_mut.result.now) × (c.deref_mut.result.now.out.deliveries ≡ [])))
+          found c.in-Ok-answer.ensures.none).1;
+    }

@@ -7,3 +7,10 @@ returns-clause-done g c done = record {
   has = c.in-Ok.ensures.ok;
   holds = search rules;
 }
+
+pub returns-then-not-knows-clause-none : goal.returns-then-not-knows-clause-none
+returns-then-not-knows-clause-none g c none = record {
+  kept = g.T.Lodger.kept c.in-Ok.node.value;
+  has = c.in-Ok.ensures.ok;
+  holds = search rules;
+}

@@ -7,3 +7,9 @@ returns-then-has_bytes-clause-done c done = c.timer_of.ensures.done (first_of (s
 
 pub returns-clause-done : goal.returns-clause-done
 returns-clause-done c done = c.timer_of-2.ensures.done (first_of (search rules, grind (arith, common_steps)))
+
+pub returns-then-has_bytes-clause-none : goal.returns-then-has_bytes-clause-none
+returns-then-has_bytes-clause-none c none = c.timer_of.ensures.none (first_of (search rules, grind (arith, common_steps)))
+
+pub returns-clause-none : goal.returns-clause-none
+returns-clause-none c none = c.timer_of-2.ensures.none (first_of (search rules, grind (arith, common_steps)))

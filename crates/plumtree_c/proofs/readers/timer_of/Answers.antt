@@ -7,3 +7,10 @@ returns-in-Some-clause-done g c done = record {
   has = c.in-Ok.ensures.ok;
   holds = search rules;
 }
+
+pub returns-in-None-clause-none : goal.returns-in-None-clause-none
+returns-in-None-clause-none g c none = record {
+  kept = g.T.Lodger.kept c.in-Ok.node.value;
+  has = c.in-Ok.ensures.ok;
+  holds = search rules;
+}

@@ -16,5 +16,14 @@ returns-in-None-clause-stays c none = inl (record {
   after = c.next_lost-found.new.self;
   had = search rules;
   has = search rules;
-  done = c.in-None.ensures.none;
+  done = c.in-None.ensures.none.stays;
 })
+
+pub returns-in-None-clause-none : goal.returns-in-None-clause-none
+returns-in-None-clause-none c none = record {
+  before = c.deref_mut.result.now;
+  after = c.next_lost-found.new.self;
+  had = search rules;
+  has = search rules;
+  done = c.in-None.ensures.none;
+}

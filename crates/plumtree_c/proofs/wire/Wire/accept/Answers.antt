@@ -8,4 +8,4 @@ returns-clause-ok c =
     let after : WireState =
     record { node = c.accept.new.self; deliveries = drop held.given held.deliveries; lost = drop held.told held.lost; news = drop held.heard held.news } in
     subst (λ (old : WireState). Does (Accepts c.in_ok-id.id.0) old after) c.self.view_is
-    (record { done = c.in_ok-id.ensures.ok; deliveries = refl; lost = refl; news = refl })
+    (record { done = record { next = c.in_ok-id.ensures.number; rest = c.in_ok-id.ensures.ok }; deliveries = refl; lost = refl; news = refl })

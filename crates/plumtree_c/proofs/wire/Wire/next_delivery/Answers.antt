@@ -1,11 +1,11 @@
-use Rattle.std.proofs.Common.{◌≡◌, IfNone, IfSome, take}
+use Rattle.std.proofs.Common.{◌≡◌, [], IfNone, IfSome, take}
 use Rattle.std.proofs.lemmas.Option.{IfSome_then}
 use Rattle.std.proofs.lemmas.Result.{IfOk-weaker, on_err_weaker}
 use Rattle.std.specs.Prelude.{Option}
 use Rattle.plumtree_c.specs.Plain.{id_of}
-use Rattle.plumtree_c.specs.Wire.{Delivers, Stays}
+use Rattle.plumtree_c.specs.Wire.{Delivers, HasNoDelivery}
 use Rattle.plumtree_c.specs.declared.plain.Id.{Id}
-use Rattle.plumtree_c.proofs.Waits.{delivers_on, none_on, stays_on}
+use Rattle.plumtree_c.proofs.Waits.{delivers_on, no_delivery_waits, none_both, ok_both, stays_on}
 use Rattle.plumtree_c.proofs.wire.Wire.next_delivery.Goals as goal
 
 pub returns-clause-some : goal.returns-clause-some
@@ -21,7 +21,7 @@ returns-clause-some c =
     {P = λ (id : Id). Delivers (id_of id) payload mid new}
     {Q = λ (id : Id). Delivers (id_of id) payload old new}
     some
-    (λ (id : Id) delivers. delivers_on old mid new (id_of id) payload c.refill_deliveries.ensures delivers))
+    (λ (id : Id) delivers. delivers_on old mid new (id_of id) payload c.refill_deliveries.ensures.same delivers))
     c.give_first.ensures.some
 
 pub returns-clause-none : goal.returns-clause-none
@@ -29,13 +29,15 @@ returns-clause-none c =
     let old = c.args.self.now in
     let mid = c.refill_deliveries.new.self in
     let new = c.give_first.new.self in
-    IfOk-weaker c.give_first.result
+    ok_both c.give_first.result
     (λ (found : Option Id). IfNone found (new ≡ mid))
-    (λ (found : Option Id). IfNone found (Stays old new))
-    (λ (found : Option Id) none. none_on found (stays_on old mid new c.refill_deliveries.ensures) none)
-    c.give_first.ensures.none
+    (λ (found : Option Id). IfNone found (mid.deliveries ≡ []))
+    (λ (found : Option Id). IfNone found (HasNoDelivery old new))
+    (λ (found : Option Id) none empty.
+    none_both found (no_delivery_waits old mid new c.refill_deliveries.ensures.same c.refill_deliveries.ensures.all) none empty)
+    c.give_first.ensures.none c.give_first.ensures.empty
 
 pub returns-clause-err : goal.returns-clause-err
 returns-clause-err c =
     on_err_weaker c.give_first.result
-    (stays_on c.args.self.now c.refill_deliveries.new.self c.give_first.new.self c.refill_deliveries.ensures) c.give_first.ensures.err
+    (stays_on c.args.self.now c.refill_deliveries.new.self c.give_first.new.self c.refill_deliveries.ensures.same) c.give_first.ensures.err

@@ -25,7 +25,8 @@ pub returns-clause-ok : goal.returns-clause-ok
 returns-clause-ok c =
     let held = c.self.inside in
     let after : WireState = holding c.receive_all.new.node (drop held.given held.deliveries) (drop held.told held.lost) (drop held.heard held.news) in
-    on_ok_weaker c.receive_all.result (λ hears. subst (λ (old : WireState). Does (HearsAll c.args.number c.args.bytes.now) old after) c.self.view_is
+    on_ok_weaker c.receive_all.result
+    (λ hears. subst (λ (old : WireState). Does (HearsAll c.args.number c.args.bytes.now c.args.dice.now) old after) c.self.view_is
     (record { done = hears; deliveries = refl; lost = refl; news = refl })) c.receive_all.ensures.ok
 
 pub returns-clause-err : goal.returns-clause-err
