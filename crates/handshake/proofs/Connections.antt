@@ -21,7 +21,7 @@ use Rattle.handshake.specs.Judging.{judged, kind_of, max_text, read_record, told
 use Rattle.handshake.specs.Place as place
 use Rattle.handshake.specs.Records.{IsIntroduction, hello_record, introduction_record, introduction_text}
 use Rattle.handshake.specs.State.{State}
-use Rattle.handshake.specs.Text.{IsAddress, IsHello, address_text, text}
+use Rattle.handshake.specs.Text.{IsAddress, IsHello, address_text, name_text, text}
 use Rattle.handshake.proofs.Judged.{read_record_again}
 use Rattle.handshake.proofs.Runs.{first_of, frames_run, none_before, record_runs, run-append}
 use Rattle.handshake.proofs.Strides.{body_after, body_frames}
@@ -129,10 +129,12 @@ address_fits (V6 octets port) h = omega (arith, h.0, length-append octets (to_be
 hello_fits : (h : Hello) → IsHello h → length (text h) ≤ MAX_HELLO
 hello_fits h i =
     let label = i.label.short in
+    let to = i.to.short in
     let name = i.name.short in
-    let both = length-append (length h.name ∷ h.name) (address_text h.at) in
-    let all = length-append (length h.label ∷ h.label) ((length h.name ∷ h.name) ++ address_text h.at) in
-    omega (arith, address_fits h.at i.at, both, all, label, name)
+    let last = length-append (name_text h.name) (address_text h.at) in
+    let more = length-append (name_text h.to) (name_text h.name ++ address_text h.at) in
+    let all = length-append (name_text h.label) (name_text h.to ++ (name_text h.name ++ address_text h.at)) in
+    omega (arith, address_fits h.at i.at, last, more, all, label, to, name)
 
 introduction_fits : (i : Introduction) → IsIntroduction i → length (introduction_text i) ≤ MAX_INTRODUCTION
 introduction_fits i h = omega (arith, address_fits i.at h.at, length-append (length i.name ∷ i.name) (address_text i.at), h.name.short)

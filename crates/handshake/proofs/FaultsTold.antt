@@ -12,15 +12,15 @@ use Rattle.node_names.specs.NodeName.{Name, IsNodeName, is_name_byte}
 use Rattle.handshake.specs.declared.TheConstants.{MAX_HELLO}
 use Rattle.handshake.specs.declared.address.Address.{Address}
 use Rattle.handshake.specs.declared.error.HelloError.{HelloError}
-use Rattle.handshake.specs.declared.error.HelloError.TheVariants.{Short, NotPlumtree, OtherVersion, BadLabel, BadName, BadAddress}
+use Rattle.handshake.specs.declared.error.HelloError.TheVariants.{Short, NotPlumtree, OtherVersion, BadLabel, BadAddressee, BadName, BadAddress}
 use Rattle.handshake.specs.declared.hello.Hello.{Hello}
-use Rattle.handshake.specs.Faults.{BeginsOtherwise, HasOtherVersion, BeginsWithNoName, HasBadLabel, HasBadName, HasBadAddress}
+use Rattle.handshake.specs.Faults.{BeginsOtherwise, HasOtherVersion, BeginsWithNoName, HasBadLabel, HasBadAddressee, HasBadName, HasBadAddress}
 use Rattle.handshake.specs.Text.{plum, name_text}
 use Rattle.handshake.specs.Reading.{◌>>=◌, Reader, go_on, done, judge, octets, byte, start, version, name, port, v4, v6, address, hello, with_length, read}
 use Rattle.handshake.proofs.Agree.{IsBytes, IsBytes-after, octets_takes, again_first}
 use Rattle.handshake.proofs.NameReading.{decided, name_from_pass, letters_pass, len_passes, len_bounds}
 use Rattle.handshake.proofs.PartsAgree.{start_agrees, version_agrees, name_agrees, is_plum, fits_len, after_letters, after_len, octets_port, chosen, mk4, mk6}
-use Rattle.handshake.proofs.HelloAgrees.{after_start, after_version, after_label, after_name, of_parts}
+use Rattle.handshake.proofs.HelloAgrees.{after_start, after_version, after_label, after_addressee, after_name, of_parts}
 
 -- ---- one after the other
 
@@ -96,25 +96,25 @@ start_refused bytes h =
     let fails : is_plum (take 4 bytes) ≡ false = refuted (is_plum (take 4 bytes)) (λ p. h.1 ((bytes_decides (take 4 bytes) plum).0 p)) in
     rw (octets_ok 4 bytes h.0, fails) refl
 
--- a version other than 1
+-- a version other than 2
 record OtherFirst (e : HelloError) (bytes : List ℕ) : Type 0 where
   value : ℕ
   rest : List ℕ
   is : e ≡ OtherVersion value
   begins : bytes ≡ value ∷ rest
-  other : value ≢ 1
+  other : value ≢ 2
 
 version_err : (bytes : List ℕ) (e : HelloError) → version bytes ≡ Err e → ((e ≡ Short) × (length bytes < 1)) ⊎ OtherFirst e bytes
 unfolding version byte
 version_err [] e p = let q : e ≡ Short = cc in inl (q, omega arith)
 version_err (v ∷ rest) e p =
-    let j = judge_err (v == 1) (OtherVersion v) e rest p in
-    inr (record { value = v; rest = rest; is = j.1; begins = refl; other = λ is. torn (v == 1) ((Decides-eqb v 1).1 is) j.0 })
+    let j = judge_err (v == 2) (OtherVersion v) e rest p in
+    inr (record { value = v; rest = rest; is = j.1; begins = refl; other = λ is. torn (v == 2) ((Decides-eqb v 2).1 is) j.0 })
 
-version_refused : (v : ℕ) (rest : List ℕ) → v ≢ 1 → version (v ∷ rest) ≡ Err (OtherVersion v)
+version_refused : (v : ℕ) (rest : List ℕ) → v ≢ 2 → version (v ∷ rest) ≡ Err (OtherVersion v)
 unfolding version byte
 version_refused v rest other =
-    let fails : (v == 1) ≡ false = refuted (v == 1) (λ p. other ((Decides-eqb v 1).0 p)) in
+    let fails : (v == 2) ≡ false = refuted (v == 2) (λ p. other ((Decides-eqb v 2).0 p)) in
     rw fails refl
 
 -- ---- names
@@ -255,6 +255,7 @@ Told Short bytes = length bytes < MAX_HELLO
 Told NotPlumtree bytes = BeginsOtherwise bytes
 Told (OtherVersion v) bytes = HasOtherVersion v bytes
 Told BadLabel bytes = HasBadLabel bytes
+Told BadAddressee bytes = HasBadAddressee bytes
 Told BadName bytes = HasBadName bytes
 Told (BadAddress kind) bytes = HasBadAddress kind bytes
 
@@ -262,48 +263,81 @@ Told (BadAddress kind) bytes = HasBadAddress kind bytes
 told : (d e : HelloError) (bytes : List ℕ) → e ≡ d → Told d bytes → Told e bytes
 told d e bytes is t = subst (λ x. Told x bytes) (sym is) t
 
-after_name_told : (l n : Name) (bytes rest : List ℕ) (e : HelloError) →
+-- what stands before the name of the node that dials, and before its address
+abbrev before_name : Name → Name → List ℕ → List ℕ
+before_name l t rest = plum ++ (2 ∷ (name_text l ++ (name_text t ++ rest)))
+
+abbrev before_address : Name → Name → Name → List ℕ → List ℕ
+before_address l t n rest = before_name l t (name_text n ++ rest)
+
+-- how long these are
+before_name_len : (l t rest : List ℕ) → length (before_name l t rest) ≡ 7 + length l + length t + length rest
+before_name_len l t rest = omega (arith, length-append (name_text l) (name_text t ++ rest), length-append (name_text t) rest)
+
+before_address_len : (l t n rest : List ℕ) → length (before_address l t n rest) ≡ 8 + length l + length t + length n + length rest
+before_address_len l t n rest = omega (arith, before_name_len l t (name_text n ++ rest), length-append (name_text n) rest)
+
+after_name_told : (l t n : Name) (bytes rest : List ℕ) (e : HelloError) →
     IsNodeName l →
+    IsNodeName t →
     IsNodeName n →
-    bytes ≡ plum ++ (1 ∷ (name_text l ++ (name_text n ++ rest))) →
-    after_name l n rest ≡ Err e →
+    bytes ≡ before_address l t n rest →
+    after_name l t n rest ≡ Err e →
     Told e bytes
-after_name_told l n bytes rest e il in' is p = elim (bind_err (address rest) (λ a. done (of_parts l n a)) e p) [
+after_name_told l t n bytes rest e il it in' is p = elim (bind_err (address rest) (λ a. done (of_parts l t n a)) e p) [
   | inl q ↦ elim (address_err rest e q) [
-    | inl s ↦
-        told Short e bytes s.0
-        (omega (arith, s.1, il.short, in'.short, ap length is, length-append (name_text l) (name_text n ++ rest), length-append (name_text n) rest))
+    | inl s ↦ told Short e bytes s.0 (omega (arith, s.1, il.short, it.short, in'.short, ap length is, before_address_len l t n rest))
     | inr o ↦ told (BadAddress o.kind) e bytes o.is (record {
       label = l;
+      to = t;
       name = n;
       rest = o.rest;
-      begins = is ∙ ap (λ t. plum ++ (1 ∷ (name_text l ++ (name_text n ++ t)))) o.begins;
+      begins = is ∙ ap (before_address l t n) o.begins;
       is_label = il;
+      is_to = it;
       is_name = in';
       not_v4 = o.not_v4;
       not_v6 = o.not_v6;
     })
   ]
-  | inr q ↦ absurd (done_no_err (of_parts l n q.0.0) q.0.1 e q.2)
+  | inr q ↦ absurd (done_no_err (of_parts l t n q.0.0) q.0.1 e q.2)
+]
+
+after_addressee_told : (l t : Name) (bytes rest : List ℕ) (e : HelloError) →
+    IsBytes rest →
+    IsNodeName l →
+    IsNodeName t →
+    bytes ≡ before_name l t rest →
+    after_addressee l t rest ≡ Err e →
+    Told e bytes
+after_addressee_told l t bytes rest e small il it is p = elim (bind_err (name BadName rest) (after_name l t) e p) [
+  | inl q ↦ elim (name_err BadName rest e q) [
+    | inl s ↦ told Short e bytes s.0 (omega (arith, s.1, il.short, it.short, ap length is, before_name_len l t rest))
+    | inr o ↦ told BadName e bytes o.0 (record { label = l; to = t; rest = rest; begins = is; is_label = il; is_to = it; wrong = o.1 })
+  ]
+  | inr q ↦
+      let n = (name_agrees BadName).takes rest q.0.0 q.0.1 small q.1 in
+      after_name_told l t q.0.0 bytes q.0.1 e il it n.1 (is ∙ ap (before_name l t) n.0) q.2
 ]
 
 after_label_told : (l : Name) (bytes rest : List ℕ) (e : HelloError) →
     IsBytes rest →
     IsNodeName l →
-    bytes ≡ plum ++ (1 ∷ (name_text l ++ rest)) →
+    bytes ≡ plum ++ (2 ∷ (name_text l ++ rest)) →
     after_label l rest ≡ Err e →
     Told e bytes
-after_label_told l bytes rest e small il is p = elim (bind_err (name BadName rest) (after_name l) e p) [
-  | inl q ↦ elim (name_err BadName rest e q) [
+after_label_told l bytes rest e small il is p = elim (bind_err (name BadAddressee rest) (after_addressee l) e p) [
+  | inl q ↦ elim (name_err BadAddressee rest e q) [
     | inl s ↦ told Short e bytes s.0 (omega (arith, s.1, il.short, ap length is, length-append (name_text l) rest))
-    | inr o ↦ told BadName e bytes o.0 (record { label = l; rest = rest; begins = is; is_label = il; wrong = o.1 })
+    | inr o ↦ told BadAddressee e bytes o.0 (record { label = l; rest = rest; begins = is; is_label = il; wrong = o.1 })
   ]
   | inr q ↦
-      let t = (name_agrees BadName).takes rest q.0.0 q.0.1 small q.1 in
-      after_name_told l q.0.0 bytes q.0.1 e il t.1 (is ∙ ap (λ r. plum ++ (1 ∷ (name_text l ++ r))) t.0) q.2
+      let t = (name_agrees BadAddressee).takes rest q.0.0 q.0.1 small q.1 in
+      let after = IsBytes-after (name_text q.0.0) q.0.1 rest t.0 small in
+      after_addressee_told l q.0.0 bytes q.0.1 e after il t.1 (is ∙ ap (λ r. plum ++ (2 ∷ (name_text l ++ r))) t.0) q.2
 ]
 
-after_version_told : (bytes rest : List ℕ) (e : HelloError) → IsBytes rest → bytes ≡ plum ++ (1 ∷ rest) → after_version tt rest ≡ Err e → Told e bytes
+after_version_told : (bytes rest : List ℕ) (e : HelloError) → IsBytes rest → bytes ≡ plum ++ (2 ∷ rest) → after_version tt rest ≡ Err e → Told e bytes
 after_version_told bytes rest e small is p = elim (bind_err (name BadLabel rest) after_label e p) [
   | inl q ↦ elim (name_err BadLabel rest e q) [
     | inl s ↦ told Short e bytes s.0 (omega (arith, s.1, ap length is))
@@ -311,7 +345,7 @@ after_version_told bytes rest e small is p = elim (bind_err (name BadLabel rest)
   ]
   | inr q ↦
       let t = (name_agrees BadLabel).takes rest q.0.0 q.0.1 small q.1 in
-      after_label_told q.0.0 bytes q.0.1 e (IsBytes-after (name_text q.0.0) q.0.1 rest t.0 small) t.1 (is ∙ ap (λ r. plum ++ (1 ∷ r)) t.0) q.2
+      after_label_told q.0.0 bytes q.0.1 e (IsBytes-after (name_text q.0.0) q.0.1 rest t.0 small) t.1 (is ∙ ap (λ r. plum ++ (2 ∷ r)) t.0) q.2
 ]
 
 after_start_told : (bytes rest : List ℕ) (e : HelloError) → IsBytes rest → bytes ≡ plum ++ rest → after_start tt rest ≡ Err e → Told e bytes
@@ -322,7 +356,7 @@ after_start_told bytes rest e small is p = elim (bind_err (version rest) after_v
   ]
   | inr q ↦
       let t = version_agrees.takes rest q.0.0 q.0.1 small q.1 in
-      after_version_told bytes q.0.1 e (IsBytes-after (1 ∷ []) q.0.1 rest t.0 small) (is ∙ ap (λ r. plum ++ r) t.0) q.2
+      after_version_told bytes q.0.1 e (IsBytes-after (2 ∷ []) q.0.1 rest t.0 small) (is ∙ ap (λ r. plum ++ r) t.0) q.2
 ]
 
 hello_told : (bytes : List ℕ) (e : HelloError) → IsBytes bytes → hello bytes ≡ Err e → Told e bytes
@@ -343,14 +377,17 @@ past_start : (rest : List ℕ) → hello (plum ++ rest) ≡ after_start tt rest
 unfolding hello
 past_start rest = again_first start_agrees after_start tt rest tt
 
-past_version : (rest : List ℕ) → hello (plum ++ (1 ∷ rest)) ≡ after_version tt rest
-past_version rest = past_start (1 ∷ rest) ∙ again_first version_agrees after_version tt rest tt
+past_version : (rest : List ℕ) → hello (plum ++ (2 ∷ rest)) ≡ after_version tt rest
+past_version rest = past_start (2 ∷ rest) ∙ again_first version_agrees after_version tt rest tt
 
-past_label : (l rest : List ℕ) → IsNodeName l → hello (plum ++ (1 ∷ (name_text l ++ rest))) ≡ after_label l rest
+past_label : (l rest : List ℕ) → IsNodeName l → hello (plum ++ (2 ∷ (name_text l ++ rest))) ≡ after_label l rest
 past_label l rest h = past_version (name_text l ++ rest) ∙ again_first (name_agrees BadLabel) after_label l rest h
 
-past_name : (l n rest : List ℕ) → IsNodeName l → IsNodeName n → hello (plum ++ (1 ∷ (name_text l ++ (name_text n ++ rest)))) ≡ after_name l n rest
-past_name l n rest h k = past_label l (name_text n ++ rest) h ∙ again_first (name_agrees BadName) (after_name l) n rest k
+past_addressee : (l t rest : List ℕ) → IsNodeName l → IsNodeName t → hello (before_name l t rest) ≡ after_addressee l t rest
+past_addressee l t rest h k = past_label l (name_text t ++ rest) h ∙ again_first (name_agrees BadAddressee) (after_addressee l) t rest k
+
+past_name : (l t n rest : List ℕ) → IsNodeName l → IsNodeName t → IsNodeName n → hello (before_address l t n rest) ≡ after_name l t n rest
+past_name l t n rest h k m = past_addressee l t (name_text n ++ rest) h k ∙ again_first (name_agrees BadName) (after_name l t) n rest m
 
 other_start : (bytes : List ℕ) → BeginsOtherwise bytes → hello bytes ≡ Err NotPlumtree
 unfolding hello
@@ -363,16 +400,22 @@ other_version v bytes h =
 bad_label : (bytes : List ℕ) → HasBadLabel bytes → hello bytes ≡ Err BadLabel
 bad_label bytes h = ap hello h.begins ∙ past_version h.rest ∙ err_first (name BadLabel) after_label h.rest BadLabel (name_refused_by BadLabel h.rest h.wrong)
 
+bad_addressee : (bytes : List ℕ) → HasBadAddressee bytes → hello bytes ≡ Err BadAddressee
+bad_addressee bytes h =
+    ap hello h.begins
+    ∙ past_label h.label h.rest h.is_label
+    ∙ err_first (name BadAddressee) (after_addressee h.label) h.rest BadAddressee (name_refused_by BadAddressee h.rest h.wrong)
+
 bad_name : (bytes : List ℕ) → HasBadName bytes → hello bytes ≡ Err BadName
 bad_name bytes h =
     ap hello h.begins
-    ∙ past_label h.label h.rest h.is_label
-    ∙ err_first (name BadName) (after_name h.label) h.rest BadName (name_refused_by BadName h.rest h.wrong)
+    ∙ past_addressee h.label h.to h.rest h.is_label h.is_to
+    ∙ err_first (name BadName) (after_name h.label h.to) h.rest BadName (name_refused_by BadName h.rest h.wrong)
 
 bad_address : (kind : ℕ) (bytes : List ℕ) → HasBadAddress kind bytes → hello bytes ≡ Err (BadAddress kind)
 bad_address kind bytes h =
-    ap hello h.begins ∙ past_name h.label h.name (kind ∷ h.rest) h.is_label h.is_name
-    ∙ err_first address (λ a. done (of_parts h.label h.name a)) (kind ∷ h.rest) (BadAddress kind) (address_refused kind h.rest h.not_v4 h.not_v6)
+    ap hello h.begins ∙ past_name h.label h.to h.name (kind ∷ h.rest) h.is_label h.is_to h.is_name
+    ∙ err_first address (λ a. done (of_parts h.label h.to h.name a)) (kind ∷ h.rest) (BadAddress kind) (address_refused kind h.rest h.not_v4 h.not_v6)
 
 -- ---- with the length
 
@@ -391,6 +434,7 @@ NotShort Short = ⊥
 NotShort NotPlumtree = Unit {0}
 NotShort (OtherVersion v) = Unit {0}
 NotShort BadLabel = Unit {0}
+NotShort BadAddressee = Unit {0}
 NotShort BadName = Unit {0}
 NotShort (BadAddress kind) = Unit {0}
 
@@ -399,6 +443,7 @@ hello_refused Short bytes h t = absurd h
 hello_refused NotPlumtree bytes h t = other_start bytes t
 hello_refused (OtherVersion v) bytes h t = other_version v bytes t
 hello_refused BadLabel bytes h t = bad_label bytes t
+hello_refused BadAddressee bytes h t = bad_addressee bytes t
 hello_refused BadName bytes h t = bad_name bytes t
 hello_refused (BadAddress kind) bytes h t = bad_address kind bytes t
 

@@ -1,9 +1,11 @@
 mod Agree
+mod Arrivals
 mod Connections
 mod FaultsTold
 mod HelloAgrees
 mod IntroductionAgrees
 mod Judged
+mod Lines
 mod NameReading
 mod PartsAgree
 mod Runs

@@ -67,23 +67,23 @@ start_cut u front more h e some = cut_only (octets_agrees 4) (λ front. judge (i
 pub start_agrees : Agrees start (λ u. plum) (λ u. Unit {0})
 start_agrees = record { takes = start_takes; again = start_again; cut = start_cut }
 
-version_takes : (bytes : List ℕ) (u : Unit {0}) (rest : List ℕ) → IsBytes bytes → version bytes ≡ Ok (u, rest) → (bytes ≡ (1 ∷ []) ++ rest) × Unit {0}
+version_takes : (bytes : List ℕ) (u : Unit {0}) (rest : List ℕ) → IsBytes bytes → version bytes ≡ Ok (u, rest) → (bytes ≡ (2 ∷ []) ++ rest) × Unit {0}
 unfolding version
 version_takes bytes u rest h e =
-    let a = takes_first byte_agrees (λ v. judge (v == 1) (OtherVersion v)) bytes u rest h e in
-    let j = judged_last (a.value == 1) (OtherVersion a.value) a.after rest a.then' in
-    let is : a.value ≡ 1 = (Decides-eqb a.value 1).0 j.0 in
-    (a.parts ∙ ap (λ n. n ∷ a.after) is ∙ ap (λ t. 1 ∷ t) j.1, tt)
+    let a = takes_first byte_agrees (λ v. judge (v == 2) (OtherVersion v)) bytes u rest h e in
+    let j = judged_last (a.value == 2) (OtherVersion a.value) a.after rest a.then' in
+    let is : a.value ≡ 2 = (Decides-eqb a.value 2).0 j.0 in
+    (a.parts ∙ ap (λ n. n ∷ a.after) is ∙ ap (λ t. 2 ∷ t) j.1, tt)
 
-version_again : (u : Unit {0}) (rest : List ℕ) → Unit {0} → version ((1 ∷ []) ++ rest) ≡ Ok (u, rest)
+version_again : (u : Unit {0}) (rest : List ℕ) → Unit {0} → version ((2 ∷ []) ++ rest) ≡ Ok (u, rest)
 unfolding version
-version_again u rest h = again_first byte_agrees (λ v. judge (v == 1) (OtherVersion v)) 1 rest tt
+version_again u rest h = again_first byte_agrees (λ v. judge (v == 2) (OtherVersion v)) 2 rest tt
 
-version_cut : (u : Unit {0}) (front more : List ℕ) → Unit {0} → 1 ∷ [] ≡ front ++ more → 0 < length more → version front ≡ Err Short
+version_cut : (u : Unit {0}) (front more : List ℕ) → Unit {0} → 2 ∷ [] ≡ front ++ more → 0 < length more → version front ≡ Err Short
 unfolding version
-version_cut u front more h e some = cut_only byte_agrees (λ v. judge (v == 1) (OtherVersion v)) 1 front more tt e some
+version_cut u front more h e some = cut_only byte_agrees (λ v. judge (v == 2) (OtherVersion v)) 2 front more tt e some
 
-pub version_agrees : Agrees version (λ u. 1 ∷ []) (λ u. Unit {0})
+pub version_agrees : Agrees version (λ u. 2 ∷ []) (λ u. Unit {0})
 version_agrees = record { takes = version_takes; again = version_again; cut = version_cut }
 
 -- ---- names

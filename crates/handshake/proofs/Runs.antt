@@ -1,10 +1,10 @@
 -- Several bytes of a connection at once.
 use Rattle.std.proofs.Common.{◌≡◌, ℕ, zero, suc, ◌+◌, ◌<◌, ◌≤◌, Bool, true, false, cond, eqb, ltb, List, [], ◌∷◌, ◌++◌, length}
-use Rattle.std.proofs.Common.{take, drop, map, Option, Some, None, Result, Ok, Err, refl, sym, ap, ◌∙◌, append_assoc, arith}
-use Rattle.std.specs.Prelude.{◌&&◌, ◌||◌}
+use Rattle.std.proofs.Common.{take, drop, map, Option, Some, None, Result, Ok, Err, refl, sym, ap, subst, inl, inr, ◌∙◌, append_assoc, arith}
+use Rattle.std.specs.Prelude.{◌&&◌, ◌||◌, IfOk}
 use Rattle.std.proofs.Math.Dec.{eqb-suc-zero}
-use Rattle.std.proofs.lemmas.Bool.{ltb-false, ltb-true, lt-ltb}
-use Rattle.std.proofs.lemmas.List.{append-nil, length-append, length-take, take-append-drop}
+use Rattle.std.proofs.lemmas.Bool.{cases_lt, ltb-false, ltb-true, lt-ltb}
+use Rattle.std.proofs.lemmas.List.{append-nil, length-append, length-take, take-append-drop, take-take}
 use Rattle.handshake.specs.declared.TheConstants.{MAX_HELLO, MAX_RECORD}
 use Rattle.handshake.specs.declared.error.HandshakeError.{HandshakeError}
 use Rattle.handshake.specs.declared.error.HandshakeError.TheVariants as Fault
@@ -123,6 +123,14 @@ lacking_less [] b n two = absurd (omega arith)
 lacking_less (kind ∷ []) b n two = absurd (omega arith)
 lacking_less (kind ∷ len ∷ text) b n two = omega (arith, length-append text (b ∷ []))
 
+-- fewer bytes than are lacking make no record whole
+still_more_of : (is_open : Bool) (kept xs : List ℕ) → judged is_open kept ≡ Ok None → suc (length xs) ≤ lacking kept → judged is_open (kept ++ xs) ≡ Ok None
+still_more_of is_open kept [] e few = ap (judged is_open) (append-nil kept) ∙ e
+still_more_of is_open kept (b ∷ xs) e few =
+    let next = still_more is_open kept b e (omega arith) in
+    let fewer = lacking_less kept b (length xs) few in
+    ap (judged is_open) (sym (append_assoc kept (b ∷ []) xs)) ∙ still_more_of is_open (kept ++ b ∷ []) xs next fewer
+
 none_of : (p : Bool) → (p && false) ≡ false
 none_of true = refl
 none_of false = refl
@@ -170,6 +178,33 @@ taken_run s [] kept (suc n) none more some within few is = absurd (omega arith)
 taken_run s (b ∷ bytes) kept (suc n) none more some within few is =
     let other = tests_fail (is_in_frames s) (place.goes_on s.place b) (place.frames (place.next_place s.place b) bytes) none in
     record_runs s b (take n bytes) other more (omega (arith, length-take n bytes)) ∙ ap (λ k. answered s k (judged s.is_open k)) (sym is)
+
+-- what bytes gave that were not refused
+abbrev pub GivesNone : Reached → Type 0
+GivesNone r = IfOk r (λ x. x.1 ≡ [])
+
+-- before a fault at the last of the bytes that were lacking, or at one of them, nothing is given
+pub none_before_fault : (s : State) (bytes : List ℕ) (count : ℕ) (error : HandshakeError) →
+    frames s bytes ≡ 0 →
+    judged s.is_open s.kept ≡ Ok None →
+    count ≤ length bytes →
+    count ≤ lacking s.kept →
+    run s (take count bytes) ≡ Err error
+    → (n : ℕ) → GivesNone (run s (take n bytes))
+none_before_fault s bytes count error none more within few is zero = refl
+none_before_fault s bytes count error none more within few is (suc n) = elim (cases_lt (suc n) count) [
+  | inl lt ↦
+      let kept : List ℕ = s.kept ++ take (suc n) bytes in
+      let still : judged s.is_open kept ≡ Ok None =
+      still_more_of s.is_open s.kept (take (suc n) bytes) more (omega (arith, length-take (suc n) bytes)) in
+      let gives : run s (take (suc n) bytes) ≡ Ok (record s { kept = kept }, []) =
+      taken_run s bytes kept (suc n) none more (omega arith) (omega arith) (omega arith) refl ∙ ap (answered s kept) still in
+      subst GivesNone (sym gives) refl
+  | inr le ↦
+      let front : take count (take (suc n) bytes) ≡ take count bytes = take-take count (suc n) bytes le in
+      let fault = fault_stays s count (take (suc n) bytes) error (ap (run s) front ∙ is) in
+      subst GivesNone (sym fault) tt
+]
 
 -- ---- bytes of frames
 

@@ -7,11 +7,11 @@ use Rattle.handshake.specs.Text.{plum, name_text}
 abbrev pub BeginsOtherwise : List ℕ → Type 0
 BeginsOtherwise bytes = (4 ≤ length bytes) × (take 4 bytes ≢ plum)
 
--- PLUM, and then a version other than 1
+-- PLUM, and then a version other than 2
 pub record HasOtherVersion (version : ℕ) (bytes : List ℕ) : Type 0 where
   pub rest : List ℕ
   pub begins : bytes ≡ plum ++ (version ∷ rest)
-  pub other : version ≢ 1
+  pub other : version ≢ 2
 
 -- A length, and then no name of that length: the length is more than 32, or that many bytes are there and are no name.
 pub record BeginsWithNoName (bytes : List ℕ) : Type 0 where
@@ -23,24 +23,36 @@ pub record BeginsWithNoName (bytes : List ℕ) : Type 0 where
 -- the version, and then no name
 pub record HasBadLabel (bytes : List ℕ) : Type 0 where
   pub rest : List ℕ
-  pub begins : bytes ≡ plum ++ (1 ∷ rest)
+  pub begins : bytes ≡ plum ++ (2 ∷ rest)
   pub wrong : BeginsWithNoName rest
 
 -- the label, and then no name
-pub record HasBadName (bytes : List ℕ) : Type 0 where
+pub record HasBadAddressee (bytes : List ℕ) : Type 0 where
   pub label : Name
   pub rest : List ℕ
-  pub begins : bytes ≡ plum ++ (1 ∷ (name_text label ++ rest))
+  pub begins : bytes ≡ plum ++ (2 ∷ (name_text label ++ rest))
   pub is_label : IsNodeName label
   pub wrong : BeginsWithNoName rest
 
--- the name, and then a byte that is neither 4 nor 6
+-- the name of the node that is meant, and then no name
+pub record HasBadName (bytes : List ℕ) : Type 0 where
+  pub label : Name
+  pub to : Name
+  pub rest : List ℕ
+  pub begins : bytes ≡ plum ++ (2 ∷ (name_text label ++ (name_text to ++ rest)))
+  pub is_label : IsNodeName label
+  pub is_to : IsNodeName to
+  pub wrong : BeginsWithNoName rest
+
+-- the name of the node that dials, and then a byte that is neither 4 nor 6
 pub record HasBadAddress (kind : ℕ) (bytes : List ℕ) : Type 0 where
   pub label : Name
+  pub to : Name
   pub name : Name
   pub rest : List ℕ
-  pub begins : bytes ≡ plum ++ (1 ∷ (name_text label ++ (name_text name ++ (kind ∷ rest))))
+  pub begins : bytes ≡ plum ++ (2 ∷ (name_text label ++ (name_text to ++ (name_text name ++ (kind ∷ rest)))))
   pub is_label : IsNodeName label
+  pub is_to : IsNodeName to
   pub is_name : IsNodeName name
   pub not_v4 : kind ≢ 4
   pub not_v6 : kind ≢ 6

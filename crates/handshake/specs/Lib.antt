@@ -1,8 +1,11 @@
 pub mod Answer
+pub mod Arrival
+pub mod Arrived
 pub mod Connection
 pub mod Faults
 pub mod Inbound
 pub mod Judging
+pub mod Outbound
 pub mod Place
 pub mod Reading
 pub mod Records

@@ -7,7 +7,7 @@ use Rattle.node_names.specs.NodeName.{Name, is_name_byte}
 use Rattle.handshake.specs.declared.address.Address.{Address}
 use Rattle.handshake.specs.declared.address.Address.TheVariants.{V4, V6}
 use Rattle.handshake.specs.declared.error.HelloError.{HelloError}
-use Rattle.handshake.specs.declared.error.HelloError.TheVariants.{Short, NotPlumtree, OtherVersion, BadLabel, BadName, BadAddress}
+use Rattle.handshake.specs.declared.error.HelloError.TheVariants.{Short, NotPlumtree, OtherVersion, BadLabel, BadAddressee, BadName, BadAddress}
 use Rattle.handshake.specs.declared.hello.Hello.{Hello}
 use Rattle.handshake.specs.declared.introduction.Introduction.{Introduction}
 use Rattle.handshake.specs.Text.{plum}
@@ -48,11 +48,11 @@ start = do
   front ← octets 4
   judge (pointwise nat_eq front plum) NotPlumtree
 
--- the version, 1
+-- the version, 2
 unfoldable pub version : Reader (Unit {0})
 version = do
   v ← byte
-  judge (v == 1) (OtherVersion v)
+  judge (v == 2) (OtherVersion v)
 
 -- A name: its length is checked before its bytes are read, and its alphabet afterwards.
 unfoldable pub name : HelloError → Reader Name
@@ -97,9 +97,10 @@ hello = do
   _ ← start
   _ ← version
   l ← name BadLabel
+  t ← name BadAddressee
   n ← name BadName
   a ← address
-  done (record { label = l; name = n; at = a })
+  done (record { label = l; to = t; name = n; at = a })
 
 -- the name and the address of an Introduction
 unfoldable pub introduction : Reader Introduction

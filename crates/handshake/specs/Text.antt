@@ -19,17 +19,18 @@ abbrev pub address_text : Address → List ℕ
 address_text (V4 octets port) = 4 ∷ (octets ++ to_be_bytes w16 port)
 address_text (V6 octets port) = 6 ∷ (octets ++ to_be_bytes w16 port)
 
--- "PLUM", the version, the label, the name and the address
+-- "PLUM", the version, the label, the name of the node that is meant, and then the name and the address of the one that dials
 abbrev pub text : Hello → List ℕ
-text h = plum ++ (1 ∷ (name_text h.label ++ (name_text h.name ++ address_text h.at)))
+text h = plum ++ (2 ∷ (name_text h.label ++ (name_text h.to ++ (name_text h.name ++ address_text h.at))))
 
 -- an address has 4 or 16 octets, and a port of 16 bits
 abbrev pub IsAddress : Address → Type 0
 IsAddress (V4 octets port) = (length octets ≡ 4) × (port < 2 ^ 16)
 IsAddress (V6 octets port) = (length octets ≡ 16) × (port < 2 ^ 16)
 
--- The label and the name are names, and the address is one.
+-- The label and both names are names, and the address is one.
 pub record IsHello (h : Hello) : Type 0 where
   pub label : IsNodeName h.label
+  pub to : IsNodeName h.to
   pub name : IsNodeName h.name
   pub at : IsAddress h.at

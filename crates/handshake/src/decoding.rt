@@ -1,7 +1,8 @@
 //! Reading a `Hello` from bytes.
 ghost use Rattle.std.specs.Prelude.{◌≡◌, ◌<◌, ◌++◌, ◌↔◌, List, ℕ, length, take, IfOk, IsErrOf};
 ghost use Rattle.handshake.specs.Answer.{Reads};
-ghost use Rattle.handshake.specs.Faults.{BeginsOtherwise, HasOtherVersion, HasBadLabel, HasBadName, HasBadAddress};
+ghost use Rattle.handshake.specs.Faults.{BeginsOtherwise, HasOtherVersion, HasBadLabel};
+ghost use Rattle.handshake.specs.Faults.{HasBadAddressee, HasBadName, HasBadAddress};
 ghost use Rattle.handshake.specs.Reading as read;
 ghost use Rattle.handshake.specs.declared.hello.Hello.{Hello};
 ghost use Rattle.handshake.specs.Text.{IsHello, text};
@@ -18,9 +19,15 @@ fn hello(parts: &mut Parts<'_>) -> Result<Hello, HelloError>
     parts.start()?;
     parts.version()?;
     let label = parts.name(HelloError::BadLabel)?;
+    let to = parts.name(HelloError::BadAddressee)?;
     let name = parts.name(HelloError::BadName)?;
     let at = parts.address()?;
-    Ok(Hello { label, name, at })
+    Ok(Hello {
+        label,
+        to,
+        name,
+        at,
+    })
 }
 
 /// Decodes like `decode`, in terms of `read`.
@@ -51,6 +58,7 @@ pub fn decode(bytes: &[u8]) -> Result<(Hello, usize), HelloError>
     ensures not_plumtree { IsErrOf result HelloError.NotPlumtree ↔ BeginsOtherwise bytes.now }
     ensures other_version { (v : ℕ) → IsErrOf result (HelloError.OtherVersion v) ↔ HasOtherVersion v bytes.now }
     ensures bad_label { IsErrOf result HelloError.BadLabel ↔ HasBadLabel bytes.now }
+    ensures bad_addressee { IsErrOf result HelloError.BadAddressee ↔ HasBadAddressee bytes.now }
     ensures bad_name { IsErrOf result HelloError.BadName ↔ HasBadName bytes.now }
     ensures bad_address { (kind : ℕ) → IsErrOf result (HelloError.BadAddress kind) ↔ HasBadAddress kind bytes.now }
 {

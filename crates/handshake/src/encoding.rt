@@ -50,6 +50,20 @@ pub(crate) fn put_address<A: Allocator>(
     Ok(())
 }
 
+/// Appends a name and the address where its node listens. If memory runs out, some of these bytes may be appended.
+pub(crate) fn put_place<A: Allocator>(
+    out: &mut Vec<u8, A>,
+    name: &NodeName,
+    at: &Address,
+) -> Result<(), AllocError>
+    ensures bytes { OnOk result (out.new.items ≡ out.old.items ++ (name_text name.now ++ address_text at.now)) }
+    ensures valid { OnOk result (IsNodeName name.now × IsAddress at.now) }
+    ensures err { OnErr result (take (length out.old.items) out.new.items ≡ out.old.items) }
+{
+    put_name(out, name)?;
+    put_address(out, at)
+}
+
 /// Appends the text of `hello`. If memory runs out, some of its bytes may be appended.
 pub(crate) fn put_text<A: Allocator>(out: &mut Vec<u8, A>, hello: &Hello) -> Result<(), AllocError>
     ensures text { OnOk result (out.new.items ≡ out.old.items ++ text hello.now) }
@@ -58,9 +72,8 @@ pub(crate) fn put_text<A: Allocator>(out: &mut Vec<u8, A>, hello: &Hello) -> Res
 {
     out.extend_from_slice(&[b'P', b'L', b'U', b'M', VERSION])?;
     put_name(out, &hello.label)?;
-    put_name(out, &hello.name)?;
-    put_address(out, &hello.at)?;
-    Ok(())
+    put_name(out, &hello.to)?;
+    put_place(out, &hello.name, &hello.at)
 }
 
 /// Encodes `hello` as bytes: its text.

@@ -11,12 +11,15 @@ pub enum HelloError {
     /// The first four bytes are not `PLUM`.
     #[error("the bytes do not begin with PLUM")]
     NotPlumtree,
-    /// The version, which is here, is not 1.
+    /// The version, which is here, is not 2.
     #[error("version {0} is unknown")]
     OtherVersion(u8),
     /// The length of the label is not 1 to 32, or one of its bytes is not allowed in names.
     #[error("the label is malformed")]
     BadLabel,
+    /// The length of the name of the node that is meant is not 1 to 32, or one of its bytes is not allowed in names.
+    #[error("the name of the node that is meant is malformed")]
+    BadAddressee,
     /// The length of the name is not 1 to 32, or one of its bytes is not allowed in names.
     #[error("the name is malformed")]
     BadName,

@@ -8,6 +8,8 @@ use node_names::NodeName;
 pub struct Hello {
     /// The label of the cluster, which follows the rules of names.
     pub label: NodeName,
+    /// The name of the node that is meant: the one that the dialled address was told of.
+    pub to: NodeName,
     /// The name of the node that dials.
     pub name: NodeName,
     /// Where the node that dials listens.

@@ -1,5 +1,6 @@
 //! The end of a connection where a node reads.
-ghost use Rattle.std.specs.Prelude.{◌≡◌, ◌<◌, ◌≤◌, ◌++◌, ℕ, IfErr, IfOk, IfSome, OnErr, length, map, slice_index, take};
+ghost use Rattle.std.specs.Prelude.{◌≡◌, ◌<◌, ◌≤◌, ◌++◌, ◌||◌, [], ℕ, IfErr, IfOk, IfSome, OnErr};
+ghost use Rattle.std.specs.Prelude.{is_some, length, map, slice_index, take};
 ghost use Rattle.handshake.specs.Inbound.{frame_byte, frames, given_by, passed, run, start};
 ghost use Rattle.handshake.specs.Judging.{judged, lacking};
 ghost use Rattle.handshake.specs.Records.{IsRecord, record_text};
@@ -121,7 +122,11 @@ impl Inbound {
         ensures some { IfOk result (λ x. 0 < x.0) }
         ensures within { IfOk result (λ x. x.0 ≤ length bytes.now) }
         ensures taken { IfOk result (λ x. run self.old (take x.0 bytes.now) ≡ Ok (self.new, given_by x.1)) }
+        // It is open once its hello is whole.
+        ensures opens { IfOk result (λ x. self.new.is_open ≡ (self.old.is_open || is_some x.1)) }
         ensures refused { IfErr result (λ error. run self.old bytes.now ≡ Err error) }
+        // All that came whole before the fault was given by calls before this one.
+        ensures none_lost { OnErr result ((n : ℕ) → IfOk (run self.old (take n bytes.now)) (λ x. x.1 ≡ [])) }
         ensures unchanged { OnErr result (self.new ≡ self.old) }
         // A record has exactly the bytes that were taken for it, and may stand where it does.
         ensures record { IfOk result (λ x. IfSome x.1 (λ r.

@@ -1,10 +1,12 @@
 //! Laws that hold for every connection. Nothing runs here: these functions are called for what they ensure.
-ghost use Rattle.std.specs.Prelude.{◌≡◌, ◌≢◌, ◌<◌, ◌∷◌, ◌++◌, All, Err, List, Ok, ℕ};
+ghost use Rattle.std.specs.Prelude.{◌≡◌, ◌≢◌, ◌<◌, ◌≤◌, ◌∷◌, ◌++◌, All, Err, List, Ok, ℕ, drop, length, true};
 ghost use Rattle.handshake.specs.declared.TheConstants.{MAX_HELLO};
 ghost use Rattle.handshake.specs.declared.error.HandshakeError.TheVariants as Fault;
 ghost use Rattle.handshake.specs.declared.hello.Hello.{Hello};
 ghost use Rattle.handshake.specs.Connection.{IsPart, Part, connection_text, connection_yields, opened};
 ghost use Rattle.handshake.specs.Inbound.{and_then, run, start};
+ghost use Rattle.handshake.specs.Outbound.{Outgoing, lent, line, of_frames, sent};
+ghost use Rattle.handshake.specs.Place.{after, is_boundary};
 ghost use Rattle.handshake.specs.State.{State};
 ghost use Rattle.handshake.specs.Text.{IsHello};
 
@@ -16,6 +18,20 @@ pub fn connections_are_read()
     // Two pieces give what the first gives, and then what the second gives from there.
     ensures cut { (s : State) (front rest : List ℕ)
         → run s (front ++ rest) ≡ and_then (run s front) (λ t. run t rest) }
+{}
+
+/// Ensures that what an `Outbound` lends goes out in order: of a frame all bytes side by side, each record whole, in
+/// front of all frames but the one under way when it was added, and each byte once.
+pub fn records_stand_between_frames()
+    // What is lent is the first of what is to go out.
+    ensures first { (out : Outgoing) (frames : List ℕ)
+        → (rest : List ℕ) × (lent out frames ++ rest ≡ line out frames) }
+    // Once some of it went out, what is to go out is the rest.
+    ensures goes_on { (out : Outgoing) (frames : List ℕ) (count : ℕ) → count ≤ length (lent out frames)
+        → line (sent out frames count) (drop (of_frames out count) frames) ≡ drop count (line out frames) }
+    // Bytes of frames that come to wait stand behind all, unless they are of the frame under way.
+    ensures behind { (out : Outgoing) (frames more : List ℕ) → is_boundary (after out.place frames) ≡ true
+        → line out (frames ++ more) ≡ line out frames ++ more }
 {}
 
 /// Ensures that an `Inbound` refuses a connection at the first byte that is wrong, as far as the kind and the length of

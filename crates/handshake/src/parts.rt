@@ -78,7 +78,7 @@ impl<'a> Parts<'a> {
         Ok(())
     }
 
-    /// Reads the version, or returns `OtherVersion` if it is not 1.
+    /// Reads the version, or returns `OtherVersion` if it is not 2.
     #[tactic(auto, unfolding(crate::specs::Reading::version))]
     pub(crate) fn version(&mut self) -> Result<(), HelloError>
         ensures { Reads result read.version self.old self.new }

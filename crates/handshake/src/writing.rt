@@ -4,7 +4,7 @@ ghost use Rattle.handshake.specs.Records.{IsIntroduction, hello_record, introduc
 ghost use Rattle.handshake.specs.Text.{IsHello, address_text, name_text, text};
 
 use crate::address::Address;
-use crate::encoding::{put_address, put_name, put_text};
+use crate::encoding::{put_place, put_text};
 use crate::hello::Hello;
 use crate::introduction::Introduction;
 use crate::record::{HELLO, INTRODUCTION};
@@ -34,7 +34,10 @@ fn text_len(hello: &Hello) -> usize
     ensures value { result ≡ length (text hello.now) }
     ensures few { result ≤ MAX_HELLO }
 {
-    5 + name_len(&hello.label) + name_len(&hello.name) + address_len(&hello.at)
+    5 + name_len(&hello.label)
+        + name_len(&hello.to)
+        + name_len(&hello.name)
+        + address_len(&hello.at)
 }
 
 fn introduction_len(introduction: &Introduction) -> usize
@@ -64,8 +67,7 @@ fn put_introduction<A: Allocator>(
     ensures err { OnErr result (take (length out.old.items) out.new.items ≡ out.old.items) }
 {
     out.extend_from_slice(&[INTRODUCTION, introduction_len(introduction) as u8])?;
-    put_name(out, &introduction.name)?;
-    put_address(out, &introduction.at)
+    put_place(out, &introduction.name, &introduction.at)
 }
 
 /// Appends the record of `hello`, with which a connection begins. If memory runs out, nothing is appended.

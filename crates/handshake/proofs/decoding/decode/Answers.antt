@@ -1,6 +1,6 @@
 use Rattle.std.proofs.Common.{arith}
 use Rattle.handshake.proofs.HelloAgrees.{decoded_ok, decoded_whole, decoded_short}
-use Rattle.handshake.specs.declared.error.HelloError.TheVariants.{Short, NotPlumtree, OtherVersion, BadLabel, BadName, BadAddress}
+use Rattle.handshake.specs.declared.error.HelloError.TheVariants.{Short, NotPlumtree, OtherVersion, BadLabel, BadAddressee, BadName, BadAddress}
 use Rattle.handshake.proofs.FaultsTold.{decoded_told, decoded_refused}
 use Rattle.handshake.proofs.decoding.decode.Goals as goal
 
@@ -27,6 +27,10 @@ returns-clause-other_version c v =
 pub returns-clause-bad_label : goal.returns-clause-bad_label
 returns-clause-bad_label c =
     (decoded_told _ _ (λ i. omega (arith, c.type_inv.bytes i)) c.first.ensures BadLabel, decoded_refused _ _ c.first.ensures BadLabel tt)
+
+pub returns-clause-bad_addressee : goal.returns-clause-bad_addressee
+returns-clause-bad_addressee c =
+    (decoded_told _ _ (λ i. omega (arith, c.type_inv.bytes i)) c.first.ensures BadAddressee, decoded_refused _ _ c.first.ensures BadAddressee tt)
 
 pub returns-clause-bad_name : goal.returns-clause-bad_name
 returns-clause-bad_name c = (decoded_told _ _ (λ i. omega (arith, c.type_inv.bytes i)) c.first.ensures BadName, decoded_refused _ _ c.first.ensures BadName tt)

@@ -6,7 +6,7 @@ use Rattle.handshake.specs.Records.{IsRecord, record_text}
 use Rattle.handshake.specs.State.{State}
 use Rattle.handshake.proofs.Agree.{IsBytes}
 use Rattle.handshake.proofs.Judged.{Within, given_is, within_taken}
-use Rattle.handshake.proofs.Runs.{fault_stays, room, taken_run}
+use Rattle.handshake.proofs.Runs.{GivesNone, fault_stays, none_before_fault, room, taken_run}
 use Rattle.handshake.proofs.inbound.Inbound.take.Goals as goal
 
 pub returns-in-Ok-None-clause-some : goal.returns-in-Ok-None-clause-some
@@ -81,6 +81,23 @@ returns-in-Err-clause-refused c =
     let taken =
     taken_run s bytes c.append.new.self n none c.self.invariant some (omega arith) (omega arith) c.append.ensures ∙ ap (answered s c.append.new.self) is_told in
     ap (λ t. run t bytes) (sym c.self.view_is) ∙ fault_stays s n bytes c.in-Err.error taken
+
+pub returns-in-Err-clause-none_lost : goal.returns-in-Err-clause-none_lost
+returns-in-Err-clause-none_lost c n =
+    let f = c.self.inside in
+    let s : State = record { is_open = f.is_open; place = f.place; kept = f.kept } in
+    let bytes = c.args.bytes.now in
+    let count = c.min-count.result in
+    let lacks : c.lacking.result ≡ lacking f.kept = c.lacking.ensures ∙ ap lacking c.as_slice.ensures.value in
+    let some : 0 < count = omega (arith, (room f.is_open f.kept c.self.invariant).0) in
+    let none = subst (λ t. frames t bytes ≡ 0) (sym c.self.view_is) c.requires.no_frames in
+    let is_told : judged f.is_open c.append.new.self ≡ Err c.in-Err.error =
+    ap (judged f.is_open) (sym c.as_slice-2.ensures.value) ∙ sym c.judge.ensures.value ∙ c.in-Err.is in
+    let taken =
+    taken_run s bytes c.append.new.self count none c.self.invariant some (omega arith) (omega arith) c.append.ensures
+    ∙ ap (answered s c.append.new.self) is_told in
+    let gives = none_before_fault s bytes count c.in-Err.error none c.self.invariant (omega arith) (omega arith) taken n in
+    subst (λ t. GivesNone (run t (take n bytes))) c.self.view_is gives
 
 pub returns-in-Err-clause-unchanged : goal.returns-in-Err-clause-unchanged
 returns-in-Err-clause-unchanged c =
