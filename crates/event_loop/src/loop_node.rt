@@ -46,7 +46,7 @@ pub trait LoopNode<A: Allocator + Copy>: Drop {
     fn waiting(&self, name: &NodeName) -> usize;
 
     /// The first of the bytes that wait for the name, in up to four slices. Where any wait, the first two are not both
-    /// empty.
+    /// empty, unless the node holds back what waits: then all are.
     fn transmit(&self, name: &NodeName) -> [&[u8]; 4];
 
     /// Takes the first `count` of the bytes that wait for the name: they went out.

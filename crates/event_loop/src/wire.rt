@@ -15,6 +15,10 @@ struct Drawn<'a, G> {
 }
 
 impl<G: Rng> DiceSource for Drawn<'_, G> {
+    ghost use Rattle.event_loop.specs.Drawing.{drawn};
+
+    ghost to_come = { λ source. drawn (G.stream source.generator.now) };
+
     fn draw(&mut self) -> Dice {
         Dice::draw(self.generator)
     }

@@ -1,13 +1,16 @@
 //! The end of a port in the loop.
-use crate::news_lane::NewsLane;
+ghost use Rattle.std.specs.Prelude.{◌≡◌, ◌≢◌, ◌∷◌, ◌++◌, [], IfNone, IfOk, IfSome, List, OnErr, length, true, ℕ};
+ghost use Rattle.rtrb.specs.Ring.{known_items, received};
+ghost use Rattle.event_loop.specs.declared.program.Next.TheVariants as next;
+
+use crate::outbox::Outbox;
 use crate::port_node::PortNode;
 use bytes::Bytes;
 use event_loop::Next;
 use protocol::Delivery;
-use rtrb::{Consumer, Producer, PushError};
+use rtrb::{Consumer, Producer};
 use std::alloc::Allocator;
-use std::vec::IntoIter;
-use wire_node::WireError;
+use wire_node::{News, WireError};
 
 /// How many messages a turn broadcasts at most: the more these are, the longer each waits on its way for those that
 /// were broadcast with it.
@@ -18,16 +21,11 @@ const TURN: usize = 32_768;
 /// The end of a port in the loop.
 #[derive(Drop)]
 pub(crate) struct Lane<A: Allocator> {
+    /// What was handed in. A message stays there until the node has broadcast it.
     broadcasts: Consumer<Bytes<A>, A>,
-    deliveries: Producer<Delivery<A>, A>,
-    /// A message whose broadcast was refused for want of memory.
-    refused: Option<Bytes<A>>,
-    /// The first delivery for which there was no room.
-    first: Option<Delivery<A>>,
-    /// Those behind it.
-    rest: IntoIter<Delivery<A>, A>,
-    /// The end of the news, if a port has them.
-    news: Option<NewsLane<A>>,
+    deliveries: Outbox<Delivery<A>, A>,
+    /// The news, if a port has them.
+    news: Option<Outbox<News, A>>,
 }
 
 impl<A: Allocator + Copy> Lane<A> {
@@ -39,22 +37,19 @@ impl<A: Allocator + Copy> Lane<A> {
     ) -> Lane<A> {
         Lane {
             broadcasts,
-            deliveries,
-            refused: None,
-            first: None,
-            rest: Vec::new(alloc).into_iter(),
+            deliveries: Outbox::new(alloc, deliveries),
             news: None,
         }
     }
 
     /// The same end with these news.
-    pub(crate) fn with_news(mut self, news: Option<NewsLane<A>>) -> Lane<A> {
+    pub(crate) fn with_news(mut self, news: Option<Outbox<News, A>>) -> Lane<A> {
         self.news = news;
         self
     }
 
     /// Takes the end of the news, if a port has them.
-    pub(crate) fn take_news(&mut self) -> Option<NewsLane<A>> {
+    pub(crate) fn take_news(&mut self) -> Option<Outbox<News, A>> {
         self.news.take()
     }
 
@@ -65,13 +60,15 @@ impl<A: Allocator + Copy> Lane<A> {
         &mut self,
         may_broadcast: bool,
         node: &mut N,
-    ) -> Result<Next, WireError> {
+    ) -> Result<Next, WireError>
+        ensures handed_out { IfOk result (λ r. r ≢ next.Hold → self.new.deliveries.waiting ≡ []) }
+    {
         self.tell(node);
         if !self.hand_out() {
             return Ok(Next::Hold);
         }
         let has_more = may_broadcast && self.broadcast_some(node)?;
-        self.rest = node.take_deliveries().into_iter();
+        self.deliveries.fill(node.take_deliveries());
         if !self.hand_out() {
             return Ok(Next::Hold);
         }
@@ -85,96 +82,90 @@ impl<A: Allocator + Copy> Lane<A> {
         Ok(Next::End)
     }
 
-    /// Hands out the news of the node, or ends them, where their port is dropped.
+    /// Hands out the news of the node, or ends them, where their port is dropped. As long as not all can be handed out,
+    /// or if memory is refused, no more are taken: they wait in the node.
     fn tell<N: PortNode<A>>(&mut self, node: &mut N) {
         let Some(news) = &mut self.news else {
             return;
         };
-        if news.has_ended() {
+        if news.is_abandoned() {
             self.end_news(node);
             return;
         }
-        news.turn(node);
+        if news.send()
+            && let Ok(told) = node.take_news()
+        {
+            news.fill(told);
+            news.send();
+        }
     }
 
     /// Has the node tell no more, if a port had news, and drops those that wait in it.
-    fn end_news<N: PortNode<A>>(&mut self, node: &mut N) {
+    fn end_news<N: PortNode<A>>(&mut self, node: &mut N)
+        ensures { self.new.deliveries ≡ self.old.deliveries }
+    {
         if self.news.take().is_some() {
             node.tell_news(false);
             let _ = node.take_news();
         }
     }
 
-    /// Hands out the deliveries that are left. Returns whether there was room for all, or the port is dropped.
-    fn hand_out(&mut self) -> bool {
+    /// Hands out the deliveries that wait. Returns whether none wait any more: there was room for all, or the port is
+    /// dropped, and they with it.
+    fn hand_out(&mut self) -> bool
+        ensures { result ≡ true → self.new.deliveries.waiting ≡ [] }
+    {
         if self.deliveries.is_abandoned() {
-            self.first = None;
+            self.deliveries.clear();
             return true;
         }
-        for _ in 0..self.rest.len().saturating_add(1) {
-            let Some(message) = self.next_delivery() else {
-                return true;
-            };
-            if let Err(PushError::Full(message)) = self.deliveries.push(message) {
-                self.first = Some(message);
-                return false;
-            }
-        }
-        true
-    }
-
-    /// Takes the next delivery that is left.
-    fn next_delivery(&mut self) -> Option<Delivery<A>> {
-        match self.first.take() {
-            Some(message) => Some(message),
-            None => self.rest.next(),
-        }
+        self.deliveries.send()
     }
 
     /// Broadcasts messages that were handed in. Returns whether more may wait.
-    fn broadcast_some<N: PortNode<A>>(&mut self, node: &mut N) -> Result<bool, WireError> {
+    fn broadcast_some<N: PortNode<A>>(&mut self, node: &mut N) -> Result<bool, WireError>
+        ensures { self.new.deliveries ≡ self.old.deliveries }
+    {
         let mut left = TURN;
         for _ in 0..BROADCASTS {
             if left == 0 {
                 return Ok(true);
             }
-            let Some(payload) = self.next_payload() else {
+            let Some(count) = self.broadcast_next(node)? else {
                 return Ok(false);
             };
-            left = left.saturating_sub(payload.len());
-            if !self.try_broadcast(node, payload)? {
-                return Ok(false);
-            }
+            left = left.saturating_sub(count);
         }
         Ok(true)
     }
 
-    /// Takes the next message that was handed in.
-    fn next_payload(&mut self) -> Option<Bytes<A>> {
-        match self.refused.take() {
-            Some(payload) => Some(payload),
-            None => self.broadcasts.pop().ok(),
+    /// Broadcasts the next message that was handed in, and returns how many bytes it has. `None`: none waits, or memory
+    /// is refused. A message that was not broadcast is the next once more.
+    fn broadcast_next<N: PortNode<A>>(&mut self, node: &mut N) -> Result<Option<usize>, WireError>
+        ensures taken { IfOk result (λ r. IfSome r (λ count. (payload : List ℕ) × (count ≡ length payload)
+            × (received self.new.broadcasts ≡ received self.old.broadcasts ++ payload ∷ []))) }
+        ensures left { IfOk result (λ r. IfNone r (received self.new.broadcasts ≡ received self.old.broadcasts)) }
+        ensures err { OnErr result (received self.new.broadcasts ≡ received self.old.broadcasts) }
+        ensures deliveries { self.new.deliveries ≡ self.old.deliveries }
+    {
+        if self.broadcasts.is_empty() {
+            return Ok(None);
         }
-    }
-
-    /// Broadcasts a message. Returns whether there was memory for that; else it is kept.
-    fn try_broadcast<N: PortNode<A>>(
-        &mut self,
-        node: &mut N,
-        payload: Bytes<A>,
-    ) -> Result<bool, WireError> {
-        match node.broadcast(&payload) {
-            Ok(()) => Ok(true),
-            Err(WireError::OutOfMemory) => {
-                self.refused = Some(payload);
-                Ok(false)
-            }
-            Err(error) => Err(error),
+        let payload = self.broadcasts.peek_known();
+        let count = payload.len();
+        match node.broadcast(payload) {
+            Ok(()) => {}
+            Err(WireError::OutOfMemory) => return Ok(None),
+            Err(error) => return Err(error),
         }
+        drop(self.broadcasts.pop_known());
+        Ok(Some(count))
     }
 
     /// Whether the port is dropped, and all was broadcast that it handed in.
-    fn has_ended(&mut self) -> bool {
-        self.broadcasts.is_abandoned() && self.broadcasts.is_empty() && self.refused.is_none()
+    fn has_ended(&mut self) -> bool
+        ensures { self.new.deliveries ≡ self.old.deliveries }
+    {
+        self.broadcasts.is_abandoned() && self.broadcasts.is_empty()
     }
 }

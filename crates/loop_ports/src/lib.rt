@@ -4,7 +4,7 @@
 
 mod error;
 mod lane;
-mod news_lane;
+mod outbox;
 mod port;
 mod port_node;
 mod ports;

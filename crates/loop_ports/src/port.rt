@@ -1,6 +1,6 @@
 //! The end of a node for another thread.
-ghost use Rattle.std.specs.Prelude.{◌≡◌, ◌<◌, ◌≤◌, ◌∷◌, ◌++◌, [], length, IfErr, IfNone, IfSome, OnOk};
-ghost use Rattle.rtrb.specs.Ring.{received, sent};
+ghost use Rattle.std.specs.Prelude.{◌≡◌, ◌<◌, ◌≤◌, ◌∷◌, ◌++◌, [], length, IfErr, IfNone, IfSome, IsSome, OnOk};
+ghost use Rattle.rtrb.specs.Ring.{known_free, known_items, received, sent};
 ghost use Rattle.protocol.specs.declared.TheConstants.{MAX_PAYLOAD};
 
 use crate::error::{PortError, PortFault};
@@ -46,15 +46,20 @@ impl<A: Allocator + Copy> Port<A> {
         ensures err { IfErr result
             (λ e. (e.payload ≡ payload) × (sent self.new.sender.broadcasts ≡ sent self.old.sender.broadcasts)) }
         ensures too_long { IfErr result (λ e. e.fault ≡ PortFault.TooLong → MAX_PAYLOAD < length payload) }
+        ensures full { IfErr result (λ e. e.fault ≡ PortFault.Full → known_free self.new.sender.broadcasts ≡ 0) }
     {
         self.sender.broadcast(payload)
     }
 
-    /// Takes the next message that was delivered, if there is one.
+    /// Takes the next message that was delivered, if there is one: in order, each once. `None` says that the ring was
+    /// empty when this call looked.
     pub fn next(&mut self) -> Option<Delivery<A>>
         ensures some { IfSome result
             (λ message. received self.new.receiver.deliveries ≡ received self.old.receiver.deliveries ++ message ∷ []) }
-        ensures none { IfNone result (received self.new.receiver.deliveries ≡ received self.old.receiver.deliveries) }
+        ensures none { IfNone result
+            ((received self.new.receiver.deliveries ≡ received self.old.receiver.deliveries)
+            × (known_items self.new.receiver.deliveries ≡ [])) }
+        ensures there { 0 < length (known_items self.old.receiver.deliveries) → IsSome result }
     {
         self.receiver.next()
     }
@@ -64,7 +69,9 @@ impl<A: Allocator + Copy> Port<A> {
     pub fn next_news(&mut self) -> Option<News>
         ensures some { IfSome result
             (λ news. received self.new.receiver.news ≡ received self.old.receiver.news ++ news ∷ []) }
-        ensures none { IfNone result (received self.new.receiver.news ≡ received self.old.receiver.news) }
+        ensures none { IfNone result ((received self.new.receiver.news ≡ received self.old.receiver.news)
+            × (known_items self.new.receiver.news ≡ [])) }
+        ensures there { 0 < length (known_items self.old.receiver.news) → IsSome result }
         ensures deliveries { received self.new.receiver.deliveries ≡ received self.old.receiver.deliveries }
     {
         self.receiver.next_news()

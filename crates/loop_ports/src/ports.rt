@@ -1,6 +1,6 @@
 //! The program of a loop whose nodes other threads use.
 use crate::lane::Lane;
-use crate::news_lane::NewsLane;
+use crate::outbox::Outbox;
 use crate::port::Port;
 use crate::port_node::PortNode;
 use crate::receiver::PortReceiver;
@@ -8,7 +8,7 @@ use crate::sender::PortSender;
 use event_loop::{EventLoop, LoopError, LoopNode, Next, Program, Resolve, Situation};
 use rtrb::RingBuffer;
 use std::alloc::{AllocError, Allocator, Global};
-use wire_node::WireError;
+use wire_node::{News, WireError};
 
 /// The program of a loop whose nodes other threads use, each by a port. It ends the run once all ports are dropped and
 /// what they handed in is broadcast.
@@ -85,7 +85,7 @@ impl<A: Allocator + Copy> Ports<A> {
         place: usize,
         capacity: usize,
         news: usize,
-    ) -> Result<(Port<A>, Lane<A>, NewsLane<A>), LoopError>
+    ) -> Result<(Port<A>, Lane<A>, Outbox<News, A>), LoopError>
     where
         N: LoopNode<A> + PortNode<A>,
         S: Resolve + Drop,
@@ -101,7 +101,7 @@ impl<A: Allocator + Copy> Ports<A> {
             PortReceiver::new(deliveries, news, other),
         );
         let lane = Lane::new(self.alloc, handed_in, handed_out);
-        Ok((port, lane, NewsLane::new(self.alloc, told)))
+        Ok((port, lane, Outbox::new(self.alloc, told)))
     }
 
     /// Makes room for the port of the node at this place.

@@ -1,6 +1,6 @@
 //! The end of a port that takes what its node has for it.
-ghost use Rattle.std.specs.Prelude.{◌≡◌, ◌∷◌, ◌++◌, [], IfNone, IfSome};
-ghost use Rattle.rtrb.specs.Ring.{received};
+ghost use Rattle.std.specs.Prelude.{◌≡◌, ◌<◌, ◌∷◌, ◌++◌, [], IfNone, IfSome, IsSome, length};
+ghost use Rattle.rtrb.specs.Ring.{known_items, received};
 
 use mio::Waker;
 use protocol::Delivery;
@@ -34,11 +34,16 @@ impl<A: Allocator + Copy> PortReceiver<A> {
         }
     }
 
-    /// Takes the next message that was delivered, if there is one.
+    /// Takes the next message that was delivered, if there is one: in order, each once. `None` says that the ring was
+    /// empty when this call looked.
     pub fn next(&mut self) -> Option<Delivery<A>>
         ensures some { IfSome result
             (λ message. received self.new.deliveries ≡ received self.old.deliveries ++ message ∷ []) }
-        ensures none { IfNone result (received self.new.deliveries ≡ received self.old.deliveries) }
+        ensures none { IfNone result ((received self.new.deliveries ≡ received self.old.deliveries)
+            × (known_items self.new.deliveries ≡ [])) }
+        ensures there { 0 < length (known_items self.old.deliveries) → IsSome result }
+        ensures news { (received self.new.news ≡ received self.old.news)
+            × (known_items self.new.news ≡ known_items self.old.news) }
     {
         let message = self.deliveries.pop().ok()?;
         self.taken = self.taken.saturating_add(1);
@@ -53,7 +58,9 @@ impl<A: Allocator + Copy> PortReceiver<A> {
     /// port has none that `Ports::open_with_news` did not open.
     pub fn next_news(&mut self) -> Option<News>
         ensures some { IfSome result (λ news. received self.new.news ≡ received self.old.news ++ news ∷ []) }
-        ensures none { IfNone result (received self.new.news ≡ received self.old.news) }
+        ensures none { IfNone result ((received self.new.news ≡ received self.old.news)
+            × (known_items self.new.news ≡ [])) }
+        ensures there { 0 < length (known_items self.old.news) → IsSome result }
         ensures deliveries { received self.new.deliveries ≡ received self.old.deliveries }
     {
         self.news.pop().ok()

@@ -1,6 +1,6 @@
 //! The end of a port that broadcasts.
 ghost use Rattle.std.specs.Prelude.{◌≡◌, ◌<◌, ◌≤◌, ◌∷◌, ◌++◌, [], length, IfErr, OnOk};
-ghost use Rattle.rtrb.specs.Ring.{sent};
+ghost use Rattle.rtrb.specs.Ring.{known_free, sent};
 ghost use Rattle.protocol.specs.declared.TheConstants.{MAX_PAYLOAD};
 
 use crate::error::{PortError, PortFault};
@@ -32,6 +32,7 @@ impl<A: Allocator + Copy> PortSender<A> {
         ensures err { IfErr result
             (λ e. (e.payload ≡ payload) × (sent self.new.broadcasts ≡ sent self.old.broadcasts)) }
         ensures too_long { IfErr result (λ e. e.fault ≡ PortFault.TooLong → MAX_PAYLOAD < length payload) }
+        ensures full { IfErr result (λ e. e.fault ≡ PortFault.Full → known_free self.new.broadcasts ≡ 0) }
     {
         if payload.len() > MAX_PAYLOAD {
             return Err(PortError {

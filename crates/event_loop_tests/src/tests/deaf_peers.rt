@@ -3,7 +3,9 @@ use crate::tests::hosts::{closed_port, listen};
 use crate::tests::stage::Stage;
 use crate::tests::tested_node::TestedNode;
 use anyhow::Result;
+use mio::net::{TcpListener, TcpStream};
 use std::alloc::AllocError;
+use std::io::Read;
 use std::net::{Net, SocketAddr};
 use wire_node::MAX_WAITING;
 
@@ -22,8 +24,13 @@ const MESSAGES: usize = 2_000;
 /// How many turns are made in the end.
 const TURNS: usize = 200;
 
-/// Who is a peer in the end of four of which three do not answer.
-pub(crate) const ANSWERING: &str = "stopped down, absent down, unknown down, b up, 0 lacking";
+/// How many reads take what was sent to a peer at most.
+const READS: usize = 100_000;
+
+/// Who is a peer in the end of four of which three do not answer, and whether the connection of the first ends behind
+/// what was sent to it.
+pub(crate) const ANSWERING: &str =
+    "stopped down, absent down, unknown down, b up, 0 lacking, cut off";
 
 /// Who is a peer at first, and once the patience is over.
 pub(crate) const PATIENT: &str = "deaf up, deaf down, b up, 0 lacking";
@@ -83,18 +90,48 @@ fn push_lacking<N: TestedNode>(
     write!(text, "{} lacking", sent.saturating_sub(stage.heard(1)))
 }
 
+/// Takes what was sent over the connection. Returns whether it has ended.
+fn drain(stream: &mut TcpStream) -> bool {
+    let mut bytes = [0; 4_096];
+    for _ in 0..READS {
+        match stream.read(&mut bytes) {
+            Ok(0) => return true,
+            Ok(_) => {}
+            Err(_) => return false,
+        }
+    }
+    false
+}
+
+/// Whether the connection of a peer that took nothing so far ends behind what was sent to it: of what waited the rest
+/// was dropped, so nothing may follow.
+fn is_cut_off<N: TestedNode, R: Net>(
+    rt: &R,
+    stage: &mut Stage<N>,
+    listener: &TcpListener,
+) -> Result<bool> {
+    let (mut stream, _) = listener.accept()?;
+    for _ in 0..TURNS {
+        if drain(&mut stream) {
+            return Ok(true);
+        }
+        stage.turn(rt)?;
+    }
+    Ok(false)
+}
+
 /// Lets a node broadcast to a peer that answers, and to three that do not: the first of these takes nothing, and more
-/// waits for it than may. Appends who is a peer in the end.
+/// waits for it than may. Appends who is a peer in the end, and whether the first finds the end of its connection.
 fn speak_to_all<N: TestedNode, R: Net>(
     rt: &R,
     stage: &mut Stage<N>,
-    stopped: SocketAddr,
+    stopped: &TcpListener,
     absent: SocketAddr,
     text: &mut String,
 ) -> Result<()> {
     stage.add(rt, "a", "b stopped absent unknown", FEW)?;
     stage.add(rt, "b", "a", MAX_WAITING)?;
-    stage.meet("stopped", stopped)?;
+    stage.meet("stopped", stopped.local_addr()?)?;
     stage.meet("absent", absent)?;
     let sent = speak_until_lost(rt, stage, "stopped")?;
     stage.turns(rt, TURNS)?;
@@ -102,23 +139,19 @@ fn speak_to_all<N: TestedNode, R: Net>(
         push_peer(text, stage, name)?;
     }
     push_lacking(text, stage, sent)?;
+    let is_cut_off = is_cut_off(rt, stage, stopped)?;
+    text.push_str(if is_cut_off { ", cut off" } else { ", open" })?;
     Ok(())
 }
 
-/// Starts the nodes, and lets one speak to all. Appends who is a peer in the end.
+/// Starts the nodes, and lets one speak to all. Appends what `speak_to_all` does.
 pub(crate) fn start_and_speak<N: TestedNode, R: Net + AllocGlobal>(
     rt: &R,
     text: &mut String,
 ) -> Result<()> {
     let stopped = listen(rt)?;
     let mut stage: Stage<N> = Stage::new(rt)?;
-    speak_to_all(
-        rt,
-        &mut stage,
-        stopped.local_addr()?,
-        closed_port(rt)?,
-        text,
-    )
+    speak_to_all(rt, &mut stage, &stopped, closed_port(rt)?, text)
 }
 
 /// Makes ticks, with turns between them.
