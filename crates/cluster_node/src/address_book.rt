@@ -1,6 +1,10 @@
 //! Where the nodes of a cluster take connections, as far as a node was told.
-ghost use Rattle.std.specs.Prelude.{◌≡◌, [], true, false, if◌then◌else◌, OnOk, OnErr};
-ghost use Rattle.cluster_node.specs.Addresses.{address_in, after, doubted, is_sure_in, sure_address_in, without};
+ghost use Rattle.std.specs.Prelude.{◌≡◌, ◌≤◌, true, OnOk, OnErr};
+ghost use Rattle.indexmap.specs.IndexMap.{IsUnique, index_map_len};
+ghost use Rattle.node_names.specs.Same.{same_name};
+ghost use Rattle.cluster_node.specs.Addresses.{address_in, after, confirmed, doubted, forgotten, heard};
+ghost use Rattle.cluster_node.specs.Addresses.{no_addresses, sure_address_in};
+ghost use Rattle.cluster_node.specs.declared.address_book.TheConstants.{MAX_ADDRESSES as Most};
 
 use indexmap::IndexMap;
 use node_names::NodeName;
@@ -9,15 +13,14 @@ use std::hash::{BuildHasherDefault, FoldHasher};
 use std::marker::Model;
 use std::net::SocketAddr;
 
-/// Of how many names the addresses are kept at most. Then each new one takes the place of the one of whom nothing was
-/// heard for longest.
+/// Of how many names it is kept at most what they said of themselves, and of as many what others said.
 pub const MAX_ADDRESSES: usize = 1_024;
 
-/// Where a node takes connections, and by whom that was told.
+/// An address that a node said itself.
 #[derive(Clone, Copy)]
 struct Known {
     at: SocketAddr,
-    /// Whether the node said so itself, and it was reached there if that was tried since.
+    /// Whether the node was reached there, if that was tried since.
     is_sure: bool,
 }
 
@@ -34,39 +37,75 @@ impl Model for Known {
     ghost inverse_ok = { λ told held. refl };
 }
 
-/// The names in the order in which they were heard of last.
-type Book<A> = IndexMap<NodeName, Known, BuildHasherDefault<FoldHasher>, A>;
+impl Known {
+    /// An address that a node said itself just now.
+    fn sure(at: SocketAddr) -> Known
+        ensures { result ≡ record { at = at; is_sure = true } }
+    {
+        Known { at, is_sure: true }
+    }
+}
+
+/// What was told of names, in the order in which that was told last.
+type Entries<T, A> = IndexMap<NodeName, T, BuildHasherDefault<FoldHasher>, A>;
+
+/// Puts what was told of a name last. Where more are there than are kept, the first gives way. Where memory is refused,
+/// nothing changes.
+fn put_last<T: Copy, A: Allocator + Copy>(
+    entries: &mut Entries<T, A>,
+    name: NodeName,
+    told: T,
+) -> Result<(), AllocError>
+    requires unique { IsUnique same_name entries.old }
+    requires within { index_map_len entries.old ≤ Most }
+    ensures ok { OnOk result (entries.new.entries ≡ after name told entries.old.entries) }
+    ensures err { OnErr result (entries.new.entries ≡ entries.old.entries) }
+    ensures unique { IsUnique same_name entries.new }
+    ensures within { index_map_len entries.new ≤ Most }
+{
+    entries.reserve(1)?;
+    entries.shift_remove(&name);
+    entries.insert(name, told)?;
+    if entries.len() > MAX_ADDRESSES {
+        entries.shift_remove_index(0);
+    }
+    Ok(())
+}
 
 /// Where the nodes of a cluster take connections, as far as a node was told.
 ///
-/// What a node says of itself holds until it cannot be reached there. What others say of it is taken as long as it did
+/// What a node says of itself holds until it cannot be reached there, or 1,024 others said so of themselves since it
+/// was heard of last: whatever others say, and of however many names. What others say of it is taken as long as it did
 /// not say so itself, or could not be reached there.
 #[derive(Drop)]
 pub struct AddressBook<A: Allocator + Copy = Global> {
-    known: Book<A>,
+    own: Entries<Known, A>,
+    hearsay: Entries<SocketAddr, A>,
 }
 
 impl<A: Allocator + Copy> Model for AddressBook<A> {
     ghost use Rattle.std.specs.Prelude.{◌≤◌};
     ghost use Rattle.indexmap.specs.IndexMap.{IsUnique, index_map_len};
     ghost use Rattle.node_names.specs.Same.{same_name};
-    ghost use Rattle.cluster_node.specs.Addresses.{Addresses};
+    ghost use Rattle.cluster_node.specs.Addresses.{Book};
     ghost use Rattle.cluster_node.specs.declared.address_book.TheConstants.{MAX_ADDRESSES};
 
-    ghost Value = { Addresses };
+    ghost Value = { Book };
 
-    ghost view = { λ s. s.known.entries };
+    ghost view = { λ s. record { own = s.own.entries; hearsay = s.hearsay.entries } };
 
-    ghost invariant = { λ s. IsUnique same_name s.known × (index_map_len s.known ≤ MAX_ADDRESSES) };
+    ghost invariant = { λ s. IsUnique same_name s.own × IsUnique same_name s.hearsay
+        × (index_map_len s.own ≤ MAX_ADDRESSES) × (index_map_len s.hearsay ≤ MAX_ADDRESSES) };
 }
 
 impl<A: Allocator + Copy> AddressBook<A> {
     /// Makes a book without addresses.
     pub fn new(alloc: A) -> AddressBook<A>
-        ensures { result ≡ [] }
+        ensures { result ≡ no_addresses }
     {
         AddressBook {
-            known: IndexMap::new(alloc),
+            own: IndexMap::new(alloc),
+            hearsay: IndexMap::new(alloc),
         }
     }
 
@@ -74,9 +113,9 @@ impl<A: Allocator + Copy> AddressBook<A> {
     pub fn address_of(&self, name: &NodeName) -> Option<SocketAddr>
         ensures { result ≡ address_in self.now name.now }
     {
-        match self.known.get(name) {
+        match self.own.get(name) {
             Some(known) => Some(known.at),
-            None => None,
+            None => self.hearsay.get(name).copied(),
         }
     }
 
@@ -84,69 +123,50 @@ impl<A: Allocator + Copy> AddressBook<A> {
     pub fn sure_address_of(&self, name: &NodeName) -> Option<SocketAddr>
         ensures { result ≡ sure_address_in self.now name.now }
     {
-        match self.known.get(name) {
+        match self.own.get(name) {
             Some(known) if known.is_sure => Some(known.at),
             _ => None,
         }
     }
 
-    /// Whether the node of this name said itself where it takes connections, and could be reached there since.
-    fn is_sure(&self, name: &NodeName) -> bool
-        ensures { result ≡ is_sure_in self.now name.now }
-    {
-        match self.known.get(name) {
-            Some(known) => known.is_sure,
-            None => false,
-        }
-    }
-
-    /// Notes what a node says of itself.
+    /// Notes what a node says of itself. Where memory is refused, nothing changes.
     pub fn confirm(&mut self, name: NodeName, at: SocketAddr) -> Result<(), AllocError>
-        ensures ok { OnOk result (self.new ≡ after name (record { at = at; is_sure = true }) self.old) }
+        ensures ok { OnOk result (self.new ≡ confirmed name at self.old) }
         ensures err { OnErr result (self.new ≡ self.old) }
     {
-        self.put(name, Known { at, is_sure: true })
+        put_last(&mut self.own, name, Known::sure(at))?;
+        self.hearsay.shift_remove(&name);
+        Ok(())
     }
 
-    /// Notes what another node says of a name, unless that is known better.
+    /// Notes what another node says of a name. What is sure stays, and counts as told anew. Where memory is refused,
+    /// nothing changes.
     pub fn hear(&mut self, name: NodeName, at: SocketAddr) -> Result<(), AllocError>
-        ensures ok { OnOk result (self.new ≡ (if is_sure_in self.old name then self.old
-            else after name (record { at = at; is_sure = false }) self.old)) }
+        ensures ok { OnOk result (self.new ≡ heard name at self.old) }
         ensures err { OnErr result (self.new ≡ self.old) }
     {
-        if self.is_sure(&name) {
-            return Ok(());
+        if let Some(sure) = self.sure_address_of(&name) {
+            return put_last(&mut self.own, name, Known::sure(sure));
         }
-        self.put(name, Known { at, is_sure: false })
+        put_last(&mut self.hearsay, name, at)?;
+        self.own.shift_remove(&name);
+        Ok(())
     }
 
     /// Notes that the node of this name cannot be reached: what others say of it is taken then.
     pub fn doubt(&mut self, name: &NodeName)
         ensures { self.new ≡ doubted name.now self.old }
     {
-        if let Some(known) = self.known.get_mut(name) {
+        if let Some(known) = self.own.get_mut(name) {
             known.is_sure = false;
         }
     }
 
     /// Forgets where the node of this name takes connections.
     pub fn forget(&mut self, name: &NodeName)
-        ensures { self.new ≡ without name.now self.old }
+        ensures { self.new ≡ forgotten name.now self.old }
     {
-        self.known.shift_remove(name);
-    }
-
-    /// Notes where a node takes connections. Where memory is refused, nothing changes.
-    fn put(&mut self, name: NodeName, known: Known) -> Result<(), AllocError>
-        ensures ok { OnOk result (self.new ≡ after name known self.old) }
-        ensures err { OnErr result (self.new ≡ self.old) }
-    {
-        self.known.reserve(1)?;
-        self.known.shift_remove(&name);
-        self.known.insert(name, known)?;
-        if self.known.len() > MAX_ADDRESSES {
-            self.known.shift_remove_index(0);
-        }
-        Ok(())
+        self.own.shift_remove(name);
+        self.hearsay.shift_remove(name);
     }
 }

@@ -1,10 +1,11 @@
 //! A node in a cluster.
 use crate::address_book::AddressBook;
-use crate::link_text::LinkText;
+use crate::identity::Identity;
 use crate::notice::{Notice, Notices};
-use crate::receiving::Arrival;
+use crate::pulse::PulseClock;
+use crate::receiving::Incoming;
 use crate::step_log::StepLog;
-use handshake::{Address, Hello};
+use handshake::{Address, Outbound};
 use indexmap::IndexMap;
 use node_names::NodeName;
 use std::alloc::{Allocator, Global};
@@ -16,8 +17,8 @@ use std::net::SocketAddr;
 pub struct ClusterNode<N, A: Allocator + Copy = Global> {
     pub(crate) alloc: A,
     pub(crate) node: N,
-    /// What it says first over each link.
-    pub(crate) hello: Hello,
+    /// What it says of itself over each link.
+    pub(crate) identity: Identity,
     pub(crate) book: AddressBook<A>,
     /// The names whose addresses the program was given. Where such a node cannot be reached at the address that it told
     /// itself, that is forgotten, so that the resolver is asked.
@@ -29,36 +30,38 @@ pub struct ClusterNode<N, A: Allocator + Copy = Global> {
     pub(crate) is_apart: bool,
     /// Where another node of this node's name takes connections, while that is to be told so.
     pub(crate) namesake: Option<SocketAddr>,
-    /// How many ticks were made since it last sent pulses.
-    pub(crate) since_pulse: u8,
+    pub(crate) pulses: PulseClock,
+    /// Whether nothing is to be sent any more.
+    pub(crate) is_silent: bool,
     /// The connections that came in, by their numbers.
-    pub(crate) arrivals: IndexMap<u64, Arrival, BuildHasherDefault<FoldHasher>, A>,
+    pub(crate) arrivals: IndexMap<u64, Incoming, BuildHasherDefault<FoldHasher>, A>,
     /// The links, and those that are to be dialled, by the names that they lead to.
-    pub(crate) links: IndexMap<NodeName, LinkText<A>, BuildHasherDefault<FoldHasher>, A>,
+    pub(crate) links: IndexMap<NodeName, Outbound<A>, BuildHasherDefault<FoldHasher>, A>,
     pub(crate) notices: Notices<A>,
     pub(crate) log: StepLog<A>,
 }
 
 impl<N: Drop, A: Allocator + Copy> ClusterNode<N, A> {
-    /// Makes a node that says this hello over each link, and joins by these contacts, which its loop knows too. The
-    /// loop's resolver knows the addresses of the names that are given.
+    /// Makes a node that says this of itself, and joins by these contacts, which its loop knows too. The loop's
+    /// resolver knows the addresses of the names that are given.
     pub fn new(
         alloc: A,
         node: N,
-        hello: Hello,
+        identity: Identity,
         given: Vec<NodeName, A>,
         contacts: Vec<NodeName, A>,
     ) -> ClusterNode<N, A> {
         ClusterNode {
             alloc,
             node,
-            hello,
+            identity,
             book: AddressBook::new(alloc),
             given,
             contacts,
             is_apart: true,
             namesake: None,
-            since_pulse: 0,
+            pulses: PulseClock::new(),
+            is_silent: false,
             arrivals: IndexMap::new(alloc),
             links: IndexMap::new(alloc),
             notices: Notices::new(alloc),
@@ -66,9 +69,9 @@ impl<N: Drop, A: Allocator + Copy> ClusterNode<N, A> {
         }
     }
 
-    /// What it says first over each link.
-    pub fn hello(&self) -> &Hello {
-        &self.hello
+    /// What it says of itself over each link.
+    pub fn identity(&self) -> &Identity {
+        &self.identity
     }
 
     /// How many connections came in that are open.
@@ -94,7 +97,7 @@ impl<N: Drop, A: Allocator + Copy> ClusterNode<N, A> {
 
     /// Sets what it tells others as its address, over links that are dialled from now on.
     pub fn advertise(&mut self, at: SocketAddr) {
-        self.hello.at = Address::from(at);
+        self.identity.at = Address::from(at);
     }
 
     /// Notes that a name cannot be reached where it was to take connections.

@@ -1,9 +1,8 @@
 //! Introducing those of whom frames speak.
 use crate::cluster_node::ClusterNode;
-use crate::link_text::LinkText;
 use crate::stepped_node::SteppedNode;
 use frames::{BodyOf, Frame};
-use handshake::{Address, Introduction};
+use handshake::{Address, Introduction, Outbound};
 use node_names::NodeName;
 use std::alloc::{AllocError, Allocator};
 use std::net::SocketAddr;
@@ -38,7 +37,7 @@ impl<N: SteppedNode<A>, A: Allocator + Copy> ClusterNode<N, A> {
     /// Introduces these names to the receiver, as far as their addresses are known.
     fn introduce_all(&mut self, to: &NodeName, names: &[NodeName]) {
         for name in names {
-            if name != to && *name != self.hello.name {
+            if name != to && *name != self.identity.name {
                 let _ = self.introduce_one(to, *name);
             }
         }
@@ -61,7 +60,7 @@ impl<N: SteppedNode<A>, A: Allocator + Copy> ClusterNode<N, A> {
     ) -> Result<(), AllocError> {
         self.begin(*to)?;
         match self.links.get_mut(to) {
-            Some(text) => text.introduce(&Introduction {
+            Some(link) => link.introduce(&Introduction {
                 name,
                 at: Address::from(at),
             }),
@@ -69,11 +68,11 @@ impl<N: SteppedNode<A>, A: Allocator + Copy> ClusterNode<N, A> {
         }
     }
 
-    /// Begins the text of the link to the name, unless it was begun.
+    /// Begins what goes out over the link to the name, unless it was begun: a hello that is meant for it.
     pub(crate) fn begin(&mut self, name: NodeName) -> Result<(), AllocError> {
         if !self.links.contains_key(&name) {
-            let text = LinkText::new(self.alloc, &self.hello)?;
-            self.links.insert(name, text)?;
+            let link = Outbound::new(self.alloc, &self.identity.hello_to(name))?;
+            self.links.insert(name, link)?;
         }
         Ok(())
     }

@@ -7,8 +7,9 @@
 
 mod address_book;
 mod cluster_node;
+mod holding;
+mod identity;
 mod introducing;
-mod link_text;
 mod loop_node;
 mod namesake;
 mod notice;
@@ -20,6 +21,7 @@ mod stepped_node;
 
 pub use address_book::{AddressBook, MAX_ADDRESSES};
 pub use cluster_node::ClusterNode;
+pub use identity::Identity;
 pub use notice::{Notice, Notices};
 pub use step_log::Counts;
 pub use stepped_node::SteppedNode;

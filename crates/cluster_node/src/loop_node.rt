@@ -1,4 +1,7 @@
 //! A node in a cluster, as an event loop runs it.
+ghost use Rattle.std.specs.Prelude.{◌≡◌, ◌<◌, [], length, true};
+ghost use Rattle.bytes.specs.Unread.{concat_slices};
+
 use crate::cluster_node::ClusterNode;
 use crate::notice::Notice;
 use crate::stepped_node::SteppedNode;
@@ -8,6 +11,9 @@ use rand_core::Rng;
 use std::alloc::{AllocError, Allocator};
 use std::net::SocketAddr;
 use wire_node::{ConnectionId, ReceiveError, WireError};
+
+/// No bytes.
+const NOTHING: &[u8] = &[];
 
 impl<N: SteppedNode<A>, A: Allocator + Copy> ClusterNode<N, A> {
     /// Whether a node is known at the end of a connection, and in the active view.
@@ -21,7 +27,7 @@ impl<N: SteppedNode<A>, A: Allocator + Copy> ClusterNode<N, A> {
     /// The node at the other end of a connection, once it said its hello.
     fn name_at(&self, id: ConnectionId) -> Option<NodeName> {
         match self.arrivals.get(&id.0) {
-            Some(arrival) => arrival.name(),
+            Some(incoming) => incoming.arrival.dialler(),
             None => None,
         }
     }
@@ -93,16 +99,15 @@ impl<N: SteppedNode<A>, A: Allocator + Copy> LoopNode<A> for ClusterNode<N, A> {
     }
 
     fn receivers(&self) -> Result<Vec<NodeName, A>, AllocError> {
-        // What follows from a step that is to be recorded leaves only once the step was taken for that.
-        if self.log.has_kept() {
+        if self.holds_back() {
             return Ok(Vec::new(self.alloc));
         }
         let mut names = self.node.receivers()?;
         if self.is_namesake_due() {
-            names.push(self.hello.name)?;
+            names.push(self.identity.name)?;
         }
-        for (name, text) in &self.links {
-            if text.waiting() > 0 && self.node.waiting(name) == 0 {
+        for (name, link) in &self.links {
+            if link.waiting() > 0 && self.node.waiting(name) == 0 {
                 names.push(*name)?;
             }
         }
@@ -111,27 +116,32 @@ impl<N: SteppedNode<A>, A: Allocator + Copy> LoopNode<A> for ClusterNode<N, A> {
 
     fn waiting(&self, name: &NodeName) -> usize {
         let records = match self.links.get(name) {
-            Some(text) => text.waiting(),
+            Some(link) => link.waiting(),
             None => 0,
         };
         self.node.waiting(name).saturating_add(records)
     }
 
-    fn transmit(&self, name: &NodeName) -> [&[u8]; 4] {
+    /// Lends the first of what waits for the name. What is lent follows from steps alone that were taken for the record
+    /// before, also where a step is made between the names of one round: it is written there before any other node sees
+    /// what it sent. `waiting` counts what is held back, since a link for which nothing waits may be closed.
+    fn transmit(&self, name: &NodeName) -> [&[u8]; 4]
+        ensures recorded { 0 < length self.now.log.kept.items → concat_slices result ≡ [] }
+        ensures silent { self.now.is_silent ≡ true → concat_slices result ≡ [] }
+    {
+        if self.holds_back() {
+            return [NOTHING, NOTHING, NOTHING, NOTHING];
+        }
         let frames = self.node.transmit(name);
         match self.links.get(name) {
-            Some(text) => text.front(frames),
+            Some(link) => link.front(frames),
             None => frames,
         }
     }
 
     fn transmitted(&mut self, name: &NodeName, count: usize) {
         let of_frames = match self.links.get_mut(name) {
-            Some(text) => {
-                let of_frames = text.sent(count);
-                text.pass(self.node.transmit(name), of_frames);
-                of_frames
-            }
+            Some(link) => link.sent(self.node.transmit(name), count),
             None => count,
         };
         self.node.transmitted(name, of_frames);
@@ -154,8 +164,8 @@ impl<N: SteppedNode<A>, A: Allocator + Copy> LoopNode<A> for ClusterNode<N, A> {
     }
 
     fn came(&mut self, id: ConnectionId, from: SocketAddr) {
-        if let Some(arrival) = self.arrivals.get_mut(&id.0) {
-            arrival.from = Some(from);
+        if let Some(incoming) = self.arrivals.get_mut(&id.0) {
+            incoming.from = Some(from);
         }
     }
 
@@ -168,8 +178,8 @@ impl<N: SteppedNode<A>, A: Allocator + Copy> LoopNode<A> for ClusterNode<N, A> {
 
     fn opens(&mut self, name: NodeName) -> Result<(), AllocError> {
         self.begin(name)?;
-        if let Some(text) = self.links.get_mut(&name) {
-            text.open();
+        if let Some(link) = self.links.get_mut(&name) {
+            link.open();
         }
         Ok(())
     }

@@ -9,7 +9,7 @@ use std::net::SocketAddr;
 impl<N: SteppedNode<A>, A: Allocator + Copy> ClusterNode<N, A> {
     /// Whether the name is this node's own. A link to it leads to another node of that name.
     pub(crate) fn is_own(&self, name: &NodeName) -> bool {
-        *name == self.hello.name
+        *name == self.identity.name
     }
 
     /// Says that another node has this node's name, and has it dialled. It is told nothing but this node's hello, by
@@ -24,10 +24,10 @@ impl<N: SteppedNode<A>, A: Allocator + Copy> ClusterNode<N, A> {
 
     /// Whether another node of this node's name is to be dialled.
     pub(crate) fn is_namesake_due(&self) -> bool {
-        self.namesake.is_some() && !self.links.contains_key(&self.hello.name)
+        self.namesake.is_some() && !self.links.contains_key(&self.identity.name)
     }
 
-    /// Drops the text of a link that is over.
+    /// Drops what was to go out over a link that is over.
     pub(crate) fn drop_link(&mut self, name: &NodeName) {
         self.links.swap_remove(name);
         if self.is_own(name) {

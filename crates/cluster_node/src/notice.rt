@@ -37,6 +37,12 @@ pub enum Notice {
         name: NodeName,
         label: NodeName,
     },
+    /// A connection is closed whose node means another node: it was told a wrong address, or an old one.
+    Misdirected {
+        from: Option<SocketAddr>,
+        name: NodeName,
+        to: NodeName,
+    },
     /// A neighbour of this name takes connections at another address than a node of its name that connected.
     Twice {
         name: NodeName,
@@ -75,6 +81,11 @@ impl fmt::Display for Notice {
                 f.write_str("refused a connection from ")?;
                 write_origin(from, f)?;
                 write!(f, ": {name} is of the cluster {label}")
+            }
+            Notice::Misdirected { from, name, to } => {
+                f.write_str("refused a connection from ")?;
+                write_origin(from, f)?;
+                write!(f, ": {name} wants to reach {to}")
             }
             Notice::Twice { name, at, other } => {
                 write!(f, "there may be two nodes {name}: at {other} and at {at}")

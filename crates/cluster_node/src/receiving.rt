@@ -4,50 +4,18 @@ ghost use Rattle.std.specs.Prelude.{◌<◌, length};
 use crate::cluster_node::ClusterNode;
 use crate::notice::Notice;
 use crate::stepped_node::SteppedNode;
-use handshake::{HandshakeError, Hello, Inbound, Introduction, Record};
+use handshake::{Arrival, Front, Introduction, Record, Refusal};
 use node_names::NodeName;
 use rand_core::Rng;
 use std::alloc::{AllocError, Allocator};
 use std::net::SocketAddr;
 use wire_node::{ConnectionId, ReceiveError, WireError};
 
-/// A connection that came in.
+/// A connection that came in, and where it comes from.
 #[derive(Drop)]
-pub(crate) struct Arrival {
-    pub(crate) inbound: Inbound,
+pub(crate) struct Incoming {
+    pub(crate) arrival: Arrival,
     pub(crate) from: Option<SocketAddr>,
-    /// The node at its other end, once it said its hello.
-    name: Option<NodeName>,
-}
-
-/// What the first of the bytes of a connection are.
-enum Front {
-    /// So many are of frames.
-    Frames(usize),
-    /// So many are of another record, which became whole if it is here.
-    Record(usize, Option<Record>),
-}
-
-impl Arrival {
-    /// The node at its other end, once it said its hello.
-    pub(crate) fn name(&self) -> Option<NodeName> {
-        self.name
-    }
-
-    /// Looks at the first of these bytes, and takes them if they are of no frame.
-    fn next(&mut self, bytes: &[u8]) -> Result<Front, HandshakeError>
-        requires { 0 < length bytes.now }
-    {
-        let count = self.inbound.frames(bytes);
-        if count > 0 {
-            return Ok(Front::Frames(count));
-        }
-        let (count, record) = self.inbound.take(bytes)?;
-        if let Some(Record::Hello(hello)) = &record {
-            self.name = Some(hello.name);
-        }
-        Ok(Front::Record(count, record))
-    }
 }
 
 /// The refusal of a connection that is to be closed: none of the bytes is taken.
@@ -59,12 +27,11 @@ const CLOSED: ReceiveError = ReceiveError {
 impl<N: SteppedNode<A>, A: Allocator + Copy> ClusterNode<N, A> {
     /// Keeps a connection, over which nothing has come yet.
     pub(crate) fn keep(&mut self, id: ConnectionId) -> Result<(), AllocError> {
-        let arrival = Arrival {
-            inbound: Inbound::new(),
+        let incoming = Incoming {
+            arrival: Arrival::new(self.identity.addressee()),
             from: None,
-            name: None,
         };
-        self.arrivals.insert(id.0, arrival)?;
+        self.arrivals.insert(id.0, incoming)?;
         Ok(())
     }
 
@@ -101,21 +68,21 @@ impl<N: SteppedNode<A>, A: Allocator + Copy> ClusterNode<N, A> {
     ) -> Result<usize, ReceiveError>
         requires { 0 < length bytes.now }
     {
-        let Some(arrival) = self.arrivals.get_mut(&id.0) else {
+        let Some(incoming) = self.arrivals.get_mut(&id.0) else {
             return Err(CLOSED);
         };
-        let from = arrival.from;
-        match arrival.next(bytes) {
+        let from = incoming.from;
+        match incoming.arrival.next(bytes) {
             Ok(Front::Frames(count)) => {
                 let front = &bytes[..count.min(bytes.len())];
                 self.take_frames(id, front, generator)?;
                 Ok(front.len())
             }
             Ok(Front::Record(count, record)) => {
-                self.take_record(from, record)?;
+                self.take_record(record);
                 Ok(count)
             }
-            Err(error) => Err(self.refuse(from, error)),
+            Err(refusal) => Err(self.refuse(from, refusal)),
         }
     }
 
@@ -131,55 +98,44 @@ impl<N: SteppedNode<A>, A: Allocator + Copy> ClusterNode<N, A> {
             Ok(()) => bytes.len(),
             Err(ReceiveError { taken, .. }) => taken.min(bytes.len()),
         };
-        if let Some(arrival) = self.arrivals.get_mut(&id.0) {
-            arrival.inbound.pass(&bytes[..taken]);
+        if let Some(incoming) = self.arrivals.get_mut(&id.0) {
+            incoming.arrival.pass(&bytes[..taken]);
         }
         self.introduce();
         received
     }
 
     /// Takes a record that is no frame, if one became whole.
-    fn take_record(
-        &mut self,
-        from: Option<SocketAddr>,
-        record: Option<Record>,
-    ) -> Result<(), ReceiveError> {
+    fn take_record(&mut self, record: Option<Record>) {
         match record {
-            Some(Record::Hello(hello)) => self.meet(from, hello),
-            Some(Record::Introduction(introduction)) => {
-                self.hear(introduction);
-                Ok(())
-            }
-            None => Ok(()),
+            Some(Record::Hello(hello)) => self.meet(hello.name, SocketAddr::from(hello.at)),
+            Some(Record::Introduction(introduction)) => self.hear(introduction),
+            None => {}
         }
     }
 
-    /// Refuses a connection over which came what no node of a cluster sends.
-    fn refuse(&mut self, from: Option<SocketAddr>, error: HandshakeError) -> ReceiveError {
-        self.notices.push(Notice::Refused { from, error });
+    /// Refuses a connection that is not meant for this node, or over which came what no node sends.
+    fn refuse(&mut self, from: Option<SocketAddr>, refusal: Refusal) -> ReceiveError {
+        let notice = match refusal {
+            Refusal::Malformed(error) => Notice::Refused { from, error },
+            Refusal::OtherCluster { name, label } => Notice::OtherCluster { from, name, label },
+            Refusal::Misdirected { name, to } => Notice::Misdirected { from, name, to },
+            Refusal::SameName { at } => Notice::SameName {
+                at: SocketAddr::from(at),
+            },
+        };
+        self.notices.push(notice);
         CLOSED
     }
 
-    /// Takes a hello. Where memory is refused, the address is not kept.
-    fn meet(&mut self, from: Option<SocketAddr>, hello: Hello) -> Result<(), ReceiveError> {
-        let Hello { label, name, at } = hello;
-        let at = SocketAddr::from(at);
-        if label != self.hello.label {
-            self.notices
-                .push(Notice::OtherCluster { from, name, label });
-            return Err(CLOSED);
-        }
-        if name == self.hello.name {
-            self.notices.push(Notice::SameName { at });
-            return Err(CLOSED);
-        }
+    /// Takes what the node of a hello says of itself. Where memory is refused, the address is not kept.
+    fn meet(&mut self, name: NodeName, at: SocketAddr) {
         self.compare(name, at);
         let _ = self.book.confirm(name, at);
         if self.contacts.contains(&name) {
             self.is_apart = false;
         }
         self.notices.push(Notice::Heard { name, at });
-        Ok(())
     }
 
     /// Says so if a neighbour of this name takes connections at another address, and tells the neighbour.
@@ -196,9 +152,9 @@ impl<N: SteppedNode<A>, A: Allocator + Copy> ClusterNode<N, A> {
     /// Takes an introduction. Where memory is refused, it is not kept. One of this node's name tells of another node.
     fn hear(&mut self, introduction: Introduction) {
         let Introduction { name, at } = introduction;
-        if name != self.hello.name {
+        if name != self.identity.name {
             let _ = self.book.hear(name, SocketAddr::from(at));
-        } else if at != self.hello.at {
+        } else if at != self.identity.at {
             self.meet_namesake(SocketAddr::from(at));
         }
     }
