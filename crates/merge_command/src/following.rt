@@ -1,4 +1,6 @@
 //! Following runs by their records, all side by side.
+ghost use Rattle.std.specs.Prelude.{◌≡◌, All, OnOk};
+
 use crate::cut::say_cut;
 use crate::error::RecordsError;
 use crate::halt::Halt;
@@ -39,7 +41,9 @@ fn may_go_on(runs: &[Run], at: usize) -> bool {
 }
 
 /// Rejects runs of which one is not over: it waits for a frame that no record sends, or for an earlier run of its name.
-fn judge_ends(runs: &[Run]) -> Result<(), MergeFault> {
+fn judge_ends(runs: &[Run]) -> Result<(), MergeFault>
+    ensures { OnOk result (All (λ run. run.stage ≡ Stage.Over) runs.now) }
+{
     for run in runs {
         if run.stage != Stage::Over {
             return Err(MergeFault::Stuck {

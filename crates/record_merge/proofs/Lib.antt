@@ -1,1 +1,3 @@
-pub mod Leading
+mod Delivering
+mod Leading
+mod Telling

@@ -43,6 +43,11 @@ pub enum GroupError {
 }
 
 impl From<AllocError> for GroupError {
+    ghost use Rattle.std.specs.Prelude.{◌≡◌};
+    ghost use Rattle.record_merge.specs.declared.error.GroupError.TheVariants.{OutOfMemory};
+
+    ghost from_gives = { λ _ e. e ≡ OutOfMemory };
+
     fn from(_error: AllocError) -> GroupError {
         GroupError::OutOfMemory
     }

@@ -1,4 +1,7 @@
-mod Flights
-mod Following
-mod Posting
-mod Refusing
+pub mod Accepting
+pub mod Aloft
+pub mod Flights
+pub mod Following
+pub mod Posting
+pub mod Refusing
+pub mod Stepping

@@ -13,15 +13,10 @@ use Rattle.protocol.specs.declared.stimulus.StimulusOf.TheVariants as stimulus
 use Rattle.world.specs.declared.node_state.NodeState.{NodeState}
 use Rattle.world.specs.declared.packet.Packet.{Packet}
 use Rattle.frames.specs.Frame.{Frame}
-use Rattle.run_check.specs.Following.{Kept}
-use Rattle.run_check.specs.FrameIds.{same_frame_id}
+use Rattle.run_check.specs.Following.{Kept, packet_of}
 use Rattle.run_check.specs.declared.error.CheckError.{CheckError}
 use Rattle.run_check.specs.declared.error.CheckError.TheVariants.{Stale, BadPeers, NotRunning, Unsent, Unlike, Refused, OutOfMemory}
 use Rattle.run_check.specs.declared.frame_id.FrameId.{FrameId}
-
--- the packet that is kept for the frame of this number of the sender
-abbrev pub packet_of : List (FrameId × Packet Frame) → Origin → ℕ → Option (Packet Frame)
-packet_of packets sender number = lookup (same_frame_id (record { sender = sender; number = number })) packets
 
 -- whether a packet is kept for the frame that arrives, or none arrives
 abbrev pub has_packet : List (FrameId × Packet Frame) → Stimulus Frame → Bool

@@ -4,8 +4,7 @@ use protocol::CoreError;
 use std::alloc::{AllocError, AllocFailed};
 use thiserror::Error;
 
-/// The reason why a check refuses a start or a stimulus. What it accepted before stays accepted. After `OutOfMemory` it
-/// is of no more use.
+/// The reason why a check refuses a start or a stimulus. What it accepted before stays accepted.
 #[derive(Clone, Copy, Debug, PartialEq, Eq, Error)]
 pub enum CheckError {
     /// A run of this name was started under an incarnation that is as great, which is here.

@@ -1,10 +1,11 @@
 //! The packets of a group that may still arrive.
-ghost use Rattle.std.specs.Prelude.{◌≡◌, [], ◌∷◌, IfErr, OnOk, is_some, length};
+ghost use Rattle.std.specs.Prelude.{◌≡◌, ◌+◌, ◌<◌, ◌≤◌, [], ◌∷◌, Some, IfErr, OnOk, is_some, length};
 ghost use Rattle.std.specs.Bool.{Decides};
+ghost use Rattle.indexmap.specs.IndexMap.{spare};
 ghost use Rattle.protocol.specs.Stimulus.{lent};
 ghost use Rattle.world.specs.Group.{packets};
-ghost use Rattle.run_check.specs.Following.{Posts, Receives, TakesOut};
-ghost use Rattle.run_check.specs.Refusals.{IsNotThere, IsUnreceived, packet_of};
+ghost use Rattle.run_check.specs.Following.{IsAwaited, Leaves, Posts, packet_of};
+ghost use Rattle.run_check.specs.Refusals.{IsNotThere, IsUnreceived};
 
 use crate::error::CheckError;
 use crate::frame_id::FrameId;
@@ -54,12 +55,12 @@ impl Flying {
         self.map.len()
     }
 
-    /// Takes out the packet of this frame, which goes to this name.
-    fn take_out(&mut self, sender: Origin, to: &NodeName, note: &Frame) -> Result<(), CheckError>
+    /// Judges whether the packet of this frame, which goes to this name, is in flight.
+    fn judge_packet(&self, sender: Origin, to: &NodeName, note: &Frame) -> Result<(), CheckError>
         ensures refused { IfErr result
-            (IsNotThere self.old.map.entries (record { sender = sender; to = to.now; note = note.now })) }
-        ensures ok { OnOk result (TakesOut self.old.map.entries
-            (record { sender = sender; to = to.now; note = note.now }) self.new.map.entries) }
+            (IsNotThere self.now.map.entries (record { sender = sender; to = to.now; note = note.now })) }
+        ensures there { OnOk result (packet_of self.now.map.entries sender note.now.number
+            ≡ Some (record { sender = sender; to = to.now; note = note.now })) }
     {
         let id = FrameId::of(sender, note);
         let number = id.number;
@@ -69,51 +70,64 @@ impl Flying {
         if !is_its(packet, &sender, to, note) {
             return Err(CheckError::Unlike { sender, number });
         }
-        self.map.swap_remove(&id);
         Ok(())
     }
 
-    /// Takes out the packet that arrives at this name by the stimulus, if one does.
-    pub(crate) fn receive(
-        &mut self,
+    /// Judges whether the packet that is to arrive at this name by the stimulus, if one is, is in flight.
+    pub(crate) fn judge(
+        &self,
         name: &NodeName,
         stimulus: &StimulusRef<'_, Frame>,
     ) -> Result<(), CheckError>
-        ensures refused { IfErr result (IsUnreceived self.old.map.entries name.now (lent stimulus.now)) }
-        ensures ok { OnOk result (Receives self.old.map.entries name.now (lent stimulus.now) self.new.map.entries) }
+        ensures refused { IfErr result (IsUnreceived self.now.map.entries name.now (lent stimulus.now)) }
+        ensures there { OnOk result (IsAwaited self.now.map.entries name.now (lent stimulus.now)) }
     {
         match stimulus {
-            StimulusOf::Arrive { sender, note, .. } => self.take_out(*sender, name, note),
+            StimulusOf::Arrive { sender, note, .. } => self.judge_packet(*sender, name, note),
             _ => Ok(()),
         }
     }
 
-    /// Puts a packet into flight.
-    fn post_one(&mut self, packet: Packet<Frame>) -> Result<(), CheckError>
+    /// Makes room for so many packets more.
+    pub(crate) fn reserve(&mut self, count: usize) -> Result<(), CheckError>
         ensures refused { IfErr result (λ e. e ≡ CheckError.OutOfMemory) }
-        ensures ok { OnOk result (Posts self.old.map.entries (packet ∷ []) self.new.map.entries) }
+        ensures room { OnOk result (count ≤ spare self.new.map) }
+        ensures same { self.new.map.entries ≡ self.old.map.entries }
     {
-        let id = FrameId::of(packet.sender, &packet.note);
-        self.map.insert(id, packet)?;
-        Ok(())
+        Ok(self.map.reserve(count)?)
     }
 
-    /// Puts what a run sends into flight.
-    pub(crate) fn post(
-        &mut self,
-        sender: &Origin,
-        sends: Vec<(NodeName, Frame)>,
-    ) -> Result<(), CheckError>
-        ensures refused { IfErr result (λ e. e ≡ CheckError.OutOfMemory) }
-        ensures ok { OnOk result (Posts self.old.map.entries (packets sender.now sends.items) self.new.map.entries) }
+    /// Takes out the packet that arrives by the stimulus, if one does.
+    pub(crate) fn receive(&mut self, stimulus: &StimulusRef<'_, Frame>)
+        ensures leaves { Leaves self.old.map.entries (lent stimulus.now) self.new.map.entries }
+        ensures room { spare self.old.map ≤ spare self.new.map }
+    {
+        if let StimulusOf::Arrive { sender, note, .. } = stimulus {
+            self.map.swap_remove(&FrameId::of(*sender, note));
+        }
+    }
+
+    /// Puts a packet into flight, for which there is room.
+    fn post_one(&mut self, packet: Packet<Frame>)
+        requires { 0 < spare self.old.map }
+        ensures posts { Posts self.old.map.entries (packet ∷ []) self.new.map.entries }
+        ensures room { spare self.old.map ≤ spare self.new.map + 1 }
+    {
+        let id = FrameId::of(packet.sender, &packet.note);
+        self.map.insert(id, packet).unwrap();
+    }
+
+    /// Puts what a run sends into flight. There is room for it.
+    pub(crate) fn post(&mut self, sender: &Origin, sends: Vec<(NodeName, Frame)>)
+        requires { length sends.items ≤ spare self.old.map }
+        ensures { Posts self.old.map.entries (packets sender.now sends.items) self.new.map.entries }
     {
         for (to, note) in sends {
             self.post_one(Packet {
                 sender: *sender,
                 to,
                 note,
-            })?;
+            });
         }
-        Ok(())
     }
 }

@@ -1,6 +1,7 @@
 //! The nodes of a group, as they are now.
-ghost use Rattle.std.specs.Prelude.{◌≡◌, ◌↔◌, ◌<◌, [], false, IfErr, IfOk, IfSome, OnOk};
+ghost use Rattle.std.specs.Prelude.{◌≡◌, ◌↔◌, ◌<◌, ◌≤◌, [], false, length, IfErr, IfOk, IfSome, OnErr, OnOk};
 ghost use Rattle.std.specs.Map.{lookup};
+ghost use Rattle.indexmap.specs.IndexMap.{spare};
 ghost use Rattle.node_names.specs.Same.{same_name};
 ghost use Rattle.protocol.specs.SameNames.{SameNames};
 ghost use Rattle.protocol.specs.Stimulus.{lent};
@@ -8,6 +9,7 @@ ghost use Rattle.run_check.specs.Following.{Puts, Steps};
 ghost use Rattle.run_check.specs.Refusals.{IsCoreRefusal, IsNoStep, IsStale, refusal_of};
 
 use crate::error::CheckError;
+use crate::flying::Flying;
 use frames::Frame;
 use indexmap::IndexMap;
 use node_names::{NodeName, Origin};
@@ -62,9 +64,10 @@ impl<C: Drop> Nodes<C> {
         }
     }
 
-    /// Puts a node in the place of the one of its name.
+    /// Puts a node in the place of the one of its name. If memory runs out, nothing changes.
     pub(crate) fn put(&mut self, node: NodeState<C>) -> Result<(), CheckError>
         ensures refused { IfErr result (λ e. e ≡ CheckError.OutOfMemory) }
+        ensures err { OnErr result (self.new.map.entries ≡ self.old.map.entries) }
         ensures ok { OnOk result (Puts self.old.map.entries node self.new.map.entries) }
     {
         self.map.insert(node.name, node)?;
@@ -73,16 +76,20 @@ impl<C: Drop> Nodes<C> {
 }
 
 impl<C: Core<Global, Note = Frame>> Nodes<C> {
-    /// Has the core of this run take a stimulus.
+    /// Has the core of this run take a stimulus, and makes room for what it sends. If it is refused, nothing changes.
     pub(crate) fn step(
         &mut self,
         alloc: Global,
         run: &Origin,
         stimulus: &StimulusRef<'_, Frame>,
+        flying: &mut Flying,
     ) -> Result<Outcome, CheckError>
         ensures refused { IfErr result (IsNoStep C.is_spent self.old.map.entries run.now (lent stimulus.now)) }
+        ensures err { OnErr result (self.new.map.entries ≡ self.old.map.entries) }
         ensures steps { IfOk result (λ did. Steps C.state C.starts C.steps self.old.map.entries run.now
             (lent stimulus.now) did.sends.items did.given.items did.moved self.new.map.entries) }
+        ensures packets { flying.new.map.entries ≡ flying.old.map.entries }
+        ensures room { IfOk result (λ did. length did.sends.items ≤ spare flying.new.map) }
     {
         let Some(node) = self.map.get_mut(&run.name) else {
             return Err(CheckError::NotRunning);
@@ -93,25 +100,30 @@ impl<C: Core<Global, Note = Frame>> Nodes<C> {
         let Some(core) = &mut node.core else {
             return Err(CheckError::NotRunning);
         };
-        step_core(alloc, core, stimulus)
+        step_core(alloc, core, stimulus, flying)
     }
 }
 
-/// Has a core take a stimulus.
+/// Has a core take a stimulus, and makes room for what it sends. If it is refused, nothing changes.
 fn step_core<C: Core<Global, Note = Frame>>(
     alloc: Global,
     core: &mut C,
     stimulus: &StimulusRef<'_, Frame>,
+    flying: &mut Flying,
 ) -> Result<Outcome, CheckError>
     ensures refused { IfErr result (IsCoreRefusal C.is_spent core.old (lent stimulus.now)) }
+    ensures err { OnErr result (core.new ≡ core.old) }
     ensures stepped { IfOk result
         (λ did. C.steps core.old (lent stimulus.now) did.sends.items did.given.items core.new) }
     ensures moves { IfOk result
         (λ did. (did.moved ≡ false) ↔ SameNames (C.state core.old).active (C.state core.new).active) }
+    ensures packets { flying.new.map.entries ≡ flying.old.map.entries }
+    ensures room { IfOk result (λ did. length did.sends.items ≤ spare flying.new.map) }
 {
     let mut out = Out::new(alloc);
     let moved = match core.prepare(stimulus, &mut out) {
         Ok(Prepared { turn, moved }) => {
+            flying.reserve(out.sends.len())?;
             core.advance(stimulus, turn)?;
             moved
         }

@@ -1,1 +1,4 @@
+mod Blocks
+mod Files
+mod HeadReading
 mod NameReading

@@ -1,4 +1,10 @@
 //! Reading the body of an entry.
+ghost use Rattle.std.specs.Prelude.{◌≡◌, ◌∷◌, ◌++◌, IfOk};
+ghost use Rattle.frames.specs.Field.{origin_octets};
+ghost use Rattle.frames.specs.Grammar.{IsSpelling};
+ghost use Rattle.step_records.specs.Bodies.{IsBodyOf};
+ghost use Rattle.step_records.specs.Text.{dice_text};
+
 use crate::body_writing::{ARRIVE, BROADCAST, DOWN, FIRE, FLUSH, JOIN, SHUFFLE};
 use crate::error::RecordErrorKind;
 use crate::fields::Fields;
@@ -9,7 +15,9 @@ use protocol::{Stimulus, StimulusOf};
 use std::alloc::Global;
 
 /// Reads the frame that these bytes are.
-fn frame(alloc: Global, bytes: &[u8]) -> Result<Frame, RecordErrorKind> {
+fn frame(alloc: Global, bytes: &[u8]) -> Result<Frame, RecordErrorKind>
+    ensures { IfOk result (λ frame. IsSpelling frame bytes.now) }
+{
     match decode(alloc, bytes) {
         Ok((frame, len)) if len == bytes.len() => Ok(frame),
         Ok(_) => Err(RecordErrorKind::BadFrame(FrameFault::Trailing)),
@@ -19,14 +27,18 @@ fn frame(alloc: Global, bytes: &[u8]) -> Result<Frame, RecordErrorKind> {
 }
 
 /// Reads the sender and the dice of an arrival.
-fn sender(fields: &mut Fields<'_>) -> Result<(Origin, Dice), FrameFault> {
+fn sender(fields: &mut Fields<'_>) -> Result<(Origin, Dice), FrameFault>
+    ensures { IfOk result (λ both. fields.old ≡ (origin_octets both.0 ++ dice_text both.1) ++ fields.new) }
+{
     let sender = fields.origin()?;
     let dice = fields.dice()?;
     Ok((sender, dice))
 }
 
 /// Reads the sender, the dice and the frame of an arrival.
-fn arrival(alloc: Global, fields: &mut Fields<'_>) -> Result<Stimulus<Frame>, RecordErrorKind> {
+fn arrival(alloc: Global, fields: &mut Fields<'_>) -> Result<Stimulus<Frame>, RecordErrorKind>
+    ensures { IfOk result (λ stimulus. IsBodyOf stimulus (2 ∷ fields.old)) }
+{
     let (sender, dice) = match sender(fields) {
         Ok(both) => both,
         Err(fault) => return Err(RecordErrorKind::BadEntry(fault)),
@@ -35,38 +47,50 @@ fn arrival(alloc: Global, fields: &mut Fields<'_>) -> Result<Stimulus<Frame>, Re
     Ok(StimulusOf::Arrive { sender, note, dice })
 }
 
-fn fire(fields: &mut Fields<'_>) -> Result<Stimulus<Frame>, FrameFault> {
+fn fire(fields: &mut Fields<'_>) -> Result<Stimulus<Frame>, FrameFault>
+    ensures { IfOk result (λ stimulus. IsBodyOf stimulus (3 ∷ fields.old)) }
+{
     let id = fields.id()?;
     fields.end()?;
     Ok(StimulusOf::Fire(id))
 }
 
-fn flush(fields: &mut Fields<'_>) -> Result<Stimulus<Frame>, FrameFault> {
+fn flush(fields: &mut Fields<'_>) -> Result<Stimulus<Frame>, FrameFault>
+    ensures { IfOk result (λ stimulus. IsBodyOf stimulus (4 ∷ fields.old)) }
+{
     fields.end()?;
     Ok(StimulusOf::Flush)
 }
 
-fn down(fields: &mut Fields<'_>) -> Result<Stimulus<Frame>, FrameFault> {
+fn down(fields: &mut Fields<'_>) -> Result<Stimulus<Frame>, FrameFault>
+    ensures { IfOk result (λ stimulus. IsBodyOf stimulus (5 ∷ fields.old)) }
+{
     let peer = fields.name()?;
     let dice = fields.dice()?;
     fields.end()?;
     Ok(StimulusOf::Down { peer, dice })
 }
 
-fn shuffle(fields: &mut Fields<'_>) -> Result<Stimulus<Frame>, FrameFault> {
+fn shuffle(fields: &mut Fields<'_>) -> Result<Stimulus<Frame>, FrameFault>
+    ensures { IfOk result (λ stimulus. IsBodyOf stimulus (6 ∷ fields.old)) }
+{
     let dice = fields.dice()?;
     fields.end()?;
     Ok(StimulusOf::Shuffle(dice))
 }
 
-fn join(fields: &mut Fields<'_>) -> Result<Stimulus<Frame>, FrameFault> {
+fn join(fields: &mut Fields<'_>) -> Result<Stimulus<Frame>, FrameFault>
+    ensures { IfOk result (λ stimulus. IsBodyOf stimulus (7 ∷ fields.old)) }
+{
     let contact = fields.name()?;
     fields.end()?;
     Ok(StimulusOf::Join(contact))
 }
 
 /// Reads the stimulus of a kind that has neither a payload nor a frame.
-fn short(kind: u8, fields: &mut Fields<'_>) -> Result<Stimulus<Frame>, RecordErrorKind> {
+fn short(kind: u8, fields: &mut Fields<'_>) -> Result<Stimulus<Frame>, RecordErrorKind>
+    ensures { IfOk result (λ stimulus. IsBodyOf stimulus (kind ∷ fields.old)) }
+{
     let read = match kind {
         FIRE => fire(fields),
         FLUSH => flush(fields),
@@ -82,7 +106,9 @@ fn short(kind: u8, fields: &mut Fields<'_>) -> Result<Stimulus<Frame>, RecordErr
 }
 
 /// Reads the stimulus that the body of an entry tells.
-pub(crate) fn stimulus(alloc: Global, body: &[u8]) -> Result<Stimulus<Frame>, RecordErrorKind> {
+pub(crate) fn stimulus(alloc: Global, body: &[u8]) -> Result<Stimulus<Frame>, RecordErrorKind>
+    ensures { IfOk result (λ stimulus. IsBodyOf stimulus body.now) }
+{
     let [kind, rest @ ..] = body else {
         return Err(RecordErrorKind::BadEntry(FrameFault::BadField));
     };

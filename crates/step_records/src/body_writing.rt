@@ -1,7 +1,9 @@
 //! Writing the body of an entry: a byte for the kind of the stimulus, and its fields.
-ghost use Rattle.std.specs.Prelude.{◌≡◌, ◌∷◌, ◌++◌, OnOk};
+ghost use Rattle.std.specs.Prelude.{◌≡◌, ◌∷◌, ◌++◌, ℕ, List, IfOk, OnOk};
 ghost use Rattle.node_names.specs.NodeName.{IsNodeName};
 ghost use Rattle.frames.specs.Field.{IsOrigin, name_octets, origin_octets};
+ghost use Rattle.frames.specs.Grammar.{IsSpelling};
+ghost use Rattle.step_records.specs.Bodies.{IsBodyOf};
 ghost use Rattle.step_records.specs.Text.{dice_text};
 
 use crate::put::{put_dice, put_id, put_name, put_origin};
@@ -42,7 +44,10 @@ fn put_arrival(
     sender: &Origin,
     frame: &Frame,
     dice: &Dice,
-) -> Result<(), AllocError> {
+) -> Result<(), AllocError>
+    ensures { OnOk result ((spelling : List ℕ) × IsSpelling frame.now spelling
+        × (out.new.items ≡ out.old.items ++ (2 ∷ (origin_octets sender.now ++ dice_text dice.now)) ++ spelling)) }
+{
     let alloc = *out.allocator();
     put_sender(out, sender, dice)?;
     let spelling = encode(alloc, frame)?;
@@ -60,7 +65,9 @@ fn put_down(out: &mut Vec<u8>, peer: &NodeName, dice: &Dice) -> Result<(), Alloc
 }
 
 /// Appends the body of an entry.
-fn put_body(out: &mut Vec<u8>, stimulus: &Stimulus<Frame>) -> Result<(), AllocError> {
+fn put_body(out: &mut Vec<u8>, stimulus: &Stimulus<Frame>) -> Result<(), AllocError>
+    ensures { OnOk result ((body : List ℕ) × IsBodyOf stimulus.now body × (out.new.items ≡ out.old.items ++ body)) }
+{
     match stimulus {
         StimulusOf::Broadcast(payload) => {
             out.push(BROADCAST)?;
@@ -85,7 +92,9 @@ fn put_body(out: &mut Vec<u8>, stimulus: &Stimulus<Frame>) -> Result<(), AllocEr
 }
 
 /// Makes the body of an entry.
-pub(crate) fn entry_body(alloc: Global, stimulus: &Stimulus<Frame>) -> Result<Vec<u8>, AllocError> {
+pub(crate) fn entry_body(alloc: Global, stimulus: &Stimulus<Frame>) -> Result<Vec<u8>, AllocError>
+    ensures { IfOk result (λ body. IsBodyOf stimulus.now body.items) }
+{
     let mut out = Vec::new(alloc);
     put_body(&mut out, stimulus)?;
     Ok(out)

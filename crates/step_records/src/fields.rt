@@ -1,8 +1,10 @@
 //! Reading the fields of a body.
-ghost use Rattle.std.specs.Prelude.{◌≡◌, MatchResult, Ok, Err};
-ghost use Rattle.std.specs.Int.{w32, w64};
+ghost use Rattle.std.specs.Prelude.{◌≡◌, ◌∷◌, ◌++◌, [], MatchResult, OnOk, IfOk, Ok, Err, length};
+ghost use Rattle.std.specs.Int.{w32, w64, to_be_bytes};
 ghost use Rattle.frames.specs.Answer.{Reads};
+ghost use Rattle.frames.specs.Field.{name_octets, origin_octets};
 ghost use Rattle.frames.specs.Reading as read;
+ghost use Rattle.step_records.specs.Text.{dice_text, id_text, number_text};
 
 use crate::check::Check;
 use frames::FrameFault;
@@ -41,9 +43,11 @@ impl<'a> Fields<'a> {
 
     /// Reads `count` bytes.
     pub(crate) fn octets(&mut self, count: usize) -> Result<&'a [u8], FrameFault>
-        ensures { MatchResult result
+        ensures reads { MatchResult result
             (λ front. read.octets count self.old ≡ Ok (front.now, self.new))
             (λ fault. read.octets count self.old ≡ Err fault) }
+        ensures text { IfOk result (λ front. self.old ≡ front.now ++ self.new) }
+        ensures len { IfOk result (λ front. length front.now ≡ count) }
     {
         if self.rest.len() < count {
             return Err(FrameFault::BadField);
@@ -55,7 +59,8 @@ impl<'a> Fields<'a> {
 
     #[tactic(auto, unfolding(frames::specs::Reading::byte))]
     pub(crate) fn byte(&mut self) -> Result<u8, FrameFault>
-        ensures { Reads result read.byte self.old self.new }
+        ensures reads { Reads result read.byte self.old self.new }
+        ensures text { IfOk result (λ byte. self.old ≡ byte ∷ self.new) }
     {
         match self.rest {
             [] => Err(FrameFault::BadField),
@@ -69,7 +74,8 @@ impl<'a> Fields<'a> {
     /// Reads a number of four bytes.
     #[tactic(auto, unfolding(frames::specs::Reading::word))]
     pub(crate) fn word(&mut self) -> Result<u32, FrameFault>
-        ensures { Reads result (read.word w32) self.old self.new }
+        ensures reads { Reads result (read.word w32) self.old self.new }
+        ensures text { IfOk result (λ word. self.old ≡ to_be_bytes w32 word ++ self.new) }
     {
         let bytes = self.octets(4)?;
         Ok(u32::from_be_bytes([bytes[0], bytes[1], bytes[2], bytes[3]]))
@@ -78,7 +84,8 @@ impl<'a> Fields<'a> {
     /// Reads a number of eight bytes.
     #[tactic(auto, unfolding(frames::specs::Reading::word))]
     pub(crate) fn number(&mut self) -> Result<u64, FrameFault>
-        ensures { Reads result (read.word w64) self.old self.new }
+        ensures reads { Reads result (read.word w64) self.old self.new }
+        ensures text { IfOk result (λ number. self.old ≡ number_text number ++ self.new) }
     {
         let bytes = self.octets(8)?;
         Ok(u64::from_be_bytes([
@@ -86,7 +93,9 @@ impl<'a> Fields<'a> {
         ]))
     }
 
-    pub(crate) fn check(&mut self) -> Result<Check, FrameFault> {
+    pub(crate) fn check(&mut self) -> Result<Check, FrameFault>
+        ensures { IfOk result (λ check. self.old ≡ check.0 ++ self.new) }
+    {
         let mut check = [0; Check::LEN];
         check.copy_from_slice(self.octets(Check::LEN)?);
         Ok(Check(check))
@@ -95,7 +104,8 @@ impl<'a> Fields<'a> {
     /// Reads a name. Checks the length before reading the name's bytes, and their alphabet afterwards.
     #[tactic(auto, unfolding(frames::specs::Reading::name))]
     pub(crate) fn name(&mut self) -> Result<NodeName, FrameFault>
-        ensures { Reads result read.name self.old self.new }
+        ensures reads { Reads result read.name self.old self.new }
+        ensures text { IfOk result (λ name. self.old ≡ name_octets name ++ self.new) }
     {
         let len = usize::from(self.byte()?);
         if len == 0 || len > NodeName::MAX_LEN {
@@ -110,21 +120,26 @@ impl<'a> Fields<'a> {
 
     #[tactic(auto, unfolding(frames::specs::Reading::origin))]
     pub(crate) fn origin(&mut self) -> Result<Origin, FrameFault>
-        ensures { Reads result read.origin self.old self.new }
+        ensures reads { Reads result read.origin self.old self.new }
+        ensures text { IfOk result (λ origin. self.old ≡ origin_octets origin ++ self.new) }
     {
         let name = self.name()?;
         let incarnation = Incarnation(self.number()?);
         Ok(Origin { name, incarnation })
     }
 
-    pub(crate) fn id(&mut self) -> Result<MsgId, FrameFault> {
+    pub(crate) fn id(&mut self) -> Result<MsgId, FrameFault>
+        ensures { IfOk result (λ id. self.old ≡ id_text id ++ self.new) }
+    {
         let origin = self.origin()?;
         let seq = self.number()?;
         Ok(MsgId { origin, seq })
     }
 
     /// Reads sixteen words.
-    pub(crate) fn dice(&mut self) -> Result<Dice, FrameFault> {
+    pub(crate) fn dice(&mut self) -> Result<Dice, FrameFault>
+        ensures { IfOk result (λ dice. self.old ≡ dice_text dice ++ self.new) }
+    {
         let mut dice = Dice::ZEROS;
         for i in 0..16 {
             dice.0[i] = self.number()?;
@@ -135,7 +150,8 @@ impl<'a> Fields<'a> {
     /// Rejects trailing bytes.
     #[tactic(auto, unfolding(frames::specs::Reading::end))]
     pub(crate) fn end(&mut self) -> Result<(), FrameFault>
-        ensures { Reads result read.end self.old self.new }
+        ensures reads { Reads result read.end self.old self.new }
+        ensures text { OnOk result (self.old ≡ []) }
     {
         if !self.rest.is_empty() {
             return Err(FrameFault::Trailing);

@@ -1,5 +1,5 @@
 //! What a record begins with.
-ghost use Rattle.std.specs.Prelude.{◌≡◌, IfSome, IsTrue};
+ghost use Rattle.std.specs.Prelude.{◌≡◌, ◌↔◌, IfSome, IsSome, IsTrue};
 ghost use Rattle.node_names.specs.Limits.{Limits as Sizes};
 ghost use Rattle.protocol.specs.Peers.{are_peers};
 
@@ -30,7 +30,14 @@ impl Head {
         limits: Limits,
         peers: Listed<NodeName>,
         contact: Option<NodeName>,
-    ) -> Option<Head> {
+    ) -> Option<Head>
+        ensures fit { IsSome result ↔ IsTrue (are_peers limits origin.name peers contact) }
+        ensures label { IfSome result (λ head. head.label ≡ label) }
+        ensures origin { IfSome result (λ head. head.origin ≡ origin) }
+        ensures limits { IfSome result (λ head. head.limits ≡ limits) }
+        ensures peers { IfSome result (λ head. head.peers ≡ peers) }
+        ensures contact { IfSome result (λ head. head.contact ≡ contact) }
+    {
         if !are_peers(&limits, &origin.name, peers.as_slice(), &contact) {
             return None;
         }

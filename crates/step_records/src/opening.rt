@@ -1,8 +1,12 @@
 //! The beginning of a file.
-ghost use Rattle.std.specs.Prelude.{◌≡◌, ◌+◌, ◌≤◌, IfOk, IfSome, length};
+ghost use Rattle.std.specs.Prelude.{◌≡◌, ◌+◌, ◌<◌, ◌≤◌, ◌⊎◌, ◌++◌, [], ℕ, List};
+ghost use Rattle.std.specs.Prelude.{IfNone, IfOk, IfSome, OnOk, drop, length};
+ghost use Rattle.step_records.specs.Bodies.{head_text};
+ghost use Rattle.step_records.specs.Reading.{EndsEarly};
+ghost use Rattle.step_records.specs.Writing.{IsOpening, start};
 
 use crate::VERSION;
-use crate::block::{Block, read_block};
+use crate::block::{Block, are_same, read_block};
 use crate::check::Check;
 use crate::error::{HeadPart, RecordErrorKind};
 use crate::head::Head;
@@ -25,7 +29,8 @@ pub(crate) struct Opening {
 /// Judges the eight bytes before the first block of a file, and returns the bytes behind them. `None`: the eight are
 /// not all there.
 fn behind_start(bytes: &[u8]) -> Result<Option<&[u8]>, RecordErrorKind>
-    ensures { IfOk result (λ found. IfSome found (λ rest. length rest.now + 8 ≡ length bytes.now)) }
+    ensures text { IfOk result (λ found. IfSome found (λ rest. bytes.now ≡ start ++ rest.now)) }
+    ensures few { IfOk result (λ found. IfNone found (length bytes.now < 8)) }
 {
     let [p, l, u, m, r, e, c, version, rest @ ..] = bytes else {
         return Ok(None);
@@ -40,7 +45,9 @@ fn behind_start(bytes: &[u8]) -> Result<Option<&[u8]>, RecordErrorKind>
 }
 
 /// Splits the body of a first block into the head and the place.
-fn split(body: &[u8]) -> Result<(&[u8], &[u8]), RecordErrorKind> {
+fn split(body: &[u8]) -> Result<(&[u8], &[u8]), RecordErrorKind>
+    ensures { IfOk result (λ parts. body.now ≡ parts.0.now ++ parts.1.now) }
+{
     match body.len().checked_sub(8 + Check::LEN) {
         Some(at) => Ok(body.split_at(at)),
         None => Err(RecordErrorKind::BadHead(HeadPart::Place)),
@@ -48,13 +55,11 @@ fn split(body: &[u8]) -> Result<(&[u8], &[u8]), RecordErrorKind> {
 }
 
 /// Judges whether a file with this head, which begins here, goes on with the record that has got there.
-fn goes_on(
-    known: &[u8],
-    reached: &Place,
-    head: &[u8],
-    place: &Place,
-) -> Result<(), RecordErrorKind> {
-    if !known.is_empty() && known != head {
+fn goes_on(known: &[u8], reached: &Place, head: &[u8], place: &Place) -> Result<(), RecordErrorKind>
+    ensures head { OnOk result ((known.now ≡ []) ⊎ (known.now ≡ head.now)) }
+    ensures place { OnOk result (place.now ≡ reached.now) }
+{
+    if !known.is_empty() && !are_same(known, head) {
         return Err(RecordErrorKind::OtherRecord);
     }
     if place != reached {
@@ -71,7 +76,15 @@ pub(crate) fn read_opening(
     reached: &Place,
     bytes: &[u8],
 ) -> Result<Option<Opening>, RecordErrorKind>
-    ensures { IfOk result (λ found. IfSome found (λ opening. opening.len ≤ length bytes.now)) }
+    ensures waits { IfOk result (λ found. IfNone found (EndsEarly bytes.now)) }
+    ensures len { IfOk result (λ found. IfSome found (λ opening. opening.len ≤ length bytes.now)) }
+    ensures head { IfOk result (λ found. IfSome found (λ opening. opening.bytes.items ≡ head_text opening.head)) }
+    ensures same { IfOk result (λ found. IfSome found
+        (λ opening. (known.now ≡ []) ⊎ (known.now ≡ opening.bytes.items))) }
+    ensures text { IfOk result (λ found. IfSome found (λ opening. (text : List ℕ)
+        × IsOpening opening.bytes.items reached.now.entries reached.now.check.0 text opening.check.0
+        × (bytes.now ≡ text ++ drop opening.len bytes.now)
+        × (opening.len ≡ length text))) }
 {
     let Some(rest) = behind_start(bytes)? else {
         return Ok(None);

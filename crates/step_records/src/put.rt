@@ -1,5 +1,6 @@
 //! Writing the fields of a body. If memory runs out, some bytes of a field may be appended.
 ghost use Rattle.std.specs.Prelude.{◌≡◌, ◌++◌, OnOk};
+ghost use Rattle.std.specs.Int.{w32, to_be_bytes};
 ghost use Rattle.std.specs.List.{flat_map};
 ghost use Rattle.node_names.specs.NodeName.{IsNodeName};
 ghost use Rattle.frames.specs.Field.{IsOrigin, name_octets, origin_octets};
@@ -21,6 +22,13 @@ pub(crate) fn put_name(out: &mut Vec<u8>, name: &NodeName) -> Result<(), AllocEr
 pub(crate) fn put_number(out: &mut Vec<u8>, number: u64) -> Result<(), AllocError>
     ensures bytes { OnOk result (out.new.items ≡ out.old.items ++ number_text number) }
     ensures valid { OnOk result (IsShort number) }
+{
+    out.extend_from_slice(&number.to_be_bytes())
+}
+
+/// Appends a number of four bytes.
+pub(crate) fn put_word(out: &mut Vec<u8>, number: u32) -> Result<(), AllocError>
+    ensures { OnOk result (out.new.items ≡ out.old.items ++ to_be_bytes w32 number) }
 {
     out.extend_from_slice(&number.to_be_bytes())
 }

@@ -1,5 +1,9 @@
 //! Reading a record.
-ghost use Rattle.std.specs.Prelude.{◌≤◌, length};
+ghost use Rattle.std.specs.Prelude.{◌≡◌, ◌≤◌, ◌<◌, ◌⊎◌, ◌++◌, [], Err, IfErr, IfNone, IfOk};
+ghost use Rattle.std.specs.Prelude.{IsErrAnd, OnErr, OnOk, drop, false, length, true};
+ghost use Rattle.step_records.specs.Block.{read_block};
+ghost use Rattle.step_records.specs.declared.error.RecordErrorKind.{RecordErrorKind as Kind};
+ghost use Rattle.step_records.specs.Reading.{Reads, Waits, counted, unbegun};
 
 use crate::block::{Block, read_block};
 use crate::body_reading::stimulus;
@@ -11,6 +15,7 @@ use crate::unread::Unread;
 use frames::Frame;
 use protocol::Stimulus;
 use std::alloc::{AllocError, Global};
+use std::marker::Model;
 
 /// What a record tells next.
 #[derive(Drop)]
@@ -40,9 +45,26 @@ pub struct RecordReader {
     at: u64,
 }
 
+impl Model for RecordReader {
+    ghost use Rattle.step_records.specs.Reading.{Reading};
+
+    ghost Value = { Reading };
+
+    ghost view = { λ r. record {
+      head = r.head.items;
+      entries = r.place.entries;
+      check = r.place.check.0;
+      is_open = r.is_open;
+      at = r.at;
+      unread = r.unread;
+    } };
+}
+
 impl RecordReader {
     /// Creates a reader that is fed nothing yet.
-    pub fn new(alloc: Global) -> RecordReader {
+    pub fn new(alloc: Global) -> RecordReader
+        ensures { result ≡ unbegun }
+    {
         RecordReader {
             alloc,
             unread: Unread::new(alloc),
@@ -54,32 +76,51 @@ impl RecordReader {
     }
 
     /// Returns the number of entries that are read, of all files.
-    pub fn entries(&self) -> u64 {
+    pub fn entries(&self) -> u64
+        ensures { result ≡ self.now.entries }
+    {
         self.place.entries
     }
 
     /// Returns how many bytes of the file are read.
-    pub fn at(&self) -> u64 {
+    pub fn at(&self) -> u64
+        ensures { result ≡ self.now.at }
+    {
         self.at
     }
 
     /// Returns how many bytes were fed and not read.
-    pub fn left(&self) -> usize {
+    pub fn left(&self) -> usize
+        ensures { result ≡ length self.now.unread }
+    {
         self.unread.as_slice().len()
     }
 
     /// Returns whether the file, if no more bytes of it are fed, ends within an entry or before its head does.
-    pub fn is_cut(&self) -> bool {
+    pub fn is_cut(&self) -> bool
+        ensures cut { result ≡ true → (self.now.is_open ≡ false) ⊎ (0 < length self.now.unread) }
+        ensures whole { result ≡ false → (self.now.is_open ≡ true) × (self.now.unread ≡ []) }
+    {
         !self.is_open || self.left() > 0
     }
 
     /// Appends the next bytes of the file. If memory runs out, nothing changes.
-    pub fn feed(&mut self, piece: &[u8]) -> Result<(), AllocError> {
+    pub fn feed(&mut self, piece: &[u8]) -> Result<(), AllocError>
+        ensures ok { OnOk result (self.new ≡ record self.old { unread = self.old.unread ++ piece.now }) }
+        ensures err { OnErr result (self.new ≡ self.old) }
+    {
         self.unread.feed(piece)
     }
 
     /// Goes on with the next file. A file that is cut has none.
-    pub fn next_file(&mut self) -> Result<(), RecordError> {
+    pub fn next_file(&mut self) -> Result<(), RecordError>
+        ensures whole { OnOk result ((self.old.is_open ≡ true) × (self.old.unread ≡ [])) }
+        ensures ok { OnOk result (self.new ≡ record self.old { is_open = false; at = 0 }) }
+        ensures cut { OnErr result ((self.old.is_open ≡ false) ⊎ (0 < length self.old.unread)) }
+        ensures err { OnErr result (self.new ≡ self.old) }
+        ensures error { IfErr result (λ e. e
+            ≡ record { entry = self.old.entries; at = self.old.at; kind = RecordErrorKind.Cut }) }
+    {
         if self.is_cut() {
             return Err(self.error(RecordErrorKind::Cut));
         }
@@ -89,7 +130,18 @@ impl RecordReader {
     }
 
     /// Returns the next entry, or `None` if it is not whole yet. If it is refused, nothing changes.
-    pub fn next(&mut self) -> Result<Option<Entry>, RecordError> {
+    ///
+    /// What it returns is what the bytes tell. No clause says that whole entries are not refused, nor which error it is
+    /// but of an entry that is too long or whose check does not fit.
+    pub fn next(&mut self) -> Result<Option<Entry>, RecordError>
+        ensures reads { IfOk result (λ found. Reads self.old found self.new) }
+        ensures waits { IfOk result (λ found. IfNone found (Waits self.old)) }
+        ensures err { OnErr result (self.new ≡ self.old) }
+        ensures place { IfErr result (λ e. (e.entry ≡ self.old.entries) × (e.at ≡ self.old.at)) }
+        // An entry that is too long, or whose check is not that of its bytes and of all before them, is refused so.
+        ensures spoiled { (kind : Kind) → self.old.is_open ≡ true → read_block self.old.check self.old.unread ≡ Err kind
+            → IsErrAnd result (λ e. e.kind ≡ kind) }
+    {
         let outcome = if self.is_open {
             self.next_stimulus()
         } else {
@@ -102,7 +154,9 @@ impl RecordReader {
     }
 
     /// The error of this kind, here.
-    fn error(&self, kind: RecordErrorKind) -> RecordError {
+    fn error(&self, kind: RecordErrorKind) -> RecordError
+        ensures { result ≡ record { entry = self.now.entries; at = self.now.at; kind = kind } }
+    {
         RecordError {
             entry: self.place.entries,
             at: self.at,
@@ -113,13 +167,19 @@ impl RecordReader {
     /// Goes on behind a block whose bytes, with those before it, are so many.
     fn pass(&mut self, len: usize)
         requires { len ≤ length self.old.unread }
+        ensures { self.new ≡ record self.old { unread = drop len self.old.unread; at = counted self.old.at len } }
     {
         self.unread.pass(len);
         self.at = self.at.saturating_add(len as u64);
     }
 
     /// Reads the head, unless it is not whole yet.
-    fn next_head(&mut self) -> Result<Option<Entry>, RecordErrorKind> {
+    fn next_head(&mut self) -> Result<Option<Entry>, RecordErrorKind>
+        requires { self.old.is_open ≡ false }
+        ensures reads { IfOk result (λ found. Reads self.old found self.new) }
+        ensures waits { IfOk result (λ found. IfNone found (Waits self.old)) }
+        ensures err { OnErr result (self.new ≡ self.old) }
+    {
         let bytes = self.unread.as_slice();
         let Some(opening) = read_opening(self.alloc, &self.head, &self.place, bytes)? else {
             return Ok(None);
@@ -138,7 +198,13 @@ impl RecordReader {
     }
 
     /// Reads a stimulus, unless its entry is not whole yet.
-    fn next_stimulus(&mut self) -> Result<Option<Entry>, RecordErrorKind> {
+    fn next_stimulus(&mut self) -> Result<Option<Entry>, RecordErrorKind>
+        requires { self.old.is_open ≡ true }
+        ensures reads { IfOk result (λ found. Reads self.old found self.new) }
+        ensures waits { IfOk result (λ found. IfNone found (Waits self.old)) }
+        ensures err { OnErr result (self.new ≡ self.old) }
+        ensures spoiled { (kind : Kind) → read_block self.old.check self.old.unread ≡ Err kind → result ≡ Err kind }
+    {
         let bytes = self.unread.as_slice();
         let Some(block) = read_block(&self.place.check, bytes)? else {
             return Ok(None);

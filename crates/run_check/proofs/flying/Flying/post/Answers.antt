@@ -1,5 +1,5 @@
 -- One send more is in flight.
-use Rattle.std.proofs.Common.{◌++◌, ◌∙◌, ◌∷◌, [], ap, append_assoc, sym}
+use Rattle.std.proofs.Common.{◌++◌, ◌∙◌, ◌∷◌, [], ap, append_assoc, arith, length, sym}
 use Rattle.run_check.proofs.Posting.{posts_push}
 use Rattle.run_check.proofs.flying.Flying.post.Goals as goal
 
@@ -11,5 +11,6 @@ loop-to-preserved c = (
       ∙ ap (λ rest. c.loop-to.yielded ++ rest) (sym c.in-Some.ensures.steps.0)
       ∙ c.loop-to.invariant.2,
   posts_push c.args.sender.now c.loop-to.yielded c.in-Some.to c.in-Some.note c.args.self.now.map.entries
-      c.loop-to.self.map.entries c.post_one.new.self.map.entries c.loop-to.invariant.3 c.in_ok-post_one.ensures.ok,
+      c.loop-to.self.map.entries c.post_one.new.self.map.entries c.loop-to.invariant.3 c.post_one.ensures.posts,
+  omega (arith, ap length c.in-Some.ensures.steps.0, c.loop-to.invariant.4, c.post_one.ensures.room),
 )

@@ -1,7 +1,8 @@
 -- The run goes on by the start.
 use Rattle.std.proofs.Common.{rules, subst, sym}
-use Rattle.run_check.specs.Following.{Follows, Kept}
-use Rattle.run_check.proofs.Following.{ok_then, sent_at_start, started}
+use Rattle.world.specs.Group.{packets}
+use Rattle.run_check.specs.Following.{Follows, Kept, Posts}
+use Rattle.run_check.proofs.Following.{sent_at_start, started}
 use Rattle.run_check.proofs.run_check.RunCheck.start.Goals as goal
 
 pub returns-clause-goes_on : goal.returns-clause-goes_on
@@ -12,8 +13,10 @@ returns-clause-goes_on g c = λ past group follows.
     let made =
     sent_at_start g.C.Core.state g.C.Core.starts g.C.Core.steps c.self.inside.limits c.args.run c.args.peers.now c.args.contact
     c.in-Ok.core c.new-out.result c.start.new.out c.into_vec.result.items c.in-Ok.ensures.started c.new-out.ensures.sends (search rules) in
-    ok_then c.post.result _ _
-    (λ posts. started g.C.Core.state g.C.Core.starts g.C.Core.steps old past group c.args.run c.args.peers.now c.args.contact
+    let posts =
+    subst (λ k. Posts k (packets c.args.run c.into_vec.result.items) c.post.new.self.map.entries) c.in_ok-reserve.ensures.same c.post.ensures in
+    let on =
+    started g.C.Core.state g.C.Core.starts g.C.Core.steps old past group c.args.run c.args.peers.now c.args.contact
     c.in-Ok.core c.into_vec.result.items c.put.new.self.map.entries c.post.new.self.map.entries inside c.in_ok-judge.ensures.fresh
-    (search rules) made c.in_ok-put.ensures.ok posts)
-    c.post.ensures.ok
+    (search rules) made c.in_ok-put.ensures.ok posts in
+    (on.entry, on.is_event, on.goes_on)
