@@ -144,13 +144,24 @@ impl<R: Clock + Eprint + Files<File = File> + Copy + Drop> Agent<R> {
 }
 
 impl<R: Clock + Eprint + Files<File = File> + Copy + Drop> Agent<R> {
-    /// Records the rest of what the node took, and writes it to the disk.
-    pub(crate) fn end_record<N: SteppedNode<Global>>(&mut self, node: &mut ClusterNode<N>) {
-        if let Some(recording) = &mut self.recording {
-            let now = microseconds(&self.rt).unwrap_or(0);
-            if let Some(error) = recording.record(&self.rt, node, now) {
+    /// Records what the node took since its last turn. Returns whether that was something.
+    pub(crate) fn record<N: SteppedNode<Global>>(&mut self, node: &mut ClusterNode<N>) -> bool {
+        let Some(recording) = &mut self.recording else {
+            return false;
+        };
+        let now = microseconds(&self.rt).unwrap_or(0);
+        match recording.record(&self.rt, node, now) {
+            Ok(is_some) => is_some,
+            Err(error) => {
                 self.log.say(Level::Error, &NodeError::Record(error));
+                false
             }
+        }
+    }
+
+    /// Writes to the disk what was recorded.
+    pub(crate) fn end_record(&mut self) {
+        if let Some(recording) = &mut self.recording {
             recording.end();
         }
     }

@@ -24,6 +24,9 @@ pub enum NodeError {
     /// There is no incarnation above the last one.
     #[error("all incarnations are used up")]
     Spent,
+    /// Its record cannot be begun in the folder.
+    #[error("cannot write the record in {folder}: {error}")]
+    RecordFolder { folder: String, error: io::Error },
     /// What it takes cannot be recorded.
     #[error("cannot write the record: {0}")]
     Record(io::Error),

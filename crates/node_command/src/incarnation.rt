@@ -1,5 +1,6 @@
 //! The incarnation of a node: each start has a greater one than the starts before.
 use crate::error::NodeError;
+use crate::folder::make_folder;
 use node_names::Incarnation;
 use std::alloc::AllocError;
 use std::fs::File;
@@ -46,12 +47,14 @@ fn state_error<R: AllocGlobal>(rt: &R, folder: &str, error: io::Error) -> NodeEr
     }
 }
 
-/// Writes the incarnation into the folder, so that it is there after a crash of the system too.
+/// Writes the incarnation into the folder, which is made if it is not there, so that it is there after a crash of the
+/// system too.
 fn keep<R: AllocGlobal + Files<File = File> + Clock>(
     rt: &R,
     folder: &str,
     incarnation: u64,
 ) -> io::Result<()> {
+    make_folder(rt, folder)?;
     let path = path_in(rt, folder, "incarnation")?;
     let beside = path_in(rt, folder, "incarnation.new")?;
     let mut file = fs::create(rt, beside.as_str())?;

@@ -7,6 +7,7 @@
 mod agent;
 mod deliveries;
 mod error;
+mod folder;
 mod hosts;
 mod incarnation;
 mod input;

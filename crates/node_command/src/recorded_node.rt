@@ -26,7 +26,7 @@ impl<R: Clock + Files<File = File>, N: SteppedNode<Global>> RecordedNode<'_, R, 
     /// Records what the node took.
     pub(crate) fn record(&mut self) {
         let now = microseconds(&self.rt).unwrap_or(0);
-        if let Some(error) = self.recording.record(&self.rt, self.node, now) {
+        if let Err(error) = self.recording.record(&self.rt, self.node, now) {
             self.error = Some(error);
         }
     }

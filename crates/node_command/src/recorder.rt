@@ -1,4 +1,5 @@
 //! The record of what a node takes.
+use crate::folder::make_folder;
 use cluster_node::{ClusterNode, SteppedNode};
 use frames::Frame;
 use node_options::RecordSync;
@@ -53,7 +54,7 @@ fn make_file<R: Files<File = File>>(
 }
 
 impl Recorder {
-    /// Begins the record of a node in the folder.
+    /// Begins the record of a node in the folder, which is made if it is not there.
     pub(crate) fn begin<R: Files<File = File>>(
         rt: &R,
         alloc: Global,
@@ -66,6 +67,7 @@ impl Recorder {
         let name = head.origin.name;
         let incarnation = head.origin.incarnation.0;
         let stem = format!(in alloc; "{name}.{incarnation}")?;
+        make_folder(rt, folder)?;
         let file = make_file(rt, alloc, folder, stem.as_str(), 1)?;
         let mut recorder = Recorder {
             alloc,
@@ -143,13 +145,14 @@ impl Recorder {
         self.write()
     }
 
-    /// Records what the node took since this was called last, at this time of the clock.
+    /// Records what the node took since this was called last, at this time of the clock. Returns whether that was
+    /// something.
     pub(crate) fn record<R: Files<File = File>, N: SteppedNode<Global>>(
         &mut self,
         rt: &R,
         node: &mut ClusterNode<N>,
         now: u64,
-    ) -> io::Result<()> {
+    ) -> io::Result<bool> {
         let Some(parts) = node.take_kept() else {
             return Err(io::Error::from(ErrorKind::OutOfMemory));
         };
@@ -160,6 +163,6 @@ impl Recorder {
         if self.size >= FILE_SIZE {
             self.next_file(rt)?;
         }
-        Ok(())
+        Ok(!parts.is_empty())
     }
 }

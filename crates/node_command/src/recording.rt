@@ -45,22 +45,32 @@ impl Recording {
         self.error().is_none()
     }
 
-    /// Records what the node took since this was called last, at this time of the clock. If that fails, it is given up,
-    /// and the error is returned once.
+    /// Records what the node took since this was called last, at this time of the clock, and returns whether that was
+    /// something. If that fails, the record is given up, and the error is returned once. From then on nothing leaves
+    /// the node, if it is to end: what it took last is in no record.
     pub(crate) fn record<R: Files<File = File>, N: SteppedNode<Global>>(
         &mut self,
         rt: &R,
         node: &mut ClusterNode<N>,
         now: u64,
-    ) -> Option<io::Error> {
+    ) -> io::Result<bool> {
         if self.error.is_some() {
-            return None;
+            return Ok(false);
         }
-        self.error = self.recorder.record(rt, node, now).err();
-        if self.error.is_some() {
-            node.keep_steps(false);
+        let recorded = self.recorder.record(rt, node, now);
+        if let Err(error) = recorded {
+            self.error = Some(error);
+            self.give_up(node);
         }
-        self.error
+        recorded
+    }
+
+    /// Does with the node what was set for a record that cannot be written.
+    fn give_up<N: SteppedNode<Global>>(&self, node: &mut ClusterNode<N>) {
+        match self.on_failure {
+            RecordFailure::Stop => node.silence(),
+            RecordFailure::GoOn => node.keep_steps(false),
+        }
     }
 
     /// Writes what was recorded to the disk.

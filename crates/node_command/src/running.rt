@@ -12,10 +12,10 @@ use crate::recording::Recording;
 use crate::status::StatusKeeper;
 use crate::system::System;
 use crate::{deliveries, incarnation, input, lookup};
-use cluster_node::{ClusterNode, SteppedNode};
+use cluster_node::{ClusterNode, Identity, SteppedNode};
 use crossbeam_utils::sync::Parker;
 use event_loop::{EventLoop, LoopError};
-use handshake::{Address, Hello};
+use handshake::Address;
 use loop_ports::{Port, PortNode, Ports};
 use node_names::{Incarnation, Limits, Listed, NodeName, Origin};
 use node_options::{Format, Level, NodeOptions, Peer, RecordFailure, RecordSync};
@@ -28,7 +28,7 @@ use std::random::RandomSource;
 use std::rt::Files;
 use std::sync::Arc;
 use std::sync::atomic::AtomicBool;
-use std::time::{Clock, Duration};
+use std::time::{Clock, Duration, Instant};
 use std::{fmt, thread};
 use step_records::Head;
 use wire_node::{Recorded, WireLimits, WireNode};
@@ -181,7 +181,25 @@ fn add_node<R: System, N: SteppedNode<Global>>(
     Ok(place)
 }
 
-/// Sends what waits, unless the node ends since its record cannot be written, and records the rest.
+/// Sends what waits for at most this time. Returns whether steps that the node made meanwhile were recorded: what
+/// follows from these waits still.
+fn send_rest<R: System + Eprint + Files<File = File>, N: SteppedNode<Global>>(
+    rt: &R,
+    event_loop: &mut EventLoop<Member<N>, Hosts>,
+    place: usize,
+    left: Duration,
+    agent: &mut Agent<R>,
+) -> Result<bool, NodeError> {
+    let is_sent = event_loop.finish(rt, left)?;
+    let has_recorded = match event_loop.node_mut(place) {
+        Some(Member::Node(node)) => agent.record(node),
+        _ => false,
+    };
+    Ok(is_sent && has_recorded)
+}
+
+/// Sends what waits, as long as that takes, but no longer than `grace`, and records what the node takes meanwhile. If
+/// its record cannot be written, nothing more is sent.
 fn finish<R: System + Eprint + Files<File = File>, N: SteppedNode<Global>>(
     rt: &R,
     event_loop: &mut EventLoop<Member<N>, Hosts>,
@@ -189,12 +207,15 @@ fn finish<R: System + Eprint + Files<File = File>, N: SteppedNode<Global>>(
     grace: Duration,
     agent: &mut Agent<R>,
 ) -> Result<(), NodeError> {
-    if agent.record_error().is_none() {
-        event_loop.finish(rt, grace)?;
+    let began = Instant::now(rt)?;
+    for _ in rt.forever() {
+        let spent = Instant::now(rt)?.duration_since(began);
+        let left = grace.saturating_sub(spent);
+        if !send_rest(rt, event_loop, place, left, agent)? {
+            break;
+        }
     }
-    if let Some(Member::Node(node)) = event_loop.node_mut(place) {
-        agent.end_record(node);
-    }
+    agent.end_record();
     match agent.record_error() {
         Some(error) => Err(NodeError::Record(error)),
         None => Ok(()),
@@ -271,7 +292,7 @@ fn start<R, N: SteppedNode<Global>>(
     rt: R,
     alloc: Global,
     log: Log<R>,
-    hello: Hello,
+    identity: Identity,
     way: &Way,
     hosts: Hosts,
     desk: Desk,
@@ -283,7 +304,7 @@ where
 {
     let given = names_of(alloc, hosts.peers())?;
     let contacts = way.contacts.clone()?;
-    let mut node = ClusterNode::new(alloc, node, hello, given, contacts);
+    let mut node = ClusterNode::new(alloc, node, identity, given, contacts);
     node.keep_steps(recording.is_some());
     serve(rt, alloc, log, way, hosts, desk, node, recording)
 }
@@ -313,7 +334,10 @@ fn begin_record<R: Files<File = File>>(
     };
     match Recorder::begin(rt, alloc, folder.as_str(), &head, plan.sync) {
         Ok(recorder) => Ok(Some(Recording::new(recorder, plan.on_failure))),
-        Err(error) => Err(NodeError::Record(error)),
+        Err(error) => Err(NodeError::RecordFolder {
+            folder: folder.clone()?,
+            error,
+        }),
     }
 }
 
@@ -385,7 +409,7 @@ where
     } = options;
     let log = Log::new(rt, log);
     let incarnation = incarnation_of(&rt, &log, &state)?;
-    let hello = Hello {
+    let identity = Identity {
         label: cluster,
         name,
         at: Address::from(advertise),
@@ -413,5 +437,5 @@ where
     let recording = begin_record(&rt, alloc, &plan, cluster, &me, &limits)?;
     let limits = WireLimits::new(limits);
     let node = WireNode::start(alloc, me, limits, &[], None, Recorded::new(alloc))?;
-    start(rt, alloc, log, hello, &way, hosts, desk, node, recording)
+    start(rt, alloc, log, identity, &way, hosts, desk, node, recording)
 }

@@ -113,14 +113,14 @@ impl StatusKeeper {
         now: u64,
         memory_bytes: Option<u64>,
     ) -> Result<Status, AllocError> {
-        let hello = node.hello();
+        let own = node.identity();
         let core = node.node().core();
         Ok(Status {
-            name: hello.name,
+            name: own.name,
             incarnation: self.incarnation,
-            cluster: hello.label,
+            cluster: own.label,
             listen: self.listen,
-            advertise: SocketAddr::from(hello.at),
+            advertise: SocketAddr::from(own.at),
             active: neighbors_of(self.alloc, node)?,
             passive: others_of(self.alloc, core)?,
             counts: self.counts_of(node, now),
