@@ -5,13 +5,16 @@ ghost use Rattle.node_threads.specs.History.{IsHistory};
 
 use crate::error::RunError;
 use crate::inbox::{Given, Inbox};
+use crate::list::keep;
 use crate::node::Node;
+use crate::past::Past;
+use crate::shortage::Shortage;
 use crate::speech::{Speech, Stamp};
+use crate::stop_error::StopError;
 use crate::stopping::stop_all;
 use frames::Frame;
 use node_names::NodeName;
 use node_threads::NodeCore;
-use plumtree_node::{Past, Shortage, StopError, keep};
 use protocol::{Delivery, Trace};
 use std::alloc::{AllocError, Global};
 use std::net::{Net, TcpListener, TcpStream};

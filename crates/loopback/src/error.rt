@@ -1,7 +1,8 @@
 //! Why a group did not run to its end.
+use crate::shortage::Shortage;
+use crate::stop_error::StopError;
 use node_names::NodeName;
 use node_threads::HostError;
-use plumtree_node::{Shortage, StopError};
 use std::alloc::{AllocError, AllocFailed};
 use thiserror::Error;
 

@@ -4,14 +4,16 @@ ghost use Rattle.node_core.specs.Steps.{PlumStarts, PlumSteps};
 ghost use Rattle.node_threads.specs.History.{IsHistory};
 
 use crate::closing::{RunReport, close_all};
+use crate::common::Common;
 use crate::error::RunError;
+use crate::machine::Machine;
 use crate::member::Member;
 use crate::node::Node;
+use crate::pace::{idle_ticks, pause_after};
 use crate::starting::{addresses, listen_all, listen_spare, start_nodes};
 use crate::watch::Watch;
 use node_names::Limits;
 use node_threads::NodeCore;
-use plumtree_node::{Common, Machine, idle_ticks, pause_after};
 use std::alloc::Global;
 use std::net::TcpListener;
 use std::sync::Wait;
@@ -215,6 +217,6 @@ where
     let start = Instant::now(&rt).ok();
     let addresses = addresses(alloc, members.as_slice())?;
     let tick = Duration::from_millis(TICK);
-    let mut common = Common::new(rt, alloc, tick, None, plan.seed, addresses)?;
+    let mut common = Common::new(rt, alloc, tick, plan.seed, addresses)?;
     run_members(&mut common, start, plan, members, watch)
 }

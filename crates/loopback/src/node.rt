@@ -1,10 +1,14 @@
 //! A node of a running group.
+use crate::common::Common;
+use crate::engine::Engine;
 use crate::error::RunError;
 use crate::inbox::{Inbox, ToInbox};
+use crate::machine::Machine;
+use crate::ports::broadcast;
+use crate::shortage::Shortage;
 use crate::speech::Speech;
 use node_names::NodeName;
 use node_threads::{HostError, NodeCore, Port};
-use plumtree_node::{Common, Engine, Machine, Shortage, broadcast};
 use std::alloc::Global;
 use std::net::TcpListener;
 use std::sync::{Arc, Wait};

@@ -1,18 +1,19 @@
 //! The start of a group's nodes.
 ghost use Rattle.std.specs.Prelude.{◌≡◌, IfOk, length};
 
+use crate::engine::{Engine, Ground};
 use crate::error::RunError;
+use crate::host_start::{RING, STEPS, Started, start_host};
 use crate::inbox::Inbox;
+use crate::list::keep;
 use crate::member::{Member, may_start};
 use crate::node::Node;
+use crate::node_address::{Address, others};
+use crate::shortage::Shortage;
 use crate::speech::Speech;
 use node_core::PlumCore;
 use node_names::{Limits, NodeName};
 use node_threads::NodeCore;
-use plumtree_node::{
-    Address, Engine, Ground, RING, STEPS, Shortage, StartError, Started, keep, listen_at, others,
-    start_host,
-};
 use std::alloc::{AllocError, Global};
 use std::net::{Ipv4Addr, Net, SocketAddr, SocketAddrV4, TcpListener, TcpStream};
 use std::sync::Arc;
@@ -81,10 +82,12 @@ fn listen_on<R: Net<Listener = TcpListener, Stream = TcpStream>>(
     port: u16,
     node: NodeName,
 ) -> Result<TcpListener, RunError> {
-    match listen_at(rt, address(port)) {
+    match rt.bind(address(port)) {
         Ok(listener) => Ok(listener),
-        Err(StartError::Short(of)) => Err(RunError::short(node, of)),
-        Err(_) => Err(RunError::CannotListen { node }),
+        Err(error) => match Shortage::of(&error) {
+            Some(of) => Err(RunError::short(node, of)),
+            None => Err(RunError::CannotListen { node }),
+        },
     }
 }
 

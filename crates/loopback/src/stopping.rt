@@ -1,7 +1,7 @@
 //! How the nodes of a group are stopped.
 use crate::node::Node;
+use crate::pace::pause;
 use node_threads::NodeCore;
-use plumtree_node::pause;
 use std::alloc::Global;
 use std::net::{Net, TcpListener, TcpStream};
 use std::sync::Wait;

@@ -14,6 +14,7 @@ mod readers;
 mod refused_calls;
 mod refused_closes;
 mod retiring;
+mod staying;
 mod tally;
 mod texts;
 mod writers;

@@ -23,8 +23,8 @@ const BROADCASTS: usize = 10;
 
 /// Ticks every millisecond.
 #[derive(Drop)]
-struct Millisecond<R: Clock + Drop> {
-    rt: R,
+pub(crate) struct Millisecond<R: Clock + Drop> {
+    pub(crate) rt: R,
 }
 
 impl<R: Clock + Drop> Ticker for Millisecond<R> {

@@ -8,7 +8,7 @@ use std::time::{Clock, Duration};
 
 /// How many ticks have passed, and how many nodes have ticks left.
 #[derive(Drop)]
-pub struct Ticking {
+pub(crate) struct Ticking {
     nodes: AtomicUsize,
     ticks: AtomicU64,
 }
@@ -23,12 +23,12 @@ impl Ticking {
     }
 
     /// Whether no node has ticks left.
-    pub fn is_over(&self) -> bool {
+    pub(crate) fn is_over(&self) -> bool {
         self.nodes.load(Ordering::SeqCst) == 0
     }
 
     /// How many ticks have passed at about the furthest node.
-    pub fn now(&self) -> u64 {
+    pub(crate) fn now(&self) -> u64 {
         self.ticks.load(Ordering::SeqCst)
     }
 

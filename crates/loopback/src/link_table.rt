@@ -43,8 +43,6 @@ pub(crate) struct LinkTable {
     /// The outlets whose links have no writer.
     unwritten: Vec<Outlet>,
     written: Vec<WrittenLink>,
-    /// Whether the node opens links itself, so that one without a frame need not be kept.
-    pub(crate) opens: bool,
 }
 
 /// Gives up the link of an outlet. If memory is refused, the outlet is kept.
@@ -66,34 +64,15 @@ impl LinkTable {
         LinkTable {
             unwritten: outlets,
             written: Vec::new(alloc),
-            opens: false,
         }
     }
 
-    /// Takes the outlets of links that the node opened.
-    pub(crate) fn take_opened(&mut self, outlets: Vec<Outlet>) -> Result<(), AllocError> {
+    /// Takes the outlets of writers that have ended.
+    pub(crate) fn take_back(&mut self, outlets: Vec<Outlet>) -> Result<(), AllocError> {
         for outlet in outlets {
-            keep(&mut self.unwritten, outlet)?;
-        }
-        Ok(())
-    }
-
-    /// Takes the outlets of writers that have ended. The links of those without a frame are given up, where the node
-    /// opens one anew once it sends there.
-    pub(crate) fn take_back<R: Wait, C: NodeCore<Global> + Drop>(
-        &mut self,
-        rt: &R,
-        host: &mut Host<C>,
-        outlets: Vec<Outlet>,
-    ) -> Result<(), AllocError> {
-        for mut outlet in outlets {
             let peer = outlet.peer();
             self.written.retain(|link| link.peer != peer);
-            if self.opens && !outlet.has_next() {
-                give_up(rt, host, &mut self.unwritten, outlet)?;
-            } else {
-                keep(&mut self.unwritten, outlet)?;
-            }
+            keep(&mut self.unwritten, outlet)?;
         }
         Ok(())
     }
@@ -162,7 +141,6 @@ impl LinkTable {
             rt: common.rt,
             alloc: common.alloc,
             at,
-            patience: common.patience,
             used: Arc::try_clone(&used)?,
             shortages: Arc::try_clone(shortages)?,
         };
@@ -197,13 +175,6 @@ impl LinkTable {
                 link.looked_at = now;
                 retire_stranger(rt, host, &link.peer);
             }
-        }
-    }
-
-    /// Compares what came out of the links that have no writer with what the node sent.
-    pub(crate) fn compare<R: Wait, C: NodeCore<Global> + Drop>(&mut self, rt: &R, host: &Host<C>) {
-        for outlet in self.unwritten.iter_mut() {
-            host.compare(rt, outlet);
         }
     }
 

@@ -14,7 +14,7 @@ use std::io;
 use std::io::{BufWriter, Write};
 use std::net::{Net, SocketAddr, TcpListener, TcpStream};
 use std::sync::Arc;
-use std::time::{Clock, Duration};
+use std::time::Clock;
 
 /// How many bytes are buffered before they are sent: a link often has several frames at once, and a system call costs
 /// as much for one of them as for all.
@@ -62,27 +62,12 @@ impl MeteredWrite for LinkWriter {
     }
 }
 
-/// Connects to an address, but waits no longer than `patience`, and has no write wait longer either.
-fn dial_within<R: Net<Listener = TcpListener, Stream = TcpStream>>(
-    rt: &R,
-    at: SocketAddr,
-    patience: Duration,
-) -> io::Result<TcpStream> {
-    let connection = rt.connect_timeout(at, patience)?;
-    connection.set_write_timeout(Some(patience))?;
-    Ok(connection)
-}
-
 /// Connects to an address, for a writer that gathers bytes itself, so that each write is sent at once.
 fn dial<R: Net<Listener = TcpListener, Stream = TcpStream>>(
     rt: &R,
     at: SocketAddr,
-    patience: Option<Duration>,
 ) -> io::Result<TcpStream> {
-    let connection = match patience {
-        Some(patience) => dial_within(rt, at, patience)?,
-        None => rt.connect(at)?,
-    };
+    let connection = rt.connect(at)?;
     connection.set_nodelay(true)?;
     Ok(connection)
 }
@@ -91,12 +76,11 @@ fn dial<R: Net<Listener = TcpListener, Stream = TcpStream>>(
 fn dial_on<R: Clock + Net<Listener = TcpListener, Stream = TcpStream>>(
     rt: &R,
     at: SocketAddr,
-    patience: Option<Duration>,
     shortages: &Shortages,
 ) -> Option<TcpStream> {
     let mut failures = Failures::new(shortages);
     for _ in 0..MAX_FAILURES {
-        match dial(rt, at, patience) {
+        match dial(rt, at) {
             Ok(connection) => {
                 failures.end();
                 return Some(connection);
@@ -132,7 +116,6 @@ pub(crate) struct LinkDialler<R: Clock + Net<Listener = TcpListener, Stream = Tc
     pub(crate) rt: R,
     pub(crate) alloc: Global,
     pub(crate) at: SocketAddr,
-    pub(crate) patience: Option<Duration>,
     pub(crate) used: Arc<LastUse, Global>,
     pub(crate) shortages: Arc<Shortages, Global>,
 }
@@ -142,7 +125,7 @@ impl<R: Clock + Net<Listener = TcpListener, Stream = TcpStream> + Send + Drop> D
     type Writer = LinkWriter;
 
     fn dial(&mut self) -> Result<LinkWriter, LinkEnd> {
-        let Some(connection) = dial_on(&self.rt, self.at, self.patience, &self.shortages) else {
+        let Some(connection) = dial_on(&self.rt, self.at, &self.shortages) else {
             return Err(LinkEnd::WriteFault { bytes: 0 });
         };
         match gather(self.alloc, connection, &self.used) {

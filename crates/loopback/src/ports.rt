@@ -10,7 +10,7 @@ use std::sync::Wait;
 
 /// Broadcasts a payload through the first of a node's ports, and returns the id of its message. A node without ports
 /// refuses it as one that is closed.
-pub fn broadcast<R: Wait, C: NodeCore<Global> + Drop>(
+pub(crate) fn broadcast<R: Wait, C: NodeCore<Global> + Drop>(
     rt: &R,
     ports: &mut [Port<C>],
     payload: Bytes,
@@ -23,12 +23,5 @@ pub fn broadcast<R: Wait, C: NodeCore<Global> + Drop>(
     match port.broadcast(rt, payload) {
         Ok(receipt) => Ok(receipt.id),
         Err(error) => Err(error),
-    }
-}
-
-/// Has the first of a node's ports forget what was broadcast through it. The node must be one that may forget.
-pub(crate) fn forget_calls<C: NodeCore<Global> + Drop>(ports: &mut [Port<C>]) {
-    if let Some(port) = ports.first_mut() {
-        port.forget();
     }
 }

@@ -23,7 +23,7 @@ const LONG_IDLE: u64 = 25;
 const SHORT_IDLE: u64 = 5;
 
 /// For how many ticks an unused link that goes to no neighbour keeps its writer if so many links have one.
-pub fn idle_ticks(written: usize) -> u64 {
+pub(crate) fn idle_ticks(written: usize) -> u64 {
     if written > MANY_LINKS {
         SHORT_IDLE
     } else {
@@ -32,12 +32,12 @@ pub fn idle_ticks(written: usize) -> u64 {
 }
 
 /// Waits for the next turn: a short time if there was something to do in the last one.
-pub fn pause_after<R: Clock>(rt: &R, is_busy: bool) {
+pub(crate) fn pause_after<R: Clock>(rt: &R, is_busy: bool) {
     let millis = if is_busy { TURN } else { IDLE_TURN };
     thread::sleep(rt, Duration::from_millis(millis));
 }
 
 /// Waits a little before a failed call is made again.
-pub fn pause<R: Clock>(rt: &R) {
+pub(crate) fn pause<R: Clock>(rt: &R) {
     thread::sleep(rt, Duration::from_millis(PAUSE));
 }

@@ -2,11 +2,11 @@
 ghost use Rattle.std.specs.Prelude.{IfOk};
 ghost use Rattle.node_threads.specs.Closing.{IsLeft};
 
-use crate::error::StopError;
 use crate::link_writer::LinkDialler;
 use crate::list::keep;
 use crate::past::Past;
 use crate::shortage::Shortage;
+use crate::stop_error::StopError;
 use crate::ticks::Ticks;
 use links::{TcpCloser, TcpReader};
 use node_threads::{
@@ -114,29 +114,6 @@ impl<C: NodeCore<Global> + Drop> Running<C> {
             host,
             workers: Vec::new(alloc),
             closers: Vec::new(alloc),
-        }
-    }
-
-    /// Whether all its workers were joined.
-    pub(crate) fn is_idle(&self) -> bool {
-        self.workers.is_empty()
-    }
-
-    /// The host, once all its workers were joined.
-    pub(crate) fn into_host(self) -> Host<C> {
-        let Running {
-            host,
-            workers: _,
-            closers: _,
-        } = self;
-        host
-    }
-
-    /// Has the node forget the steps that were there at the last call, once all links were compared with them.
-    pub(crate) fn forget<R: Wait>(&self, rt: &R) -> Result<(), Shortage> {
-        match self.host.forget_made(rt) {
-            Ok(_) | Err(HostError::Closed) => Ok(()),
-            Err(_) => Err(Shortage::Memory),
         }
     }
 

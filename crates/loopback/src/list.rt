@@ -4,7 +4,7 @@ ghost use Rattle.std.specs.Prelude.{◌≡◌, [], ◌∷◌, ◌++◌, OnOk};
 use std::alloc::AllocError;
 
 /// Appends an item.
-pub fn keep<T: Drop>(list: &mut Vec<T>, item: T) -> Result<(), AllocError>
+pub(crate) fn keep<T: Drop>(list: &mut Vec<T>, item: T) -> Result<(), AllocError>
     ensures { OnOk result (list.new.items ≡ list.old.items ++ item ∷ []) }
 {
     list.push(item)?;

@@ -5,37 +5,32 @@ ghost use Rattle.node_threads.specs.Closing.{IsLeft};
 use crate::acceptor::Acceptor;
 use crate::arrivals::Arrivals;
 use crate::common::Common;
-use crate::error::StopError;
 use crate::link_table::LinkTable;
 use crate::machine::Machine;
-use crate::pace::pause;
 use crate::past::Past;
-use crate::rested::Rested;
 use crate::running::Running;
 use crate::shortage::Shortage;
 use crate::shortages::Shortages;
+use crate::stop_error::StopError;
 use crate::ticks::Ticks;
-use node_core::News;
-use node_names::NodeName;
 use node_threads::{Handed, Host, NodeCore, Outlet, Port};
 use protocol::Delivery;
 use std::alloc::{AllocError, Global};
 use std::net::{Net, SocketAddr, TcpListener, TcpStream};
 use std::sync::{Arc, Wait};
 use std::thread::Threads;
-use std::time::Clock;
 
 /// What an engine's threads share, before any of them runs.
 #[derive(Drop)]
-pub struct Ground {
+pub(crate) struct Ground {
     at: SocketAddr,
     arrivals: Arc<Arrivals, Global>,
-    pub(crate) shortages: Arc<Shortages, Global>,
+    shortages: Arc<Shortages, Global>,
 }
 
 impl Ground {
     /// The ground of a node that takes connections at this address.
-    pub fn new(alloc: Global, at: SocketAddr) -> Result<Ground, AllocError> {
+    pub(crate) fn new(alloc: Global, at: SocketAddr) -> Result<Ground, AllocError> {
         let shortages = Arc::new(alloc, Shortages::new())?;
         let noted = Arc::try_clone(&shortages)?;
         Ok(Ground {
@@ -52,7 +47,7 @@ impl Ground {
 /// To end it: `stop`, `close_connections`, `knock` until that says that the thread will end, `join_acceptor`, and then
 /// `close`. Several engines are stopped one after the other, in each of these steps, before the next.
 #[derive(Drop)]
-pub struct Engine<C: NodeCore<Global> + Drop> {
+pub(crate) struct Engine<C: NodeCore<Global> + Drop> {
     running: Running<C>,
     links: LinkTable,
     acceptor: Acceptor,
@@ -62,7 +57,7 @@ pub struct Engine<C: NodeCore<Global> + Drop> {
 impl<C: NodeCore<Global> + Drop + Send + 'static> Engine<C> {
     /// Starts the threads that take connections from this listener, hand deliveries out to this sink, and keep the time
     /// for `ticks` ticks.
-    pub fn start_threads<R, S>(
+    pub(crate) fn start_threads<R, S>(
         &mut self,
         common: &mut Common<R>,
         listener: TcpListener,
@@ -91,18 +86,13 @@ impl<C: NodeCore<Global> + Drop + Send + 'static> Engine<C> {
 
     /// The first half of a turn: joins the threads that have ended, and starts a reader of each connection that came
     /// since the last turn. Returns whether one came.
-    pub fn read_links<R>(&mut self, common: &mut Common<R>) -> Result<bool, Shortage>
+    pub(crate) fn read_links<R>(&mut self, common: &mut Common<R>) -> Result<bool, Shortage>
     where
         R: Machine,
     {
         let mut outlets = Vec::new(common.alloc);
         self.running.join_ended(&common.rt, &mut outlets)?;
-        let host = &mut self.running.host;
-        self.links.take_back(&common.rt, host, outlets)?;
-        if self.links.opens {
-            let opened = self.running.host.take_opened(&common.rt);
-            self.links.take_opened(opened)?;
-        }
+        self.links.take_back(outlets)?;
         self.read_arrivals(common)
     }
 
@@ -122,7 +112,7 @@ impl<C: NodeCore<Global> + Drop + Send + 'static> Engine<C> {
 
     /// The second half of a turn: starts a writer of each link that has a frame and no writer. Returns whether there is
     /// such a link.
-    pub fn write_links<R>(&mut self, common: &Common<R>) -> Result<bool, Shortage>
+    pub(crate) fn write_links<R>(&mut self, common: &Common<R>) -> Result<bool, Shortage>
     where
         R: Machine,
     {
@@ -133,7 +123,7 @@ impl<C: NodeCore<Global> + Drop + Send + 'static> Engine<C> {
 
 impl<C: NodeCore<Global> + Drop> Engine<C> {
     /// Makes the engine of a host that has these outlets. It has no thread yet.
-    pub fn new(alloc: Global, ground: Ground, host: Host<C>, outlets: Vec<Outlet>) -> Engine<C> {
+    pub(crate) fn new(alloc: Global, ground: Ground, host: Host<C>, outlets: Vec<Outlet>) -> Engine<C> {
         let Ground {
             at,
             arrivals,
@@ -147,49 +137,8 @@ impl<C: NodeCore<Global> + Drop> Engine<C> {
         }
     }
 
-    /// Has the node open links to names that it learns, to at most so many names at once, and join again by these names
-    /// while it has no neighbour.
-    pub(crate) fn stay_in<R: Wait>(
-        &mut self,
-        rt: &R,
-        links: usize,
-        contacts: &[NodeName],
-    ) -> Result<(), Shortage> {
-        self.links.opens = true;
-        self.running.host.allow_links(rt, links);
-        match self.running.host.set_contacts(rt, contacts) {
-            Ok(()) => Ok(()),
-            Err(_) => Err(Shortage::Memory),
-        }
-    }
-
-    /// Has the node tell how its neighbours change.
-    pub(crate) fn tell_news<R: Wait>(&self, rt: &R) -> Result<(), Shortage> {
-        match self.running.host.tell_news(rt, true) {
-            Ok(()) => Ok(()),
-            Err(_) => Err(Shortage::Memory),
-        }
-    }
-
-    /// Has the node forget steps from now on, whenever `forget` is called.
-    pub(crate) fn forget_from_now<R: Wait>(&self, rt: &R) {
-        self.running.host.forget_from_now(rt);
-    }
-
-    /// Has the node, which may forget, forget the steps that were there at the last call, once all links were compared
-    /// with them. Those without a writer are compared here.
-    pub(crate) fn forget<R: Wait>(&mut self, rt: &R) -> Result<(), Shortage> {
-        self.links.compare(rt, &self.running.host);
-        self.running.forget(rt)
-    }
-
-    /// Takes what the node told of its neighbours.
-    pub(crate) fn take_news<R: Wait>(&self, rt: &R) -> Vec<News> {
-        self.running.host.take_news(rt)
-    }
-
     /// Returns an error if its threads had a shortage, or, when `is_last`, still have one.
-    pub fn check(&self, is_last: bool) -> Result<(), Shortage> {
+    pub(crate) fn check(&self, is_last: bool) -> Result<(), Shortage> {
         if self.running.host.lacks_memory() {
             self.shortages.note(Shortage::Memory);
         }
@@ -201,30 +150,30 @@ impl<C: NodeCore<Global> + Drop> Engine<C> {
     }
 
     /// How many links have a writer.
-    pub fn written(&self) -> usize {
+    pub(crate) fn written(&self) -> usize {
         self.links.written()
     }
 
     /// Ends the writers of links that were not used in the last `ticks` ticks and that go to names outside the node's
     /// active view.
-    pub fn retire_idle<R: Wait>(&mut self, rt: &R, now: u64, ticks: u64) {
+    pub(crate) fn retire_idle<R: Wait>(&mut self, rt: &R, now: u64, ticks: u64) {
         self.links.retire_idle(rt, &self.running.host, now, ticks);
     }
 
     /// Stops the host: it makes no more steps.
-    pub fn stop<R: Wait>(&self, rt: &R) {
+    pub(crate) fn stop<R: Wait>(&self, rt: &R) {
         self.running.host.stop(rt);
     }
 
     /// Takes no more connections, and ends the existing ones. The host must have been stopped before.
-    pub fn close_connections<R: Wait>(&mut self, rt: &R) {
+    pub(crate) fn close_connections<R: Wait>(&mut self, rt: &R) {
         self.acceptor.arrivals.close(rt);
         self.running.close_connections();
     }
 
     /// Dials the node's own address once no more connections are taken, so that the thread that waits there ends.
     /// Returns whether it will end.
-    pub fn knock<R>(&mut self, rt: &R) -> bool
+    pub(crate) fn knock<R>(&mut self, rt: &R) -> bool
     where
         R: Net<Listener = TcpListener, Stream = TcpStream>,
     {
@@ -232,45 +181,12 @@ impl<C: NodeCore<Global> + Drop> Engine<C> {
     }
 
     /// Waits for the thread that takes connections.
-    pub fn join_acceptor<R: Threads>(&mut self, rt: &R) {
+    pub(crate) fn join_acceptor<R: Threads>(&mut self, rt: &R) {
         self.acceptor.join(rt);
     }
 
-    /// Waits for the workers, and returns the outlets that they had.
-    fn join_workers<R: Threads + Wait + Clock>(
-        &mut self,
-        rt: &R,
-        outlets: &mut Vec<Outlet>,
-    ) -> Result<(), Shortage> {
-        for _ in rt.forever() {
-            self.running.join_ended(rt, outlets)?;
-            if self.running.is_idle() {
-                return Ok(());
-            }
-            pause(rt);
-        }
-        unreachable!()
-    }
-
-    /// Waits for the workers, and returns what another thread can close. The engine must have been stopped, and have no
-    /// connections.
-    pub(crate) fn into_rested<R: Threads + Wait + Clock>(
-        mut self,
-        rt: &R,
-        alloc: Global,
-    ) -> Result<Rested<C>, Shortage> {
-        let mut joined = Vec::new(alloc);
-        self.join_workers(rt, &mut joined)?;
-        let Engine { running, links, .. } = self;
-        Ok(Rested {
-            host: running.into_host(),
-            joined,
-            unwritten: links.into_unwritten(),
-        })
-    }
-
     /// Waits for the workers, closes the node with its ports, and returns what it leaves.
-    pub fn close<R: Threads + Wait>(self, rt: &R, ports: Vec<Port<C>>) -> Result<Past, StopError>
+    pub(crate) fn close<R: Threads + Wait>(self, rt: &R, ports: Vec<Port<C>>) -> Result<Past, StopError>
         ensures { IfOk result (λ past. IsLeft C.starts C.steps past.since past.trace) }
     {
         let Engine { running, links, .. } = self;

@@ -8,18 +8,18 @@ use node_threads::{Host, NodeCore, Outlet, Port};
 use protocol::{Core, Out};
 use std::alloc::{AllocError, Global};
 
-/// How many frames the ring of a link has room for, if nothing else is said.
-pub const RING: usize = 1_024;
+/// How many frames the ring of a link has room for.
+pub(crate) const RING: usize = 1_024;
 
-/// How many steps a node may keep, if nothing else is said.
-pub const STEPS: usize = 1_048_576;
+/// How many steps a node may keep.
+pub(crate) const STEPS: usize = 1_048_576;
 
 /// A host that has just started, its ports, and the outlets of its links.
-pub type Started<C> = (Host<C>, Vec<Port<C>>, Vec<Outlet>);
+pub(crate) type Started<C> = (Host<C>, Vec<Port<C>>, Vec<Outlet>);
 
 /// Starts a node with these peers and this contact, with one port and a link to each of the names, of which each has a
 /// ring for `ring` frames. It may keep `steps` steps.
-pub fn start_host(
+pub(crate) fn start_host(
     alloc: Global,
     me: Origin,
     limits: Limits,
