@@ -1,6 +1,8 @@
 """Somebody who speaks as a node of a cluster does, by docs/cluster.md and docs/frames.md, for the tests of clusters."""
+import contextlib
 import socket
 import threading
+import time
 
 VERSION = 2
 # The kinds of records, and of the frames that the tests send and look for.
@@ -49,11 +51,25 @@ def parts_of(text):
     return found
 
 
+def is_shuffle(part, name):
+    """Whether a part is a frame by which names are exchanged, and this name is one of them."""
+    kind, body = part
+    return kind == 0 and body[1] in (SHUFFLE, SHUFFLEREPLY) and named(name) in body[3 + body[2] + 16 :]
+
+
+def records_before(parts, at):
+    """Returns the records between the frame at this place and the frame before it."""
+    start = at
+    while start > 0 and parts[start - 1][0] != 0:
+        start -= 1
+    return parts[start:at]
+
+
 class Peer:
-    """Listens, takes connections, and keeps what comes over each."""
+    """Listens, takes connections, and keeps what comes over each, and in which pieces."""
 
     def __init__(self, name):
-        self.name, self.texts, self.numbers = name, [], 0
+        self.name, self.texts, self.pieces, self.streams, self.numbers = name, [], [], [], 0
         self.socket = socket.create_server(("127.0.0.1", 0))
         self.port = self.socket.getsockname()[1]
         threading.Thread(target=self.take, daemon=True).start()
@@ -66,6 +82,7 @@ class Peer:
                 return
             text = bytearray()
             self.texts.append(text)
+            self.streams.append(stream)
             threading.Thread(target=self.keep, args=(stream, text), daemon=True).start()
 
     def keep(self, stream, text):
@@ -73,6 +90,7 @@ class Peer:
             try:
                 while piece := stream.recv(65_536):
                     text += piece
+                    self.pieces.append(piece)
             except OSError:
                 pass
 
@@ -80,12 +98,33 @@ class Peer:
         """Returns what came, connection by connection."""
         return [parts_of(bytes(text)) for text in self.texts]
 
+    def greet(self, port, to):
+        """Dials the node of this name, and says who it is. Returns the connection."""
+        stream = socket.create_connection(("127.0.0.1", port))
+        stream.sendall(hello(self.name, self.port, to))
+        return stream
+
+    def ask(self, stream):
+        """Asks over a connection to be taken into the group, by a frame that comes in two pieces."""
+        self.numbers += 1
+        text = frame(self.name, self.numbers, JOIN)
+        stream.sendall(text[:7])
+        time.sleep(0.1)
+        stream.sendall(text[7:])
+
     def join(self, port, to):
         """Dials the node of this name, and asks it to be taken into its group. Returns the connection."""
-        stream = socket.create_connection(("127.0.0.1", port))
-        self.numbers += 1
-        stream.sendall(hello(self.name, self.port, to) + frame(self.name, self.numbers, JOIN))
+        stream = self.greet(port, to)
+        self.ask(stream)
         return stream
+
+    def hang_up(self):
+        """Ends the connections that came, and takes no others."""
+        self.close()
+        for stream in self.streams:
+            # (the other end may have closed it)
+            with contextlib.suppress(OSError):
+                stream.shutdown(socket.SHUT_RDWR)
 
     def close(self):
         self.socket.close()
