@@ -123,7 +123,12 @@ impl<C: NodeCore<Global> + Drop + Send + 'static> Engine<C> {
 
 impl<C: NodeCore<Global> + Drop> Engine<C> {
     /// Makes the engine of a host that has these outlets. It has no thread yet.
-    pub(crate) fn new(alloc: Global, ground: Ground, host: Host<C>, outlets: Vec<Outlet>) -> Engine<C> {
+    pub(crate) fn new(
+        alloc: Global,
+        ground: Ground,
+        host: Host<C>,
+        outlets: Vec<Outlet>,
+    ) -> Engine<C> {
         let Ground {
             at,
             arrivals,
@@ -186,7 +191,11 @@ impl<C: NodeCore<Global> + Drop> Engine<C> {
     }
 
     /// Waits for the workers, closes the node with its ports, and returns what it leaves.
-    pub(crate) fn close<R: Threads + Wait>(self, rt: &R, ports: Vec<Port<C>>) -> Result<Past, StopError>
+    pub(crate) fn close<R: Threads + Wait>(
+        self,
+        rt: &R,
+        ports: Vec<Port<C>>,
+    ) -> Result<Past, StopError>
         ensures { IfOk result (λ past. IsLeft C.starts C.steps past.since past.trace) }
     {
         let Engine { running, links, .. } = self;
